@@ -1,0 +1,23 @@
+use Rattle.std.proofs.Common.{◌≡◌, ap, sym, ◌∙◌, inl, arith, Result, Ok}
+use Rattle.uefi_path.specs.declared.node.Node.{Node}
+use Rattle.uefi_path.specs.declared.fault.NodeFault.{NodeFault}
+use Rattle.uefi_path.specs.Row.{IsRow, row}
+use Rattle.uefi_path.specs.Reading.{node_of}
+use Rattle.uefi_path.proofs.Bytes.{recursion_from_bytes}
+use Rattle.uefi_path.proofs.Table.{node_of_has_row, node_of-row_of}
+use Rattle.uefi_path.proofs.reading.node_from_parts.Goals as goal
+
+pub returns-clause-made : goal.returns-clause-made
+returns-clause-made c =
+    let is : IsRow (row c.args.kind c.args.sub c.args.body.now) = record {
+      kind = omega arith;
+      sub = omega arith;
+      body = recursion_from_bytes c.args.body.now (λ i. omega (arith, c.type_inv.body i));
+      len = omega arith;
+    } in
+    rw c.in_ok-make_node.ensures (node_of_has_row (row c.args.kind c.args.sub c.args.body.now) is c.if-kind-eq-END.false)
+
+pub returns-clause-only : goal.returns-clause-only
+returns-clause-only c = λ node valid same.
+    let made : c.in_ok-make_node.field-0 ≡ node = c.in_ok-make_node.ensures ∙ ap node_of (sym same) ∙ node_of-row_of node valid in
+    inl (ap (λ (n : Node). let ok : Result Node NodeFault = Ok n in ok) made)

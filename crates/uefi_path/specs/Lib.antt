@@ -1,0 +1,9 @@
+pub mod Answer
+pub mod Row
+pub mod Node
+pub mod Path
+pub mod Fault
+pub mod Words
+pub mod Reading
+pub mod Writing
+pub mod Equality

@@ -1,0 +1,50 @@
+-- The generic device path node (UEFI 2.10, 10.3.1): a type, a sub-type, the length of the whole, and data.
+use Rattle.std.specs.Prelude.{◌≡◌, ◌≢◌, ℕ, ◌+◌, ◌^◌, ◌<◌, ◌≤◌, List, [], ◌∷◌, ◌++◌, length}
+use Rattle.std.specs.List.{AllByRecursion}
+use Rattle.std.specs.Int.{w16, to_le_bytes}
+
+-- a node as its type, its sub-type and its data, whatever these mean
+pub record Row : Type 0 where
+  pub kind : ℕ
+  pub sub : ℕ
+  pub body : List ℕ
+
+abbrev pub row : ℕ → ℕ → List ℕ → Row
+row kind sub body = record { kind = kind; sub = sub; body = body }
+
+-- the four bytes in front of the data: type, sub-type, and the length of the whole node
+abbrev pub header_bytes : ℕ → ℕ → ℕ → List ℕ
+header_bytes kind sub len = kind ∷ sub ∷ to_le_bytes w16 len
+
+-- the spelling of a node
+abbrev pub row_bytes : Row → List ℕ
+row_bytes r = header_bytes r.kind r.sub (4 + length r.body) ++ r.body
+
+-- the node that ends one instance, behind which another follows, and the node that ends the whole path
+abbrev pub end_instance : Row
+end_instance = row 127 1 []
+
+abbrev pub end_entire : Row
+end_entire = row 127 255 []
+
+abbrev pub IsByte : ℕ → Type 0
+IsByte n = n < 2 ^ 8
+
+-- its numbers are bytes, and two bytes can state its length
+pub record IsRow (r : Row) : Type 0 where
+  pub kind : IsByte r.kind
+  pub sub : IsByte r.sub
+  pub body : AllByRecursion IsByte r.body
+  pub len : length r.body ≤ 65531
+
+-- The rows that a node with a case of its own has: one case for each row of the table, by type, sub-type and
+-- length of the data (UEFI 2.10: PCI 10.3.2.1, ACPI 10.3.3).
+pub data IsListed : Row → Type 0 where
+  pci : {body : List ℕ} → length body ≡ 2 → IsListed (row 1 1 body)
+  acpi : {body : List ℕ} → length body ≡ 8 → IsListed (row 2 1 body)
+
+-- what is kept as bytes: no end node, no longer than a node can be, and no row of the table
+pub record IsUnlisted (r : Row) : Type 0 where
+  pub no_end : r.kind ≢ 127
+  pub len : length r.body ≤ 65531
+  pub unlisted : ¬ IsListed r

@@ -1,0 +1,20 @@
+-- The words of faults: a fault's name, and after one blank each of its numbers in decimal.
+use Rattle.std.specs.Prelude.{ℕ, List, ◌++◌, codes}
+use Rattle.std.specs.Fmt.{decimal}
+use Rattle.uefi_path.specs.declared.fault.NodeFault.{NodeFault}
+use Rattle.uefi_path.specs.declared.fault.NodeFault.TheVariants as node
+use Rattle.uefi_path.specs.declared.fault.PathFault.{PathFault}
+use Rattle.uefi_path.specs.declared.fault.PathFault.TheVariants as path
+
+abbrev pub node_fault_words : NodeFault → List ℕ
+node_fault_words node.BadEnd = codes "BadEnd"
+node_fault_words node.TooLong = codes "TooLong"
+node_fault_words node.OutOfMemory = codes "OutOfMemory"
+
+abbrev pub path_fault_words : PathFault → List ℕ
+path_fault_words (path.NoEnd offset) = codes "NoEnd " ++ decimal offset
+path_fault_words (path.ShortHeader offset) = codes "ShortHeader " ++ decimal offset
+path_fault_words (path.BadLength offset) = codes "BadLength " ++ decimal offset
+path_fault_words (path.PastEnd offset) = codes "PastEnd " ++ decimal offset
+path_fault_words (path.BadEnd offset) = codes "BadEnd " ++ decimal offset
+path_fault_words path.OutOfMemory = codes "OutOfMemory"

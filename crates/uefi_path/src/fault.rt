@@ -1,0 +1,104 @@
+//! What a call refuses, each with its place.
+
+ghost use Rattle.std.specs.Prelude.{◌≡◌, IfOk};
+ghost use Rattle.std.specs.String.{string_bytes};
+ghost use Rattle.uefi_path.specs.declared.fault.NodeFault.TheVariants as node;
+ghost use Rattle.uefi_path.specs.declared.fault.PathFault.TheVariants as path;
+
+use std::alloc::{AllocError, AllocFailed, Global};
+use thiserror::Error;
+
+/// Why three parts make no node.
+#[derive(Clone, Copy, Debug, PartialEq, Eq, Error)]
+pub enum NodeFault {
+    /// The type is 0x7F, that of the end nodes, which are no nodes of a path.
+    #[error("BadEnd")]
+    BadEnd,
+    /// The data has more than 65,531 bytes, so two bytes can't state the node's length.
+    #[error("TooLong")]
+    TooLong,
+    /// Memory was refused.
+    #[error("OutOfMemory")]
+    OutOfMemory,
+}
+
+/// Why bytes begin with no path. The number is the offset of the node with the fault, in bytes from the first
+/// byte of the path.
+#[derive(Clone, Copy, Debug, PartialEq, Eq, Error)]
+pub enum PathFault {
+    /// No byte remains where a node must stand.
+    #[error("NoEnd {0}")]
+    NoEnd(usize),
+    /// One to three bytes remain, fewer than a node's header has.
+    #[error("ShortHeader {0}")]
+    ShortHeader(usize),
+    /// The node states a length below 4, that of its header alone.
+    #[error("BadLength {0}")]
+    BadLength(usize),
+    /// The node states more bytes than remain.
+    #[error("PastEnd {0}")]
+    PastEnd(usize),
+    /// The node has type 0x7F and is no end node: its sub-type is neither 0x01 nor 0xFF, or its length isn't 4.
+    #[error("BadEnd {0}")]
+    BadEnd(usize),
+    /// Memory was refused.
+    #[error("OutOfMemory")]
+    OutOfMemory,
+}
+
+impl NodeFault {
+    ghost use Rattle.uefi_path.specs.Words.{node_fault_words};
+
+    /// The fault's name. The one refusal is for want of memory.
+    pub fn words(&self, alloc: Global) -> Result<String, AllocError>
+        ensures { IfOk result (λ text. string_bytes text ≡ node_fault_words self.now) }
+    {
+        match self {
+            NodeFault::BadEnd => String::from_str(alloc, "BadEnd"),
+            NodeFault::TooLong => String::from_str(alloc, "TooLong"),
+            NodeFault::OutOfMemory => String::from_str(alloc, "OutOfMemory"),
+        }
+    }
+}
+
+impl PathFault {
+    ghost use Rattle.uefi_path.specs.Words.{path_fault_words};
+
+    /// The fault's name and, after a blank, its offset in decimal. The one refusal is for want of memory.
+    pub fn words(&self, alloc: Global) -> Result<String, AllocError>
+        ensures { IfOk result (λ text. string_bytes text ≡ path_fault_words self.now) }
+    {
+        match self {
+            PathFault::NoEnd(offset) => format!(in alloc; "NoEnd {offset}"),
+            PathFault::ShortHeader(offset) => format!(in alloc; "ShortHeader {offset}"),
+            PathFault::BadLength(offset) => format!(in alloc; "BadLength {offset}"),
+            PathFault::PastEnd(offset) => format!(in alloc; "PastEnd {offset}"),
+            PathFault::BadEnd(offset) => format!(in alloc; "BadEnd {offset}"),
+            PathFault::OutOfMemory => String::from_str(alloc, "OutOfMemory"),
+        }
+    }
+}
+
+impl From<AllocError> for NodeFault {
+    ghost from_gives = { λ _ fault. fault ≡ node.OutOfMemory };
+
+    fn from(_refusal: AllocError) -> NodeFault {
+        NodeFault::OutOfMemory
+    }
+}
+
+impl From<AllocError> for PathFault {
+    ghost from_gives = { λ _ fault. fault ≡ path.OutOfMemory };
+
+    fn from(_refusal: AllocError) -> PathFault {
+        PathFault::OutOfMemory
+    }
+}
+
+impl<T: Drop> From<AllocFailed<T>> for PathFault {
+    ghost from_gives = { λ _ fault. fault ≡ path.OutOfMemory };
+
+    fn from(_refusal: AllocFailed<T>) -> PathFault {
+        PathFault::OutOfMemory
+    }
+}

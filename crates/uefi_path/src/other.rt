@@ -1,0 +1,109 @@
+//! Nodes that are kept as bytes.
+
+ghost use Rattle.std.specs.Prelude.{◌≡◌, ◌≤◌, length, IfOk};
+
+use std::alloc::{AllocError, Global};
+use std::marker::Model;
+
+/// A node of a type, a sub-type or a length that no other case of `Node` stands for (UEFI 2.10, 10.3.1). Its
+/// type isn't 0x7F, and its data has at most 65,531 bytes.
+#[derive(Debug, Drop)]
+pub struct OtherNode {
+    kind: u8,
+    sub: u8,
+    body: Vec<u8>,
+}
+
+impl Model for OtherNode {
+    ghost use Rattle.uefi_path.specs.Row.{Row, row, IsUnlisted};
+
+    ghost Value = { Row };
+
+    ghost view = { λ node. row node.kind node.sub node.body.items };
+
+    ghost invariant = { λ node. IsUnlisted (row node.kind node.sub node.body.items) };
+}
+
+impl PartialEq for OtherNode {
+    ghost use Rattle.std.specs.Prelude.{◌≡◌, ◌↔◌, IsTrue};
+    ghost use Rattle.std.proofs.Common.{rules};
+    ghost use Rattle.std.specs.Cmp.Rules.{comparing};
+    ghost use Rattle.uefi_path.specs.Equality.{row_eq};
+
+    ghost eq = { row_eq };
+
+    ghost laws = { Prim.search (comparing, rules) };
+
+    fn eq(&self, other: &OtherNode) -> bool
+        ensures value { result ≡ row_eq self.now other.now }
+        ensures equal { IsTrue result ↔ (self.now ≡ other.now) }
+    {
+        self.kind == other.kind && self.sub == other.sub && self.body == other.body
+    }
+}
+
+impl Eq for OtherNode {
+    ghost use Rattle.std.proofs.Common.{rules};
+    ghost use Rattle.std.specs.Cmp.Rules.{comparing};
+
+    ghost laws = { Prim.search (comparing, rules) };
+}
+
+impl OtherNode {
+    ghost use Rattle.uefi_path.specs.Row.{row, IsUnlisted};
+
+    /// A node of these bytes, if there is memory for them.
+    pub(crate) fn new(
+        alloc: Global,
+        kind: u8,
+        sub: u8,
+        body: &[u8],
+    ) -> Result<OtherNode, AllocError>
+        requires { IsUnlisted (row kind sub body.now) }
+        ensures { IfOk result (λ node. node ≡ row kind sub body.now) }
+    {
+        let body = Vec::from_slice(alloc, body)?;
+        Ok(OtherNode { kind, sub, body })
+    }
+
+    /// The type.
+    pub fn kind(&self) -> u8
+        ensures { result ≡ self.now.kind }
+    {
+        self.kind
+    }
+
+    /// The sub-type.
+    pub fn sub(&self) -> u8
+        ensures { result ≡ self.now.sub }
+    {
+        self.sub
+    }
+
+    /// The data behind the four bytes of the header.
+    pub fn body(&self) -> &[u8]
+        ensures { result.now ≡ self.now.body }
+    {
+        &self.body
+    }
+
+    /// How many bytes of data there are.
+    pub(crate) fn body_len(&self) -> usize
+        ensures len { result ≡ length self.now.body }
+        ensures bound { result ≤ 65531 }
+    {
+        self.body.len()
+    }
+
+    /// An equal node, if there is memory for it.
+    pub(crate) fn copy(&self, alloc: Global) -> Result<OtherNode, AllocError>
+        ensures { IfOk result (λ node. node ≡ self.now) }
+    {
+        let body = Vec::from_slice(alloc, &self.body)?;
+        Ok(OtherNode {
+            kind: self.kind,
+            sub: self.sub,
+            body,
+        })
+    }
+}

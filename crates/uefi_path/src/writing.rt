@@ -1,0 +1,147 @@
+//! Nodes and paths to bytes.
+
+ghost use Rattle.std.specs.Prelude.{◌≡◌, ◌<◌, ◌≤◌, ◌^◌, ◌++◌, length, map, OnOk, OnErr, SomeIff};
+ghost use Rattle.std.specs.List.{flat_map};
+ghost use Rattle.uefi_path.specs.Row.{header_bytes};
+ghost use Rattle.uefi_path.specs.Node.{row_of, node_bytes};
+ghost use Rattle.uefi_path.specs.Path.{path_bytes};
+ghost use Rattle.uefi_path.specs.Writing.{Extends};
+
+use crate::node::Node;
+use crate::path::Path;
+use crate::wire::{END, END_ENTIRE, END_INSTANCE, HEADER_LEN};
+use std::alloc::AllocError;
+
+/// The four bytes in front of a node's data.
+fn header(kind: u8, sub: u8, len: usize) -> [u8; 4]
+    requires { len ≤ 65535 }
+    ensures { result ≡ header_bytes kind sub len }
+{
+    let [low, high] = (len as u16).to_le_bytes();
+    [kind, sub, low, high]
+}
+
+/// Appends the fields of a node in their order. An `Err` may leave a part of them.
+fn append_fields(node: &Node, out: &mut Vec<u8>) -> Result<(), AllocError>
+    ensures ok { OnOk result (out.new.items ≡ out.old.items ++ (row_of node.now).body) }
+    ensures err { OnErr result (Extends out.old.items out.new.items) }
+{
+    match node {
+        Node::Pci { function, device } => {
+            out.extend_from_slice(&function.to_le_bytes())?;
+            out.extend_from_slice(&device.to_le_bytes())?;
+        }
+        Node::Acpi { hid, uid } => {
+            out.extend_from_slice(&hid.to_le_bytes())?;
+            out.extend_from_slice(&uid.to_le_bytes())?;
+        }
+        Node::Other(other) => out.extend_from_slice(other.body())?,
+    }
+    Ok(())
+}
+
+/// Appends a node. An `Err` may leave a part of it.
+fn append_node(node: &Node, out: &mut Vec<u8>) -> Result<(), AllocError>
+    ensures ok { OnOk result (out.new.items ≡ out.old.items ++ node_bytes node.now) }
+    ensures err { OnErr result (Extends out.old.items out.new.items) }
+{
+    let (kind, sub, len) = node.shape();
+    out.extend_from_slice(&header(kind, sub, HEADER_LEN + len))?;
+    append_fields(node, out)
+}
+
+/// Appends nodes one after the other. An `Err` may leave a part of them.
+fn append_nodes(nodes: &[Node], out: &mut Vec<u8>) -> Result<(), AllocError>
+    ensures ok { OnOk result (out.new.items ≡ out.old.items ++ flat_map node_bytes nodes.now) }
+    ensures err { OnErr result (Extends out.old.items out.new.items) }
+{
+    for node in nodes {
+        append_node(node, out)?;
+    }
+    Ok(())
+}
+
+/// Appends a path. An `Err` may leave a part of it.
+fn append_path(path: &Path, out: &mut Vec<u8>) -> Result<(), AllocError>
+    ensures ok { OnOk result (out.new.items ≡ out.old.items ++ path_bytes path.now) }
+    ensures err { OnErr result (Extends out.old.items out.new.items) }
+{
+    let mut instances = path.instances();
+    while let Some((nodes, others)) = instances.split_first() {
+        append_nodes(nodes, out)?;
+        let end = if others.is_empty() {
+            END_ENTIRE
+        } else {
+            END_INSTANCE
+        };
+        out.extend_from_slice(&header(END, end, HEADER_LEN))?;
+        instances = others;
+    }
+    Ok(())
+}
+
+/// Appends the spelling of a node, which is its type, its sub-type, its length in two bytes, little-endian, and
+/// its data (UEFI 2.10, 10.3.1).
+///
+/// # Errors
+///
+/// `AllocError` where memory was refused; `out` then has the bytes that it had.
+pub fn write_node(node: &Node, out: &mut Vec<u8>) -> Result<(), AllocError>
+    ensures ok { OnOk result (out.new.items ≡ out.old.items ++ node_bytes node.now) }
+    ensures err { OnErr result (out.new.items ≡ out.old.items) }
+{
+    let start = out.len();
+    let written = append_node(node, out);
+    if written.is_err() {
+        out.truncate(start);
+    }
+    written
+}
+
+/// Appends the spelling of a path: the nodes of each instance, and behind them the node that ends it, which for
+/// the last instance ends the whole path (UEFI 2.10, 10.3.1).
+///
+/// # Errors
+///
+/// `AllocError` where memory was refused; `out` then has the bytes that it had.
+pub fn write_path(path: &Path, out: &mut Vec<u8>) -> Result<(), AllocError>
+    ensures ok { OnOk result (out.new.items ≡ out.old.items ++ path_bytes path.now) }
+    ensures err { OnErr result (out.new.items ≡ out.old.items) }
+{
+    let start = out.len();
+    let written = append_path(path, out);
+    if written.is_err() {
+        out.truncate(start);
+    }
+    written
+}
+
+fn node_len(node: &Node) -> usize
+    ensures len { result ≡ length (node_bytes node.now) }
+    ensures bound { result ≤ 65535 }
+{
+    let (_, _, len) = node.shape();
+    HEADER_LEN + len
+}
+
+/// The bytes of some nodes, if `usize` can count them.
+fn nodes_len(nodes: &[Node]) -> Option<usize>
+    ensures { SomeIff result (length (flat_map node_bytes nodes.now) < 2 ^ 64) (length (flat_map node_bytes nodes.now)) }
+{
+    let mut len: usize = 0;
+    for node in nodes {
+        len = len.checked_add(node_len(node))?;
+    }
+    Some(len)
+}
+
+/// How many bytes the spelling of a path has: `None` where `usize` can't count them.
+pub fn path_len(path: &Path) -> Option<usize>
+    ensures { SomeIff result (length (path_bytes path.now) < 2 ^ 64) (length (path_bytes path.now)) }
+{
+    let mut len: usize = 0;
+    for nodes in path.instances() {
+        len = len.checked_add(nodes_len(nodes)?)?.checked_add(HEADER_LEN)?;
+    }
+    Some(len)
+}
