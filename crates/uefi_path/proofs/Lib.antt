@@ -6,3 +6,4 @@ pub mod Rows
 pub mod Faults
 pub mod Paths
 pub mod Reader
+pub mod Comparison

@@ -1,19 +1,19 @@
 -- Paths as rows, one more row of a path, and the one path of some bytes.
-use Rattle.std.proofs.Common.{◌≡◌, ℕ, cond, eqb, List, [], ◌∷◌, ◌++◌, length, map, drop, refl, sym, ap, ◌∙◌, inl, inr, append_assoc}
+use Rattle.std.proofs.Common.{◌≡◌, ℕ, cond, eqb, List, [], ◌∷◌, ◌++◌, length, map, drop, refl, sym, ap, ◌∙◌, inl, inr, append_assoc, arith}
 use Rattle.std.specs.List.{flat_map, AllByRecursion}
 use Rattle.std.proofs.lemmas.Bool.{ne_eqb}
 use Rattle.std.proofs.lemmas.List.{append-nil, map-append, take-append-drop, length-take-le}
 use Rattle.std.proofs.lemmas.List.Concat.{flat_map-append}
 use Rattle.uefi_path.specs.declared.node.Node.{Node}
 use Rattle.uefi_path.specs.declared.fault.PathFault.{PathFault}
-use Rattle.uefi_path.specs.Row.{Row, row_bytes, end_instance, end_entire}
+use Rattle.uefi_path.specs.Row.{Row, IsByte, IsRow, row_bytes, end_instance, end_entire}
 use Rattle.uefi_path.specs.Node.{row_of, node_bytes, IsNode}
 use Rattle.uefi_path.specs.Path.{IsPath, IsPathFront, separator, path_bytes, path_rows}
 use Rattle.uefi_path.specs.Fault.{IsInner, IsFirstFault}
 use Rattle.uefi_path.specs.Reading.{node_of}
 use Rattle.uefi_path.proofs.Bytes.{AllByRecursion-append}
 use Rattle.uefi_path.proofs.Table.{node_of-row_of, row_of_is_row}
-use Rattle.uefi_path.proofs.Rows.{same_rows, entire_stops, instance_is_row, same_parts}
+use Rattle.uefi_path.proofs.Rows.{same_rows, entire_stops, entire_is_row, instance_is_row, same_parts}
 use Rattle.uefi_path.proofs.Faults.{first_fault_stops, no_fault_at_end}
 
 -- ---- the bytes of a path are those of its rows, and of the end of the whole path
@@ -97,11 +97,13 @@ instances_of-path_rows nodes (more ∷ others) valid =
 
 -- ---- the one path of some bytes
 
--- the path is not empty
+pub path_bytes_of_rows : (instances : List (List Node)) → IsPath instances → path_bytes instances ≡ flat_map row_bytes (path_rows instances) ++ row_bytes end_entire
+path_bytes_of_rows [] is = absurd (is.some refl)
+path_bytes_of_rows (nodes ∷ others) is = path_bytes-rows nodes others
+
 pub rows_of_path : (instances : List (List Node)) (behind : List ℕ) → IsPath instances → path_bytes instances ++ behind ≡ flat_map row_bytes (path_rows instances) ++ (row_bytes end_entire ++ behind)
-rows_of_path [] behind is = absurd (is.some refl)
-rows_of_path (nodes ∷ others) behind is =
-    ap (λ (t : List ℕ). t ++ behind) (path_bytes-rows nodes others) ∙ append_assoc (flat_map row_bytes (path_rows (nodes ∷ others))) (row_bytes end_entire) behind
+rows_of_path instances behind is =
+    ap (λ (t : List ℕ). t ++ behind) (path_bytes_of_rows instances is) ∙ append_assoc (flat_map row_bytes (path_rows instances)) (row_bytes end_entire) behind
 
 same_instances : (p q : List (List Node)) → IsPath p → IsPath q → path_rows p ≡ path_rows q → p ≡ q
 same_instances [] q is-p is-q e = absurd (is-p.some refl)
@@ -137,3 +139,18 @@ same_front input p q m n first second =
 
 pub no_fault_at_front : (input : List ℕ) (f : PathFault) (p : List (List Node)) (n : ℕ) → IsPathFront input p n → IsFirstFault input f → ⊥
 no_fault_at_front input f p n front first = no_fault_before input f p (drop n input) front.path (front_splits input p n front) first
+
+-- ---- the bytes of a path are bytes
+
+row_bytes_are_bytes : (r : Row) → IsRow r → AllByRecursion IsByte (row_bytes r)
+row_bytes_are_bytes r is = (is.kind, (is.sub, (omega arith, (omega arith, is.body))))
+
+rows_are_bytes : (rows : List Row) → AllByRecursion IsInner rows → AllByRecursion IsByte (flat_map row_bytes rows)
+rows_are_bytes [] inner = tt
+rows_are_bytes (r ∷ rows) inner = AllByRecursion-append IsByte (row_bytes r) (flat_map row_bytes rows) (row_bytes_are_bytes r inner.0.row) (rows_are_bytes rows inner.1)
+
+pub path_bytes_are_bytes : (path : List (List Node)) → IsPath path → AllByRecursion IsByte (path_bytes path)
+path_bytes_are_bytes path is =
+    let rows = path_rows path in
+    let whole : path_bytes path ≡ flat_map row_bytes rows ++ row_bytes end_entire = path_bytes_of_rows path is in
+    rw whole (AllByRecursion-append IsByte (flat_map row_bytes rows) (row_bytes end_entire) (rows_are_bytes rows (path_rows_are_inner path is.nodes)) (row_bytes_are_bytes end_entire entire_is_row))

@@ -6,7 +6,7 @@ use Rattle.std.proofs.lemmas.Bool.{eqb-true, eq-eqb, and_parts, cond_both, false
 use Rattle.uefi_path.specs.declared.node.Node.{Node}
 use Rattle.uefi_path.specs.declared.node.Node.TheVariants.{Pci, Acpi, Other}
 use Rattle.uefi_path.specs.Row.{Row, row, IsRow, IsListed, pci, acpi}
-use Rattle.uefi_path.specs.Node.{row_of, IsNode}
+use Rattle.uefi_path.specs.Node.{row_of, IsNode, IsKept, HasTypedNode}
 use Rattle.uefi_path.specs.Reading.{has_shape, number_at, fixed_node_of, node_of}
 use Rattle.uefi_path.proofs.Bytes.{bytes_from_recursion}
 use Rattle.uefi_path.proofs.Numbers.{wide_8, wide_32, no_field, then_field, no_bytes, then_bytes, number_below}
@@ -32,6 +32,7 @@ pub record IsTyped (r : Row) (node : Node) : Type 0 where
   pub listed : IsListed r
   pub valid : IsNode node
   pub same : row_of node ≡ r
+  pub own : ¬ IsKept node
 
 pci_typed : (r : Row) → IsRow r → HasShape 1 1 2 r → IsTyped r (Pci (number_at w8 0 r.body) (number_at w8 1 r.body))
 pci_typed r is shape =
@@ -42,6 +43,7 @@ pci_typed r is shape =
       listed = subst IsListed (row_is r 1 1 2 r.body shape refl) (pci long);
       valid = (number_below w8 _ wide_8 0 r.body fits, number_below w8 _ wide_8 1 r.body fits);
       same = row_is r 1 1 2 _ shape fields.are;
+      own = λ kept. let e = kept.1 in cc;
     }
 
 acpi_typed : (r : Row) → IsRow r → HasShape 2 1 8 r → IsTyped r (Acpi (number_at w32 0 r.body) (number_at w32 4 r.body))
@@ -53,6 +55,7 @@ acpi_typed r is shape =
       listed = subst IsListed (row_is r 2 1 8 r.body shape refl) (acpi long);
       valid = (number_below w32 _ wide_32 0 r.body fits, number_below w32 _ wide_32 4 r.body fits);
       same = row_is r 2 1 8 _ shape fields.are;
+      own = λ kept. let e = kept.1 in cc;
     }
 
 -- what the inverse finds has the row
@@ -103,3 +106,18 @@ row_of_is_row (Acpi hid uid) valid =
     let fields = then_bytes w32 _ wide_32 hid (then_bytes w32 _ wide_32 uid no_bytes) in
     (record { kind = omega arith; sub = omega arith; body = fields.bytes; len = omega arith }, omega arith)
 row_of_is_row (Other other) valid = (valid.0, valid.1.no_end)
+
+-- ---- the listed rows
+
+-- what the inverse finds has a case of its own
+found_typed : (r : Row) (found : Option Node) → IfSome found (IsTyped r) → IsSome found → HasTypedNode r
+found_typed r None typed some = absurd (false≢true some)
+found_typed r (Some node) typed some = (node, typed.valid, typed.same, typed.own)
+
+pub typed_from_listed : (r : Row) → IsRow r → IsListed r → HasTypedNode r
+typed_from_listed r is listed = found_typed r (fixed_node_of r) (fixed_node_typed r is) (fixed_node_listed r listed)
+
+pub listed_from_typed : (r : Row) (node : Node) → row_of node ≡ r → ¬ IsKept node → IsListed r
+listed_from_typed r (Pci function device) same own = subst IsListed same (pci refl)
+listed_from_typed r (Acpi hid uid) same own = subst IsListed same (acpi refl)
+listed_from_typed r (Other other) same own = absurd (own (other, refl))

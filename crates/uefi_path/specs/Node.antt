@@ -1,5 +1,5 @@
 -- The table of nodes (UEFI 2.10, 10.3): the row of each node, and which nodes there are.
-use Rattle.std.specs.Prelude.{ℕ, ◌^◌, ◌<◌, List, [], ◌∷◌}
+use Rattle.std.specs.Prelude.{◌≡◌, ℕ, ◌^◌, ◌<◌, List, [], ◌∷◌}
 use Rattle.std.specs.List.{concat}
 use Rattle.std.specs.Int.{w8, w32, to_le_bytes}
 use Rattle.uefi_path.specs.declared.node.Node.{Node}
@@ -21,3 +21,15 @@ IsNode (Other other) = IsRow other × IsUnlisted other
 -- the spelling of a node
 abbrev pub node_bytes : Node → List ℕ
 node_bytes node = row_bytes (row_of node)
+
+-- the bytes spell the node
+abbrev pub SpellsNode : Node → List ℕ → Type 0
+SpellsNode node bytes = IsNode node × (bytes ≡ node_bytes node)
+
+-- the node is kept as bytes, and has no case of its own
+abbrev pub IsKept : Node → Type 0
+IsKept node = (other : Row) × (node ≡ Other other)
+
+-- some node with a case of its own has the row
+abbrev pub HasTypedNode : Row → Type 0
+HasTypedNode r = (node : Node) × IsNode node × (row_of node ≡ r) × (¬ IsKept node)

@@ -20,6 +20,10 @@ abbrev pub path_bytes : List (List Node) → List ℕ
 path_bytes [] = []
 path_bytes (nodes ∷ others) = flat_map node_bytes nodes ++ (row_bytes (end_before others) ++ path_bytes others)
 
+-- the bytes spell the path
+abbrev pub SpellsPath : List (List Node) → List ℕ → Type 0
+SpellsPath instances bytes = IsPath instances × (bytes ≡ path_bytes instances)
+
 -- what parts an instance from those that follow it
 abbrev pub separator : List (List Node) → List Row
 separator [] = []

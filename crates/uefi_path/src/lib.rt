@@ -7,6 +7,7 @@
 
 mod fault;
 mod guid;
+pub mod laws;
 mod node;
 mod other;
 mod path;

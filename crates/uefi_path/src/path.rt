@@ -23,12 +23,47 @@ impl Model for Path {
     ghost invariant = { λ path. path.instances.items ≢ [] };
 }
 
+impl PartialEq for Path {
+    ghost use Rattle.std.specs.Prelude.{◌≡◌, ◌↔◌, IsTrue};
+    ghost use Rattle.std.specs.Cmp.Lexicographic.{lists_per, pointwise};
+    ghost use Rattle.uefi_path.specs.contracts.node.NodePartialEq.TheImpl.Laws.{laws-law};
+
+    ghost eq = { pointwise (pointwise ⟦<Node as PartialEq>⟧.eq) };
+
+    ghost laws = { lists_per (lists_per laws-law) };
+
+    fn eq(&self, other: &Path) -> bool
+        ensures value { result ≡ pointwise (pointwise ⟦<Node as PartialEq>⟧.eq) self.now other.now }
+        ensures equal { IsTrue result ↔ (self.now ≡ other.now) }
+    {
+        self.instances == other.instances
+    }
+}
+
+impl Eq for Path {
+    ghost use Rattle.std.proofs.lemmas.Cmp.{lists_equiv};
+    ghost use Rattle.uefi_path.specs.contracts.node.NodeEq.TheImpl.Laws.{laws-law};
+
+    ghost laws = { lists_equiv (lists_equiv laws-law) };
+}
+
 impl Path {
     pub(crate) fn from_instances(instances: Vec<Vec<Node>>) -> Path
         requires { instances.items ≢ [] }
         ensures { result ≡ map (λ nodes. nodes.items) instances.items }
     {
         Path { instances }
+    }
+
+    /// An equal path. The one refusal is for want of memory.
+    pub fn copy(&self, alloc: Global) -> Result<Path, AllocError>
+        ensures { IfOk result (λ path. path ≡ self.now) }
+    {
+        let mut instances = Vec::with_capacity(alloc, self.instances.len())?;
+        for nodes in &self.instances {
+            instances.push(copy_nodes(alloc, nodes)?)?;
+        }
+        Ok(Path { instances })
     }
 
     /// The instances, in order.
@@ -49,4 +84,14 @@ pub fn make_path(instances: Vec<Vec<Node>>) -> Result<Path, Vec<Vec<Node>>>
         return Err(instances);
     }
     Ok(Path::from_instances(instances))
+}
+
+fn copy_nodes(alloc: Global, nodes: &[Node]) -> Result<Vec<Node>, AllocError>
+    ensures { IfOk result (λ copies. copies.items ≡ nodes.now) }
+{
+    let mut copies = Vec::with_capacity(alloc, nodes.len())?;
+    for node in nodes {
+        copies.push(node.copy(alloc)?)?;
+    }
+    Ok(copies)
 }
