@@ -22,3 +22,6 @@ pub use other::OtherNode;
 pub use path::{Path, make_path};
 pub use reading::{node_from_parts, read_path};
 pub use writing::{path_len, write_node, write_path};
+
+#[cfg(test)]
+mod tests;
