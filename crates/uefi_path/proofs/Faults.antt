@@ -14,7 +14,7 @@ use Rattle.uefi_path.proofs.Rows.{same_header, same_rows, entire_is_row, Stops}
 -- the length that a header states, and that there are its four bytes
 header_len : (rest : List ℕ) (kind sub len : ℕ) → HasHeader rest kind sub len → (from_le_bytes w16 (drop 2 rest) ≡ len) × (4 ≤ length rest)
 header_len rest kind sub len header =
-    let stated : from_le_bytes w16 (drop 2 rest) ≡ len = ap (λ (b : List ℕ). from_le_bytes w16 (drop 2 b)) header.is ∙ again_16 len header.behind header.states in
+    let stated : from_le_bytes w16 (drop 2 rest) ≡ len = ap (λ (b : List ℕ). from_le_bytes w16 (drop 2 b)) header.is ∙ again_16 len header.behind header.two_bytes in
     let size : length rest ≡ 4 + length header.behind = ap length header.is ∙ omega arith in
     (stated, omega arith)
 
@@ -61,7 +61,7 @@ fault_is OutOfMemory offset rest h = absurd h
 -- the header of a row
 row_header : (r : Row) (behind rest : List ℕ) (kind sub len : ℕ) → IsRow r → HasHeader rest kind sub len → rest ≡ row_bytes r ++ behind → (kind ≡ r.kind) × (sub ≡ r.sub) × (len ≡ 4 + length r.body) × (length rest ≡ 4 + (length r.body + length behind))
 row_header r behind rest kind sub len is header e =
-    let same = same_header kind sub len r.kind r.sub (4 + length r.body) header.behind (r.body ++ behind) header.states (omega (arith, is.len)) (sym header.is ∙ e) in
+    let same = same_header kind sub len r.kind r.sub (4 + length r.body) header.behind (r.body ++ behind) header.two_bytes (omega (arith, is.len)) (sym header.is ∙ e) in
     (same.kind, same.sub, same.len, ap length e ∙ omega (arith, length-append r.body behind))
 
 -- where there is a fault no row begins
@@ -81,7 +81,7 @@ fault_stops (PastEnd at) offset rest (at-is, kind, sub, len, header, least, past
     omega (arith, stated.2, stated.3)
 fault_stops (BadEnd at) offset rest (at-is, sub, len, header, least, within, no_end) r behind inner e =
     let stated = row_header r behind rest 127 sub len inner.row header e in
-    elim inner.inner [
+    elim inner.no_end [
       | inl other ↦ other (sym stated.0)
       | inr ends ↦ no_end (inl (stated.1 ∙ ap (λ (q : Row). q.sub) ends), stated.2 ∙ ap (λ (q : Row). 4 + length q.body) ends)
     ]

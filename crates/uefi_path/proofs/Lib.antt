@@ -7,3 +7,4 @@ pub mod Faults
 pub mod Paths
 pub mod Reader
 pub mod Comparison
+pub mod Whole

@@ -9,7 +9,7 @@ use Rattle.uefi_path.specs.declared.fault.PathFault.{PathFault}
 use Rattle.uefi_path.specs.Row.{Row, IsByte, IsRow, row_bytes, end_instance, end_entire}
 use Rattle.uefi_path.specs.Node.{row_of, node_bytes, IsNode}
 use Rattle.uefi_path.specs.Path.{IsPath, IsPathFront, separator, path_bytes, path_rows}
-use Rattle.uefi_path.specs.Fault.{IsInner, IsFirstFault}
+use Rattle.uefi_path.specs.Fault.{IsBeforeEnd, IsFirstFault}
 use Rattle.uefi_path.specs.Reading.{node_of}
 use Rattle.uefi_path.proofs.Bytes.{AllByRecursion-append}
 use Rattle.uefi_path.proofs.Table.{node_of-row_of, row_of_is_row}
@@ -54,22 +54,22 @@ path_rows_instance (i ∷ instances) nodes =
 
 -- ---- rows that stand before the end
 
-pub node_is_inner : (node : Node) → IsNode node → IsInner (row_of node)
-node_is_inner node valid = let is = row_of_is_row node valid in record { row = is.0; inner = inl is.1 }
+pub node_is_inner : (node : Node) → IsNode node → IsBeforeEnd (row_of node)
+node_is_inner node valid = let is = row_of_is_row node valid in record { row = is.0; no_end = inl is.1 }
 
-nodes_are_inner : (nodes : List Node) → AllByRecursion IsNode nodes → AllByRecursion IsInner (map row_of nodes)
+nodes_are_inner : (nodes : List Node) → AllByRecursion IsNode nodes → AllByRecursion IsBeforeEnd (map row_of nodes)
 nodes_are_inner [] valid = tt
 nodes_are_inner (node ∷ nodes) valid = (node_is_inner node valid.0, nodes_are_inner nodes valid.1)
 
-separator_is_inner : (others : List (List Node)) → AllByRecursion IsInner (separator others)
+separator_is_inner : (others : List (List Node)) → AllByRecursion IsBeforeEnd (separator others)
 separator_is_inner [] = tt
-separator_is_inner (_ ∷ _) = (record { row = instance_is_row; inner = inr refl }, tt)
+separator_is_inner (_ ∷ _) = (record { row = instance_is_row; no_end = inr refl }, tt)
 
-pub path_rows_are_inner : (instances : List (List Node)) → AllByRecursion (AllByRecursion IsNode) instances → AllByRecursion IsInner (path_rows instances)
+pub path_rows_are_inner : (instances : List (List Node)) → AllByRecursion (AllByRecursion IsNode) instances → AllByRecursion IsBeforeEnd (path_rows instances)
 path_rows_are_inner [] valid = tt
 path_rows_are_inner (nodes ∷ others) valid =
-    AllByRecursion-append IsInner (map row_of nodes) (separator others ++ path_rows others) (nodes_are_inner nodes valid.0)
-    (AllByRecursion-append IsInner (separator others) (path_rows others) (separator_is_inner others) (path_rows_are_inner others valid.1))
+    AllByRecursion-append IsBeforeEnd (map row_of nodes) (separator others ++ path_rows others) (nodes_are_inner nodes valid.0)
+    (AllByRecursion-append IsBeforeEnd (separator others) (path_rows others) (separator_is_inner others) (path_rows_are_inner others valid.1))
 
 -- ---- the path of its rows
 
@@ -127,25 +127,25 @@ no_fault_before input f p behind is e first =
 -- ---- fronts of the input
 
 front_splits : (input : List ℕ) (p : List (List Node)) (n : ℕ) → IsPathFront input p n → input ≡ path_bytes p ++ drop n input
-front_splits input p n front = sym (take-append-drop n input) ∙ ap (λ (t : List ℕ). t ++ drop n input) front.spelled
+front_splits input p n front = sym (take-append-drop n input) ∙ ap (λ (t : List ℕ). t ++ drop n input) front.spelled.1
 
 front_len : (input : List ℕ) (p : List (List Node)) (n : ℕ) → IsPathFront input p n → n ≡ length (path_bytes p)
-front_len input p n front = sym (length-take-le n input front.within) ∙ ap length front.spelled
+front_len input p n front = sym (length-take-le n input front.within) ∙ ap length front.spelled.1
 
 pub same_front : (input : List ℕ) (p q : List (List Node)) (m n : ℕ) → IsPathFront input p m → IsPathFront input q n → (p ≡ q) × (m ≡ n)
 same_front input p q m n first second =
-    let same = same_path p q (drop m input) (drop n input) first.path second.path (sym (front_splits input p m first) ∙ front_splits input q n second) in
+    let same = same_path p q (drop m input) (drop n input) first.spelled.0 second.spelled.0 (sym (front_splits input p m first) ∙ front_splits input q n second) in
     (same.0, front_len input p m first ∙ ap (λ (r : List (List Node)). length (path_bytes r)) same.0 ∙ sym (front_len input q n second))
 
 pub no_fault_at_front : (input : List ℕ) (f : PathFault) (p : List (List Node)) (n : ℕ) → IsPathFront input p n → IsFirstFault input f → ⊥
-no_fault_at_front input f p n front first = no_fault_before input f p (drop n input) front.path (front_splits input p n front) first
+no_fault_at_front input f p n front first = no_fault_before input f p (drop n input) front.spelled.0 (front_splits input p n front) first
 
 -- ---- the bytes of a path are bytes
 
 row_bytes_are_bytes : (r : Row) → IsRow r → AllByRecursion IsByte (row_bytes r)
 row_bytes_are_bytes r is = (is.kind, (is.sub, (omega arith, (omega arith, is.body))))
 
-rows_are_bytes : (rows : List Row) → AllByRecursion IsInner rows → AllByRecursion IsByte (flat_map row_bytes rows)
+rows_are_bytes : (rows : List Row) → AllByRecursion IsBeforeEnd rows → AllByRecursion IsByte (flat_map row_bytes rows)
 rows_are_bytes [] inner = tt
 rows_are_bytes (r ∷ rows) inner = AllByRecursion-append IsByte (row_bytes r) (flat_map row_bytes rows) (row_bytes_are_bytes r inner.0.row) (rows_are_bytes rows inner.1)
 

@@ -82,7 +82,7 @@ whole_path bytes instances nodes rest behind r read split kind sub =
     let front = flat_map row_bytes (path_rows path) in
     let whole : bytes ≡ path_bytes path ++ behind = read.parts ∙ ap (λ (t : List ℕ). front ++ t) (split.parts ∙ ap (λ (q : Row). row_bytes q ++ behind) ends) ∙ sym (rows_of_path path behind is) in
     let size : length bytes ≡ length (path_bytes path) + length behind = ap length whole ∙ length-append (path_bytes path) behind in
-    record { path = is; within = omega arith; spelled = ap (take (length bytes - length behind)) whole ∙ take_at (path_bytes path) behind (length bytes - length behind) (omega arith) }
+    record { within = omega arith; spelled = (is, ap (take (length bytes - length behind)) whole ∙ take_at (path_bytes path) behind (length bytes - length behind) (omega arith)) }
 
 pub fault_read : (bytes : List ℕ) (instances : List (List Node)) (nodes : List Node) (rest : List ℕ) (fault : PathFault) → HasRead bytes instances nodes rest → IsFaultAt fault (length bytes - length rest) rest → IsFirstFault bytes fault
 fault_read bytes instances nodes rest fault read at =

@@ -3,7 +3,7 @@ use Rattle.std.proofs.Common.{◌≡◌, ℕ, ◌+◌, ◌<◌, ◌^◌, List, [
 use Rattle.std.specs.Int.{w16, to_le_bytes, from_le_bytes}
 use Rattle.std.specs.List.{flat_map, AllByRecursion}
 use Rattle.uefi_path.specs.Row.{Row, row, IsRow, header_bytes, row_bytes, end_instance, end_entire}
-use Rattle.uefi_path.specs.Fault.{IsInner}
+use Rattle.uefi_path.specs.Fault.{IsBeforeEnd}
 use Rattle.uefi_path.proofs.Numbers.{again_16}
 
 -- lists of one length in front of two lists that are one
@@ -40,9 +40,9 @@ same_row r s x y is-r is-s e =
 
 -- no row that may stand before the end of a path begins here
 abbrev pub Stops : List ℕ → Type 0
-Stops rest = (r : Row) (behind : List ℕ) → IsInner r → rest ≡ row_bytes r ++ behind → ⊥
+Stops rest = (r : Row) (behind : List ℕ) → IsBeforeEnd r → rest ≡ row_bytes r ++ behind → ⊥
 
-pub same_rows : (rs ss : List Row) (x y : List ℕ) → AllByRecursion IsInner rs → AllByRecursion IsInner ss → Stops x → Stops y → flat_map row_bytes rs ++ x ≡ flat_map row_bytes ss ++ y → (rs ≡ ss) × (x ≡ y)
+pub same_rows : (rs ss : List Row) (x y : List ℕ) → AllByRecursion IsBeforeEnd rs → AllByRecursion IsBeforeEnd ss → Stops x → Stops y → flat_map row_bytes rs ++ x ≡ flat_map row_bytes ss ++ y → (rs ≡ ss) × (x ≡ y)
 same_rows [] [] x y inner-r inner-s stops-x stops-y e = (refl, e)
 same_rows [] (s ∷ ss) x y inner-r inner-s stops-x stops-y e =
     absurd (stops-x s (flat_map row_bytes ss ++ y) inner-s.0 (e ∙ append_assoc (row_bytes s) (flat_map row_bytes ss) y))
@@ -64,7 +64,7 @@ instance_is_row = record { kind = omega arith; sub = omega arith; body = tt; len
 pub entire_stops : (behind : List ℕ) → Stops (row_bytes end_entire ++ behind)
 entire_stops behind r more inner e =
     let same : end_entire ≡ r = (same_row end_entire r behind more entire_is_row inner.row e).0 in
-    elim inner.inner [
+    elim inner.no_end [
       | inl no_end ↦ no_end (ap (λ (q : Row). q.kind) (sym same))
       | inr ends ↦ let bad : ◌≡◌ {A = ℕ} 255 1 = ap (λ (q : Row). q.sub) (same ∙ ends) in absurd (omega arith)
     ]

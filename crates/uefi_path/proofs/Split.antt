@@ -3,10 +3,13 @@ use Rattle.std.proofs.Common.{◌≡◌, ◌≢◌, ◌⊎◌, ℕ, zero, suc, �
 use Rattle.std.specs.Int.{w16, to_le_bytes, from_le_bytes}
 use Rattle.std.specs.List.{AllByRecursion}
 use Rattle.std.proofs.lemmas.List.{take-append-drop, length-take, length-drop, drop-drop, drop-take, take_all, nil_from_length}
+use Rattle.std.proofs.lemmas.Bool.{cases_eq}
 use Rattle.std.proofs.lemmas.Nat.{le_bytes_2}
 use Rattle.uefi_path.specs.Row.{row, IsByte, header_bytes, row_bytes, end_instance, end_entire}
-use Rattle.uefi_path.specs.Fault.{HasHeader, IsEnd}
-use Rattle.uefi_path.specs.Reading.{SplitsRow}
+use Rattle.uefi_path.specs.declared.fault.PathFault.{PathFault}
+use Rattle.uefi_path.specs.declared.fault.PathFault.TheVariants.{NoEnd, ShortHeader, BadLength, PastEnd, BadEnd, OutOfMemory}
+use Rattle.uefi_path.specs.Fault.{HasHeader, IsEnd, IsFaultAt}
+use Rattle.uefi_path.specs.Reading.{IsHeader, IsHeaderFault, SplitsRow}
 use Rattle.uefi_path.proofs.Bytes.{IsBytes, recursion_from_bytes, AllByRecursion-first}
 
 two_bytes : (low high : ℕ) → low < 256 → high < 256 → IsBytes (low ∷ high ∷ [])
@@ -24,7 +27,7 @@ header_of_bytes (a ∷ b ∷ c ∷ d ∷ rest) len long fits is =
     let spelled : to_le_bytes w16 len ≡ c ∷ d ∷ [] = le_bytes_2 (c ∷ d ∷ []) len refl (two_bytes c d (fits 2) (fits 3)) is in
     record {
       behind = rest;
-      states = rw is (omega (arith, fits 2, fits 3));
+      two_bytes = rw is (omega (arith, fits 2, fits 3));
       is = ap (λ (t : List ℕ). (a ∷ b ∷ t) ++ rest) (sym spelled);
     }
 
@@ -40,11 +43,15 @@ parts_of_header bytes kind sub len body header least within body-is =
     (whole ∙ ap (λ (n : ℕ). header_bytes kind sub n ++ (body ++ drop len bytes)) (sym size), size)
 
 -- which rows there are of a type, where the end nodes alone have type 0x7F
-ends_of : (kind sub : ℕ) (body : List ℕ) (len : ℕ) → 4 + length body ≡ len → (kind ≢ 127) ⊎ ((kind ≡ 127) × IsEnd sub len) → (kind ≢ 127) ⊎ ((row kind sub body ≡ end_instance) ⊎ (row kind sub body ≡ end_entire))
-ends_of kind sub body len size (inl other) = inl other
-ends_of kind sub body len size (inr (kind-is, (sub-is, len-is))) =
-    let empty : body ≡ [] = nil_from_length body (omega arith) in
-    elim sub-is [ inl one ↦ inr (inl (cc)) | inr all ↦ inr (inr (cc)) ]
+ends_of : (kind sub : ℕ) (body : List ℕ) (len : ℕ) → 4 + length body ≡ len → (kind ≡ 127 → IsEnd sub len) → (kind ≢ 127) ⊎ ((row kind sub body ≡ end_instance) ⊎ (row kind sub body ≡ end_entire))
+ends_of kind sub body len size ends =
+    elim (cases_eq kind 127) [
+      | inl same ↦
+          let end = ends same in
+          let empty : body ≡ [] = nil_from_length body (omega (arith, end.1)) in
+          elim end.0 [ inl one ↦ inr (inl (cc)) | inr all ↦ inr (inr (cc)) ]
+      | inr other ↦ inl other
+    ]
 
 -- the data of the node whose bytes are the front of some bytes
 data_of_front : (bytes node : List ℕ) (len : ℕ) → 4 ≤ len → len ≤ length bytes → node ≡ take len bytes → take (length node - 4) (drop 4 node) ≡ take (len - 4) (drop 4 bytes)
@@ -53,16 +60,25 @@ data_of_front bytes node len least within is =
     let cut : drop 4 node ≡ take (len - 4) (drop 4 bytes) = ap (drop 4) (is ∙ ap (λ (n : ℕ). take n bytes) (omega arith)) ∙ drop-take 4 (len - 4) bytes in
     rw (size, cut) (take_all (len - 4) (take (len - 4) (drop 4 bytes)) (omega (arith, length-take (len - 4) (drop 4 bytes))))
 
-pub splits_row : (bytes : List ℕ) (kind sub len : ℕ) (node rest : List ℕ) → IsBytes bytes → kind < 256 → sub < 256 → HasHeader bytes kind sub len → 4 ≤ len → len ≤ length bytes
-    → node ≡ take len bytes → rest ≡ drop len bytes → (kind ≢ 127) ⊎ ((kind ≡ 127) × IsEnd sub len)
-    → SplitsRow bytes (row kind sub (take (length node - 4) (drop 4 node))) rest
-splits_row bytes kind sub len node rest fits kind-fits sub-fits header least within front back ends =
+pub splits_row : (bytes : List ℕ) (kind sub len : ℕ) (node rest : List ℕ) → IsBytes bytes → kind < 256 → sub < 256 → HasHeader bytes kind sub len → IsHeader kind sub len (length bytes)
+    → node ≡ take len bytes → rest ≡ drop len bytes → SplitsRow bytes (row kind sub (take (length node - 4) (drop 4 node))) rest
+splits_row bytes kind sub len node rest fits kind-fits sub-fits header is front back =
     let body = take (length node - 4) (drop 4 node) in
-    let parts = parts_of_header bytes kind sub len body header least within (data_of_front bytes node len least within front) in
+    let parts = parts_of_header bytes kind sub len body header is.least is.within (data_of_front bytes node len is.least is.within front) in
     let all : AllByRecursion IsByte (row_bytes (row kind sub body) ++ drop len bytes) = subst (AllByRecursion IsByte) parts.0 (recursion_from_bytes bytes fits) in
     let data-fits : AllByRecursion IsByte body = AllByRecursion-first IsByte body (drop len bytes) all.1.1.1.1 in
     record {
       parts = rw back parts.0;
-      row = record { kind = kind-fits; sub = sub-fits; body = data-fits; len = omega (arith, header.states, parts.1) };
-      ends = ends_of kind sub body len parts.1 ends;
+      row = record { kind = kind-fits; sub = sub-fits; body = data-fits; len = omega (arith, header.two_bytes, parts.1) };
+      ends = ends_of kind sub body len parts.1 is.ends;
     }
+
+-- the fault of a header is the fault of the bytes that begin with it
+pub fault_of_header : (fault : PathFault) (bytes : List ℕ) (kind sub len offset : ℕ) → HasHeader bytes kind sub len → IsHeaderFault fault kind sub len (length bytes) offset → IsFaultAt fault offset bytes
+fault_of_header (NoEnd at) bytes kind sub len offset header h = absurd h
+fault_of_header (ShortHeader at) bytes kind sub len offset header h = absurd h
+fault_of_header (BadLength at) bytes kind sub len offset header (at-is, below) = (at-is, kind, sub, len, header, below)
+fault_of_header (PastEnd at) bytes kind sub len offset header (at-is, least, past) = (at-is, kind, sub, len, header, least, past)
+fault_of_header (BadEnd at) bytes kind sub len offset header (at-is, kind-is, least, within, no_end) =
+    (at-is, sub, len, rw kind-is at header, least, within, no_end)
+fault_of_header OutOfMemory bytes kind sub len offset header h = absurd h

@@ -6,8 +6,8 @@ use Rattle.std.proofs.lemmas.Bool.{eqb-true, eq-eqb, and_parts, cond_both, false
 use Rattle.uefi_path.specs.declared.node.Node.{Node}
 use Rattle.uefi_path.specs.declared.node.Node.TheVariants.{Pci, Acpi, Other}
 use Rattle.uefi_path.specs.Row.{Row, row, IsRow, IsListed, pci, acpi}
-use Rattle.uefi_path.specs.Node.{row_of, IsNode, IsKept, HasTypedNode}
-use Rattle.uefi_path.specs.Reading.{has_shape, number_at, fixed_node_of, node_of}
+use Rattle.uefi_path.specs.Node.{row_of, IsNode, IsTyped, HasTypedNode}
+use Rattle.uefi_path.specs.Reading.{has_shape, number_at, typed_node_of, node_of}
 use Rattle.uefi_path.proofs.Bytes.{bytes_from_recursion}
 use Rattle.uefi_path.proofs.Numbers.{wide_8, wide_32, no_field, then_field, no_bytes, then_bytes, number_below}
 
@@ -28,13 +28,13 @@ row_is r kind sub len body shape e =
     ap (λ (k : ℕ). row k sub body) (sym shape.kind-is) ∙ ap (λ (s : ℕ). row r.kind s body) (sym shape.sub-is) ∙ ap (λ (b : List ℕ). row r.kind r.sub b) (sym e)
 
 -- a node with a case of its own, its numbers in their ranges, that has the row
-pub record IsTyped (r : Row) (node : Node) : Type 0 where
+pub record IsFound (r : Row) (node : Node) : Type 0 where
   pub listed : IsListed r
   pub valid : IsNode node
   pub same : row_of node ≡ r
-  pub own : ¬ IsKept node
+  pub own : IsTyped node
 
-pci_typed : (r : Row) → IsRow r → HasShape 1 1 2 r → IsTyped r (Pci (number_at w8 0 r.body) (number_at w8 1 r.body))
+pci_typed : (r : Row) → IsRow r → HasShape 1 1 2 r → IsFound r (Pci (number_at w8 0 r.body) (number_at w8 1 r.body))
 pci_typed r is shape =
     let fits = bytes_from_recursion r.body is.body in
     let long : length r.body ≡ 2 = shape.len-is in
@@ -43,10 +43,10 @@ pci_typed r is shape =
       listed = subst IsListed (row_is r 1 1 2 r.body shape refl) (pci long);
       valid = (number_below w8 _ wide_8 0 r.body fits, number_below w8 _ wide_8 1 r.body fits);
       same = row_is r 1 1 2 _ shape fields.are;
-      own = λ kept. let e = kept.1 in cc;
+      own = tt;
     }
 
-acpi_typed : (r : Row) → IsRow r → HasShape 2 1 8 r → IsTyped r (Acpi (number_at w32 0 r.body) (number_at w32 4 r.body))
+acpi_typed : (r : Row) → IsRow r → HasShape 2 1 8 r → IsFound r (Acpi (number_at w32 0 r.body) (number_at w32 4 r.body))
 acpi_typed r is shape =
     let fits = bytes_from_recursion r.body is.body in
     let long : length r.body ≡ 8 = shape.len-is in
@@ -55,32 +55,32 @@ acpi_typed r is shape =
       listed = subst IsListed (row_is r 2 1 8 r.body shape refl) (acpi long);
       valid = (number_below w32 _ wide_32 0 r.body fits, number_below w32 _ wide_32 4 r.body fits);
       same = row_is r 2 1 8 _ shape fields.are;
-      own = λ kept. let e = kept.1 in cc;
+      own = tt;
     }
 
 -- what the inverse finds has the row
-pub fixed_node_typed : (r : Row) → IsRow r → IfSome (fixed_node_of r) (IsTyped r)
-fixed_node_typed r is =
-    let P : Option Node → Type 0 = λ found. IfSome found (IsTyped r) in
+pub typed_node_found : (r : Row) → IsRow r → IfSome (typed_node_of r) (IsFound r)
+typed_node_found r is =
+    let P : Option Node → Type 0 = λ found. IfSome found (IsFound r) in
     cond_both _ _ _ P (λ e. pci_typed r is (shape_is 1 1 2 r e)) (λ _.
     cond_both _ _ _ P (λ e. acpi_typed r is (shape_is 2 1 8 r e)) (λ _.
     tt))
 
 -- it finds a node for each listed row
-pub fixed_node_listed : (r : Row) → IsListed r → IsSome (fixed_node_of r)
-fixed_node_listed _ (pci {body} len) = rw (eq-eqb (length body) 2 len) refl
-fixed_node_listed _ (acpi {body} len) = rw (eq-eqb (length body) 8 len) refl
+pub typed_node_listed : (r : Row) → IsListed r → IsSome (typed_node_of r)
+typed_node_listed _ (pci {body} len) = rw (eq-eqb (length body) 2 len) refl
+typed_node_listed _ (acpi {body} len) = rw (eq-eqb (length body) 8 len) refl
 
 -- the node of a row has the row
-from_found : (r : Row) (found : Option Node) → IsRow r → r.kind ≢ 127 → IfSome found (IsTyped r) → (IsListed r → IsSome found) → IsNode (unwrap_or found (Other r)) × (row_of (unwrap_or found (Other r)) ≡ r)
+from_found : (r : Row) (found : Option Node) → IsRow r → r.kind ≢ 127 → IfSome found (IsFound r) → (IsListed r → IsSome found) → IsNode (unwrap_or found (Other r)) × (row_of (unwrap_or found (Other r)) ≡ r)
 from_found r (Some node) is inner typed listed = (typed.valid, typed.same)
 from_found r None is inner typed listed =
-    ((is, record { no_end = inner; len = is.len; unlisted = λ l. false≢true (listed l) }), refl)
+    (record { row = is; no_end = inner; unlisted = λ l. false≢true (listed l) }, refl)
 
 pub node_of_has_row : (r : Row) → IsRow r → r.kind ≢ 127 → IsNode (node_of r) × (row_of (node_of r) ≡ r)
-node_of_has_row r is inner = from_found r (fixed_node_of r) is inner (fixed_node_typed r is) (fixed_node_listed r)
+node_of_has_row r is inner = from_found r (typed_node_of r) is inner (typed_node_found r is) (typed_node_listed r)
 
-none_unlisted : (r : Row) (found : Option Node) → IfSome found (IsTyped r) → ¬ IsListed r → found ≡ None
+none_unlisted : (r : Row) (found : Option Node) → IfSome found (IsFound r) → ¬ IsListed r → found ≡ None
 none_unlisted r None typed unlisted = refl
 none_unlisted r (Some node) typed unlisted = absurd (unlisted typed.listed)
 
@@ -91,7 +91,7 @@ node_of-row_of (Pci function device) valid =
 node_of-row_of (Acpi hid uid) valid =
     ap (λ (h : ℕ). Acpi h (number_at w32 4 (row_of (Acpi hid uid)).body)) (wide_32.again hid (to_le_bytes w32 uid) valid.0) ∙ ap (λ (u : ℕ). Acpi hid u) (wide_32.again uid [] valid.1)
 node_of-row_of (Other other) valid =
-    ap (λ (found : Option Node). unwrap_or found (Other other)) (none_unlisted other (fixed_node_of other) (fixed_node_typed other valid.0) valid.1.unlisted)
+    ap (λ (found : Option Node). unwrap_or found (Other other)) (none_unlisted other (typed_node_of other) (typed_node_found other valid.row) valid.unlisted)
 
 -- nodes of one row are one
 pub same_node : (m n : Node) → IsNode m → IsNode n → row_of m ≡ row_of n → m ≡ n
@@ -105,19 +105,19 @@ row_of_is_row (Pci function device) valid =
 row_of_is_row (Acpi hid uid) valid =
     let fields = then_bytes w32 _ wide_32 hid (then_bytes w32 _ wide_32 uid no_bytes) in
     (record { kind = omega arith; sub = omega arith; body = fields.bytes; len = omega arith }, omega arith)
-row_of_is_row (Other other) valid = (valid.0, valid.1.no_end)
+row_of_is_row (Other other) valid = (valid.row, valid.no_end)
 
 -- ---- the listed rows
 
 -- what the inverse finds has a case of its own
-found_typed : (r : Row) (found : Option Node) → IfSome found (IsTyped r) → IsSome found → HasTypedNode r
+found_typed : (r : Row) (found : Option Node) → IfSome found (IsFound r) → IsSome found → HasTypedNode r
 found_typed r None typed some = absurd (false≢true some)
 found_typed r (Some node) typed some = (node, typed.valid, typed.same, typed.own)
 
 pub typed_from_listed : (r : Row) → IsRow r → IsListed r → HasTypedNode r
-typed_from_listed r is listed = found_typed r (fixed_node_of r) (fixed_node_typed r is) (fixed_node_listed r listed)
+typed_from_listed r is listed = found_typed r (typed_node_of r) (typed_node_found r is) (typed_node_listed r listed)
 
-pub listed_from_typed : (r : Row) (node : Node) → row_of node ≡ r → ¬ IsKept node → IsListed r
+pub listed_from_typed : (r : Row) (node : Node) → row_of node ≡ r → IsTyped node → IsListed r
 listed_from_typed r (Pci function device) same own = subst IsListed same (pci refl)
 listed_from_typed r (Acpi hid uid) same own = subst IsListed same (acpi refl)
-listed_from_typed r (Other other) same own = absurd (own (other, refl))
+listed_from_typed r (Other other) same own = absurd own

@@ -6,21 +6,21 @@ use Rattle.uefi_path.specs.declared.fault.PathFault.TheVariants.{NoEnd, ShortHea
 use Rattle.uefi_path.specs.Row.{Row, header_bytes, row_bytes, end_instance, IsRow}
 
 -- a row that stands before the end of a path: that of a node, or the end of an instance
-pub record IsInner (r : Row) : Type 0 where
+pub record IsBeforeEnd (r : Row) : Type 0 where
   pub row : IsRow r
-  pub inner : (r.kind ≢ 127) ⊎ (r ≡ end_instance)
+  pub no_end : (r.kind ≢ 0x7F) ⊎ (r ≡ end_instance)
 
 -- the rest begins with the header of a node of this type, sub-type and length
 pub record HasHeader (rest : List ℕ) (kind sub len : ℕ) : Type 0 where
   pub behind : List ℕ
-  pub states : len < 2 ^ 16
+  pub two_bytes : len < 2 ^ 16
   pub is : rest ≡ header_bytes kind sub len ++ behind
 
 -- one of the two end nodes, by its sub-type and length (UEFI 2.10, 10.3.1)
 abbrev pub IsEnd : ℕ → ℕ → Type 0
-IsEnd sub len = ((sub ≡ 1) ⊎ (sub ≡ 255)) × (len ≡ 4)
+IsEnd sub len = ((sub ≡ 0x01) ⊎ (sub ≡ 0xFF)) × (len ≡ 4)
 
--- The fault is the one of a node at this offset, where this is the rest of the input.
+-- No node stands at this offset, where this is the rest of the input, and the fault says why.
 abbrev pub IsFaultAt : PathFault → ℕ → List ℕ → Type 0
 IsFaultAt (NoEnd at) offset rest = (at ≡ offset) × (rest ≡ [])
 IsFaultAt (ShortHeader at) offset rest = (at ≡ offset) × (0 < length rest) × (length rest < 4)
@@ -29,13 +29,13 @@ IsFaultAt (BadLength at) offset rest =
 IsFaultAt (PastEnd at) offset rest =
     (at ≡ offset) × (kind : ℕ) × (sub : ℕ) × (len : ℕ) × HasHeader rest kind sub len × (4 ≤ len) × (length rest < len)
 IsFaultAt (BadEnd at) offset rest =
-    (at ≡ offset) × (sub : ℕ) × (len : ℕ) × HasHeader rest 127 sub len × (4 ≤ len) × (len ≤ length rest) × (¬ IsEnd sub len)
+    (at ≡ offset) × (sub : ℕ) × (len : ℕ) × HasHeader rest 0x7F sub len × (4 ≤ len) × (len ≤ length rest) × (¬ IsEnd sub len)
 IsFaultAt OutOfMemory offset rest = ⊥
 
 -- The input begins with rows that stand before the end of a path, and the fault is that of what follows them.
 pub record IsFirstFault (input : List ℕ) (fault : PathFault) : Type 0 where
   pub before : List Row
   pub rest : List ℕ
-  pub inner : AllByRecursion IsInner before
+  pub inner : AllByRecursion IsBeforeEnd before
   pub parts : input ≡ flat_map row_bytes before ++ rest
   pub fault_at : IsFaultAt fault (length (flat_map row_bytes before)) rest

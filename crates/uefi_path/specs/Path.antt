@@ -1,4 +1,4 @@
--- Device paths (UEFI 2.10, 10.2): instances of nodes, and their spelling.
+-- Device paths (UEFI 2.10, 10.2): instances of nodes, and their spelling with the end nodes (10.3.1).
 use Rattle.std.specs.Prelude.{◌≡◌, ◌≢◌, ℕ, List, [], ◌∷◌, ◌++◌, map, take, length, ◌≤◌}
 use Rattle.std.specs.List.{flat_map, AllByRecursion}
 use Rattle.uefi_path.specs.declared.node.Node.{Node}
@@ -21,8 +21,8 @@ path_bytes [] = []
 path_bytes (nodes ∷ others) = flat_map node_bytes nodes ++ (row_bytes (end_before others) ++ path_bytes others)
 
 -- the bytes spell the path
-abbrev pub SpellsPath : List (List Node) → List ℕ → Type 0
-SpellsPath instances bytes = IsPath instances × (bytes ≡ path_bytes instances)
+abbrev pub SpellsPath : List ℕ → List (List Node) → Type 0
+SpellsPath bytes instances = IsPath instances × (bytes ≡ path_bytes instances)
 
 -- what parts an instance from those that follow it
 abbrev pub separator : List (List Node) → List Row
@@ -36,6 +36,5 @@ path_rows (nodes ∷ others) = map row_of nodes ++ (separator others ++ path_row
 
 -- the first n bytes of the input spell the path
 pub record IsPathFront (input : List ℕ) (instances : List (List Node)) (n : ℕ) : Type 0 where
-  pub path : IsPath instances
   pub within : n ≤ length input
-  pub spelled : take n input ≡ path_bytes instances
+  pub spelled : SpellsPath (take n input) instances

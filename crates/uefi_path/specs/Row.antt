@@ -16,16 +16,16 @@ row kind sub body = record { kind = kind; sub = sub; body = body }
 abbrev pub header_bytes : ℕ → ℕ → ℕ → List ℕ
 header_bytes kind sub len = kind ∷ sub ∷ to_le_bytes w16 len
 
--- the spelling of a node
+-- the header and the data, where IsRow holds: two bytes can state the length of no longer one
 abbrev pub row_bytes : Row → List ℕ
 row_bytes r = header_bytes r.kind r.sub (4 + length r.body) ++ r.body
 
 -- the node that ends one instance, behind which another follows, and the node that ends the whole path
 abbrev pub end_instance : Row
-end_instance = row 127 1 []
+end_instance = row 0x7F 0x01 []
 
 abbrev pub end_entire : Row
-end_entire = row 127 255 []
+end_entire = row 0x7F 0xFF []
 
 abbrev pub IsByte : ℕ → Type 0
 IsByte n = n < 2 ^ 8
@@ -37,14 +37,14 @@ pub record IsRow (r : Row) : Type 0 where
   pub body : AllByRecursion IsByte r.body
   pub len : length r.body ≤ 65531
 
--- The rows that a node with a case of its own has: one case for each row of the table, by type, sub-type and
--- length of the data (UEFI 2.10: PCI 10.3.2.1, ACPI 10.3.3).
+-- The rows of the nodes with a case of their own, one case for each row of the table of nodes: type, sub-type, and
+-- what the data must be (UEFI 2.10: PCI 10.3.2.1, ACPI 10.3.3).
 pub data IsListed : Row → Type 0 where
   pci : {body : List ℕ} → length body ≡ 2 → IsListed (row 1 1 body)
   acpi : {body : List ℕ} → length body ≡ 8 → IsListed (row 2 1 body)
 
--- what is kept as bytes: no end node, no longer than a node can be, and no row of the table
-pub record IsUnlisted (r : Row) : Type 0 where
-  pub no_end : r.kind ≢ 127
-  pub len : length r.body ≤ 65531
+-- what is kept as bytes: no end node, and no row of the table
+pub record IsOther (r : Row) : Type 0 where
+  pub row : IsRow r
+  pub no_end : r.kind ≢ 0x7F
   pub unlisted : ¬ IsListed r

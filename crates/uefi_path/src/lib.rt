@@ -6,13 +6,13 @@
 #![tactic(auto)]
 
 mod fault;
+mod generic;
 mod guid;
 pub mod laws;
 mod node;
 mod other;
 mod path;
 mod reading;
-mod wire;
 mod writing;
 
 pub use fault::{NodeFault, PathFault};

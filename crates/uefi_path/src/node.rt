@@ -1,7 +1,7 @@
 //! The nodes of a path.
 
-ghost use Rattle.std.specs.Prelude.{◌≡◌, ◌≤◌, length, IfOk};
-ghost use Rattle.uefi_path.specs.Node.{row_of};
+ghost use Rattle.std.specs.Prelude.{◌≡◌, ◌≤◌, length, IfOk, OnOk};
+ghost use Rattle.uefi_path.specs.Node.{row_of, IsNode};
 
 use crate::other::OtherNode;
 use std::alloc::{AllocError, Global};
@@ -27,10 +27,31 @@ pub enum Node {
     Other(OtherNode),
 }
 
+/// What a node's header states: its type, its sub-type, and how many bytes of data follow.
+#[derive(Clone, Copy)]
+pub(crate) struct Shape {
+    pub(crate) kind: u8,
+    pub(crate) sub: u8,
+    pub(crate) data_len: usize,
+}
+
+impl Shape {
+    fn new(kind: u8, sub: u8, data_len: usize) -> Shape
+        ensures { result ≡ record { kind = kind; sub = sub; data_len = data_len } }
+    {
+        Shape {
+            kind,
+            sub,
+            data_len,
+        }
+    }
+}
+
 impl Node {
     /// An equal node. The one refusal is for want of memory.
     pub fn copy(&self, alloc: Global) -> Result<Node, AllocError>
-        ensures { IfOk result (λ node. node ≡ self.now) }
+        ensures equal { IfOk result (λ node. node ≡ self.now) }
+        ensures valid { OnOk result (IsNode self.now) }
     {
         match self {
             Node::Pci { function, device } => Ok(Node::Pci {
@@ -45,17 +66,17 @@ impl Node {
         }
     }
 
-    /// Type, sub-type, and number of bytes of data.
-    pub(crate) fn shape(&self) -> (u8, u8, usize)
-        ensures kind { result.0 ≡ (row_of self.now).kind }
-        ensures sub { result.1 ≡ (row_of self.now).sub }
-        ensures len { result.2 ≡ length (row_of self.now).body }
-        ensures bound { result.2 ≤ 65531 }
+    /// What the node's header states.
+    pub(crate) fn shape(&self) -> Shape
+        ensures kind { result.kind ≡ (row_of self.now).kind }
+        ensures sub { result.sub ≡ (row_of self.now).sub }
+        ensures data_len { result.data_len ≡ length (row_of self.now).body }
+        ensures bound { result.data_len ≤ 65531 }
     {
         match self {
-            Node::Pci { .. } => (1, 1, 2),
-            Node::Acpi { .. } => (2, 1, 8),
-            Node::Other(other) => (other.kind(), other.sub(), other.body_len()),
+            Node::Pci { .. } => Shape::new(1, 1, 2),
+            Node::Acpi { .. } => Shape::new(2, 1, 8),
+            Node::Other(other) => Shape::new(other.kind(), other.sub(), other.body().len()),
         }
     }
 }

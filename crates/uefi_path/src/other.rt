@@ -1,6 +1,6 @@
 //! Nodes that are kept as bytes.
 
-ghost use Rattle.std.specs.Prelude.{◌≡◌, ◌≤◌, length, IfOk};
+ghost use Rattle.std.specs.Prelude.{◌≡◌, IfOk, OnOk};
 
 use std::alloc::{AllocError, Global};
 use std::marker::Model;
@@ -15,13 +15,13 @@ pub struct OtherNode {
 }
 
 impl Model for OtherNode {
-    ghost use Rattle.uefi_path.specs.Row.{Row, row, IsUnlisted};
+    ghost use Rattle.uefi_path.specs.Row.{Row, row, IsOther};
 
     ghost Value = { Row };
 
     ghost view = { λ node. row node.kind node.sub node.body.items };
 
-    ghost invariant = { λ node. IsUnlisted (row node.kind node.sub node.body.items) };
+    ghost invariant = { λ node. IsOther (row node.kind node.sub node.body.items) };
 }
 
 impl PartialEq for OtherNode {
@@ -50,7 +50,7 @@ impl Eq for OtherNode {
 }
 
 impl OtherNode {
-    ghost use Rattle.uefi_path.specs.Row.{row, IsUnlisted};
+    ghost use Rattle.uefi_path.specs.Row.{row, IsOther};
 
     /// A node of these bytes, if there is memory for them.
     pub(crate) fn new(
@@ -59,7 +59,7 @@ impl OtherNode {
         sub: u8,
         body: &[u8],
     ) -> Result<OtherNode, AllocError>
-        requires { IsUnlisted (row kind sub body.now) }
+        requires { IsOther (row kind sub body.now) }
         ensures { IfOk result (λ node. node ≡ row kind sub body.now) }
     {
         let body = Vec::from_slice(alloc, body)?;
@@ -82,22 +82,16 @@ impl OtherNode {
 
     /// The data behind the four bytes of the header.
     pub fn body(&self) -> &[u8]
-        ensures { result.now ≡ self.now.body }
+        ensures bytes { result.now ≡ self.now.body }
+        ensures valid { IsOther self.now }
     {
         &self.body
     }
 
-    /// How many bytes of data there are.
-    pub(crate) fn body_len(&self) -> usize
-        ensures len { result ≡ length self.now.body }
-        ensures bound { result ≤ 65531 }
-    {
-        self.body.len()
-    }
-
     /// An equal node, if there is memory for it.
     pub(crate) fn copy(&self, alloc: Global) -> Result<OtherNode, AllocError>
-        ensures { IfOk result (λ node. node ≡ self.now) }
+        ensures equal { IfOk result (λ node. node ≡ self.now) }
+        ensures valid { OnOk result (IsOther self.now) }
     {
         let body = Vec::from_slice(alloc, &self.body)?;
         Ok(OtherNode {

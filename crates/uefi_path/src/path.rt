@@ -1,6 +1,9 @@
 //! Device paths.
 
-ghost use Rattle.std.specs.Prelude.{◌≡◌, ◌≢◌, ◌↔◌, List, [], map, IfOk, OkIff, Err, Ok, IfErr};
+ghost use Rattle.std.specs.Prelude.{◌≡◌, ◌≢◌, ◌↔◌, [], map, IfOk, OnOk, Err, IfErr};
+ghost use Rattle.std.specs.List.{AllByRecursion};
+ghost use Rattle.uefi_path.specs.Node.{IsNode};
+ghost use Rattle.uefi_path.specs.Path.{IsPath};
 
 use crate::node::Node;
 use std::alloc::{AllocError, Global};
@@ -57,7 +60,8 @@ impl Path {
 
     /// An equal path. The one refusal is for want of memory.
     pub fn copy(&self, alloc: Global) -> Result<Path, AllocError>
-        ensures { IfOk result (λ path. path ≡ self.now) }
+        ensures equal { IfOk result (λ path. path ≡ self.now) }
+        ensures valid { OnOk result (IsPath self.now) }
     {
         let mut instances = Vec::with_capacity(alloc, self.instances.len())?;
         for nodes in &self.instances {
@@ -68,7 +72,8 @@ impl Path {
 
     /// The instances, in order.
     pub fn instances(&self) -> &[Vec<Node>]
-        ensures { map (λ nodes. nodes.items) result.now ≡ self.now }
+        ensures items { map (λ nodes. nodes.items) result.now ≡ self.now }
+        ensures some { self.now ≢ [] }
     {
         &self.instances
     }
@@ -87,7 +92,8 @@ pub fn make_path(instances: Vec<Vec<Node>>) -> Result<Path, Vec<Vec<Node>>>
 }
 
 fn copy_nodes(alloc: Global, nodes: &[Node]) -> Result<Vec<Node>, AllocError>
-    ensures { IfOk result (λ copies. copies.items ≡ nodes.now) }
+    ensures equal { IfOk result (λ copies. copies.items ≡ nodes.now) }
+    ensures valid { OnOk result (AllByRecursion IsNode nodes.now) }
 {
     let mut copies = Vec::with_capacity(alloc, nodes.len())?;
     for node in nodes {

@@ -1,6 +1,6 @@
 //! Bytes to nodes and paths.
 
-ghost use Rattle.std.specs.Prelude.{◌≡◌, ◌≢◌, ◌↔◌, ◌+◌, ◌<◌, ◌≤◌, ℕ, List, length, map, IsTrue, IfOk, IfErr, Ok, Err};
+ghost use Rattle.std.specs.Prelude.{◌≡◌, ◌≢◌, ◌↔◌, ◌+◌, ◌<◌, ◌≤◌, ℕ, List, length, map, IsTrue, IfOk, IfErr, OnOk, Ok, Err};
 ghost use Rattle.std.specs.Int.{w8, w32};
 ghost use Rattle.uefi_path.specs.declared.node.Node.{Node};
 ghost use Rattle.uefi_path.specs.declared.fault.PathFault.{PathFault};
@@ -9,13 +9,13 @@ ghost use Rattle.uefi_path.specs.Row.{row};
 ghost use Rattle.uefi_path.specs.Node.{row_of, IsNode};
 ghost use Rattle.uefi_path.specs.Path.{IsPathFront};
 ghost use Rattle.uefi_path.specs.Fault.{IsEnd, IsFaultAt, IsFirstFault};
-ghost use Rattle.uefi_path.specs.Reading.{number_at, fixed_node_of, node_of, SplitsRow};
+ghost use Rattle.uefi_path.specs.Reading.{number_at, typed_node_of, node_of, IsHeader, IsHeaderFault, SplitsRow};
 
 use crate::fault::{NodeFault, PathFault};
+use crate::generic::{BODY_MAX, END, END_ENTIRE, END_INSTANCE, HEADER_LEN};
 use crate::node::Node;
 use crate::other::OtherNode;
 use crate::path::Path;
-use crate::wire::{BODY_MAX, END, END_ENTIRE, END_INSTANCE, HEADER_LEN};
 use std::alloc::{AllocError, Global};
 
 /// A node's parts as they stand in the bytes.
@@ -40,9 +40,9 @@ fn u32_at(body: &[u8], at: usize) -> u32
     u32::from_le_bytes([body[at], body[at + 1], body[at + 2], body[at + 3]])
 }
 
-/// The node of a fixed length that has these parts.
-fn fixed_node(kind: u8, sub: u8, body: &[u8]) -> Option<Node>
-    ensures { result ≡ fixed_node_of (row kind sub body.now) }
+/// The node with a case of its own that has these parts.
+fn typed_node(kind: u8, sub: u8, body: &[u8]) -> Option<Node>
+    ensures { result ≡ typed_node_of (row kind sub body.now) }
 {
     match (kind, sub, body.len()) {
         (1, 1, 2) => Some(Node::Pci {
@@ -59,11 +59,11 @@ fn fixed_node(kind: u8, sub: u8, body: &[u8]) -> Option<Node>
 
 /// The node that has these parts, if there is memory for it.
 fn make_node(alloc: Global, kind: u8, sub: u8, body: &[u8]) -> Result<Node, AllocError>
-    requires no_end { kind ≢ 127 }
+    requires no_end { kind ≢ 0x7F }
     requires len { length body.now ≤ 65531 }
     ensures { IfOk result (λ node. node ≡ node_of (row kind sub body.now)) }
 {
-    match fixed_node(kind, sub, body) {
+    match typed_node(kind, sub, body) {
         Some(node) => Ok(node),
         None => Ok(Node::Other(OtherNode::new(alloc, kind, sub, body)?)),
     }
@@ -76,9 +76,33 @@ fn is_end_node(sub: u8, len: usize) -> bool
     len == HEADER_LEN && (sub == END_INSTANCE || sub == END_ENTIRE)
 }
 
+/// Tests what the header of a node at the offset says, where `remaining` bytes are left from there on.
+fn check_header(
+    kind: u8,
+    sub: u8,
+    len: usize,
+    remaining: usize,
+    offset: usize,
+) -> Result<(), PathFault>
+    ensures ok { OnOk result (IsHeader kind sub len remaining) }
+    ensures fault { IfErr result (λ fault. IsHeaderFault fault kind sub len remaining offset) }
+{
+    if len < HEADER_LEN {
+        return Err(PathFault::BadLength(offset));
+    }
+    if len > remaining {
+        return Err(PathFault::PastEnd(offset));
+    }
+    if kind == END && !is_end_node(sub, len) {
+        return Err(PathFault::BadEnd(offset));
+    }
+    Ok(())
+}
+
 /// The parts of the node at the front of the bytes, and the bytes behind it. The offset is the place of a fault.
 fn split_node(bytes: &[u8], offset: usize) -> Result<(RawNode<'_>, &[u8]), PathFault>
-    ensures found { IfOk result (λ split. SplitsRow bytes.now (row split.0.kind split.0.sub split.0.body.now) split.1.now) }
+    ensures found { IfOk result (λ split.
+        SplitsRow bytes.now (row split.0.kind split.0.sub split.0.body.now) split.1.now) }
     ensures fault { IfErr result (λ fault. IsFaultAt fault offset bytes.now) }
 {
     let (kind, sub, len) = match bytes {
@@ -88,15 +112,7 @@ fn split_node(bytes: &[u8], offset: usize) -> Result<(RawNode<'_>, &[u8]), PathF
         }
         _ => return Err(PathFault::ShortHeader(offset)),
     };
-    if len < HEADER_LEN {
-        return Err(PathFault::BadLength(offset));
-    }
-    if len > bytes.len() {
-        return Err(PathFault::PastEnd(offset));
-    }
-    if kind == END && !is_end_node(sub, len) {
-        return Err(PathFault::BadEnd(offset));
-    }
+    check_header(kind, sub, len, bytes.len(), offset)?;
     let (node, rest) = bytes.split_at(len);
     let body = &node[HEADER_LEN..];
     Ok((RawNode { kind, sub, body }, rest))
@@ -104,7 +120,8 @@ fn split_node(bytes: &[u8], offset: usize) -> Result<(RawNode<'_>, &[u8]), PathF
 
 /// The instances of the path at the front of the bytes, and how many bytes it takes.
 fn read_instances(alloc: Global, bytes: &[u8]) -> Result<(Vec<Vec<Node>>, usize), PathFault>
-    ensures found { IfOk result (λ read. IsPathFront bytes.now (map (λ nodes. nodes.items) read.0.items) read.1) }
+    ensures found { IfOk result (λ read.
+        IsPathFront bytes.now (map (λ nodes. nodes.items) read.0.items) read.1) }
     ensures fault { IfErr result (λ fault. fault ≢ PathFault.OutOfMemory → IsFirstFault bytes.now fault) }
 {
     let mut instances = Vec::new(alloc);
@@ -137,10 +154,12 @@ pub fn read_path(alloc: Global, bytes: &[u8]) -> Result<(Path, usize), PathFault
     // What is read is spelled so.
     ensures found { IfOk result (λ read. IsPathFront bytes.now read.0 read.1) }
     // What is spelled so is read.
-    ensures only { (path : List (List Node)) (n : ℕ) → IsPathFront bytes.now path n → IsUnless PathFault.OutOfMemory result (Ok (path, n)) }
+    ensures only { (path : List (List Node)) (n : ℕ) → IsPathFront bytes.now path n →
+        IsUnless result (Ok (path, n)) PathFault.OutOfMemory }
 
     ensures fault { IfErr result (λ fault. fault ≢ PathFault.OutOfMemory → IsFirstFault bytes.now fault) }
-    ensures only_fault { (fault : PathFault) → IsFirstFault bytes.now fault → IsUnless PathFault.OutOfMemory result (Err fault) }
+    ensures only_fault { (fault : PathFault) → IsFirstFault bytes.now fault →
+        IsUnless result (Err fault) PathFault.OutOfMemory }
 {
     let (instances, len) = read_instances(alloc, bytes)?;
     Ok((Path::from_instances(instances), len))
@@ -155,10 +174,12 @@ pub fn read_path(alloc: Global, bytes: &[u8]) -> Result<(Path, usize), PathFault
 /// bytes of data; else [`NodeFault::OutOfMemory`] where memory for the data was refused.
 pub fn node_from_parts(alloc: Global, kind: u8, sub: u8, body: &[u8]) -> Result<Node, NodeFault>
     ensures made { IfOk result (λ node. IsNode node × (row_of node ≡ row kind sub body.now)) }
-    ensures only { (node : Node) → IsNode node → row_of node ≡ row kind sub body.now → IsUnless NodeFault.OutOfMemory result (Ok node) }
+    ensures only { (node : Node) → IsNode node → row_of node ≡ row kind sub body.now →
+        IsUnless result (Ok node) NodeFault.OutOfMemory }
 
-    ensures bad_end { (result ≡ Err NodeFault.BadEnd) ↔ (kind ≡ 127) }
-    ensures too_long { (result ≡ Err NodeFault.TooLong) ↔ ((kind ≢ 127) × (65531 < length body.now)) }
+    ensures bad_end { (result ≡ Err NodeFault.BadEnd) ↔ (kind ≡ 0x7F) }
+    ensures too_long { (result ≡ Err NodeFault.TooLong)
+        ↔ ((kind ≢ 0x7F) × (65531 < length body.now)) }
 {
     if kind == END {
         return Err(NodeFault::BadEnd);

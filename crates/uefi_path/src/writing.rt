@@ -1,15 +1,15 @@
 //! Nodes and paths to bytes.
 
 ghost use Rattle.std.specs.Prelude.{◌≡◌, ◌<◌, ◌≤◌, ◌^◌, ◌++◌, length, map, OnOk, OnErr, SomeIff};
-ghost use Rattle.std.specs.List.{flat_map};
+ghost use Rattle.std.specs.List.{flat_map, AllByRecursion};
 ghost use Rattle.uefi_path.specs.Row.{header_bytes};
-ghost use Rattle.uefi_path.specs.Node.{row_of, node_bytes};
-ghost use Rattle.uefi_path.specs.Path.{path_bytes};
+ghost use Rattle.uefi_path.specs.Node.{row_of, IsNode, node_bytes};
+ghost use Rattle.uefi_path.specs.Path.{IsPath, path_bytes};
 ghost use Rattle.uefi_path.specs.Writing.{Extends};
 
+use crate::generic::{END, END_ENTIRE, END_INSTANCE, HEADER_LEN};
 use crate::node::Node;
 use crate::path::Path;
-use crate::wire::{END, END_ENTIRE, END_INSTANCE, HEADER_LEN};
 use std::alloc::AllocError;
 
 /// The four bytes in front of a node's data.
@@ -23,6 +23,7 @@ fn header(kind: u8, sub: u8, len: usize) -> [u8; 4]
 
 /// Appends the fields of a node in their order. An `Err` may leave a part of them.
 fn append_fields(node: &Node, out: &mut Vec<u8>) -> Result<(), AllocError>
+    ensures valid { OnOk result (IsNode node.now) }
     ensures ok { OnOk result (out.new.items ≡ out.old.items ++ (row_of node.now).body) }
     ensures err { OnErr result (Extends out.old.items out.new.items) }
 {
@@ -42,16 +43,19 @@ fn append_fields(node: &Node, out: &mut Vec<u8>) -> Result<(), AllocError>
 
 /// Appends a node. An `Err` may leave a part of it.
 fn append_node(node: &Node, out: &mut Vec<u8>) -> Result<(), AllocError>
+    ensures valid { OnOk result (IsNode node.now) }
     ensures ok { OnOk result (out.new.items ≡ out.old.items ++ node_bytes node.now) }
     ensures err { OnErr result (Extends out.old.items out.new.items) }
 {
-    let (kind, sub, len) = node.shape();
-    out.extend_from_slice(&header(kind, sub, HEADER_LEN + len))?;
+    let shape = node.shape();
+    let header = header(shape.kind, shape.sub, HEADER_LEN + shape.data_len);
+    out.extend_from_slice(&header)?;
     append_fields(node, out)
 }
 
 /// Appends nodes one after the other. An `Err` may leave a part of them.
 fn append_nodes(nodes: &[Node], out: &mut Vec<u8>) -> Result<(), AllocError>
+    ensures valid { OnOk result (AllByRecursion IsNode nodes.now) }
     ensures ok { OnOk result (out.new.items ≡ out.old.items ++ flat_map node_bytes nodes.now) }
     ensures err { OnErr result (Extends out.old.items out.new.items) }
 {
@@ -63,6 +67,7 @@ fn append_nodes(nodes: &[Node], out: &mut Vec<u8>) -> Result<(), AllocError>
 
 /// Appends a path. An `Err` may leave a part of it.
 fn append_path(path: &Path, out: &mut Vec<u8>) -> Result<(), AllocError>
+    ensures valid { OnOk result (IsPath path.now) }
     ensures ok { OnOk result (out.new.items ≡ out.old.items ++ path_bytes path.now) }
     ensures err { OnErr result (Extends out.old.items out.new.items) }
 {
@@ -87,6 +92,7 @@ fn append_path(path: &Path, out: &mut Vec<u8>) -> Result<(), AllocError>
 ///
 /// `AllocError` where memory was refused; `out` then has the bytes that it had.
 pub fn write_node(node: &Node, out: &mut Vec<u8>) -> Result<(), AllocError>
+    ensures valid { OnOk result (IsNode node.now) }
     ensures ok { OnOk result (out.new.items ≡ out.old.items ++ node_bytes node.now) }
     ensures err { OnErr result (out.new.items ≡ out.old.items) }
 {
@@ -105,6 +111,7 @@ pub fn write_node(node: &Node, out: &mut Vec<u8>) -> Result<(), AllocError>
 ///
 /// `AllocError` where memory was refused; `out` then has the bytes that it had.
 pub fn write_path(path: &Path, out: &mut Vec<u8>) -> Result<(), AllocError>
+    ensures valid { OnOk result (IsPath path.now) }
     ensures ok { OnOk result (out.new.items ≡ out.old.items ++ path_bytes path.now) }
     ensures err { OnErr result (out.new.items ≡ out.old.items) }
 {
@@ -120,8 +127,7 @@ fn node_len(node: &Node) -> usize
     ensures len { result ≡ length (node_bytes node.now) }
     ensures bound { result ≤ 65535 }
 {
-    let (_, _, len) = node.shape();
-    HEADER_LEN + len
+    HEADER_LEN + node.shape().data_len
 }
 
 /// The bytes of some nodes, if `usize` can count them.

@@ -28,15 +28,15 @@ cause input (PastEnd at) h = inr (h (λ e. cc))
 cause input (BadEnd at) h = inr (h (λ e. cc))
 cause input OutOfMemory h = inl refl
 
-no_path : (input : List ℕ) (fault : PathFault) → (fault ≢ OutOfMemory → IsFirstFault input fault) → (path : List (List Node)) (n : ℕ) → IsPathFront input path n → IsUnless OutOfMemory (refused fault) (read path n)
+no_path : (input : List ℕ) (fault : PathFault) → (fault ≢ OutOfMemory → IsFirstFault input fault) → (path : List (List Node)) (n : ℕ) → IsPathFront input path n → IsUnless (refused fault) (read path n) OutOfMemory
 no_path input fault h path n front =
     elim (cause input fault h) [ inl memory ↦ inr (ap refused memory) | inr first ↦ absurd (no_fault_at_front input fault path n front first) ]
 
-one_fault : (input : List ℕ) (fault : PathFault) → (fault ≢ OutOfMemory → IsFirstFault input fault) → (other : PathFault) → IsFirstFault input other → IsUnless OutOfMemory (refused fault) (refused other)
+one_fault : (input : List ℕ) (fault : PathFault) → (fault ≢ OutOfMemory → IsFirstFault input fault) → (other : PathFault) → IsFirstFault input other → IsUnless (refused fault) (refused other) OutOfMemory
 one_fault input fault h other second =
     elim (cause input fault h) [ inl memory ↦ inr (ap refused memory) | inr first ↦ inl (ap refused (same_fault input fault other first second)) ]
 
-one_path : (input : List ℕ) (path : List (List Node)) (n : ℕ) → IsPathFront input path n → (other : List (List Node)) (m : ℕ) → IsPathFront input other m → IsUnless OutOfMemory (read path n) (read other m)
+one_path : (input : List ℕ) (path : List (List Node)) (n : ℕ) → IsPathFront input path n → (other : List (List Node)) (m : ℕ) → IsPathFront input other m → IsUnless (read path n) (read other m) OutOfMemory
 one_path input path n front other m second =
     let same = same_front input path other n m front second in
     inl (ap (λ (p : List (List Node)). read p n) same.0 ∙ ap (read other) same.1)

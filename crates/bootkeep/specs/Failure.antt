@@ -1,0 +1,19 @@
+-- How the program ends where it did not do what it was asked to.
+use Rattle.std.specs.Prelude.{ℕ}
+use Rattle.bootkeep.specs.declared.failure.Failure.{Failure}
+use Rattle.bootkeep.specs.declared.failure.Failure.TheVariants as failure
+use Rattle.bootkeep.specs.declared.report.Refusal.{Refusal}
+use Rattle.bootkeep.specs.declared.report.Refusal.TheVariants as refusal
+
+-- the status that the program ends with
+abbrev pub status_of : Failure → ℕ
+status_of (failure.Refused words) = 1
+status_of failure.CommandLine = 2
+status_of failure.Read = 3
+status_of failure.Write = 3
+status_of failure.Memory = 4
+
+-- what a refused report is to the program
+abbrev pub failure_of : Refusal → Failure
+failure_of (refusal.Input words) = failure.Refused words
+failure_of refusal.Memory = failure.Memory

@@ -1,0 +1,60 @@
+//! The words of the command line.
+
+use crate::failure::Failure;
+use clap::error::ErrorKind;
+use clap::{Arg, ArgMatches, Command};
+use std::alloc::{AllocError, Global};
+
+/// How the program is called, on one line.
+pub const USAGE: &str =
+    "usage: bootkeep path HEX | text TEXT | option FILE | show SET | run [--stream] SET SCRIPT --out FILE";
+
+const PATH: &str = "path";
+
+const HEX: &str = "HEX";
+
+/// What the words ask for.
+#[derive(Clone, Copy, Debug, PartialEq, Eq)]
+pub enum Request<'a> {
+    /// How the program is called.
+    Help,
+    /// The device path at the front of some bytes.
+    Path {
+        /// The bytes, in hexadecimal digits.
+        hex: &'a str,
+    },
+}
+
+/// What the words, the first of which is the program's name, ask for.
+///
+/// [`Failure::CommandLine`] comes where they ask for nothing that the program does, and also where they ask for the
+/// help or the version that `clap` would print: `--help` is a request only where it stands alone.
+/// [`Failure::Memory`] comes only for want of memory.
+pub fn read_words<'a>(alloc: Global, words: &'a [String]) -> Result<Request<'a>, Failure> {
+    if let [_, word] = words
+        && word.as_str() == "--help"
+    {
+        return Ok(Request::Help);
+    }
+    match command(alloc)?.try_get_matches_from(words) {
+        Ok(matches) => request_of(&matches).ok_or(Failure::CommandLine),
+        Err(error) if error.kind() == ErrorKind::OutOfMemory => Err(Failure::Memory),
+        Err(_) => Err(Failure::CommandLine),
+    }
+}
+
+fn command<'a>(alloc: Global) -> Result<Command<'a>, AllocError> {
+    let path = Command::new(alloc, PATH).arg(Arg::new(alloc, HEX).required(true))?;
+    Command::new(alloc, "bootkeep")
+        .subcommand_required(true)
+        .subcommand(path)
+}
+
+fn request_of<'a>(matches: &ArgMatches<'a>) -> Option<Request<'a>> {
+    match matches.subcommand()? {
+        (PATH, matches) => Some(Request::Path {
+            hex: matches.get_str(HEX)?,
+        }),
+        _ => None,
+    }
+}

@@ -1,0 +1,73 @@
+//! What keeps the program from doing what it was asked to.
+
+ghost use Rattle.std.specs.Prelude.{◌≡◌};
+ghost use Rattle.bootkeep.specs.Failure.{failure_of};
+ghost use Rattle.bootkeep.specs.declared.failure.Failure.TheVariants as failure;
+
+use crate::command_line::USAGE;
+use crate::report::Refusal;
+use std::alloc::{AllocError, AllocFailed};
+use thiserror::Error;
+
+/// Why the program did not do what it was asked to. Its `Display` is the line for standard error.
+#[derive(Debug, Drop, Error)]
+pub enum Failure {
+    /// The input is refused. The words are those of its fault.
+    #[error("refused: {0}")]
+    Refused(String),
+    /// The words of the command line ask for nothing that the program does.
+    #[error("{}", USAGE)]
+    CommandLine,
+    /// The words of the command line can't be had.
+    #[error("fault: read")]
+    Read,
+    /// Standard output took not all of the answer.
+    #[error("fault: write")]
+    Write,
+    /// Memory was refused.
+    #[error("fault: memory")]
+    Memory,
+}
+
+impl Failure {
+    ghost use Rattle.bootkeep.specs.Failure.{status_of};
+
+    /// The status that the program ends with.
+    pub fn status(&self) -> u8
+        ensures { result ≡ status_of self.now }
+    {
+        match self {
+            Failure::Refused(_) => 1,
+            Failure::CommandLine => 2,
+            Failure::Read | Failure::Write => 3,
+            Failure::Memory => 4,
+        }
+    }
+}
+
+impl From<AllocError> for Failure {
+    ghost from_gives = { λ _ made. made ≡ failure.Memory };
+
+    fn from(_refusal: AllocError) -> Failure {
+        Failure::Memory
+    }
+}
+
+impl<T: Drop> From<AllocFailed<T>> for Failure {
+    ghost from_gives = { λ _ made. made ≡ failure.Memory };
+
+    fn from(_refusal: AllocFailed<T>) -> Failure {
+        Failure::Memory
+    }
+}
+
+impl From<Refusal> for Failure {
+    ghost from_gives = { λ refusal made. made ≡ failure_of refusal };
+
+    fn from(refusal: Refusal) -> Failure {
+        match refusal {
+            Refusal::Input(words) => Failure::Refused(words),
+            Refusal::Memory => Failure::Memory,
+        }
+    }
+}

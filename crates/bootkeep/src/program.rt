@@ -1,0 +1,53 @@
+//! A run of the program, over any runtime.
+
+ghost use Rattle.std.specs.Prelude.{◌≡◌, MatchResult};
+ghost use Rattle.bootkeep.specs.Failure.{status_of};
+
+use crate::command_line::{self, Request, USAGE};
+use crate::failure::Failure;
+use crate::report;
+use std::rt::Env;
+use std::{env, io};
+
+/// Does what the words of the command line ask for, and returns the status to end with: 0, or that of the
+/// [`Failure`], whose line goes to standard error.
+pub fn run<R: Env + Print + Eprint + AllocGlobal>(rt: &R) -> u8 {
+    tell(rt, answer(rt))
+}
+
+/// Ends a run: writes the line of a failure to standard error, and returns the status.
+pub fn tell<R: Eprint>(rt: &R, outcome: Result<(), Failure>) -> u8
+    ensures { MatchResult outcome (λ _. result ≡ 0) (λ failure. result ≡ status_of failure) }
+{
+    match outcome {
+        Ok(()) => 0,
+        Err(failure) => {
+            let status = failure.status();
+            // Where standard error takes nothing there is no place left to say so, and the status stands.
+            let _ = rt.eprintln(failure);
+            status
+        }
+    }
+}
+
+fn answer<R: Env + Print + AllocGlobal>(rt: &R) -> Result<(), Failure> {
+    let words = words(rt)?;
+    match command_line::read_words(rt.alloc(), words.as_slice())? {
+        Request::Help => rt.println(USAGE),
+        Request::Path { hex } => rt.print(report::path_report(rt.alloc(), hex)?),
+    }
+    .map_err(|_| Failure::Write)
+}
+
+fn words<R: Env + AllocGlobal>(rt: &R) -> Result<Vec<String>, Failure> {
+    let given = match env::args(rt) {
+        Ok(given) => given,
+        Err(error) if error.kind() == io::ErrorKind::OutOfMemory => return Err(Failure::Memory),
+        Err(_) => return Err(Failure::Read),
+    };
+    let mut words = Vec::new(rt.alloc());
+    for word in given {
+        words.push(word)?;
+    }
+    Ok(words)
+}
