@@ -27,9 +27,9 @@ pub enum Request<'a> {
 
 /// What the words, the first of which is the program's name, ask for.
 ///
-/// [`Failure::CommandLine`] comes where they ask for nothing that the program does, and also where they ask for the
-/// help or the version that `clap` would print: `--help` is a request only where it stands alone.
-/// [`Failure::Memory`] comes only for want of memory.
+/// [`Failure::CommandLine`] comes where they ask for nothing that the program does, and also where
+/// they ask for the help or the version that `clap` would print: `--help` is a request only where
+/// it stands alone. [`Failure::Memory`] comes only for want of memory.
 pub fn read_words<'a>(alloc: Global, words: &'a [String]) -> Result<Request<'a>, Failure> {
     if let [_, word] = words
         && word.as_str() == "--help"

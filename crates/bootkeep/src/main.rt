@@ -1,7 +1,8 @@
 //! The command `bootkeep`, which shows what firmware keeps about how a machine starts.
 //!
-//! `bootkeep path HEX` shows the device path at the front of some bytes. The program ends with status 0 where it
-//! did what it was asked to, and otherwise with the status and the line on standard error of its [`Failure`].
+//! `bootkeep path HEX` shows the device path at the front of some bytes. The program ends with
+//! status 0 where it did what it was asked to, and otherwise with the status and the line on
+//! standard error of its [`Failure`].
 //!
 //! [`Failure`]: failure::Failure
 #![tactic(auto)]

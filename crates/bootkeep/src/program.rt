@@ -9,7 +9,8 @@ use crate::report;
 use std::rt::Env;
 use std::{env, io};
 
-/// Does what the words of the command line ask for, and returns the status to end with: 0, or that of the
+/// Does what the words of the command line ask for, and returns the status to end with: 0, or that
+/// of the
 /// [`Failure`], whose line goes to standard error.
 pub fn run<R: Env + Print + Eprint + AllocGlobal>(rt: &R) -> u8 {
     tell(rt, answer(rt))
@@ -23,7 +24,8 @@ pub fn tell<R: Eprint>(rt: &R, outcome: Result<(), Failure>) -> u8
         Ok(()) => 0,
         Err(failure) => {
             let status = failure.status();
-            // Where standard error takes nothing there is no place left to say so, and the status stands.
+            // Where standard error takes nothing there is no place left to say so, and the status
+            // stands.
             let _ = rt.eprintln(failure);
             status
         }

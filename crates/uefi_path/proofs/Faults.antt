@@ -50,9 +50,9 @@ fault_is : (fault : PathFault) (offset : ℕ) (rest : List ℕ) → IsFaultAt fa
 unfolding fault_at fault_by
 fault_is (NoEnd at) offset rest (at-is, empty) = rw (eq-eqb (length rest) 0 (ap length empty), at-is) refl
 fault_is (ShortHeader at) offset rest (at-is, some, short) = by_short offset (length rest) _ some short ∙ ap (λ (o : ℕ). ShortHeader o) (sym at-is)
-fault_is (BadLength at) offset rest (at-is, kind, sub, len, header, below) =
+fault_is (BadLength at) offset rest (at-is, len, (kind, sub, header), below) =
     at_header offset rest kind sub len header ∙ by_length offset (length rest) len (header_len rest kind sub len header).1 below ∙ ap (λ (o : ℕ). BadLength o) (sym at-is)
-fault_is (PastEnd at) offset rest (at-is, kind, sub, len, header, least, past) =
+fault_is (PastEnd at) offset rest (at-is, len, (kind, sub, header), least, past) =
     at_header offset rest kind sub len header ∙ by_past offset (length rest) len (header_len rest kind sub len header).1 least past ∙ ap (λ (o : ℕ). PastEnd o) (sym at-is)
 fault_is (BadEnd at) offset rest (at-is, sub, len, header, least, within, no_end) =
     at_header offset rest 127 sub len header ∙ by_end offset (length rest) len (header_len rest 127 sub len header).1 least within ∙ ap (λ (o : ℕ). BadEnd o) (sym at-is)
@@ -73,10 +73,10 @@ fault_stops (NoEnd at) offset rest (at-is, empty) r behind inner e =
 fault_stops (ShortHeader at) offset rest (at-is, some, short) r behind inner e =
     let more : length rest ≡ 4 + (length r.body + length behind) = ap length e ∙ omega (arith, length-append r.body behind) in
     omega arith
-fault_stops (BadLength at) offset rest (at-is, kind, sub, len, header, below) r behind inner e =
+fault_stops (BadLength at) offset rest (at-is, len, (kind, sub, header), below) r behind inner e =
     let stated = row_header r behind rest kind sub len inner.row header e in
     omega (arith, stated.2)
-fault_stops (PastEnd at) offset rest (at-is, kind, sub, len, header, least, past) r behind inner e =
+fault_stops (PastEnd at) offset rest (at-is, len, (kind, sub, header), least, past) r behind inner e =
     let stated = row_header r behind rest kind sub len inner.row header e in
     omega (arith, stated.2, stated.3)
 fault_stops (BadEnd at) offset rest (at-is, sub, len, header, least, within, no_end) r behind inner e =
@@ -96,10 +96,10 @@ no_fault_at_end (NoEnd at) offset rest behind (at-is, empty) e =
 no_fault_at_end (ShortHeader at) offset rest behind (at-is, some, short) e =
     let more : length rest ≡ 4 + length behind = ap length e ∙ omega arith in
     omega arith
-no_fault_at_end (BadLength at) offset rest behind (at-is, kind, sub, len, header, below) e =
+no_fault_at_end (BadLength at) offset rest behind (at-is, len, (kind, sub, header), below) e =
     let stated = row_header end_entire behind rest kind sub len entire_is_row header e in
     omega (arith, stated.2)
-no_fault_at_end (PastEnd at) offset rest behind (at-is, kind, sub, len, header, least, past) e =
+no_fault_at_end (PastEnd at) offset rest behind (at-is, len, (kind, sub, header), least, past) e =
     let stated = row_header end_entire behind rest kind sub len entire_is_row header e in
     omega (arith, stated.2, stated.3)
 no_fault_at_end (BadEnd at) offset rest behind (at-is, sub, len, header, least, within, no_end) e =

@@ -46,9 +46,9 @@ step offset (a ∷ b ∷ c ∷ d ∷ t) fits =
     let len = from_le_bytes w16 (c ∷ d ∷ []) in
     let header : HasHeader rest a b len = header_of_bytes rest len (omega arith) (bytes_from_recursion rest fits) refl in
     elim (cases_lt len 4) [
-      | inl short ↦ inl (BadLength offset, (refl, a, b, len, header, short))
+      | inl short ↦ inl (BadLength offset, (refl, len, (a, b, header), short))
       | inr least ↦ elim (cases_lt (length rest) len) [
-        | inl past ↦ inl (PastEnd offset, (refl, a, b, len, header, least, past))
+        | inl past ↦ inl (PastEnd offset, (refl, len, (a, b, header), least, past))
         | inr within ↦ elim (cases_eq a 127) [
           | inr other ↦ inr (cut rest a b len fits fits.0 fits.1.0 header (record { least = least; within = within; ends = λ e. absurd (other e) }))
           | inl ends ↦ elim (end_or b len) [

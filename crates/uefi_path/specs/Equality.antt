@@ -1,8 +1,9 @@
--- Tests of equality.
+-- What `==` computes of nodes that are kept as bytes.
 use Rattle.std.specs.Prelude.{Bool, ◌==◌}
 use Rattle.std.specs.Ordering.{on, eq_of_both}
 use Rattle.std.specs.Cmp.Lexicographic.{pointwise}
 use Rattle.uefi_path.specs.Row.{Row}
 
 abbrev pub row_eq : Row → Row → Bool
-row_eq = eq_of_both (on (λ r. r.kind) ◌==◌) (eq_of_both (on (λ r. r.sub) ◌==◌) (on (λ r. r.body) (pointwise ◌==◌)))
+row_eq =
+    eq_of_both (on (λ r. r.kind) ◌==◌) (eq_of_both (on (λ r. r.sub) ◌==◌) (on (λ r. r.body) (pointwise ◌==◌)))

@@ -16,6 +16,10 @@ pub record HasHeader (rest : List ℕ) (kind sub len : ℕ) : Type 0 where
   pub two_bytes : len < 2 ^ 16
   pub is : rest ≡ header_bytes kind sub len ++ behind
 
+-- the rest begins with the header of a node that states this length
+abbrev pub StatesLength : List ℕ → ℕ → Type 0
+StatesLength rest len = (kind : ℕ) × (sub : ℕ) × HasHeader rest kind sub len
+
 -- one of the two end nodes, by its sub-type and length (UEFI 2.10, 10.3.1)
 abbrev pub IsEnd : ℕ → ℕ → Type 0
 IsEnd sub len = ((sub ≡ 0x01) ⊎ (sub ≡ 0xFF)) × (len ≡ 4)
@@ -25,14 +29,16 @@ abbrev pub IsFaultAt : PathFault → ℕ → List ℕ → Type 0
 IsFaultAt (NoEnd at) offset rest = (at ≡ offset) × (rest ≡ [])
 IsFaultAt (ShortHeader at) offset rest = (at ≡ offset) × (0 < length rest) × (length rest < 4)
 IsFaultAt (BadLength at) offset rest =
-    (at ≡ offset) × (kind : ℕ) × (sub : ℕ) × (len : ℕ) × HasHeader rest kind sub len × (len < 4)
+    (at ≡ offset) × (len : ℕ) × StatesLength rest len × (len < 4)
 IsFaultAt (PastEnd at) offset rest =
-    (at ≡ offset) × (kind : ℕ) × (sub : ℕ) × (len : ℕ) × HasHeader rest kind sub len × (4 ≤ len) × (length rest < len)
+    (at ≡ offset) × (len : ℕ) × StatesLength rest len × (4 ≤ len) × (length rest < len)
 IsFaultAt (BadEnd at) offset rest =
-    (at ≡ offset) × (sub : ℕ) × (len : ℕ) × HasHeader rest 0x7F sub len × (4 ≤ len) × (len ≤ length rest) × (¬ IsEnd sub len)
+    (at ≡ offset) × (sub : ℕ) × (len : ℕ) × HasHeader rest 0x7F sub len
+    × (4 ≤ len) × (len ≤ length rest) × (¬ IsEnd sub len)
 IsFaultAt OutOfMemory offset rest = ⊥
 
--- The input begins with rows that stand before the end of a path, and the fault is that of what follows them.
+-- The input begins with rows that stand before the end of a path, and the fault is that of what
+-- follows them.
 pub record IsFirstFault (input : List ℕ) (fault : PathFault) : Type 0 where
   pub before : List Row
   pub rest : List ℕ

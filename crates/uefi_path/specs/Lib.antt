@@ -1,9 +1,11 @@
+-- what public contracts and the laws cite
 pub mod Answer
 pub mod Row
 pub mod Node
 pub mod Path
 pub mod Fault
 pub mod Words
+pub mod Equality
+-- what private contracts cite
 pub mod Reading
 pub mod Writing
-pub mod Equality

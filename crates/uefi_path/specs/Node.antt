@@ -8,8 +8,10 @@ use Rattle.uefi_path.specs.Row.{Row, row, row_bytes, IsOther}
 
 -- type, sub-type, and the fields in their order
 abbrev pub row_of : Node → Row
-row_of (Pci function device) = row 1 1 (concat (to_le_bytes w8 function ∷ to_le_bytes w8 device ∷ []))
-row_of (Acpi hid uid) = row 2 1 (concat (to_le_bytes w32 hid ∷ to_le_bytes w32 uid ∷ []))
+row_of (Pci function device) =
+    row 1 1 (concat (to_le_bytes w8 function ∷ to_le_bytes w8 device ∷ []))
+row_of (Acpi hid uid) =
+    row 2 1 (concat (to_le_bytes w32 hid ∷ to_le_bytes w32 uid ∷ []))
 row_of (Other other) = other
 
 -- the numbers are in the ranges of their types, and the side conditions hold

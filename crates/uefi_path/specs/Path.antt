@@ -1,4 +1,4 @@
--- Device paths (UEFI 2.10, 10.2): instances of nodes, and their spelling with the end nodes (10.3.1).
+-- Device paths (UEFI 2.10, 10.2): instances of nodes, and their spelling with end nodes (10.3.1).
 use Rattle.std.specs.Prelude.{◌≡◌, ◌≢◌, ℕ, List, [], ◌∷◌, ◌++◌, map, take, length, ◌≤◌}
 use Rattle.std.specs.List.{flat_map, AllByRecursion}
 use Rattle.uefi_path.specs.declared.node.Node.{Node}
@@ -18,7 +18,8 @@ end_before (_ ∷ _) = end_instance
 -- the spelling of a path: each instance's nodes and then the node that closes it
 abbrev pub path_bytes : List (List Node) → List ℕ
 path_bytes [] = []
-path_bytes (nodes ∷ others) = flat_map node_bytes nodes ++ (row_bytes (end_before others) ++ path_bytes others)
+path_bytes (nodes ∷ others) =
+    flat_map node_bytes nodes ++ (row_bytes (end_before others) ++ path_bytes others)
 
 -- the bytes spell the path
 abbrev pub SpellsPath : List ℕ → List (List Node) → Type 0

@@ -1,4 +1,5 @@
--- How a node is read off its row, which is the inverse of the table: for private functions of the reader.
+-- For private functions of the reader: how a node is read off its row, the inverse of the table, and
+-- what stands at the front of some bytes.
 use Rattle.std.specs.Prelude.{◌≡◌, ◌⊎◌, ◌≢◌, ℕ, Bool, List, ◌++◌, length, drop, Option, Some, None, unwrap_or, ◌==◌, ◌&&◌, if◌then◌else◌, ◌<◌, ◌≤◌}
 use Rattle.std.specs.Int.{Width, w8, w32, from_le_bytes}
 use Rattle.uefi_path.specs.declared.node.Node.{Node}
@@ -42,7 +43,8 @@ pub record IsHeader (kind sub len remaining : ℕ) : Type 0 where
 -- the fault of such a header, at this offset
 abbrev pub IsHeaderFault : PathFault → ℕ → ℕ → ℕ → ℕ → ℕ → Type 0
 IsHeaderFault (BadLength at) kind sub len remaining offset = (at ≡ offset) × (len < 4)
-IsHeaderFault (PastEnd at) kind sub len remaining offset = (at ≡ offset) × (4 ≤ len) × (remaining < len)
+IsHeaderFault (PastEnd at) kind sub len remaining offset =
+    (at ≡ offset) × (4 ≤ len) × (remaining < len)
 IsHeaderFault (BadEnd at) kind sub len remaining offset =
     (at ≡ offset) × (kind ≡ 0x7F) × (4 ≤ len) × (len ≤ remaining) × (¬ IsEnd sub len)
 IsHeaderFault _ kind sub len remaining offset = ⊥

@@ -1,4 +1,4 @@
--- The generic device path node (UEFI 2.10, 10.3.1): a type, a sub-type, the length of the whole, and data.
+-- The generic device path node (UEFI 2.10, 10.3.1): a type, a sub-type, a length, and data.
 use Rattle.std.specs.Prelude.{◌≡◌, ◌≢◌, ℕ, ◌+◌, ◌^◌, ◌<◌, ◌≤◌, List, [], ◌∷◌, ◌++◌, length}
 use Rattle.std.specs.List.{AllByRecursion}
 use Rattle.std.specs.Int.{w16, to_le_bytes}
@@ -16,11 +16,11 @@ row kind sub body = record { kind = kind; sub = sub; body = body }
 abbrev pub header_bytes : ℕ → ℕ → ℕ → List ℕ
 header_bytes kind sub len = kind ∷ sub ∷ to_le_bytes w16 len
 
--- the header and the data, where IsRow holds: two bytes can state the length of no longer one
+-- the spelling of a row: its header and its data, whose length two bytes state where IsRow holds
 abbrev pub row_bytes : Row → List ℕ
 row_bytes r = header_bytes r.kind r.sub (4 + length r.body) ++ r.body
 
--- the node that ends one instance, behind which another follows, and the node that ends the whole path
+-- the node that ends one instance, where another follows, and the node that ends the whole path
 abbrev pub end_instance : Row
 end_instance = row 0x7F 0x01 []
 
@@ -37,8 +37,8 @@ pub record IsRow (r : Row) : Type 0 where
   pub body : AllByRecursion IsByte r.body
   pub len : length r.body ≤ 65531
 
--- The rows of the nodes with a case of their own, one case for each row of the table of nodes: type, sub-type, and
--- what the data must be (UEFI 2.10: PCI 10.3.2.1, ACPI 10.3.3).
+-- The rows of the nodes with a case of their own, one case for each row of the table of nodes: type,
+-- sub-type, and what the data must be (UEFI 2.10: PCI 10.3.2.1, ACPI 10.3.3).
 pub data IsListed : Row → Type 0 where
   pci : {body : List ℕ} → length body ≡ 2 → IsListed (row 1 1 body)
   acpi : {body : List ℕ} → length body ≡ 8 → IsListed (row 2 1 body)

@@ -1,4 +1,4 @@
--- What an unfinished write leaves: for private functions of the writer.
+-- For private functions of the writer: what an unfinished write leaves.
 use Rattle.std.specs.Prelude.{◌≡◌, List, ◌++◌}
 
 -- new is old with something behind it

@@ -8,13 +8,13 @@ ghost use Rattle.uefi_path.specs.declared.fault.PathFault.TheVariants as path;
 use std::alloc::{AllocError, AllocFailed, Global};
 use thiserror::Error;
 
-/// Why three parts make no node.
+/// Why a type, a sub-type and data make no node.
 #[derive(Clone, Copy, Debug, PartialEq, Eq, Error)]
 pub enum NodeFault {
     /// The type is 0x7F, that of the end nodes, which are no nodes of a path.
     #[error("BadEnd")]
     BadEnd,
-    /// The data has more than 65,531 bytes, so two bytes can't state the node's length.
+    /// The data has more than 65,531 bytes: two bytes cannot state the length of the node.
     #[error("TooLong")]
     TooLong,
     /// Memory was refused.
@@ -22,14 +22,14 @@ pub enum NodeFault {
     OutOfMemory,
 }
 
-/// Why bytes begin with no path. The number is the offset of the node with the fault, in bytes from the first
-/// byte of the path.
+/// Why bytes begin with no path. The number is the offset of the node with the fault, in bytes from
+/// the first byte of the path.
 #[derive(Clone, Copy, Debug, PartialEq, Eq, Error)]
 pub enum PathFault {
     /// No byte remains where a node must stand.
     #[error("NoEnd {0}")]
     NoEnd(usize),
-    /// One to three bytes remain, fewer than a node's header has.
+    /// One to three bytes remain, fewer than the header of a node has.
     #[error("ShortHeader {0}")]
     ShortHeader(usize),
     /// The node states a length below 4, that of its header alone.
@@ -38,7 +38,8 @@ pub enum PathFault {
     /// The node states more bytes than remain.
     #[error("PastEnd {0}")]
     PastEnd(usize),
-    /// The node has type 0x7F and is no end node: its sub-type is neither 0x01 nor 0xFF, or its length isn't 4.
+    /// The node has type 0x7F and is no end node: its sub-type is neither 0x01 nor 0xFF, or its
+    /// length is another than 4.
     #[error("BadEnd {0}")]
     BadEnd(usize),
     /// Memory was refused.
@@ -64,7 +65,8 @@ impl NodeFault {
 impl PathFault {
     ghost use Rattle.uefi_path.specs.Words.{path_fault_words};
 
-    /// The fault's name and, after a blank, its offset in decimal. The one refusal is for want of memory.
+    /// The fault's name and, after a blank, its offset in decimal. The one refusal is for want of
+    /// memory.
     pub fn words(&self, alloc: Global) -> Result<String, AllocError>
         ensures { IfOk result (λ text. string_bytes text ≡ path_fault_words self.now) }
     {

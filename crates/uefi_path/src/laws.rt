@@ -17,10 +17,12 @@ use crate::node::Node;
 use crate::other::OtherNode;
 use crate::path::Path;
 
-/// Each node whose numbers are in their ranges has a spelling, of bytes, and two bytes state its length.
+/// Each node whose numbers are in their ranges has a spelling, of bytes, and two bytes state its
+/// length.
 pub fn each_node_is_spelled()
     ensures { (node : Node) → IsNode node →
-        (bytes : List ℕ) × SpellsNode bytes node × AllByRecursion IsByte bytes × (length bytes ≤ 65535) }
+        (bytes : List ℕ) × SpellsNode bytes node
+        × AllByRecursion IsByte bytes × (length bytes ≤ 65535) }
 {}
 
 /// A node has at most one spelling.
@@ -35,7 +37,8 @@ pub fn bytes_spell_one_node()
 
 /// Each row that is no end node's is the row of a node.
 pub fn each_row_is_a_nodes()
-    ensures { (r : Row) → IsRow r → r.kind ≢ 0x7F → (node : Node) × IsNode node × (row_of node ≡ r) }
+    ensures { (r : Row) → IsRow r → r.kind ≢ 0x7F →
+        (node : Node) × IsNode node × (row_of node ≡ r) }
 {}
 
 /// The listed rows are those of the nodes with a case of their own.
@@ -51,12 +54,14 @@ pub fn each_path_is_spelled()
 
 /// A path has at most one spelling.
 pub fn a_path_has_one_spelling()
-    ensures { (path : List (List Node)) (a b : List ℕ) → SpellsPath a path → SpellsPath b path → a ≡ b }
+    ensures { (path : List (List Node)) (a b : List ℕ) →
+        SpellsPath a path → SpellsPath b path → a ≡ b }
 {}
 
 /// Bytes spell at most one path.
 pub fn bytes_spell_one_path()
-    ensures { (bytes : List ℕ) (p q : List (List Node)) → SpellsPath bytes p → SpellsPath bytes q → p ≡ q }
+    ensures { (bytes : List ℕ) (p q : List (List Node)) →
+        SpellsPath bytes p → SpellsPath bytes q → p ≡ q }
 {}
 
 /// No spelling of a path is a proper prefix of another.
@@ -86,7 +91,8 @@ pub fn a_fault_leaves_no_path()
 
 /// Bytes have at most one first fault.
 pub fn bytes_have_one_first_fault()
-    ensures { (bytes : List ℕ) (f g : PathFault) → IsFirstFault bytes f → IsFirstFault bytes g → f ≡ g }
+    ensures { (bytes : List ℕ) (f g : PathFault) →
+        IsFirstFault bytes f → IsFirstFault bytes g → f ≡ g }
 {}
 
 /// `==` on nodes tells whether they are equal.

@@ -1,8 +1,9 @@
 //! Device paths of the UEFI specification, version 2.10, as values and as bytes (chapter 10).
 //!
-//! A [`Path`] is one or more instances, each a list of [`Node`]s. [`read_path`] reads a path off the front of
-//! some bytes and [`write_path`] appends the one spelling of a path. What no case of [`Node`] stands for is kept
-//! as bytes, as [`OtherNode`], so a path that was read is written as it was.
+//! A [`Path`] is one or more instances, each a list of [`Node`]s. [`read_path`] reads a path off
+//! the front of some bytes and [`write_path`] appends the one spelling of a path. What no case of
+//! [`Node`] stands for is kept as bytes, as [`OtherNode`], so a path that was read is written as it
+//! was.
 #![tactic(auto)]
 
 mod fault;

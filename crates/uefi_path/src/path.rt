@@ -51,6 +51,7 @@ impl Eq for Path {
 }
 
 impl Path {
+    /// The path of these instances, of which there is at least one.
     pub(crate) fn from_instances(instances: Vec<Vec<Node>>) -> Path
         requires { instances.items ≢ [] }
         ensures { result ≡ map (λ nodes. nodes.items) instances.items }
@@ -79,7 +80,11 @@ impl Path {
     }
 }
 
-/// The path of these instances (UEFI 2.10, 10.2). An empty list makes no path, and is handed back.
+/// The path of these instances (UEFI 2.10, 10.2).
+///
+/// # Errors
+///
+/// The list itself, where it is empty: a path has at least one instance.
 pub fn make_path(instances: Vec<Vec<Node>>) -> Result<Path, Vec<Vec<Node>>>
     ensures made { IfOk result (λ path. path ≡ map (λ nodes. nodes.items) instances.items) }
     ensures refused { (result ≡ Err instances) ↔ (instances.items ≡ []) }
@@ -91,6 +96,7 @@ pub fn make_path(instances: Vec<Vec<Node>>) -> Result<Path, Vec<Vec<Node>>>
     Ok(Path::from_instances(instances))
 }
 
+/// Equal nodes, if there is memory for them.
 fn copy_nodes(alloc: Global, nodes: &[Node]) -> Result<Vec<Node>, AllocError>
     ensures equal { IfOk result (λ copies. copies.items ≡ nodes.now) }
     ensures valid { OnOk result (AllByRecursion IsNode nodes.now) }

@@ -76,7 +76,8 @@ fn is_end_node(sub: u8, len: usize) -> bool
     len == HEADER_LEN && (sub == END_INSTANCE || sub == END_ENTIRE)
 }
 
-/// Tests what the header of a node at the offset says, where `remaining` bytes are left from there on.
+/// Tests what the header of a node at the offset says, where `remaining` bytes are left from there
+/// on.
 fn check_header(
     kind: u8,
     sub: u8,
@@ -99,7 +100,8 @@ fn check_header(
     Ok(())
 }
 
-/// The parts of the node at the front of the bytes, and the bytes behind it. The offset is the place of a fault.
+/// The parts of the node at the front of the bytes, and the bytes behind it. The offset is the
+/// place of a fault.
 fn split_node(bytes: &[u8], offset: usize) -> Result<(RawNode<'_>, &[u8]), PathFault>
     ensures found { IfOk result (λ split.
         SplitsRow bytes.now (row split.0.kind split.0.sub split.0.body.now) split.1.now) }
@@ -122,7 +124,8 @@ fn split_node(bytes: &[u8], offset: usize) -> Result<(RawNode<'_>, &[u8]), PathF
 fn read_instances(alloc: Global, bytes: &[u8]) -> Result<(Vec<Vec<Node>>, usize), PathFault>
     ensures found { IfOk result (λ read.
         IsPathFront bytes.now (map (λ nodes. nodes.items) read.0.items) read.1) }
-    ensures fault { IfErr result (λ fault. fault ≢ PathFault.OutOfMemory → IsFirstFault bytes.now fault) }
+    ensures fault { IfErr result (λ fault.
+        fault ≢ PathFault.OutOfMemory → IsFirstFault bytes.now fault) }
 {
     let mut instances = Vec::new(alloc);
     let mut nodes = Vec::new(alloc);
@@ -142,14 +145,14 @@ fn read_instances(alloc: Global, bytes: &[u8]) -> Result<(Vec<Vec<Node>>, usize)
     }
 }
 
-/// Reads the path at the front of the bytes (UEFI 2.10, 10.3). Gives the path and how many bytes it takes; what
-/// stands behind its end is left.
+/// Reads the path at the front of the bytes (UEFI 2.10, 10.3). Gives the path and how many bytes it
+/// takes; what stands behind its end is left.
 ///
 /// # Errors
 ///
-/// The first node with a fault decides, by the tests of [`PathFault`] in the order of its cases, and the fault
-/// has the node's offset from the first byte. [`PathFault::OutOfMemory`] comes where memory was refused, also
-/// before a fault that stands later in the bytes.
+/// The first node with a fault decides, by the tests of [`PathFault`] in the order of its cases,
+/// and the fault has the node's offset from the first byte. [`PathFault::OutOfMemory`] comes where
+/// memory was refused, also before a fault that stands later in the bytes.
 pub fn read_path(alloc: Global, bytes: &[u8]) -> Result<(Path, usize), PathFault>
     // What is read is spelled so.
     ensures found { IfOk result (λ read. IsPathFront bytes.now read.0 read.1) }
@@ -157,7 +160,8 @@ pub fn read_path(alloc: Global, bytes: &[u8]) -> Result<(Path, usize), PathFault
     ensures only { (path : List (List Node)) (n : ℕ) → IsPathFront bytes.now path n →
         IsUnless result (Ok (path, n)) PathFault.OutOfMemory }
 
-    ensures fault { IfErr result (λ fault. fault ≢ PathFault.OutOfMemory → IsFirstFault bytes.now fault) }
+    ensures fault { IfErr result (λ fault.
+        fault ≢ PathFault.OutOfMemory → IsFirstFault bytes.now fault) }
     ensures only_fault { (fault : PathFault) → IsFirstFault bytes.now fault →
         IsUnless result (Err fault) PathFault.OutOfMemory }
 {
@@ -165,13 +169,15 @@ pub fn read_path(alloc: Global, bytes: &[u8]) -> Result<(Path, usize), PathFault
     Ok((Path::from_instances(instances), len))
 }
 
-/// The node of a type, a sub-type and data (UEFI 2.10, 10.3.1): the case of [`Node`] that stands for them, or
+/// The node of a type, a sub-type and data (UEFI 2.10, 10.3.1): the case of [`Node`] that stands
+/// for them, or
 /// [`Node::Other`] with a copy of the data.
 ///
 /// # Errors
 ///
-/// [`NodeFault::BadEnd`] where the type is 0x7F; else [`NodeFault::TooLong`] where there are more than 65,531
-/// bytes of data; else [`NodeFault::OutOfMemory`] where memory for the data was refused.
+/// [`NodeFault::BadEnd`] where the type is 0x7F; else [`NodeFault::TooLong`] where there are more
+/// than 65,531 bytes of data; else [`NodeFault::OutOfMemory`] where memory for the data was
+/// refused.
 pub fn node_from_parts(alloc: Global, kind: u8, sub: u8, body: &[u8]) -> Result<Node, NodeFault>
     ensures made { IfOk result (λ node. IsNode node × (row_of node ≡ row kind sub body.now)) }
     ensures only { (node : Node) → IsNode node → row_of node ≡ row kind sub body.now →

@@ -85,8 +85,8 @@ fn append_path(path: &Path, out: &mut Vec<u8>) -> Result<(), AllocError>
     Ok(())
 }
 
-/// Appends the spelling of a node, which is its type, its sub-type, its length in two bytes, little-endian, and
-/// its data (UEFI 2.10, 10.3.1).
+/// Appends the spelling of a node, which is its type, its sub-type, its length in two bytes,
+/// little-endian, and its data (UEFI 2.10, 10.3.1).
 ///
 /// # Errors
 ///
@@ -104,8 +104,8 @@ pub fn write_node(node: &Node, out: &mut Vec<u8>) -> Result<(), AllocError>
     written
 }
 
-/// Appends the spelling of a path: the nodes of each instance, and behind them the node that ends it, which for
-/// the last instance ends the whole path (UEFI 2.10, 10.3.1).
+/// Appends the spelling of a path: the nodes of each instance, and behind them the node that ends
+/// it, which for the last instance ends the whole path (UEFI 2.10, 10.3.1).
 ///
 /// # Errors
 ///
@@ -132,7 +132,7 @@ fn node_len(node: &Node) -> usize
 
 /// The bytes of some nodes, if `usize` can count them.
 fn nodes_len(nodes: &[Node]) -> Option<usize>
-    ensures { SomeIff result (length (flat_map node_bytes nodes.now) < 2 ^ 64) (length (flat_map node_bytes nodes.now)) }
+    ensures { let len = length (flat_map node_bytes nodes.now) in SomeIff result (len < 2 ^ 64) len }
 {
     let mut len: usize = 0;
     for node in nodes {
@@ -143,7 +143,7 @@ fn nodes_len(nodes: &[Node]) -> Option<usize>
 
 /// How many bytes the spelling of a path has: `None` where `usize` can't count them.
 pub fn path_len(path: &Path) -> Option<usize>
-    ensures { SomeIff result (length (path_bytes path.now) < 2 ^ 64) (length (path_bytes path.now)) }
+    ensures { let len = length (path_bytes path.now) in SomeIff result (len < 2 ^ 64) len }
 {
     let mut len: usize = 0;
     for nodes in path.instances() {
