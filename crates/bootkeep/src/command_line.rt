@@ -27,6 +27,8 @@ pub enum Request<'a> {
 
 /// What the words, the first of which is the program's name, ask for.
 ///
+/// # Errors
+///
 /// [`Failure::CommandLine`] comes where they ask for nothing that the program does, and also where
 /// they ask for the help or the version that `clap` would print: `--help` is a request only where
 /// it stands alone. [`Failure::Memory`] comes only for want of memory.

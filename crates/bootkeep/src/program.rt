@@ -10,8 +10,7 @@ use std::rt::Env;
 use std::{env, io};
 
 /// Does what the words of the command line ask for, and returns the status to end with: 0, or that
-/// of the
-/// [`Failure`], whose line goes to standard error.
+/// of the [`Failure`], whose line goes to standard error.
 pub fn run<R: Env + Print + Eprint + AllocGlobal>(rt: &R) -> u8 {
     tell(rt, answer(rt))
 }

@@ -24,9 +24,11 @@ impl From<AllocError> for Refusal {
     }
 }
 
-/// Shows the device path at the front of the bytes that `hex` writes out, two digits of either case
-/// for each. The report has the lines `instances N`, `nodes N`, over all instances and without the
-/// end nodes, and `rest N`, the bytes after the path.
+/// Shows the device path (UEFI 2.10, 10.3) at the front of the bytes that `hex` writes out, two
+/// digits of either case for each. The report has the lines `instances N`, `nodes N`, over all
+/// instances and without the end nodes, and `rest N`, the bytes after the path.
+///
+/// # Errors
 ///
 /// [`Refusal::Input`] has the words `BadHex` where `hex` is no even number of hexadecimal digits,
 /// and else those of the path's fault where the bytes begin with no path. [`Refusal::Memory`] comes

@@ -170,8 +170,7 @@ pub fn read_path(alloc: Global, bytes: &[u8]) -> Result<(Path, usize), PathFault
 }
 
 /// The node of a type, a sub-type and data (UEFI 2.10, 10.3.1): the case of [`Node`] that stands
-/// for them, or
-/// [`Node::Other`] with a copy of the data.
+/// for them, or [`Node::Other`] with a copy of the data.
 ///
 /// # Errors
 ///
