@@ -8,13 +8,13 @@ use Rattle.uefi_path.specs.declared.fault.PathFault.{PathFault}
 use Rattle.uefi_path.specs.declared.fault.PathFault.TheVariants.{NoEnd, ShortHeader, BadLength, PastEnd, BadEnd, OutOfMemory}
 use Rattle.uefi_path.specs.Row.{Row, IsRow, row_bytes, end_entire}
 use Rattle.uefi_path.specs.Fault.{HasHeader, IsFaultAt, IsFirstFault}
-use Rattle.uefi_path.proofs.Numbers.{again_16}
+use Rattle.uefi_path.proofs.Numbers.{wide_16}
 use Rattle.uefi_path.proofs.Rows.{same_header, same_rows, entire_is_row, Stops}
 
 -- the length that a header states, and that there are its four bytes
 header_len : (rest : List ℕ) (kind sub len : ℕ) → HasHeader rest kind sub len → (from_le_bytes w16 (drop 2 rest) ≡ len) × (4 ≤ length rest)
 header_len rest kind sub len header =
-    let stated : from_le_bytes w16 (drop 2 rest) ≡ len = ap (λ (b : List ℕ). from_le_bytes w16 (drop 2 b)) header.is ∙ again_16 len header.behind header.two_bytes in
+    let stated : from_le_bytes w16 (drop 2 rest) ≡ len = ap (λ (b : List ℕ). from_le_bytes w16 (drop 2 b)) header.is ∙ wide_16.again len header.two_bytes in
     let size : length rest ≡ 4 + length header.behind = ap length header.is ∙ omega arith in
     (stated, omega arith)
 

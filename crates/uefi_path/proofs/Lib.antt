@@ -1,6 +1,7 @@
 pub mod Bytes
 pub mod Split
 pub mod Numbers
+pub mod Names
 pub mod Table
 pub mod Rows
 pub mod Faults

@@ -142,7 +142,7 @@ no_fault_at_front input f p n front first = no_fault_before input f p (drop n in
 
 -- ---- the bytes of a path are bytes
 
-row_bytes_are_bytes : (r : Row) → IsRow r → AllByRecursion IsByte (row_bytes r)
+pub row_bytes_are_bytes : (r : Row) → IsRow r → AllByRecursion IsByte (row_bytes r)
 row_bytes_are_bytes r is = (is.kind, (is.sub, (omega arith, (omega arith, is.body))))
 
 rows_are_bytes : (rows : List Row) → AllByRecursion IsBeforeEnd rows → AllByRecursion IsByte (flat_map row_bytes rows)

@@ -4,7 +4,7 @@ use Rattle.std.specs.Int.{w16, to_le_bytes, from_le_bytes}
 use Rattle.std.specs.List.{flat_map, AllByRecursion}
 use Rattle.uefi_path.specs.Row.{Row, row, IsRow, header_bytes, row_bytes, end_instance, end_entire}
 use Rattle.uefi_path.specs.Fault.{IsBeforeEnd}
-use Rattle.uefi_path.proofs.Numbers.{again_16}
+use Rattle.uefi_path.proofs.Numbers.{wide_16}
 
 -- lists of one length in front of two lists that are one
 pub same_parts : {X : Type 0} (a b x y : List X) → length a ≡ length b → a ++ x ≡ b ++ y → (a ≡ b) × (x ≡ y)
@@ -28,7 +28,7 @@ pub record SameHeader (k s l k' s' l' : ℕ) (t t' : List ℕ) : Type 0 where
 pub same_header : (k s l k' s' l' : ℕ) (t t' : List ℕ) → l < 2 ^ 16 → l' < 2 ^ 16 → header_bytes k s l ++ t ≡ header_bytes k' s' l' ++ t' → SameHeader k s l k' s' l' t t'
 same_header k s l k' s' l' t t' fits fits' e =
     let cells : to_le_bytes w16 l ≡ to_le_bytes w16 l' = cc in
-    let len : l ≡ l' = sym (again_16 l [] fits) ∙ ap (from_le_bytes w16) cells ∙ again_16 l' [] fits' in
+    let len : l ≡ l' = sym (wide_16.again l fits) ∙ ap (from_le_bytes w16) cells ∙ wide_16.again l' fits' in
     record { kind = cc; sub = cc; len = len; behind = cc }
 
 -- one row and the bytes behind it

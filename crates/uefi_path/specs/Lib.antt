@@ -1,6 +1,7 @@
 -- what public contracts and the laws cite
 pub mod Answer
 pub mod Row
+pub mod Parts
 pub mod Node
 pub mod Path
 pub mod Fault

@@ -1,23 +1,47 @@
 -- The table of nodes (UEFI 2.10, 10.3): the row of each node, and which nodes there are.
 use Rattle.std.specs.Prelude.{◌≡◌, ℕ, ◌^◌, ◌<◌, List, [], ◌∷◌}
 use Rattle.std.specs.List.{concat}
-use Rattle.std.specs.Int.{w8, w32, to_le_bytes}
+use Rattle.std.specs.Int.{w8, w16, w32, to_le_bytes}
 use Rattle.uefi_path.specs.declared.node.Node.{Node}
-use Rattle.uefi_path.specs.declared.node.Node.TheVariants.{Pci, Acpi, Other}
-use Rattle.uefi_path.specs.Row.{Row, row, row_bytes, IsOther}
+use Rattle.uefi_path.specs.declared.node.Node.TheVariants.{Pci, VendorHw, Acpi, Usb, VendorMsg, Mac, Ipv4, Sata, Nvme, Uri, HardDrive, VendorMedia, FilePath, Other}
+use Rattle.uefi_path.specs.Parts.{ipv4_fields, AreIpv4Parts, vendor_bytes, IsVendor, IsUri, name_bytes, IsName, hard_drive_fields, AreHardDriveParts}
+use Rattle.uefi_path.specs.Row.{Row, row, row_bytes, AreBytes, IsOther}
 
 -- type, sub-type, and the fields in their order
 abbrev pub row_of : Node → Row
 row_of (Pci function device) =
     row 1 1 (concat (to_le_bytes w8 function ∷ to_le_bytes w8 device ∷ []))
+row_of (VendorHw vendor) = row 1 4 (vendor_bytes vendor)
 row_of (Acpi hid uid) =
     row 2 1 (concat (to_le_bytes w32 hid ∷ to_le_bytes w32 uid ∷ []))
+row_of (Usb port interface) = row 3 5 (concat (to_le_bytes w8 port ∷ to_le_bytes w8 interface ∷ []))
+row_of (VendorMsg vendor) = row 3 10 (vendor_bytes vendor)
+row_of (Mac address if_kind) = row 3 11 (concat (address ∷ to_le_bytes w8 if_kind ∷ []))
+row_of (Ipv4 parts) = row 3 12 (concat (ipv4_fields parts))
+row_of (Sata hba multiplier lun) =
+    row 3 18 (concat (to_le_bytes w16 hba ∷ to_le_bytes w16 multiplier ∷ to_le_bytes w16 lun ∷ []))
+row_of (Nvme namespace eui) = row 3 23 (concat (to_le_bytes w32 namespace ∷ eui ∷ []))
+row_of (Uri bytes) = row 3 24 bytes
+row_of (HardDrive parts) = row 4 1 (concat (hard_drive_fields parts))
+row_of (VendorMedia vendor) = row 4 3 (vendor_bytes vendor)
+row_of (FilePath units) = row 4 4 (name_bytes units)
 row_of (Other other) = other
 
 -- the numbers are in the ranges of their types, and the side conditions hold
 abbrev pub IsNode : Node → Type 0
 IsNode (Pci function device) = (function < 2 ^ 8) × (device < 2 ^ 8)
+IsNode (VendorHw vendor) = IsVendor vendor
 IsNode (Acpi hid uid) = (hid < 2 ^ 32) × (uid < 2 ^ 32)
+IsNode (Usb port interface) = (port < 2 ^ 8) × (interface < 2 ^ 8)
+IsNode (VendorMsg vendor) = IsVendor vendor
+IsNode (Mac address if_kind) = AreBytes 32 address × (if_kind < 2 ^ 8)
+IsNode (Ipv4 parts) = AreIpv4Parts parts
+IsNode (Sata hba multiplier lun) = (hba < 2 ^ 16) × (multiplier < 2 ^ 16) × (lun < 2 ^ 16)
+IsNode (Nvme namespace eui) = (namespace < 2 ^ 32) × AreBytes 8 eui
+IsNode (Uri bytes) = IsUri bytes
+IsNode (HardDrive parts) = AreHardDriveParts parts
+IsNode (VendorMedia vendor) = IsVendor vendor
+IsNode (FilePath units) = IsName units
 IsNode (Other other) = IsOther other
 
 -- the spelling of a node

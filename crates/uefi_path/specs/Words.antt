@@ -1,6 +1,8 @@
 -- The words of faults: a fault's name, and after one blank each of its numbers in decimal.
 use Rattle.std.specs.Prelude.{ℕ, List, ◌++◌, codes}
 use Rattle.std.specs.Fmt.{decimal}
+use Rattle.uefi_path.specs.declared.fault.NameFault.{NameFault}
+use Rattle.uefi_path.specs.declared.fault.NameFault.TheVariants as name
 use Rattle.uefi_path.specs.declared.fault.NodeFault.{NodeFault}
 use Rattle.uefi_path.specs.declared.fault.NodeFault.TheVariants as node
 use Rattle.uefi_path.specs.declared.fault.PathFault.{PathFault}
@@ -10,6 +12,11 @@ abbrev pub node_fault_words : NodeFault → List ℕ
 node_fault_words node.BadEnd = codes "BadEnd"
 node_fault_words node.TooLong = codes "TooLong"
 node_fault_words node.OutOfMemory = codes "OutOfMemory"
+
+abbrev pub name_fault_words : NameFault → List ℕ
+name_fault_words (name.ZeroUnit at) = codes "ZeroUnit " ++ decimal at
+name_fault_words name.TooLong = codes "TooLong"
+name_fault_words name.OutOfMemory = codes "OutOfMemory"
 
 abbrev pub path_fault_words : PathFault → List ℕ
 path_fault_words (path.NoEnd offset) = codes "NoEnd " ++ decimal offset

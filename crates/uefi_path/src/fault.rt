@@ -3,6 +3,7 @@
 ghost use Rattle.std.specs.Prelude.{◌≡◌, IfOk};
 ghost use Rattle.std.specs.String.{string_bytes};
 ghost use Rattle.uefi_path.specs.declared.fault.NodeFault.TheVariants as node;
+ghost use Rattle.uefi_path.specs.declared.fault.NameFault.TheVariants as name;
 ghost use Rattle.uefi_path.specs.declared.fault.PathFault.TheVariants as path;
 
 use std::alloc::{AllocError, AllocFailed, Global};
@@ -47,6 +48,20 @@ pub enum PathFault {
     OutOfMemory,
 }
 
+/// Why units are no name of a file.
+#[derive(Clone, Copy, Debug, PartialEq, Eq, Error)]
+pub enum NameFault {
+    /// A unit is zero. The number is the index of the first such unit.
+    #[error("ZeroUnit {0}")]
+    ZeroUnit(usize),
+    /// There are more than 32,764 units: two bytes cannot state the length of the node.
+    #[error("TooLong")]
+    TooLong,
+    /// Memory was refused.
+    #[error("OutOfMemory")]
+    OutOfMemory,
+}
+
 impl NodeFault {
     ghost use Rattle.uefi_path.specs.Words.{node_fault_words};
 
@@ -81,11 +96,51 @@ impl PathFault {
     }
 }
 
+impl NameFault {
+    ghost use Rattle.uefi_path.specs.Words.{name_fault_words};
+
+    /// The fault's name and, after a blank, its index in decimal. The one refusal is for want of
+    /// memory.
+    pub fn words(&self, alloc: Global) -> Result<String, AllocError>
+        ensures { IfOk result (λ text. string_bytes text ≡ name_fault_words self.now) }
+    {
+        match self {
+            NameFault::ZeroUnit(at) => format!(in alloc; "ZeroUnit {at}"),
+            NameFault::TooLong => String::from_str(alloc, "TooLong"),
+            NameFault::OutOfMemory => String::from_str(alloc, "OutOfMemory"),
+        }
+    }
+}
+
 impl From<AllocError> for NodeFault {
     ghost from_gives = { λ _ fault. fault ≡ node.OutOfMemory };
 
     fn from(_refusal: AllocError) -> NodeFault {
         NodeFault::OutOfMemory
+    }
+}
+
+impl<T: Drop> From<AllocFailed<T>> for NodeFault {
+    ghost from_gives = { λ _ fault. fault ≡ node.OutOfMemory };
+
+    fn from(_refusal: AllocFailed<T>) -> NodeFault {
+        NodeFault::OutOfMemory
+    }
+}
+
+impl From<AllocError> for NameFault {
+    ghost from_gives = { λ _ fault. fault ≡ name.OutOfMemory };
+
+    fn from(_refusal: AllocError) -> NameFault {
+        NameFault::OutOfMemory
+    }
+}
+
+impl<T: Drop> From<AllocFailed<T>> for NameFault {
+    ghost from_gives = { λ _ fault. fault ≡ name.OutOfMemory };
+
+    fn from(_refusal: AllocFailed<T>) -> NameFault {
+        NameFault::OutOfMemory
     }
 }
 

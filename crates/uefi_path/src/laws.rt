@@ -3,19 +3,26 @@
 ghost use Rattle.std.specs.Prelude.{◌≡◌, ◌≢◌, ◌⊎◌, ◌↔◌, ℕ, ◌≤◌, List, [], ◌++◌, length, IsTrue};
 ghost use Rattle.std.specs.List.{AllByRecursion, flat_map};
 ghost use Rattle.uefi_path.specs.declared.node.Node.{Node};
+ghost use Rattle.uefi_path.specs.declared.fault.NameFault.{NameFault};
 ghost use Rattle.uefi_path.specs.declared.fault.NodeFault.{NodeFault};
 ghost use Rattle.uefi_path.specs.declared.fault.PathFault.{PathFault};
 ghost use Rattle.uefi_path.specs.declared.guid.Guid.{Guid};
+ghost use Rattle.uefi_path.specs.Parts.{VendorParts, Ipv4Parts, HardDriveParts};
 ghost use Rattle.uefi_path.specs.Row.{Row, IsByte, IsRow, IsListed, row_bytes, end_entire};
 ghost use Rattle.uefi_path.specs.Node.{row_of, IsNode, SpellsNode, HasTypedNode};
 ghost use Rattle.uefi_path.specs.Path.{IsPath, SpellsPath, IsPathFront, path_bytes, path_rows};
 ghost use Rattle.uefi_path.specs.Fault.{IsFirstFault};
 
-use crate::fault::{NodeFault, PathFault};
+use crate::fault::{NameFault, NodeFault, PathFault};
+use crate::file::FileNode;
 use crate::guid::Guid;
+use crate::hard_drive::HardDriveNode;
+use crate::ipv4::Ipv4Node;
 use crate::node::Node;
 use crate::other::OtherNode;
 use crate::path::Path;
+use crate::uri::UriNode;
+use crate::vendor::Vendor;
 
 /// Each node whose numbers are in their ranges has a spelling, of bytes, and two bytes state its
 /// length.
@@ -100,6 +107,31 @@ pub fn nodes_compare_as_values()
     ensures { (a b : Node) → IsTrue (⟦<Node as PartialEq>⟧.eq a b) ↔ (a ≡ b) }
 {}
 
+/// `==` on what a vendor defines tells whether they are equal.
+pub fn vendors_compare_as_values()
+    ensures { (a b : VendorParts) → IsTrue (⟦<Vendor as PartialEq>⟧.eq a b) ↔ (a ≡ b) }
+{}
+
+/// `==` on IPv4 nodes tells whether they are equal.
+pub fn ipv4_nodes_compare_as_values()
+    ensures { (a b : Ipv4Parts) → IsTrue (⟦<Ipv4Node as PartialEq>⟧.eq a b) ↔ (a ≡ b) }
+{}
+
+/// `==` on URI nodes tells whether they are equal.
+pub fn uri_nodes_compare_as_values()
+    ensures { (a b : List ℕ) → IsTrue (⟦<UriNode as PartialEq>⟧.eq a b) ↔ (a ≡ b) }
+{}
+
+/// `==` on hard drive nodes tells whether they are equal.
+pub fn hard_drive_nodes_compare_as_values()
+    ensures { (a b : HardDriveParts) → IsTrue (⟦<HardDriveNode as PartialEq>⟧.eq a b) ↔ (a ≡ b) }
+{}
+
+/// `==` on file paths tells whether they are equal.
+pub fn file_nodes_compare_as_values()
+    ensures { (a b : List ℕ) → IsTrue (⟦<FileNode as PartialEq>⟧.eq a b) ↔ (a ≡ b) }
+{}
+
 /// `==` on nodes that are kept as bytes tells whether they are equal.
 pub fn other_nodes_compare_as_values()
     ensures { (a b : Row) → IsTrue (⟦<OtherNode as PartialEq>⟧.eq a b) ↔ (a ≡ b) }
@@ -118,6 +150,11 @@ pub fn guids_compare_as_values()
 /// `==` on the faults of nodes tells whether they are equal.
 pub fn node_faults_compare_as_values()
     ensures { (a b : NodeFault) → IsTrue (⟦<NodeFault as PartialEq>⟧.eq a b) ↔ (a ≡ b) }
+{}
+
+/// `==` on the faults of names tells whether they are equal.
+pub fn name_faults_compare_as_values()
+    ensures { (a b : NameFault) → IsTrue (⟦<NameFault as PartialEq>⟧.eq a b) ↔ (a ≡ b) }
 {}
 
 /// `==` on the faults of paths tells whether they are equal.

@@ -7,21 +7,31 @@
 #![tactic(auto)]
 
 mod fault;
+mod file;
 mod generic;
 mod guid;
+mod hard_drive;
+mod ipv4;
 pub mod laws;
 mod node;
 mod other;
 mod path;
 mod reading;
+mod uri;
+mod vendor;
 mod writing;
 
-pub use fault::{NodeFault, PathFault};
+pub use fault::{NameFault, NodeFault, PathFault};
+pub use file::FileNode;
 pub use guid::Guid;
+pub use hard_drive::HardDriveNode;
+pub use ipv4::Ipv4Node;
 pub use node::Node;
 pub use other::OtherNode;
 pub use path::{Path, make_path};
 pub use reading::{node_from_parts, read_path};
+pub use uri::UriNode;
+pub use vendor::Vendor;
 pub use writing::{path_len, write_node, write_path};
 
 #[cfg(test)]

@@ -1,7 +1,8 @@
 use super::*;
+use std::alloc::Global;
 use std::test::Fail;
 
-/// The ACPI root 0, the PCI device 31 with function 2, and a SATA node, which is kept as bytes.
+/// The ACPI root 0, the PCI device 31 with function 2, and the SATA port 0.
 const DISK: [u8; 32] = [
     0x02, 0x01, 0x0c, 0x00, 0xd0, 0x41, 0x03, 0x0a, 0x00, 0x00, 0x00, 0x00, 0x01, 0x01, 0x06, 0x00,
     0x02, 0x1f, 0x03, 0x12, 0x0a, 0x00, 0x00, 0x00, 0xff, 0xff, 0x00, 0x00, 0x7f, 0xff, 0x04, 0x00,
@@ -72,12 +73,11 @@ fn tells_the_first_fault_of_a_path(rt: HostRuntime) {
 }
 
 #[test]
-fn reads_each_node_into_its_case(rt: HostRuntime) -> Result<(), Fail> {
+fn reads_the_nodes_of_a_path(rt: HostRuntime) -> Result<(), Fail> {
     let (disk, _) = read_path(rt.alloc(), &DISK)?;
-    let sata = node_from_parts(rt.alloc(), 3, 18, &[0x00, 0x00, 0xff, 0xff, 0x00, 0x00])?;
     match disk.instances() {
         [nodes] => match nodes.as_slice() {
-            [root, function, other] => {
+            [root, function, port] => {
                 assert_eq!(rt;
                     root,
                     &Node::Acpi {
@@ -92,27 +92,308 @@ fn reads_each_node_into_its_case(rt: HostRuntime) -> Result<(), Fail> {
                         device: 31
                     }
                 );
-                assert_eq!(rt; other, &sata);
+                assert_eq!(rt;
+                    port,
+                    &Node::Sata {
+                        hba: 0,
+                        multiplier: 0xffff,
+                        lun: 0
+                    }
+                );
             }
             _ => assert!(rt; false, "three nodes"),
         },
         _ => assert!(rt; false, "one instance"),
     }
+    Ok(())
+}
 
-    let long = node_from_parts(rt.alloc(), 1, 1, &[0x02, 0x05, 0xaa])?;
-    let mut out = Vec::new(rt.alloc());
-    write_node(&long, &mut out)?;
-    assert_eq!(rt; out.as_slice(), &LONG_PCI[..7]);
-    match &long {
-        Node::Other(node) => {
-            assert_eq!(rt; node.kind(), 1);
-            assert_eq!(rt; node.sub(), 1);
-            assert_eq!(rt; node.body(), [0x02, 0x05, 0xaa].as_slice());
+/// An identifier, which stands in the bytes as it is here.
+const GUID: [u8; 16] = [
+    0x61, 0xdf, 0xe4, 0x8b, 0xca, 0x93, 0xd2, 0x11, 0xaa, 0x0d, 0x00, 0xe0, 0x98, 0x03, 0x2b, 0x8c,
+];
+
+/// A connection of one net's addresses from this port.
+fn ipv4_from(local_port: u16) -> Ipv4Node {
+    Ipv4Node::new(
+        [192, 168, 1, 10],
+        [192, 168, 1, 1],
+        local_port,
+        0,
+        17,
+        1,
+        [192, 168, 1, 254],
+        [255, 255, 255, 0],
+    )
+}
+
+/// The bytes of nodes, and each node; `None` where it is kept as bytes.
+fn example_nodes(alloc: Global) -> Result<[(&'static [u8], Option<Node>); 27], Fail> {
+    let mut address = [0; 32];
+    address[..6].copy_from_slice(&[0x00, 0x11, 0x22, 0x33, 0x44, 0x55]);
+    let mut mbr = [0; 16];
+    mbr[..4].copy_from_slice(&[0xcd, 0xab, 0x34, 0x12]);
+    Ok([
+        (
+            &[0x01, 0x01, 0x06, 0x00, 0x02, 0x1f],
+            Some(Node::Pci {
+                function: 2,
+                device: 31,
+            }),
+        ),
+        (
+            &[
+                0x01, 0x04, 0x14, 0x00, 0x61, 0xdf, 0xe4, 0x8b, 0xca, 0x93, 0xd2, 0x11, 0xaa, 0x0d,
+                0x00, 0xe0, 0x98, 0x03, 0x2b, 0x8c,
+            ],
+            Some(Node::VendorHw(Vendor::new(alloc, Guid(GUID), &[])?)),
+        ),
+        (
+            &[
+                0x02, 0x01, 0x0c, 0x00, 0xd0, 0x41, 0x03, 0x0a, 0x00, 0x00, 0x00, 0x00,
+            ],
+            Some(Node::Acpi {
+                hid: 0x0a03_41d0,
+                uid: 0,
+            }),
+        ),
+        (
+            &[
+                0x02, 0x01, 0x0c, 0x00, 0xd0, 0x41, 0x01, 0x05, 0x01, 0x00, 0x00, 0x00,
+            ],
+            Some(Node::Acpi {
+                hid: 0x0501_41d0,
+                uid: 1,
+            }),
+        ),
+        (
+            &[
+                0x02, 0x01, 0x0c, 0x00, 0x07, 0x00, 0x00, 0x00, 0x00, 0x00, 0x00, 0x00,
+            ],
+            Some(Node::Acpi { hid: 7, uid: 0 }),
+        ),
+        (
+            &[
+                0x02, 0x01, 0x0c, 0x00, 0xd0, 0x41, 0x08, 0x0a, 0x02, 0x00, 0x00, 0x00,
+            ],
+            Some(Node::Acpi {
+                hid: 0x0a08_41d0,
+                uid: 2,
+            }),
+        ),
+        (
+            &[0x03, 0x05, 0x06, 0x00, 0x01, 0x00],
+            Some(Node::Usb {
+                port: 1,
+                interface: 0,
+            }),
+        ),
+        (
+            &[
+                0x03, 0x0a, 0x16, 0x00, 0x61, 0xdf, 0xe4, 0x8b, 0xca, 0x93, 0xd2, 0x11, 0xaa, 0x0d,
+                0x00, 0xe0, 0x98, 0x03, 0x2b, 0x8c, 0xaa, 0xbb,
+            ],
+            Some(Node::VendorMsg(Vendor::new(alloc, Guid(GUID), &[0xaa, 0xbb])?)),
+        ),
+        (
+            &[
+                0x03, 0x0b, 0x25, 0x00, 0x00, 0x11, 0x22, 0x33, 0x44, 0x55, 0x00, 0x00, 0x00, 0x00,
+                0x00, 0x00, 0x00, 0x00, 0x00, 0x00, 0x00, 0x00, 0x00, 0x00, 0x00, 0x00, 0x00, 0x00,
+                0x00, 0x00, 0x00, 0x00, 0x00, 0x00, 0x00, 0x00, 0x01,
+            ],
+            Some(Node::Mac {
+                address,
+                if_kind: 1,
+            }),
+        ),
+        (
+            &[
+                0x03, 0x0c, 0x1b, 0x00, 0xc0, 0xa8, 0x01, 0x0a, 0xc0, 0xa8, 0x01, 0x01, 0x00, 0x00,
+                0x00, 0x00, 0x11, 0x00, 0x01, 0xc0, 0xa8, 0x01, 0xfe, 0xff, 0xff, 0xff, 0x00,
+            ],
+            Some(Node::Ipv4(ipv4_from(0))),
+        ),
+        (
+            &[
+                0x03, 0x0c, 0x1b, 0x00, 0xc0, 0xa8, 0x01, 0x0a, 0xc0, 0xa8, 0x01, 0x01, 0x01, 0x00,
+                0x00, 0x00, 0x11, 0x00, 0x01, 0xc0, 0xa8, 0x01, 0xfe, 0xff, 0xff, 0xff, 0x00,
+            ],
+            Some(Node::Ipv4(ipv4_from(1))),
+        ),
+        (
+            &[0x03, 0x12, 0x0a, 0x00, 0x00, 0x00, 0xff, 0xff, 0x00, 0x00],
+            Some(Node::Sata {
+                hba: 0,
+                multiplier: 0xffff,
+                lun: 0,
+            }),
+        ),
+        (
+            &[
+                0x03, 0x17, 0x10, 0x00, 0x01, 0x00, 0x00, 0x00, 0x00, 0x25, 0x38, 0x5b, 0x71, 0xb0,
+                0x0f, 0x12,
+            ],
+            Some(Node::Nvme {
+                namespace: 1,
+                eui: [0x00, 0x25, 0x38, 0x5b, 0x71, 0xb0, 0x0f, 0x12],
+            }),
+        ),
+        (
+            &[
+                0x03, 0x18, 0x12, 0x00, 0x68, 0x74, 0x74, 0x70, 0x3a, 0x2f, 0x2f, 0x61, 0x2f, 0x62,
+                0x2e, 0x65, 0x66, 0x69,
+            ],
+            Some(Node::Uri(UriNode::new(alloc, b"http://a/b.efi")?)),
+        ),
+        (
+            &[0x03, 0x18, 0x04, 0x00],
+            Some(Node::Uri(UriNode::new(alloc, &[])?)),
+        ),
+        (
+            &[
+                0x04, 0x01, 0x2a, 0x00, 0x01, 0x00, 0x00, 0x00, 0x00, 0x08, 0x00, 0x00, 0x00, 0x00,
+                0x00, 0x00, 0x00, 0x40, 0x06, 0x00, 0x00, 0x00, 0x00, 0x00, 0x61, 0xdf, 0xe4, 0x8b,
+                0xca, 0x93, 0xd2, 0x11, 0xaa, 0x0d, 0x00, 0xe0, 0x98, 0x03, 0x2b, 0x8c, 0x02, 0x02,
+            ],
+            Some(Node::HardDrive(HardDriveNode::new(1, 0x800, 0x64000, GUID, 2, 2))),
+        ),
+        (
+            &[
+                0x04, 0x01, 0x2a, 0x00, 0x01, 0x00, 0x00, 0x00, 0x3f, 0x00, 0x00, 0x00, 0x00, 0x00,
+                0x00, 0x00, 0x00, 0x10, 0x00, 0x00, 0x00, 0x00, 0x00, 0x00, 0xcd, 0xab, 0x34, 0x12,
+                0x00, 0x00, 0x00, 0x00, 0x00, 0x00, 0x00, 0x00, 0x00, 0x00, 0x00, 0x00, 0x01, 0x01,
+            ],
+            Some(Node::HardDrive(HardDriveNode::new(1, 0x3f, 0x1000, mbr, 1, 1))),
+        ),
+        (
+            &[
+                0x04, 0x03, 0x14, 0x00, 0x61, 0xdf, 0xe4, 0x8b, 0xca, 0x93, 0xd2, 0x11, 0xaa, 0x0d,
+                0x00, 0xe0, 0x98, 0x03, 0x2b, 0x8c,
+            ],
+            Some(Node::VendorMedia(Vendor::new(alloc, Guid(GUID), &[])?)),
+        ),
+        (
+            &[0x04, 0x04, 0x0a, 0x00, 0x5c, 0x00, 0x41, 0x00, 0x00, 0x00],
+            Some(Node::FilePath(FileNode::new(alloc, &[0x5c, 0x41])?)),
+        ),
+        (
+            &[0x04, 0x04, 0x06, 0x00, 0x00, 0x00],
+            Some(Node::FilePath(FileNode::new(alloc, &[])?)),
+        ),
+        (
+            &[0x04, 0x04, 0x08, 0x00, 0xe9, 0x00, 0x00, 0x00],
+            Some(Node::FilePath(FileNode::new(alloc, &[0xe9])?)),
+        ),
+        (&[0x01, 0x01, 0x07, 0x00, 0x02, 0x05, 0xaa], None),
+        (
+            &[
+                0x03, 0x0c, 0x13, 0x00, 0xc0, 0xa8, 0x01, 0x0a, 0xc0, 0xa8, 0x01, 0x01, 0x00, 0x00,
+                0x00, 0x00, 0x11, 0x00, 0x01,
+            ],
+            None,
+        ),
+        (&[0x04, 0x04, 0x08, 0x00, 0x5c, 0x00, 0x41, 0x00], None),
+        (
+            &[
+                0x04, 0x04, 0x0c, 0x00, 0x5c, 0x00, 0x00, 0x00, 0x41, 0x00, 0x00, 0x00,
+            ],
+            None,
+        ),
+        (&[0xff, 0x01, 0x06, 0x00, 0x12, 0x34], None),
+        (&[0x05, 0x01, 0x04, 0x00], None),
+    ])
+}
+
+#[test]
+fn reads_each_node_into_its_case(rt: HostRuntime) -> Result<(), Fail> {
+    let alloc = rt.alloc();
+    let table = example_nodes(alloc)?;
+    let mut all = Vec::new(alloc);
+    for (bytes, expected) in &table {
+        let node = node_from_parts(alloc, bytes[0], bytes[1], &bytes[4..])?;
+        match (expected, &node) {
+            (Some(expected), node) => assert_eq!(rt; node, expected, "of {bytes:?}"),
+            (None, Node::Other(other)) => {
+                assert_eq!(rt; other.kind(), bytes[0]);
+                assert_eq!(rt; other.sub(), bytes[1]);
+                assert_eq!(rt; other.body(), &bytes[4..]);
+            }
+            (None, _) => assert!(rt; false, "{bytes:?} fits no row"),
         }
-        _ => assert!(rt; false, "a node of another length is kept as bytes"),
+        let mut out = Vec::new(alloc);
+        write_node(&node, &mut out)?;
+        assert_eq!(rt; out.as_slice(), *bytes);
+        all.extend_from_slice(bytes)?;
     }
-    assert!(rt; long.copy(rt.alloc())? == long);
-    assert!(rt; long != sata);
+    all.extend_from_slice(&[0x7f, 0xff, 0x04, 0x00])?;
+
+    let (path, len) = read_path(alloc, &all)?;
+    assert_eq!(rt; len, 429);
+    assert_eq!(rt; path_len(&path), Some(429));
+    assert!(rt; path.copy(alloc)? == path);
+    let mut out = Vec::new(alloc);
+    write_path(&path, &mut out)?;
+    assert!(rt; out == all);
+    let nodes = path.instances()[0].as_slice();
+    assert_eq!(rt; nodes.len(), table.len());
+    for (i, node) in nodes.iter().enumerate() {
+        for (j, other) in nodes.iter().enumerate() {
+            assert_eq!(rt; node == other, i == j, "{i} and {j}");
+        }
+    }
+    Ok(())
+}
+
+#[test]
+fn tells_the_fields_of_nodes(rt: HostRuntime) -> Result<(), Fail> {
+    let alloc = rt.alloc();
+    let vendor = Vendor::new(alloc, Guid(GUID), &[0xaa, 0xbb])?;
+    assert_eq!(rt; vendor.guid(), Guid(GUID));
+    assert_eq!(rt; vendor.body(), [0xaa, 0xbb].as_slice());
+
+    let connection = Ipv4Node::new([1; 4], [2; 4], 3, 4, 5, 6, [7; 4], [8; 4]);
+    assert_eq!(rt; connection.local(), &[1; 4]);
+    assert_eq!(rt; connection.remote(), &[2; 4]);
+    assert_eq!(rt; connection.local_port(), 3);
+    assert_eq!(rt; connection.remote_port(), 4);
+    assert_eq!(rt; connection.protocol(), 5);
+    assert_eq!(rt; connection.fixed(), 6);
+    assert_eq!(rt; connection.gateway(), &[7; 4]);
+    assert_eq!(rt; connection.mask(), &[8; 4]);
+
+    let partition = HardDriveNode::new(1, 2, 3, GUID, 4, 5);
+    assert_eq!(rt; partition.partition(), 1);
+    assert_eq!(rt; partition.start(), 2);
+    assert_eq!(rt; partition.size(), 3);
+    assert_eq!(rt; partition.signature(), &GUID);
+    assert_eq!(rt; partition.format(), 4);
+    assert_eq!(rt; partition.signature_kind(), 5);
+
+    assert_eq!(rt; UriNode::new(alloc, b"tftp:")?.bytes(), b"tftp:".as_slice());
+    assert_eq!(rt;
+        FileNode::new(alloc, &[0x5c, 0xe9])?.units(),
+        [0x5c, 0xe9].as_slice()
+    );
+    Ok(())
+}
+
+#[test]
+fn refuses_parts_that_no_node_holds(rt: HostRuntime) -> Result<(), Fail> {
+    let alloc = rt.alloc();
+    let long = vec![in alloc; 0u8; 65_532]?;
+    let guid = Guid(GUID);
+    assert!(rt; Vendor::new(alloc, guid, &long[..65_516]) == Err(NodeFault::TooLong));
+    assert!(rt; Vendor::new(alloc, guid, &long[..65_515]).is_ok());
+    assert!(rt; UriNode::new(alloc, &long) == Err(NodeFault::TooLong));
+    assert!(rt; UriNode::new(alloc, &long[..65_531]).is_ok());
+
+    let mut name = vec![in alloc; 0x41u16; 32_765]?;
+    assert!(rt; FileNode::new(alloc, &name) == Err(NameFault::TooLong));
+    assert!(rt; FileNode::new(alloc, &name[..32_764]).is_ok());
+    name[7] = 0;
+    name[9] = 0;
+    assert!(rt; FileNode::new(alloc, &name) == Err(NameFault::ZeroUnit(7)));
+    assert!(rt; FileNode::new(alloc, &name[..7]).is_ok());
     Ok(())
 }
 
@@ -148,6 +429,14 @@ fn tells_faults_in_words(rt: HostRuntime) -> Result<(), Fail> {
         (PathFault::PastEnd(1000), "PastEnd 1000"),
         (PathFault::BadEnd(usize::MAX), "BadEnd 18446744073709551615"),
         (PathFault::OutOfMemory, "OutOfMemory"),
+    ] {
+        assert_eq!(rt; fault.words(alloc)?.as_str(), words);
+        assert_eq!(rt; format!(in alloc; "{fault}")?.as_str(), words);
+    }
+    for (fault, words) in [
+        (NameFault::ZeroUnit(17), "ZeroUnit 17"),
+        (NameFault::TooLong, "TooLong"),
+        (NameFault::OutOfMemory, "OutOfMemory"),
     ] {
         assert_eq!(rt; fault.words(alloc)?.as_str(), words);
         assert_eq!(rt; format!(in alloc; "{fault}")?.as_str(), words);

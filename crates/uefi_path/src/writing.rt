@@ -7,7 +7,7 @@ ghost use Rattle.uefi_path.specs.Node.{row_of, IsNode, node_bytes};
 ghost use Rattle.uefi_path.specs.Path.{IsPath, path_bytes};
 ghost use Rattle.uefi_path.specs.Writing.{Extends};
 
-use crate::generic::{END, END_ENTIRE, END_INSTANCE, HEADER_LEN};
+use crate::generic::{END, END_ENTIRE, END_INSTANCE, HEADER_LEN, field};
 use crate::node::Node;
 use crate::path::Path;
 use std::alloc::AllocError;
@@ -21,6 +21,17 @@ fn header(kind: u8, sub: u8, len: usize) -> [u8; 4]
     [kind, sub, low, high]
 }
 
+/// Appends fields one after the other. An `Err` may leave a part of them.
+pub(crate) fn append_all(fields: &[&[u8]], out: &mut Vec<u8>) -> Result<(), AllocError>
+    ensures ok { OnOk result (out.new.items ≡ out.old.items ++ flat_map (λ field. field.now) fields.now) }
+    ensures err { OnErr result (Extends out.old.items out.new.items) }
+{
+    for field in fields {
+        out.extend_from_slice(field)?;
+    }
+    Ok(())
+}
+
 /// Appends the fields of a node in their order. An `Err` may leave a part of them.
 fn append_fields(node: &Node, out: &mut Vec<u8>) -> Result<(), AllocError>
     ensures valid { OnOk result (IsNode node.now) }
@@ -32,10 +43,38 @@ fn append_fields(node: &Node, out: &mut Vec<u8>) -> Result<(), AllocError>
             out.extend_from_slice(&function.to_le_bytes())?;
             out.extend_from_slice(&device.to_le_bytes())?;
         }
+        Node::VendorHw(vendor) => vendor.append_fields(out)?,
         Node::Acpi { hid, uid } => {
             out.extend_from_slice(&hid.to_le_bytes())?;
             out.extend_from_slice(&uid.to_le_bytes())?;
         }
+        Node::Usb { port, interface } => {
+            out.extend_from_slice(&port.to_le_bytes())?;
+            out.extend_from_slice(&interface.to_le_bytes())?;
+        }
+        Node::VendorMsg(vendor) => vendor.append_fields(out)?,
+        Node::Mac { address, if_kind } => {
+            out.extend_from_slice(field(address))?;
+            out.extend_from_slice(&if_kind.to_le_bytes())?;
+        }
+        Node::Ipv4(node) => node.append_fields(out)?,
+        Node::Sata {
+            hba,
+            multiplier,
+            lun,
+        } => {
+            out.extend_from_slice(&hba.to_le_bytes())?;
+            out.extend_from_slice(&multiplier.to_le_bytes())?;
+            out.extend_from_slice(&lun.to_le_bytes())?;
+        }
+        Node::Nvme { namespace, eui } => {
+            out.extend_from_slice(&namespace.to_le_bytes())?;
+            out.extend_from_slice(field(eui))?;
+        }
+        Node::Uri(node) => out.extend_from_slice(node.bytes())?,
+        Node::HardDrive(node) => node.append_fields(out)?,
+        Node::VendorMedia(vendor) => vendor.append_fields(out)?,
+        Node::FilePath(node) => node.append_fields(out)?,
         Node::Other(other) => out.extend_from_slice(other.body())?,
     }
     Ok(())

@@ -1,10 +1,11 @@
-use Rattle.std.proofs.Common.{◌≡◌, ap, sym, ◌∙◌, inl, arith, Result, Ok}
+use Rattle.std.proofs.Common.{◌≡◌, ◌≤◌, length, ap, sym, ◌∙◌, inl, arith, Result, Ok}
 use Rattle.uefi_path.specs.declared.node.Node.{Node}
 use Rattle.uefi_path.specs.declared.fault.NodeFault.{NodeFault}
-use Rattle.uefi_path.specs.Row.{IsRow, row}
+use Rattle.uefi_path.specs.Row.{Row, IsRow, row}
+use Rattle.uefi_path.specs.Node.{row_of}
 use Rattle.uefi_path.specs.Reading.{node_of}
 use Rattle.uefi_path.proofs.Bytes.{recursion_from_bytes}
-use Rattle.uefi_path.proofs.Table.{node_of_has_row, node_of-row_of}
+use Rattle.uefi_path.proofs.Table.{node_of_has_row, node_of-row_of, row_of_is_row}
 use Rattle.uefi_path.proofs.reading.node_from_parts.Goals as goal
 
 pub returns-clause-made : goal.returns-clause-made
@@ -16,6 +17,12 @@ returns-clause-made c =
       len = omega arith;
     } in
     rw c.in_ok-make_node.ensures (node_of_has_row (row c.args.kind c.args.sub c.args.body.now) is c.if-kind-eq-END.false)
+
+pub returns-then-body-gt-BODY_MAX-clause-only : goal.returns-then-body-gt-BODY_MAX-clause-only
+returns-then-body-gt-BODY_MAX-clause-only c = λ node valid same.
+    let short : length (row_of node).body ≤ 65531 = (row_of_is_row node valid).0.len in
+    let here : length (row_of node).body ≡ length c.args.body.now = ap (λ (r : Row). length r.body) same in
+    absurd (omega (arith, c.if-body-gt-BODY_MAX.true, short, here))
 
 pub returns-clause-only : goal.returns-clause-only
 returns-clause-only c = λ node valid same.

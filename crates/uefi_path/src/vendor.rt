@@ -1,0 +1,150 @@
+//! Nodes that a vendor defines.
+
+ghost use Rattle.std.specs.Prelude.{◌≡◌, ◌≢◌, ◌↔◌, ◌<◌, ◌≤◌, ◌++◌, length, Err, IfOk, OnOk, OnErr};
+ghost use Rattle.uefi_path.specs.declared.fault.NodeFault.{NodeFault};
+ghost use Rattle.uefi_path.specs.Parts.{vendor_parts, vendor_bytes, vendor_of, IsVendor};
+ghost use Rattle.uefi_path.specs.Writing.{Extends};
+
+use crate::fault::NodeFault;
+use crate::generic::field;
+use crate::guid::Guid;
+use std::alloc::{AllocError, Global};
+use std::marker::Model;
+
+/// The bytes of the identifier in front of a vendor's data.
+const GUID_LEN: usize = 16;
+
+/// The most bytes of data that a vendor's node can have behind its identifier.
+const VENDOR_BODY_MAX: usize = 65_515;
+
+/// What a vendor's node holds (UEFI 2.10, 10.3.2.4, 10.3.4.17 and 10.3.5.3): the identifier that
+/// says what the data means, and at most 65,515 bytes of data.
+#[derive(Debug, Drop)]
+pub struct Vendor {
+    guid: [u8; 16],
+    body: Vec<u8>,
+}
+
+impl Model for Vendor {
+    ghost use Rattle.uefi_path.specs.Parts.{VendorParts, vendor_parts, IsVendor};
+
+    ghost Value = { VendorParts };
+
+    ghost view = { λ node. vendor_parts node.guid node.body.items };
+
+    ghost invariant = { λ node. IsVendor (vendor_parts node.guid node.body.items) };
+}
+
+impl PartialEq for Vendor {
+    ghost use Rattle.std.specs.Prelude.{◌≡◌, ◌↔◌, IsTrue};
+    ghost use Rattle.std.proofs.Common.{rules};
+    ghost use Rattle.std.specs.Cmp.Rules.{comparing};
+    ghost use Rattle.uefi_path.specs.Equality.{vendor_eq};
+
+    ghost eq = { vendor_eq };
+
+    ghost laws = { Prim.search (comparing, rules) };
+
+    fn eq(&self, other: &Vendor) -> bool
+        ensures value { result ≡ vendor_eq self.now other.now }
+        ensures equal { IsTrue result ↔ (self.now ≡ other.now) }
+    {
+        self.guid == other.guid && self.body == other.body
+    }
+}
+
+impl Eq for Vendor {
+    ghost use Rattle.std.proofs.Common.{rules};
+    ghost use Rattle.std.specs.Cmp.Rules.{comparing};
+
+    ghost laws = { Prim.search (comparing, rules) };
+}
+
+impl Vendor {
+    /// A node of this identifier and this data.
+    ///
+    /// # Errors
+    ///
+    /// [`NodeFault::TooLong`] where there are more than 65,515 bytes of data; else
+    /// [`NodeFault::OutOfMemory`] where memory for them was refused.
+    pub fn new(alloc: Global, guid: Guid, body: &[u8]) -> Result<Vendor, NodeFault>
+        ensures made { IfOk result (λ node. node ≡ vendor_parts guid.0 body.now) }
+        ensures too_long { (result ≡ Err NodeFault.TooLong) ↔ (65515 < length body.now) }
+        ensures no_bad_end { result ≢ Err NodeFault.BadEnd }
+    {
+        if body.len() > VENDOR_BODY_MAX {
+            return Err(NodeFault::TooLong);
+        }
+        let Guid(guid) = guid;
+        Ok(Vendor::from_parts(alloc, guid, body)?)
+    }
+
+    fn from_parts(alloc: Global, guid: [u8; 16], body: &[u8]) -> Result<Vendor, AllocError>
+        requires { length body.now ≤ 65515 }
+        ensures { IfOk result (λ node. node ≡ vendor_parts guid body.now) }
+    {
+        let _ = field(&guid);
+        let body = Vec::from_slice(alloc, body)?;
+        Ok(Vendor { guid, body })
+    }
+
+    /// The node that has these bytes, the identifier first: `None` where they are too few for one.
+    /// The one refusal is for want of memory.
+    pub(crate) fn from_bytes(alloc: Global, bytes: &[u8]) -> Result<Option<Vendor>, AllocError>
+        requires { length bytes.now ≤ 65531 }
+        ensures { IfOk result (λ found. found ≡ vendor_of bytes.now) }
+    {
+        if bytes.len() < GUID_LEN {
+            return Ok(None);
+        }
+        let mut guid = [0; GUID_LEN];
+        guid.copy_from_slice(&bytes[..GUID_LEN]);
+        Ok(Some(Vendor::from_parts(alloc, guid, &bytes[GUID_LEN..])?))
+    }
+
+    /// The identifier of what the data means.
+    pub fn guid(&self) -> Guid
+        ensures { result.0 ≡ self.now.guid }
+    {
+        Guid(self.guid)
+    }
+
+    /// The data behind the identifier.
+    pub fn body(&self) -> &[u8]
+        ensures bytes { result.now ≡ self.now.body }
+        ensures valid { IsVendor self.now }
+    {
+        &self.body
+    }
+
+    /// An equal node, if there is memory for it.
+    pub(crate) fn copy(&self, alloc: Global) -> Result<Vendor, AllocError>
+        ensures equal { IfOk result (λ node. node ≡ self.now) }
+        ensures valid { OnOk result (IsVendor self.now) }
+    {
+        let body = Vec::from_slice(alloc, &self.body)?;
+        Ok(Vendor {
+            guid: self.guid,
+            body,
+        })
+    }
+
+    /// How many bytes the identifier and the data take.
+    pub(crate) fn data_len(&self) -> usize
+        ensures len { result ≡ length (vendor_bytes self.now) }
+        ensures bound { result ≤ 65531 }
+    {
+        field(&self.guid).len() + self.body.len()
+    }
+
+    /// Appends the identifier and the data. An `Err` may leave a part of them.
+    pub(crate) fn append_fields(&self, out: &mut Vec<u8>) -> Result<(), AllocError>
+        ensures valid { OnOk result (IsVendor self.now) }
+        ensures ok { OnOk result (out.new.items ≡ out.old.items ++ vendor_bytes self.now) }
+        ensures err { OnErr result (Extends out.old.items out.new.items) }
+    {
+        out.extend_from_slice(field(&self.guid))?;
+        out.extend_from_slice(&self.body)?;
+        Ok(())
+    }
+}
