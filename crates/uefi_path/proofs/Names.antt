@@ -3,10 +3,11 @@ use Rattle.std.proofs.Common.{◌≡◌, ◌≢◌, ℕ, suc, ◌+◌, ◌-◌, 
 use Rattle.std.specs.Prelude.{◌==◌, IsSome, IfSome}
 use Rattle.std.specs.Option.{option_map}
 use Rattle.std.specs.Int.{w16, to_le_bytes, from_le_bytes}
-use Rattle.std.specs.List.{position, position_or_len, AllByRecursion}
+use Rattle.std.specs.List.{flat_map, position, position_or_len, AllByRecursion}
 use Rattle.std.proofs.lemmas.List.Elements.{recursion_from_All, All-from_get_or}
 use Rattle.std.proofs.lemmas.List.Sums.{fails_before_first}
 use Rattle.std.proofs.lemmas.Option.{none-some}
+use Rattle.std.proofs.lemmas.Grind.{flat_map-append}
 use Rattle.std.proofs.lemmas.List.{nil_from_length, take_all, length-append}
 use Rattle.std.proofs.lemmas.Bool.{cases_lt, lt-ltb, ne_eqb, eqb-true, eqb-false, cond_both}
 use Rattle.uefi_path.specs.Parts.{IsUnit, name_bytes}
@@ -127,3 +128,30 @@ name_closed [] valid = last_zero
 name_closed (n ∷ units) valid =
     let here : from_le_bytes w16 (to_le_bytes w16 n) ≡ n = wide_16.again n valid.0.1 in
     another_unit (rw here valid.0.0) (name_closed units valid.1)
+
+-- ---- four units at a time
+
+-- some of the units are written behind what was there, and the rest is not
+pub record HasWritten (old out units rest : List ℕ) : Type 0 where
+  pub done : List ℕ
+  pub parts : units ≡ done ++ rest
+  pub is : out ≡ old ++ flat_map (to_le_bytes w16) done
+
+-- these are the bytes of the first four units of the rest
+pub record AreFour (rest bytes : List ℕ) : Type 0 where
+  pub enough : 4 ≤ length rest
+  pub is : bytes ≡ to_le_bytes w16 (get_or rest 0 0) ++ (to_le_bytes w16 (get_or rest 1 0) ++ (to_le_bytes w16 (get_or rest 2 0) ++ to_le_bytes w16 (get_or rest 3 0)))
+
+pub four_more : (old out units rest bytes : List ℕ) → HasWritten old out units rest → AreFour rest bytes → HasWritten old (out ++ bytes) units (take (length rest - 4) (drop 4 rest))
+four_more old out units [] bytes h four = absurd (omega (arith, four.enough))
+four_more old out units (a ∷ []) bytes h four = absurd (omega (arith, four.enough))
+four_more old out units (a ∷ b ∷ []) bytes h four = absurd (omega (arith, four.enough))
+four_more old out units (a ∷ b ∷ c ∷ []) bytes h four = absurd (omega (arith, four.enough))
+four_more old out units (a ∷ b ∷ c ∷ d ∷ others) bytes h four =
+    let first = a ∷ b ∷ c ∷ d ∷ [] in
+    let behind : others ≡ take (length (a ∷ b ∷ c ∷ d ∷ others) - 4) (drop 4 (a ∷ b ∷ c ∷ d ∷ others)) = sym (take_all (length (a ∷ b ∷ c ∷ d ∷ others) - 4) others (omega arith)) in
+    subst (λ (t : List ℕ). HasWritten old (out ++ bytes) units t) behind (record {
+      done = h.done ++ first;
+      parts = h.parts ∙ sym (append_assoc h.done first others);
+      is = rw (h.is, four.is, flat_map-append) (append_assoc old (flat_map (to_le_bytes w16) h.done) (flat_map (to_le_bytes w16) first));
+    })

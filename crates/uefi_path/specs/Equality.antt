@@ -1,4 +1,4 @@
--- What `==` computes of nodes that are kept as bytes.
+-- What `==` computes of rows and of vendors' parts.
 use Rattle.std.specs.Prelude.{Bool, ◌==◌}
 use Rattle.std.specs.Ordering.{on, eq_of_both}
 use Rattle.std.specs.Cmp.Lexicographic.{pointwise}

@@ -4,7 +4,7 @@ use Rattle.std.specs.List.{AllByRecursion, flat_map}
 use Rattle.std.specs.Int.{w8, w16, w32, w64, to_le_bytes}
 use Rattle.uefi_path.specs.Row.{IsByte, AreBytes}
 
--- what a vendor defines (UEFI 2.10, 10.3.2.4, 10.3.4.17, 10.3.5.3): an identifier, and data that it gives a meaning
+-- what a vendor defines (UEFI 2.10, 10.3.2.4, 10.3.4.17, 10.3.5.3): an identifier, and data whose meaning it tells
 pub record VendorParts : Type 0 where
   pub guid : List ℕ
   pub body : List ℕ

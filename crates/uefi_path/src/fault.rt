@@ -9,13 +9,14 @@ ghost use Rattle.uefi_path.specs.declared.fault.PathFault.TheVariants as path;
 use std::alloc::{AllocError, AllocFailed, Global};
 use thiserror::Error;
 
-/// Why a type, a sub-type and data make no node.
+/// Why parts make no node.
 #[derive(Clone, Copy, Debug, PartialEq, Eq, Error)]
 pub enum NodeFault {
     /// The type is 0x7F, that of the end nodes, which are no nodes of a path.
     #[error("BadEnd")]
     BadEnd,
-    /// The data has more than 65,531 bytes: two bytes cannot state the length of the node.
+    /// The data would have more than 65,531 bytes, a vendor's identifier included: two bytes cannot
+    /// state the length of the node.
     #[error("TooLong")]
     TooLong,
     /// Memory was refused.
@@ -48,7 +49,7 @@ pub enum PathFault {
     OutOfMemory,
 }
 
-/// Why units are no name of a file.
+/// Why units are no path name of a file.
 #[derive(Clone, Copy, Debug, PartialEq, Eq, Error)]
 pub enum NameFault {
     /// A unit is zero. The number is the index of the first such unit.
@@ -80,8 +81,8 @@ impl NodeFault {
 impl PathFault {
     ghost use Rattle.uefi_path.specs.Words.{path_fault_words};
 
-    /// The fault's name and, after a blank, its offset in decimal. The one refusal is for want of
-    /// memory.
+    /// The fault's name and, where it has one, its offset in decimal after a blank. The one refusal
+    /// is for want of memory.
     pub fn words(&self, alloc: Global) -> Result<String, AllocError>
         ensures { IfOk result (λ text. string_bytes text ≡ path_fault_words self.now) }
     {
@@ -99,8 +100,8 @@ impl PathFault {
 impl NameFault {
     ghost use Rattle.uefi_path.specs.Words.{name_fault_words};
 
-    /// The fault's name and, after a blank, its index in decimal. The one refusal is for want of
-    /// memory.
+    /// The fault's name and, where it has one, its index in decimal after a blank. The one refusal
+    /// is for want of memory.
     pub fn words(&self, alloc: Global) -> Result<String, AllocError>
         ensures { IfOk result (λ text. string_bytes text ≡ name_fault_words self.now) }
     {

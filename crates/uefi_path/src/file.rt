@@ -18,8 +18,8 @@ const NAME_MAX: usize = 32_764;
 /// The bytes of a unit.
 const UNIT_LEN: usize = 2;
 
-/// The name of a file (UEFI 2.10, 10.3.5.4) as CHAR16 units. None of them is zero, and there are at
-/// most 32,764; the zero that closes the name in the bytes is not held.
+/// The path name of a file (UEFI 2.10, 10.3.5.4) as CHAR16 units. None of them is zero, and there
+/// are at most 32,764; the zero that closes the name in the bytes is not held.
 #[derive(Debug, Drop)]
 pub struct FileNode {
     units: Vec<u16>,
@@ -62,7 +62,8 @@ impl Eq for FileNode {
 }
 
 impl FileNode {
-    /// A file of this name, given as CHAR16 units without the zero that closes it.
+    /// A node of a copy of this path name, given as CHAR16 units without the zero that closes it
+    /// (UEFI 2.10, 10.3.5.4).
     ///
     /// # Errors
     ///
@@ -70,6 +71,7 @@ impl FileNode {
     /// more than 32,764 units; else [`NameFault::OutOfMemory`] where memory for them was refused.
     pub fn new(alloc: Global, units: &[u16]) -> Result<FileNode, NameFault>
         ensures made { IfOk result (λ node. node ≡ units.now) }
+        ensures valid { IfOk result (λ node. IsName node) }
         ensures zero_unit { (at : ℕ) → (result ≡ Err (NameFault.ZeroUnit at))
             ↔ (position (λ unit. unit == 0) units.now ≡ Some at) }
         ensures too_long { (result ≡ Err NameFault.TooLong)
@@ -154,6 +156,24 @@ fn first_zero(units: &[u16]) -> Option<usize>
 
 /// Appends units, each as two bytes, little-endian. An `Err` may leave a part of them.
 fn append_units(units: &[u16], out: &mut Vec<u8>) -> Result<(), AllocError>
+    ensures ok { OnOk result (out.new.items ≡ out.old.items ++ flat_map (to_le_bytes w16) units.now) }
+    ensures err { OnErr result (Extends out.old.items out.new.items) }
+{
+    // four at a time: to append costs more than to copy eight bytes
+    let mut rest = units;
+    while let [first, second, third, fourth, others @ ..] = rest {
+        let [a, b] = first.to_le_bytes();
+        let [c, d] = second.to_le_bytes();
+        let [e, f] = third.to_le_bytes();
+        let [g, h] = fourth.to_le_bytes();
+        out.extend_from_slice(&[a, b, c, d, e, f, g, h])?;
+        rest = others;
+    }
+    append_each(rest, out)
+}
+
+/// Appends units one by one. An `Err` may leave a part of them.
+fn append_each(units: &[u16], out: &mut Vec<u8>) -> Result<(), AllocError>
     ensures ok { OnOk result (out.new.items ≡ out.old.items ++ flat_map (to_le_bytes w16) units.now) }
     ensures err { OnErr result (Extends out.old.items out.new.items) }
 {

@@ -19,7 +19,8 @@ pub(crate) const END_INSTANCE: u8 = 0x01;
 /// The sub-type of the node that ends the whole path.
 pub(crate) const END_ENTIRE: u8 = 0xff;
 
-/// The bytes of a field, which are as many as its type says.
+/// The bytes of a field, which are as many as its type says. Where the answer is dropped, the call
+/// is made for its contract: that these are so many bytes.
 pub(crate) fn field<const N: usize>(bytes: &[u8; N]) -> &[u8]
     ensures same { result.now ≡ bytes.now }
     ensures valid { AreBytes N bytes.now }

@@ -41,7 +41,9 @@ impl Model for HardDriveNode {
 }
 
 impl HardDriveNode {
-    /// A partition of these parts.
+    /// A node of these parts (UEFI 2.10, 10.3.5.1): the number of the partition, its first logical
+    /// block and how many it has, the signature, the format of the partition table and what the
+    /// signature is.
     pub fn new(
         partition: u32,
         start: u64,
@@ -50,7 +52,8 @@ impl HardDriveNode {
         format: u8,
         signature_kind: u8,
     ) -> HardDriveNode
-        ensures { result ≡ hard_drive_parts partition start size signature format signature_kind }
+        ensures made { result ≡ hard_drive_parts partition start size signature format signature_kind }
+        ensures valid { AreHardDriveParts result }
     {
         let _ = field(&signature);
         HardDriveNode {
@@ -70,14 +73,14 @@ impl HardDriveNode {
         self.partition
     }
 
-    /// The first block.
+    /// The first logical block, counted from the start of the drive.
     pub fn start(&self) -> u64
         ensures { result ≡ self.now.start }
     {
         self.start
     }
 
-    /// How many blocks there are.
+    /// How many logical blocks the partition has.
     pub fn size(&self) -> u64
         ensures { result ≡ self.now.size }
     {

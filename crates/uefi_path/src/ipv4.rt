@@ -45,7 +45,9 @@ impl Model for Ipv4Node {
 }
 
 impl Ipv4Node {
-    /// A connection of these parts.
+    /// A node of these parts (UEFI 2.10, 10.3.4.12): the addresses of this side and of the other, as
+    /// four bytes in the order in which they are written, their ports, the number of the internet
+    /// protocol, how the local address was set, the gateway's address and the subnet's mask.
     pub fn new(
         local: [u8; 4],
         remote: [u8; 4],
@@ -56,7 +58,8 @@ impl Ipv4Node {
         gateway: [u8; 4],
         mask: [u8; 4],
     ) -> Ipv4Node
-        ensures { result ≡ ipv4_parts local remote local_port remote_port protocol fixed gateway mask }
+        ensures made { result ≡ ipv4_parts local remote local_port remote_port protocol fixed gateway mask }
+        ensures valid { AreIpv4Parts result }
     {
         let _ = field(&local);
         let _ = field(&remote);
@@ -109,21 +112,21 @@ impl Ipv4Node {
         self.protocol
     }
 
-    /// Where the local address comes from: 0 from DHCP, 1 it is fixed. Other values are kept.
+    /// How the local address was set: 0 by DHCP, 1 statically. Other values are kept.
     pub fn fixed(&self) -> u8
         ensures { result ≡ self.now.fixed }
     {
         self.fixed
     }
 
-    /// The address of the gateway.
+    /// The address of the gateway, in the order in which it is written.
     pub fn gateway(&self) -> &[u8; 4]
         ensures { result.now ≡ self.now.gateway }
     {
         &self.gateway
     }
 
-    /// The mask of the subnet.
+    /// The mask of the subnet, in the order in which it is written.
     pub fn mask(&self) -> &[u8; 4]
         ensures { result.now ≡ self.now.mask }
     {

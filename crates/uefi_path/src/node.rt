@@ -42,9 +42,9 @@ pub enum Node {
     VendorMsg(Vendor),
     /// A MAC address (10.3.4.11).
     Mac {
-        /// The address, padded with zeros.
+        /// The address, mostly six bytes with zeros behind them.
         address: [u8; 32],
-        /// The type of the network interface.
+        /// The type of the network interface, such as 1 for Ethernet.
         if_kind: u8,
     },
     /// An IPv4 connection (10.3.4.12).

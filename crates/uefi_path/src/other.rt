@@ -5,8 +5,8 @@ ghost use Rattle.std.specs.Prelude.{◌≡◌, IfOk, OnOk};
 use std::alloc::{AllocError, Global};
 use std::marker::Model;
 
-/// A node of a type, a sub-type or a length that no other case of `Node` stands for (UEFI 2.10,
-/// 10.3.1). Its type isn't 0x7F, and its data has at most 65,531 bytes.
+/// A node whose type, sub-type and data no other case of `Node` stands for (UEFI 2.10, 10.3.1). Its
+/// type isn't 0x7F, and its data has at most 65,531 bytes.
 #[derive(Debug, Drop)]
 pub struct OtherNode {
     kind: u8,

@@ -166,7 +166,7 @@ fn make_node(alloc: Global, kind: u8, sub: u8, body: &[u8]) -> Result<Node, Allo
     }
 }
 
-/// A node of type 0x7F is one of the two end nodes.
+/// Whether a node of type 0x7F is one of the two end nodes.
 fn is_end_node(sub: u8, len: usize) -> bool
     ensures { IsTrue result ↔ IsEnd sub len }
 {

@@ -113,7 +113,7 @@ const GUID: [u8; 16] = [
     0x61, 0xdf, 0xe4, 0x8b, 0xca, 0x93, 0xd2, 0x11, 0xaa, 0x0d, 0x00, 0xe0, 0x98, 0x03, 0x2b, 0x8c,
 ];
 
-/// A connection of one net's addresses from this port.
+/// An IPv4 node with this local port.
 fn ipv4_from(local_port: u16) -> Ipv4Node {
     Ipv4Node::new(
         [192, 168, 1, 10],
@@ -348,7 +348,7 @@ fn reads_each_node_into_its_case(rt: HostRuntime) -> Result<(), Fail> {
 fn tells_the_fields_of_nodes(rt: HostRuntime) -> Result<(), Fail> {
     let alloc = rt.alloc();
     let vendor = Vendor::new(alloc, Guid(GUID), &[0xaa, 0xbb])?;
-    assert_eq!(rt; vendor.guid(), Guid(GUID));
+    assert_eq!(rt; vendor.guid(), &Guid(GUID));
     assert_eq!(rt; vendor.body(), [0xaa, 0xbb].as_slice());
 
     let connection = Ipv4Node::new([1; 4], [2; 4], 3, 4, 5, 6, [7; 4], [8; 4]);

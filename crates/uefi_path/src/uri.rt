@@ -52,7 +52,7 @@ impl Eq for UriNode {
 }
 
 impl UriNode {
-    /// A node of these bytes.
+    /// A node of a copy of these bytes (UEFI 2.10, 10.3.4).
     ///
     /// # Errors
     ///
@@ -60,6 +60,7 @@ impl UriNode {
     /// [`NodeFault::OutOfMemory`] where memory for them was refused.
     pub fn new(alloc: Global, bytes: &[u8]) -> Result<UriNode, NodeFault>
         ensures made { IfOk result (λ node. node ≡ bytes.now) }
+        ensures valid { IfOk result (λ node. IsUri node) }
         ensures too_long { (result ≡ Err NodeFault.TooLong) ↔ (65531 < length bytes.now) }
         ensures no_bad_end { result ≢ Err NodeFault.BadEnd }
     {

@@ -21,7 +21,7 @@ const VENDOR_BODY_MAX: usize = 65_515;
 /// says what the data means, and at most 65,515 bytes of data.
 #[derive(Debug, Drop)]
 pub struct Vendor {
-    guid: [u8; 16],
+    guid: Guid,
     body: Vec<u8>,
 }
 
@@ -30,9 +30,9 @@ impl Model for Vendor {
 
     ghost Value = { VendorParts };
 
-    ghost view = { λ node. vendor_parts node.guid node.body.items };
+    ghost view = { λ node. vendor_parts node.guid.0 node.body.items };
 
-    ghost invariant = { λ node. IsVendor (vendor_parts node.guid node.body.items) };
+    ghost invariant = { λ node. IsVendor (vendor_parts node.guid.0 node.body.items) };
 }
 
 impl PartialEq for Vendor {
@@ -61,7 +61,8 @@ impl Eq for Vendor {
 }
 
 impl Vendor {
-    /// A node of this identifier and this data.
+    /// What a vendor's node of this identifier and a copy of this data holds (UEFI 2.10, 10.3.2.4,
+    /// 10.3.4.17 and 10.3.5.3).
     ///
     /// # Errors
     ///
@@ -69,21 +70,22 @@ impl Vendor {
     /// [`NodeFault::OutOfMemory`] where memory for them was refused.
     pub fn new(alloc: Global, guid: Guid, body: &[u8]) -> Result<Vendor, NodeFault>
         ensures made { IfOk result (λ node. node ≡ vendor_parts guid.0 body.now) }
+        ensures valid { IfOk result (λ node. IsVendor node) }
         ensures too_long { (result ≡ Err NodeFault.TooLong) ↔ (65515 < length body.now) }
         ensures no_bad_end { result ≢ Err NodeFault.BadEnd }
     {
         if body.len() > VENDOR_BODY_MAX {
             return Err(NodeFault::TooLong);
         }
-        let Guid(guid) = guid;
         Ok(Vendor::from_parts(alloc, guid, body)?)
     }
 
-    fn from_parts(alloc: Global, guid: [u8; 16], body: &[u8]) -> Result<Vendor, AllocError>
+    fn from_parts(alloc: Global, guid: Guid, body: &[u8]) -> Result<Vendor, AllocError>
         requires { length body.now ≤ 65515 }
-        ensures { IfOk result (λ node. node ≡ vendor_parts guid body.now) }
+        ensures made { IfOk result (λ node. node ≡ vendor_parts guid.0 body.now) }
+        ensures valid { IfOk result (λ node. IsVendor node) }
     {
-        let _ = field(&guid);
+        let _ = field(&guid.0);
         let body = Vec::from_slice(alloc, body)?;
         Ok(Vendor { guid, body })
     }
@@ -99,14 +101,14 @@ impl Vendor {
         }
         let mut guid = [0; GUID_LEN];
         guid.copy_from_slice(&bytes[..GUID_LEN]);
-        Ok(Some(Vendor::from_parts(alloc, guid, &bytes[GUID_LEN..])?))
+        Ok(Some(Vendor::from_parts(alloc, Guid(guid), &bytes[GUID_LEN..])?))
     }
 
     /// The identifier of what the data means.
-    pub fn guid(&self) -> Guid
-        ensures { result.0 ≡ self.now.guid }
+    pub fn guid(&self) -> &Guid
+        ensures { result.now.0 ≡ self.now.guid }
     {
-        Guid(self.guid)
+        &self.guid
     }
 
     /// The data behind the identifier.
@@ -134,7 +136,7 @@ impl Vendor {
         ensures len { result ≡ length (vendor_bytes self.now) }
         ensures bound { result ≤ 65531 }
     {
-        field(&self.guid).len() + self.body.len()
+        field(&self.guid.0).len() + self.body.len()
     }
 
     /// Appends the identifier and the data. An `Err` may leave a part of them.
@@ -143,7 +145,7 @@ impl Vendor {
         ensures ok { OnOk result (out.new.items ≡ out.old.items ++ vendor_bytes self.now) }
         ensures err { OnErr result (Extends out.old.items out.new.items) }
     {
-        out.extend_from_slice(field(&self.guid))?;
+        out.extend_from_slice(field(&self.guid.0))?;
         out.extend_from_slice(&self.body)?;
         Ok(())
     }

@@ -40,8 +40,7 @@ fn append_fields(node: &Node, out: &mut Vec<u8>) -> Result<(), AllocError>
 {
     match node {
         Node::Pci { function, device } => {
-            out.extend_from_slice(&function.to_le_bytes())?;
-            out.extend_from_slice(&device.to_le_bytes())?;
+            out.extend_from_slice(&[*function, *device])?;
         }
         Node::VendorHw(vendor) => vendor.append_fields(out)?,
         Node::Acpi { hid, uid } => {
@@ -49,8 +48,7 @@ fn append_fields(node: &Node, out: &mut Vec<u8>) -> Result<(), AllocError>
             out.extend_from_slice(&uid.to_le_bytes())?;
         }
         Node::Usb { port, interface } => {
-            out.extend_from_slice(&port.to_le_bytes())?;
-            out.extend_from_slice(&interface.to_le_bytes())?;
+            out.extend_from_slice(&[*port, *interface])?;
         }
         Node::VendorMsg(vendor) => vendor.append_fields(out)?,
         Node::Mac { address, if_kind } => {

@@ -1,9 +1,9 @@
-use Rattle.std.proofs.Common.{◌≡◌, ◌++◌, take}
-use Rattle.std.specs.Int.{w16, to_le_bytes}
-use Rattle.std.specs.List.{flat_map}
+use Rattle.std.proofs.Common.{length}
+use Rattle.uefi_path.proofs.Names.{HasWritten}
 use Rattle.uefi_path.proofs.file.append_units.Given as goal
 
-abbrev pub invariant-loop-unit : goal.invariant-loop-unit
-invariant-loop-unit l = record {
-  written : l.out.items ≡ l.fn.out.items ++ flat_map (to_le_bytes w16) (take l.unit-index l.units);
-}
+abbrev pub invariant-loop-rest : goal.invariant-loop-rest
+invariant-loop-rest l = HasWritten l.fn.out.items l.out.items l.units l.rest
+
+abbrev pub decreases-loop-rest : goal.decreases-loop-rest
+decreases-loop-rest l = length l.rest
