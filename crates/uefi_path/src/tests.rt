@@ -127,8 +127,29 @@ fn ipv4_from(local_port: u16) -> Ipv4Node {
     )
 }
 
-/// The bytes of nodes, and each node; `None` where it is kept as bytes.
-fn example_nodes(alloc: Global) -> Result<[(&'static [u8], Option<Node>); 27], Fail> {
+/// What a node is read into.
+#[derive(Drop)]
+enum Case {
+    /// This node.
+    Own(Node),
+    /// A node kept as bytes, of this type, sub-type and data.
+    Kept(u8, u8, &'static [u8]),
+}
+
+impl Case {
+    fn is(&self, node: &Node) -> bool {
+        match (self, node) {
+            (Case::Own(own), node) => node == own,
+            (Case::Kept(kind, sub, body), Node::Other(other)) => {
+                other.kind() == *kind && other.sub() == *sub && other.body() == *body
+            }
+            (Case::Kept(..), _) => false,
+        }
+    }
+}
+
+/// The bytes of nodes, and what each is read into.
+fn example_nodes(alloc: Global) -> Result<[(&'static [u8], Case); 27], Fail> {
     let mut address = [0; 32];
     address[..6].copy_from_slice(&[0x00, 0x11, 0x22, 0x33, 0x44, 0x55]);
     let mut mbr = [0; 16];
@@ -136,7 +157,7 @@ fn example_nodes(alloc: Global) -> Result<[(&'static [u8], Option<Node>); 27], F
     Ok([
         (
             &[0x01, 0x01, 0x06, 0x00, 0x02, 0x1f],
-            Some(Node::Pci {
+            Case::Own(Node::Pci {
                 function: 2,
                 device: 31,
             }),
@@ -146,13 +167,13 @@ fn example_nodes(alloc: Global) -> Result<[(&'static [u8], Option<Node>); 27], F
                 0x01, 0x04, 0x14, 0x00, 0x61, 0xdf, 0xe4, 0x8b, 0xca, 0x93, 0xd2, 0x11, 0xaa, 0x0d,
                 0x00, 0xe0, 0x98, 0x03, 0x2b, 0x8c,
             ],
-            Some(Node::VendorHw(Vendor::new(alloc, Guid(GUID), &[])?)),
+            Case::Own(Node::VendorHw(Vendor::new(alloc, Guid(GUID), &[])?)),
         ),
         (
             &[
                 0x02, 0x01, 0x0c, 0x00, 0xd0, 0x41, 0x03, 0x0a, 0x00, 0x00, 0x00, 0x00,
             ],
-            Some(Node::Acpi {
+            Case::Own(Node::Acpi {
                 hid: 0x0a03_41d0,
                 uid: 0,
             }),
@@ -161,7 +182,7 @@ fn example_nodes(alloc: Global) -> Result<[(&'static [u8], Option<Node>); 27], F
             &[
                 0x02, 0x01, 0x0c, 0x00, 0xd0, 0x41, 0x01, 0x05, 0x01, 0x00, 0x00, 0x00,
             ],
-            Some(Node::Acpi {
+            Case::Own(Node::Acpi {
                 hid: 0x0501_41d0,
                 uid: 1,
             }),
@@ -170,20 +191,20 @@ fn example_nodes(alloc: Global) -> Result<[(&'static [u8], Option<Node>); 27], F
             &[
                 0x02, 0x01, 0x0c, 0x00, 0x07, 0x00, 0x00, 0x00, 0x00, 0x00, 0x00, 0x00,
             ],
-            Some(Node::Acpi { hid: 7, uid: 0 }),
+            Case::Own(Node::Acpi { hid: 7, uid: 0 }),
         ),
         (
             &[
                 0x02, 0x01, 0x0c, 0x00, 0xd0, 0x41, 0x08, 0x0a, 0x02, 0x00, 0x00, 0x00,
             ],
-            Some(Node::Acpi {
+            Case::Own(Node::Acpi {
                 hid: 0x0a08_41d0,
                 uid: 2,
             }),
         ),
         (
             &[0x03, 0x05, 0x06, 0x00, 0x01, 0x00],
-            Some(Node::Usb {
+            Case::Own(Node::Usb {
                 port: 1,
                 interface: 0,
             }),
@@ -193,7 +214,7 @@ fn example_nodes(alloc: Global) -> Result<[(&'static [u8], Option<Node>); 27], F
                 0x03, 0x0a, 0x16, 0x00, 0x61, 0xdf, 0xe4, 0x8b, 0xca, 0x93, 0xd2, 0x11, 0xaa, 0x0d,
                 0x00, 0xe0, 0x98, 0x03, 0x2b, 0x8c, 0xaa, 0xbb,
             ],
-            Some(Node::VendorMsg(Vendor::new(alloc, Guid(GUID), &[0xaa, 0xbb])?)),
+            Case::Own(Node::VendorMsg(Vendor::new(alloc, Guid(GUID), &[0xaa, 0xbb])?)),
         ),
         (
             &[
@@ -201,7 +222,7 @@ fn example_nodes(alloc: Global) -> Result<[(&'static [u8], Option<Node>); 27], F
                 0x00, 0x00, 0x00, 0x00, 0x00, 0x00, 0x00, 0x00, 0x00, 0x00, 0x00, 0x00, 0x00, 0x00,
                 0x00, 0x00, 0x00, 0x00, 0x00, 0x00, 0x00, 0x00, 0x01,
             ],
-            Some(Node::Mac {
+            Case::Own(Node::Mac {
                 address,
                 if_kind: 1,
             }),
@@ -211,18 +232,18 @@ fn example_nodes(alloc: Global) -> Result<[(&'static [u8], Option<Node>); 27], F
                 0x03, 0x0c, 0x1b, 0x00, 0xc0, 0xa8, 0x01, 0x0a, 0xc0, 0xa8, 0x01, 0x01, 0x00, 0x00,
                 0x00, 0x00, 0x11, 0x00, 0x01, 0xc0, 0xa8, 0x01, 0xfe, 0xff, 0xff, 0xff, 0x00,
             ],
-            Some(Node::Ipv4(ipv4_from(0))),
+            Case::Own(Node::Ipv4(ipv4_from(0))),
         ),
         (
             &[
                 0x03, 0x0c, 0x1b, 0x00, 0xc0, 0xa8, 0x01, 0x0a, 0xc0, 0xa8, 0x01, 0x01, 0x01, 0x00,
                 0x00, 0x00, 0x11, 0x00, 0x01, 0xc0, 0xa8, 0x01, 0xfe, 0xff, 0xff, 0xff, 0x00,
             ],
-            Some(Node::Ipv4(ipv4_from(1))),
+            Case::Own(Node::Ipv4(ipv4_from(1))),
         ),
         (
             &[0x03, 0x12, 0x0a, 0x00, 0x00, 0x00, 0xff, 0xff, 0x00, 0x00],
-            Some(Node::Sata {
+            Case::Own(Node::Sata {
                 hba: 0,
                 multiplier: 0xffff,
                 lun: 0,
@@ -233,7 +254,7 @@ fn example_nodes(alloc: Global) -> Result<[(&'static [u8], Option<Node>); 27], F
                 0x03, 0x17, 0x10, 0x00, 0x01, 0x00, 0x00, 0x00, 0x00, 0x25, 0x38, 0x5b, 0x71, 0xb0,
                 0x0f, 0x12,
             ],
-            Some(Node::Nvme {
+            Case::Own(Node::Nvme {
                 namespace: 1,
                 eui: [0x00, 0x25, 0x38, 0x5b, 0x71, 0xb0, 0x0f, 0x12],
             }),
@@ -243,11 +264,11 @@ fn example_nodes(alloc: Global) -> Result<[(&'static [u8], Option<Node>); 27], F
                 0x03, 0x18, 0x12, 0x00, 0x68, 0x74, 0x74, 0x70, 0x3a, 0x2f, 0x2f, 0x61, 0x2f, 0x62,
                 0x2e, 0x65, 0x66, 0x69,
             ],
-            Some(Node::Uri(UriNode::new(alloc, b"http://a/b.efi")?)),
+            Case::Own(Node::Uri(UriNode::new(alloc, b"http://a/b.efi")?)),
         ),
         (
             &[0x03, 0x18, 0x04, 0x00],
-            Some(Node::Uri(UriNode::new(alloc, &[])?)),
+            Case::Own(Node::Uri(UriNode::new(alloc, &[])?)),
         ),
         (
             &[
@@ -255,7 +276,7 @@ fn example_nodes(alloc: Global) -> Result<[(&'static [u8], Option<Node>); 27], F
                 0x00, 0x00, 0x00, 0x40, 0x06, 0x00, 0x00, 0x00, 0x00, 0x00, 0x61, 0xdf, 0xe4, 0x8b,
                 0xca, 0x93, 0xd2, 0x11, 0xaa, 0x0d, 0x00, 0xe0, 0x98, 0x03, 0x2b, 0x8c, 0x02, 0x02,
             ],
-            Some(Node::HardDrive(HardDriveNode::new(1, 0x800, 0x64000, GUID, 2, 2))),
+            Case::Own(Node::HardDrive(HardDriveNode::new(1, 0x800, 0x64000, GUID, 2, 2))),
         ),
         (
             &[
@@ -263,82 +284,121 @@ fn example_nodes(alloc: Global) -> Result<[(&'static [u8], Option<Node>); 27], F
                 0x00, 0x00, 0x00, 0x10, 0x00, 0x00, 0x00, 0x00, 0x00, 0x00, 0xcd, 0xab, 0x34, 0x12,
                 0x00, 0x00, 0x00, 0x00, 0x00, 0x00, 0x00, 0x00, 0x00, 0x00, 0x00, 0x00, 0x01, 0x01,
             ],
-            Some(Node::HardDrive(HardDriveNode::new(1, 0x3f, 0x1000, mbr, 1, 1))),
+            Case::Own(Node::HardDrive(HardDriveNode::new(1, 0x3f, 0x1000, mbr, 1, 1))),
         ),
         (
             &[
                 0x04, 0x03, 0x14, 0x00, 0x61, 0xdf, 0xe4, 0x8b, 0xca, 0x93, 0xd2, 0x11, 0xaa, 0x0d,
                 0x00, 0xe0, 0x98, 0x03, 0x2b, 0x8c,
             ],
-            Some(Node::VendorMedia(Vendor::new(alloc, Guid(GUID), &[])?)),
+            Case::Own(Node::VendorMedia(Vendor::new(alloc, Guid(GUID), &[])?)),
         ),
         (
             &[0x04, 0x04, 0x0a, 0x00, 0x5c, 0x00, 0x41, 0x00, 0x00, 0x00],
-            Some(Node::FilePath(FileNode::new(alloc, &[0x5c, 0x41])?)),
+            Case::Own(Node::FilePath(FileNode::new(alloc, &[0x5c, 0x41])?)),
         ),
         (
             &[0x04, 0x04, 0x06, 0x00, 0x00, 0x00],
-            Some(Node::FilePath(FileNode::new(alloc, &[])?)),
+            Case::Own(Node::FilePath(FileNode::new(alloc, &[])?)),
         ),
         (
             &[0x04, 0x04, 0x08, 0x00, 0xe9, 0x00, 0x00, 0x00],
-            Some(Node::FilePath(FileNode::new(alloc, &[0xe9])?)),
+            Case::Own(Node::FilePath(FileNode::new(alloc, &[0xe9])?)),
         ),
-        (&[0x01, 0x01, 0x07, 0x00, 0x02, 0x05, 0xaa], None),
+        (
+            &[0x01, 0x01, 0x07, 0x00, 0x02, 0x05, 0xaa],
+            Case::Kept(1, 1, &[0x02, 0x05, 0xaa]),
+        ),
         (
             &[
                 0x03, 0x0c, 0x13, 0x00, 0xc0, 0xa8, 0x01, 0x0a, 0xc0, 0xa8, 0x01, 0x01, 0x00, 0x00,
                 0x00, 0x00, 0x11, 0x00, 0x01,
             ],
-            None,
+            Case::Kept(
+                3,
+                12,
+                &[
+                    0xc0, 0xa8, 0x01, 0x0a, 0xc0, 0xa8, 0x01, 0x01, 0x00, 0x00, 0x00, 0x00, 0x11,
+                    0x00, 0x01,
+                ],
+            ),
         ),
-        (&[0x04, 0x04, 0x08, 0x00, 0x5c, 0x00, 0x41, 0x00], None),
+        (
+            &[0x04, 0x04, 0x08, 0x00, 0x5c, 0x00, 0x41, 0x00],
+            Case::Kept(4, 4, &[0x5c, 0x00, 0x41, 0x00]),
+        ),
         (
             &[
                 0x04, 0x04, 0x0c, 0x00, 0x5c, 0x00, 0x00, 0x00, 0x41, 0x00, 0x00, 0x00,
             ],
-            None,
+            Case::Kept(4, 4, &[0x5c, 0x00, 0x00, 0x00, 0x41, 0x00, 0x00, 0x00]),
         ),
-        (&[0xff, 0x01, 0x06, 0x00, 0x12, 0x34], None),
-        (&[0x05, 0x01, 0x04, 0x00], None),
+        (
+            &[0xff, 0x01, 0x06, 0x00, 0x12, 0x34],
+            Case::Kept(255, 1, &[0x12, 0x34]),
+        ),
+        (&[0x05, 0x01, 0x04, 0x00], Case::Kept(5, 1, &[])),
     ])
+}
+
+/// The node that ends a path.
+const END: [u8; 4] = [0x7f, 0xff, 0x04, 0x00];
+
+/// The node of a path that has no other.
+fn only_node(path: &Path) -> Option<&Node> {
+    match path.instances() {
+        [nodes] => match nodes.as_slice() {
+            [node] => Some(node),
+            _ => None,
+        },
+        _ => None,
+    }
 }
 
 #[test]
 fn reads_each_node_into_its_case(rt: HostRuntime) -> Result<(), Fail> {
     let alloc = rt.alloc();
-    let table = example_nodes(alloc)?;
-    let mut all = Vec::new(alloc);
-    for (bytes, expected) in &table {
-        let node = node_from_parts(alloc, bytes[0], bytes[1], &bytes[4..])?;
-        match (expected, &node) {
-            (Some(expected), node) => assert_eq!(rt; node, expected, "of {bytes:?}"),
-            (None, Node::Other(other)) => {
-                assert_eq!(rt; other.kind(), bytes[0]);
-                assert_eq!(rt; other.sub(), bytes[1]);
-                assert_eq!(rt; other.body(), &bytes[4..]);
-            }
-            (None, _) => assert!(rt; false, "{bytes:?} fits no row"),
-        }
+    let examples = example_nodes(alloc)?;
+    for (bytes, case) in &examples {
+        let mut spelled = Vec::from_slice(alloc, bytes)?;
+        spelled.extend_from_slice(&END)?;
+        let (path, len) = read_path(alloc, &spelled)?;
+        assert_eq!(rt; len, spelled.len(), "of {bytes:?}");
         let mut out = Vec::new(alloc);
-        write_node(&node, &mut out)?;
-        assert_eq!(rt; out.as_slice(), *bytes);
+        write_path(&path, &mut out)?;
+        assert!(rt; out == spelled, "from {bytes:?}");
+        match only_node(&path) {
+            Some(node) => {
+                assert!(rt; case.is(node), "of {bytes:?}");
+                let mut out = Vec::new(alloc);
+                write_node(node, &mut out)?;
+                assert_eq!(rt; out.as_slice(), *bytes);
+            }
+            None => assert!(rt; false, "{bytes:?} is one node"),
+        }
+    }
+    Ok(())
+}
+
+#[test]
+fn copies_compares_and_measures_each_case(rt: HostRuntime) -> Result<(), Fail> {
+    let alloc = rt.alloc();
+    let mut all = Vec::new(alloc);
+    let examples = example_nodes(alloc)?;
+    for (bytes, _) in &examples {
         all.extend_from_slice(bytes)?;
     }
-    all.extend_from_slice(&[0x7f, 0xff, 0x04, 0x00])?;
-
+    all.extend_from_slice(&END)?;
     let (path, len) = read_path(alloc, &all)?;
     assert_eq!(rt; len, 429);
     assert_eq!(rt; path_len(&path), Some(429));
     assert!(rt; path.copy(alloc)? == path);
-    let mut out = Vec::new(alloc);
-    write_path(&path, &mut out)?;
-    assert!(rt; out == all);
-    let nodes = path.instances()[0].as_slice();
-    assert_eq!(rt; nodes.len(), table.len());
-    for (i, node) in nodes.iter().enumerate() {
-        for (j, other) in nodes.iter().enumerate() {
-            assert_eq!(rt; node == other, i == j, "{i} and {j}");
+    for nodes in path.instances() {
+        assert_eq!(rt; nodes.len(), 27);
+        for (i, node) in nodes.iter().enumerate() {
+            for (j, other) in nodes.iter().enumerate() {
+                assert_eq!(rt; node == other, i == j, "{i} and {j}");
+            }
         }
     }
     Ok(())
@@ -378,22 +438,31 @@ fn tells_the_fields_of_nodes(rt: HostRuntime) -> Result<(), Fail> {
 }
 
 #[test]
-fn refuses_parts_that_no_node_holds(rt: HostRuntime) -> Result<(), Fail> {
+fn refuses_data_that_no_node_holds(rt: HostRuntime) -> Result<(), Fail> {
     let alloc = rt.alloc();
-    let long = vec![in alloc; 0u8; 65_532]?;
-    let guid = Guid(GUID);
-    assert!(rt; Vendor::new(alloc, guid, &long[..65_516]) == Err(NodeFault::TooLong));
-    assert!(rt; Vendor::new(alloc, guid, &long[..65_515]).is_ok());
-    assert!(rt; UriNode::new(alloc, &long) == Err(NodeFault::TooLong));
-    assert!(rt; UriNode::new(alloc, &long[..65_531]).is_ok());
+    let most = vec![in alloc; 0u8; 65_515]?;
+    let more = vec![in alloc; 0u8; 65_516]?;
+    assert!(rt; Vendor::new(alloc, Guid(GUID), &most).is_ok());
+    assert!(rt; Vendor::new(alloc, Guid(GUID), &more) == Err(NodeFault::TooLong));
 
-    let mut name = vec![in alloc; 0x41u16; 32_765]?;
-    assert!(rt; FileNode::new(alloc, &name) == Err(NameFault::TooLong));
-    assert!(rt; FileNode::new(alloc, &name[..32_764]).is_ok());
-    name[7] = 0;
-    name[9] = 0;
-    assert!(rt; FileNode::new(alloc, &name) == Err(NameFault::ZeroUnit(7)));
-    assert!(rt; FileNode::new(alloc, &name[..7]).is_ok());
+    let most = vec![in alloc; 0u8; 65_531]?;
+    let more = vec![in alloc; 0u8; 65_532]?;
+    assert!(rt; UriNode::new(alloc, &most).is_ok());
+    assert!(rt; UriNode::new(alloc, &more) == Err(NodeFault::TooLong));
+    Ok(())
+}
+
+#[test]
+fn refuses_what_is_no_name(rt: HostRuntime) -> Result<(), Fail> {
+    let alloc = rt.alloc();
+    let most = vec![in alloc; 0x41u16; 32_764]?;
+    let mut more = vec![in alloc; 0x41u16; 32_765]?;
+    assert!(rt; FileNode::new(alloc, &most).is_ok());
+    assert!(rt; FileNode::new(alloc, &more) == Err(NameFault::TooLong));
+    more.push(0)?;
+    more.push(0)?;
+    assert!(rt; FileNode::new(alloc, &more) == Err(NameFault::ZeroUnit(32_765)));
+    assert!(rt; FileNode::new(alloc, &[0x41, 0, 0x42]) == Err(NameFault::ZeroUnit(1)));
     Ok(())
 }
 
