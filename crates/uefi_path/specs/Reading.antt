@@ -55,7 +55,7 @@ fixed_node_of r =
     else (if has_shape 4 1 38 r then Some (HardDrive (hard_drive_at r.body))
     else None)))))))
 
--- the node of a row with data of any length
+-- the node of a row that holds a list, where the data is one of its type
 abbrev pub list_node_of : Row → Option Node
 list_node_of r =
     if has_type 1 4 r then option_map (λ vendor. VendorHw vendor) (vendor_of r.body)

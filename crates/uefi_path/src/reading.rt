@@ -135,8 +135,8 @@ fn fixed_node(kind: u8, sub: u8, body: &[u8]) -> Option<Node>
     }
 }
 
-/// The node of these parts, where the table has a row for them with data of any length, if there
-/// is memory for it.
+/// The node of these parts, where the table has a row for them that holds a list, if there is
+/// memory for it.
 fn list_node(alloc: Global, kind: u8, sub: u8, body: &[u8]) -> Result<Option<Node>, AllocError>
     requires { length body.now ≤ 65531 }
     ensures { IfOk result (λ found. found ≡ list_node_of (row kind sub body.now)) }
