@@ -2,7 +2,7 @@ pub mod Bytes
 pub mod Split
 pub mod Numbers
 pub mod Names
-pub mod Table
+pub mod Inverse
 pub mod Rows
 pub mod Faults
 pub mod Paths

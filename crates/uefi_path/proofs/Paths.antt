@@ -12,7 +12,7 @@ use Rattle.uefi_path.specs.Path.{IsPath, IsPathFront, separator, path_bytes, pat
 use Rattle.uefi_path.specs.Fault.{IsBeforeEnd, IsFirstFault}
 use Rattle.uefi_path.specs.Reading.{node_of}
 use Rattle.uefi_path.proofs.Bytes.{AllByRecursion-append}
-use Rattle.uefi_path.proofs.Table.{node_of-row_of, row_of_is_row}
+use Rattle.uefi_path.proofs.Inverse.{node_of-row_of, row_of_is_row}
 use Rattle.uefi_path.proofs.Rows.{same_rows, entire_stops, entire_is_row, instance_is_row, same_parts}
 use Rattle.uefi_path.proofs.Faults.{first_fault_stops, no_fault_at_end}
 

@@ -11,7 +11,7 @@ use Rattle.uefi_path.specs.Path.{IsPath, IsPathFront, path_bytes, path_rows}
 use Rattle.uefi_path.specs.Fault.{IsFaultAt, IsFirstFault}
 use Rattle.uefi_path.specs.Reading.{node_of, SplitsRow}
 use Rattle.uefi_path.proofs.Bytes.{AllByRecursion-append}
-use Rattle.uefi_path.proofs.Table.{node_of_has_row}
+use Rattle.uefi_path.proofs.Inverse.{node_of_has_row}
 use Rattle.uefi_path.proofs.Paths.{rows_of_path, path_rows_node, path_rows_instance, path_rows_are_inner}
 
 -- The bytes are those of the rows of the instances and of the open one, and the rest.

@@ -7,7 +7,8 @@ use Rattle.uefi_path.specs.Row.{Row}
 
 abbrev pub row_eq : Row → Row → Bool
 row_eq =
-    eq_of_both (on (λ r. r.kind) ◌==◌) (eq_of_both (on (λ r. r.sub) ◌==◌) (on (λ r. r.body) (pointwise ◌==◌)))
+    eq_of_both (on (λ r. r.kind) ◌==◌)
+    (eq_of_both (on (λ r. r.sub) ◌==◌) (on (λ r. r.body) (pointwise ◌==◌)))
 
 abbrev pub vendor_eq : VendorParts → VendorParts → Bool
 vendor_eq = eq_of_both (on (λ p. p.guid) (pointwise ◌==◌)) (on (λ p. p.body) (pointwise ◌==◌))

@@ -2,7 +2,8 @@
 use Rattle.std.specs.Prelude.{◌≡◌, ◌≢◌, ◌⊎◌, ℕ, ◌^◌, ◌<◌, ◌≤◌, List, [], ◌++◌, length}
 use Rattle.std.specs.List.{flat_map, AllByRecursion}
 use Rattle.uefi_path.specs.declared.fault.PathFault.{PathFault}
-use Rattle.uefi_path.specs.declared.fault.PathFault.TheVariants.{NoEnd, ShortHeader, BadLength, PastEnd, BadEnd, OutOfMemory}
+use Rattle.uefi_path.specs.declared.fault.PathFault.TheVariants.{NoEnd, ShortHeader, BadLength, PastEnd, BadEnd}
+use Rattle.uefi_path.specs.declared.fault.PathFault.TheVariants.{OutOfMemory}
 use Rattle.uefi_path.specs.Row.{Row, header_bytes, row_bytes, end_instance, IsRow}
 
 -- a row that stands before the end of a path: that of a node, or the end of an instance

@@ -4,6 +4,7 @@ pub mod Row
 pub mod Parts
 pub mod Node
 pub mod Path
+pub mod Nodes
 pub mod Fault
 pub mod Words
 pub mod Equality

@@ -3,8 +3,10 @@ use Rattle.std.specs.Prelude.{◌≡◌, ℕ, ◌^◌, ◌<◌, List, [], ◌∷
 use Rattle.std.specs.List.{concat}
 use Rattle.std.specs.Int.{w8, w16, w32, to_le_bytes}
 use Rattle.uefi_path.specs.declared.node.Node.{Node}
-use Rattle.uefi_path.specs.declared.node.Node.TheVariants.{Pci, VendorHw, Acpi, Usb, VendorMsg, Mac, Ipv4, Sata, Nvme, Uri, HardDrive, VendorMedia, FilePath, Other}
-use Rattle.uefi_path.specs.Parts.{ipv4_fields, AreIpv4Parts, vendor_bytes, IsVendor, IsUri, name_bytes, IsName, hard_drive_fields, AreHardDriveParts}
+use Rattle.uefi_path.specs.declared.node.Node.TheVariants.{Pci, Acpi, Usb, Mac, Ipv4, Sata, Nvme, HardDrive}
+use Rattle.uefi_path.specs.declared.node.Node.TheVariants.{VendorHw, VendorMsg, Uri, VendorMedia, FilePath, Other}
+use Rattle.uefi_path.specs.Parts.{ipv4_fields, AreIpv4Parts, hard_drive_fields, AreHardDriveParts}
+use Rattle.uefi_path.specs.Parts.{vendor_bytes, IsVendor, IsUri, name_bytes, IsName}
 use Rattle.uefi_path.specs.Row.{Row, row, row_bytes, AreBytes, IsOther}
 
 -- type, sub-type, and the fields in their order

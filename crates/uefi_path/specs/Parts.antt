@@ -1,7 +1,11 @@
 -- What contracts see of the nodes that keep their fields to themselves.
-use Rattle.std.specs.Prelude.{◌≢◌, ℕ, ◌<◌, ◌≤◌, ◌^◌, List, [], ◌∷◌, ◌++◌, length, take, drop, leb, Option, Some, None, if◌then◌else◌}
+use Rattle.std.specs.Prelude.{◌≢◌, ℕ, ◌<◌, ◌≤◌, ◌^◌, List, [], ◌∷◌, ◌++◌, length, take, drop}
+use Rattle.std.specs.Prelude.{leb, Option, Some, None, if◌then◌else◌}
 use Rattle.std.specs.List.{AllByRecursion, flat_map}
 use Rattle.std.specs.Int.{w8, w16, w32, w64, to_le_bytes}
+use Rattle.uefi_path.specs.declared.generic.TheConstants.{BODY_MAX}
+use Rattle.uefi_path.specs.declared.vendor.TheConstants.{VENDOR_BODY_MAX}
+use Rattle.uefi_path.specs.declared.file.TheConstants.{NAME_MAX}
 use Rattle.uefi_path.specs.Row.{IsByte, AreBytes}
 
 -- what a vendor defines (UEFI 2.10, 10.3.2.4, 10.3.4.17, 10.3.5.3): an identifier, and data whose meaning it tells
@@ -17,12 +21,13 @@ vendor_bytes p = p.guid ++ p.body
 
 -- the parts of a vendor's data, where there are enough bytes for an identifier
 abbrev pub vendor_of : List ℕ → Option VendorParts
-vendor_of bytes = if leb 16 (length bytes) then Some (vendor_parts (take 16 bytes) (drop 16 bytes)) else None
+vendor_of bytes =
+    if leb 16 (length bytes) then Some (vendor_parts (take 16 bytes) (drop 16 bytes)) else None
 
 pub record IsVendor (p : VendorParts) : Type 0 where
   pub guid : AreBytes 16 p.guid
   pub body : AllByRecursion IsByte p.body
-  pub len : length p.body ≤ 65515
+  pub len : length p.body ≤ VENDOR_BODY_MAX
 
 -- an IPv4 node (UEFI 2.10, 10.3.4.12)
 pub record Ipv4Parts : Type 0 where
@@ -37,11 +42,21 @@ pub record Ipv4Parts : Type 0 where
 
 abbrev pub ipv4_parts : List ℕ → List ℕ → ℕ → ℕ → ℕ → ℕ → List ℕ → List ℕ → Ipv4Parts
 ipv4_parts local remote local_port remote_port protocol fixed gateway mask =
-    record { local = local; remote = remote; local_port = local_port; remote_port = remote_port; protocol = protocol; fixed = fixed; gateway = gateway; mask = mask }
+    record {
+      local = local;
+      remote = remote;
+      local_port = local_port;
+      remote_port = remote_port;
+      protocol = protocol;
+      fixed = fixed;
+      gateway = gateway;
+      mask = mask;
+    }
 
 abbrev pub ipv4_fields : Ipv4Parts → List (List ℕ)
 ipv4_fields p =
-    p.local ∷ p.remote ∷ to_le_bytes w16 p.local_port ∷ to_le_bytes w16 p.remote_port ∷ to_le_bytes w16 p.protocol ∷ to_le_bytes w8 p.fixed ∷ p.gateway ∷ p.mask ∷ []
+    p.local ∷ p.remote ∷ to_le_bytes w16 p.local_port ∷ to_le_bytes w16 p.remote_port
+    ∷ to_le_bytes w16 p.protocol ∷ to_le_bytes w8 p.fixed ∷ p.gateway ∷ p.mask ∷ []
 
 pub record AreIpv4Parts (p : Ipv4Parts) : Type 0 where
   pub local : AreBytes 4 p.local
@@ -55,7 +70,7 @@ pub record AreIpv4Parts (p : Ipv4Parts) : Type 0 where
 
 -- the bytes of a URI node (UEFI 2.10, 10.3.4)
 abbrev pub IsUri : List ℕ → Type 0
-IsUri bytes = AllByRecursion IsByte bytes × (length bytes ≤ 65531)
+IsUri bytes = AllByRecursion IsByte bytes × (length bytes ≤ BODY_MAX)
 
 -- a partition of a hard drive (UEFI 2.10, 10.3.5.1)
 pub record HardDriveParts : Type 0 where
@@ -68,11 +83,19 @@ pub record HardDriveParts : Type 0 where
 
 abbrev pub hard_drive_parts : ℕ → ℕ → ℕ → List ℕ → ℕ → ℕ → HardDriveParts
 hard_drive_parts partition start size signature format signature_kind =
-    record { partition = partition; start = start; size = size; signature = signature; format = format; signature_kind = signature_kind }
+    record {
+      partition = partition;
+      start = start;
+      size = size;
+      signature = signature;
+      format = format;
+      signature_kind = signature_kind;
+    }
 
 abbrev pub hard_drive_fields : HardDriveParts → List (List ℕ)
 hard_drive_fields p =
-    to_le_bytes w32 p.partition ∷ to_le_bytes w64 p.start ∷ to_le_bytes w64 p.size ∷ p.signature ∷ to_le_bytes w8 p.format ∷ to_le_bytes w8 p.signature_kind ∷ []
+    to_le_bytes w32 p.partition ∷ to_le_bytes w64 p.start ∷ to_le_bytes w64 p.size ∷ p.signature
+    ∷ to_le_bytes w8 p.format ∷ to_le_bytes w8 p.signature_kind ∷ []
 
 pub record AreHardDriveParts (p : HardDriveParts) : Type 0 where
   pub partition : p.partition < 2 ^ 32
@@ -88,7 +111,7 @@ IsUnit n = (n ≢ 0) × (n < 2 ^ 16)
 
 -- the units of a file's path name (UEFI 2.10, 10.3.5.4), without the zero behind them
 abbrev pub IsName : List ℕ → Type 0
-IsName units = AllByRecursion IsUnit units × (length units ≤ 32764)
+IsName units = AllByRecursion IsUnit units × (length units ≤ NAME_MAX)
 
 -- a path name as it is written: its units, and a zero
 abbrev pub name_bytes : List ℕ → List ℕ

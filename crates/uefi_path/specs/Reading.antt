@@ -1,15 +1,22 @@
 -- For private functions of the reader: how a node is read off its row, the inverse of the table, and
 -- what stands at the front of some bytes.
-use Rattle.std.specs.Prelude.{◌≡◌, ◌⊎◌, ◌≢◌, ℕ, Bool, List, [], ◌∷◌, ◌++◌, length, take, drop, Option, Some, None, unwrap_or, ◌==◌, ◌&&◌, if◌then◌else◌, ◌<◌, ◌≤◌}
+use Rattle.std.specs.Prelude.{◌≡◌, ◌⊎◌, ◌≢◌, ℕ, Bool, List, [], ◌∷◌, ◌++◌, length, take, drop}
+use Rattle.std.specs.Prelude.{Option, Some, None, unwrap_or, ◌==◌, ◌&&◌, if◌then◌else◌, ◌<◌, ◌≤◌}
 use Rattle.std.specs.Option.{option_map, option_or}
 use Rattle.std.specs.Int.{Width, byte_len, w8, w16, w32, w64, from_le_bytes}
 use Rattle.uefi_path.specs.declared.node.Node.{Node}
-use Rattle.uefi_path.specs.declared.node.Node.TheVariants.{Pci, VendorHw, Acpi, Usb, VendorMsg, Mac, Ipv4, Sata, Nvme, Uri, HardDrive, VendorMedia, FilePath, Other}
+use Rattle.uefi_path.specs.declared.node.Node.TheVariants.{Pci, Acpi, Usb, Mac, Ipv4, Sata, Nvme, HardDrive}
+use Rattle.uefi_path.specs.declared.node.Node.TheVariants.{VendorHw, VendorMsg, Uri, VendorMedia, FilePath, Other}
 use Rattle.uefi_path.specs.declared.fault.PathFault.{PathFault}
 use Rattle.uefi_path.specs.declared.fault.PathFault.TheVariants.{BadLength, PastEnd, BadEnd}
 use Rattle.uefi_path.specs.Parts.{vendor_of, Ipv4Parts, ipv4_parts, HardDriveParts, hard_drive_parts}
 use Rattle.uefi_path.specs.Row.{Row, IsRow, row_bytes, end_instance, end_entire}
 use Rattle.uefi_path.specs.Fault.{IsEnd}
+
+-- the one value where the test holds, and the other where it does not
+infixr 4 ◌when◌otherwise◌
+abbrev pub ◌when◌otherwise◌ : {X : Type 0} → X → Bool → X → X
+x when b otherwise y = if b then x else y
 
 -- so many bytes at an offset of the data
 abbrev pub bytes_at : ℕ → ℕ → List ℕ → List ℕ
@@ -25,11 +32,14 @@ has_shape kind sub len r = r.kind == kind && (r.sub == sub && length r.body == l
 
 abbrev pub ipv4_at : List ℕ → Ipv4Parts
 ipv4_at body =
-    ipv4_parts (bytes_at 0 4 body) (bytes_at 4 4 body) (number_at w16 8 body) (number_at w16 10 body) (number_at w16 12 body) (number_at w8 14 body) (bytes_at 15 4 body) (bytes_at 19 4 body)
+    ipv4_parts (bytes_at 0 4 body) (bytes_at 4 4 body)
+    (number_at w16 8 body) (number_at w16 10 body) (number_at w16 12 body)
+    (number_at w8 14 body) (bytes_at 15 4 body) (bytes_at 19 4 body)
 
 abbrev pub hard_drive_at : List ℕ → HardDriveParts
 hard_drive_at body =
-    hard_drive_parts (number_at w32 0 body) (number_at w64 4 body) (number_at w64 12 body) (bytes_at 20 16 body) (number_at w8 36 body) (number_at w8 37 body)
+    hard_drive_parts (number_at w32 0 body) (number_at w64 4 body) (number_at w64 12 body)
+    (bytes_at 20 16 body) (number_at w8 36 body) (number_at w8 37 body)
 
 -- the row has this type and sub-type
 abbrev pub has_type : ℕ → ℕ → Row → Bool
@@ -39,31 +49,33 @@ has_type kind sub r = r.kind == kind && r.sub == sub
 abbrev pub name_of : List ℕ → Option (List ℕ)
 name_of (low ∷ high ∷ rest) =
     let unit = from_le_bytes w16 (low ∷ high ∷ []) in
-    if unit == 0 then (if length rest == 0 then Some [] else None) else option_map (λ units. unit ∷ units) (name_of rest)
+    if unit == 0 then (if length rest == 0 then Some [] else None)
+    else option_map (λ units. unit ∷ units) (name_of rest)
 name_of _ = None
 
 -- the node of a row with data of one length
 abbrev pub fixed_node_of : Row → Option Node
 fixed_node_of r =
-    if has_shape 1 1 2 r then Some (Pci (number_at w8 0 r.body) (number_at w8 1 r.body))
-    else (if has_shape 2 1 8 r then Some (Acpi (number_at w32 0 r.body) (number_at w32 4 r.body))
-    else (if has_shape 3 5 2 r then Some (Usb (number_at w8 0 r.body) (number_at w8 1 r.body))
-    else (if has_shape 3 11 33 r then Some (Mac (bytes_at 0 32 r.body) (number_at w8 32 r.body))
-    else (if has_shape 3 12 23 r then Some (Ipv4 (ipv4_at r.body))
-    else (if has_shape 3 18 6 r then Some (Sata (number_at w16 0 r.body) (number_at w16 2 r.body) (number_at w16 4 r.body))
-    else (if has_shape 3 23 12 r then Some (Nvme (number_at w32 0 r.body) (bytes_at 4 8 r.body))
-    else (if has_shape 4 1 38 r then Some (HardDrive (hard_drive_at r.body))
-    else None)))))))
+    Some (Pci (number_at w8 0 r.body) (number_at w8 1 r.body)) when has_shape 1 1 2 r otherwise
+    Some (Acpi (number_at w32 0 r.body) (number_at w32 4 r.body)) when has_shape 2 1 8 r otherwise
+    Some (Usb (number_at w8 0 r.body) (number_at w8 1 r.body)) when has_shape 3 5 2 r otherwise
+    Some (Mac (bytes_at 0 32 r.body) (number_at w8 32 r.body)) when has_shape 3 11 33 r otherwise
+    Some (Ipv4 (ipv4_at r.body)) when has_shape 3 12 23 r otherwise
+    Some (Sata (number_at w16 0 r.body) (number_at w16 2 r.body) (number_at w16 4 r.body))
+    when has_shape 3 18 6 r otherwise
+    Some (Nvme (number_at w32 0 r.body) (bytes_at 4 8 r.body)) when has_shape 3 23 12 r otherwise
+    Some (HardDrive (hard_drive_at r.body)) when has_shape 4 1 38 r otherwise
+    None
 
 -- the node of a row that holds a list, where the data is one of its type
 abbrev pub list_node_of : Row → Option Node
 list_node_of r =
-    if has_type 1 4 r then option_map (λ vendor. VendorHw vendor) (vendor_of r.body)
-    else (if has_type 3 10 r then option_map (λ vendor. VendorMsg vendor) (vendor_of r.body)
-    else (if has_type 3 24 r then Some (Uri r.body)
-    else (if has_type 4 3 r then option_map (λ vendor. VendorMedia vendor) (vendor_of r.body)
-    else (if has_type 4 4 r then option_map (λ units. FilePath units) (name_of r.body)
-    else None))))
+    option_map (λ vendor. VendorHw vendor) (vendor_of r.body) when has_type 1 4 r otherwise
+    option_map (λ vendor. VendorMsg vendor) (vendor_of r.body) when has_type 3 10 r otherwise
+    Some (Uri r.body) when has_type 3 24 r otherwise
+    option_map (λ vendor. VendorMedia vendor) (vendor_of r.body) when has_type 4 3 r otherwise
+    option_map (λ units. FilePath units) (name_of r.body) when has_type 4 4 r otherwise
+    None
 
 -- the node with a case of its own that has the row
 abbrev pub typed_node_of : Row → Option Node

@@ -2,6 +2,7 @@
 use Rattle.std.specs.Prelude.{◌≡◌, ◌≢◌, ℕ, ◌+◌, ◌^◌, ◌<◌, ◌≤◌, List, [], ◌∷◌, ◌++◌, length}
 use Rattle.std.specs.List.{AllByRecursion}
 use Rattle.std.specs.Int.{w16, from_le_bytes, to_le_bytes}
+use Rattle.uefi_path.specs.declared.generic.TheConstants.{BODY_MAX}
 
 -- a node as its type, its sub-type and its data, whatever these mean
 pub record Row : Type 0 where
@@ -39,12 +40,13 @@ pub record IsRow (r : Row) : Type 0 where
   pub kind : IsByte r.kind
   pub sub : IsByte r.sub
   pub body : AllByRecursion IsByte r.body
-  pub len : length r.body ≤ 65531
+  pub len : length r.body ≤ BODY_MAX
 
 -- data of 16-bit units, the last of which is zero and no earlier one
 pub data IsClosed : List ℕ → Type 0 where
   last_zero : IsClosed (0 ∷ 0 ∷ [])
-  another_unit : {low high : ℕ} {rest : List ℕ} → from_le_bytes w16 (low ∷ high ∷ []) ≢ 0 → IsClosed rest → IsClosed (low ∷ high ∷ rest)
+  another_unit : {low high : ℕ} {rest : List ℕ} → from_le_bytes w16 (low ∷ high ∷ []) ≢ 0 → IsClosed rest
+      → IsClosed (low ∷ high ∷ rest)
 
 -- The rows of the nodes with a case of their own, one case for each row of the table of nodes: type,
 -- sub-type, and what the data must be (UEFI 2.10: hardware 10.3.2, ACPI 10.3.3, messaging 10.3.4, media 10.3.5).

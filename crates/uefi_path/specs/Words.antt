@@ -1,5 +1,5 @@
--- The words of faults: a fault's name, and after one blank each of its numbers in decimal.
-use Rattle.std.specs.Prelude.{ℕ, List, ◌++◌, codes}
+-- The places of faults, and their words: a fault's name, and after one blank each of its numbers in decimal.
+use Rattle.std.specs.Prelude.{ℕ, List, ◌++◌, codes, Option, Some, None}
 use Rattle.std.specs.Fmt.{decimal}
 use Rattle.uefi_path.specs.declared.fault.NameFault.{NameFault}
 use Rattle.uefi_path.specs.declared.fault.NameFault.TheVariants as name
@@ -25,3 +25,17 @@ path_fault_words (path.BadLength offset) = codes "BadLength " ++ decimal offset
 path_fault_words (path.PastEnd offset) = codes "PastEnd " ++ decimal offset
 path_fault_words (path.BadEnd offset) = codes "BadEnd " ++ decimal offset
 path_fault_words path.OutOfMemory = codes "OutOfMemory"
+
+-- where the fault is
+abbrev pub name_fault_index : NameFault → Option ℕ
+name_fault_index (name.ZeroUnit at) = Some at
+name_fault_index name.TooLong = None
+name_fault_index name.OutOfMemory = None
+
+abbrev pub path_fault_offset : PathFault → Option ℕ
+path_fault_offset (path.NoEnd offset) = Some offset
+path_fault_offset (path.ShortHeader offset) = Some offset
+path_fault_offset (path.BadLength offset) = Some offset
+path_fault_offset (path.PastEnd offset) = Some offset
+path_fault_offset (path.BadEnd offset) = Some offset
+path_fault_offset path.OutOfMemory = None

@@ -10,12 +10,12 @@ use std::alloc::{AllocError, AllocFailed, Global};
 use thiserror::Error;
 
 /// Why parts make no node.
-#[derive(Clone, Copy, Debug, PartialEq, Eq, Error)]
+#[derive(Clone, Copy, Debug, PartialEq, Eq, Hash, Error)]
 pub enum NodeFault {
     /// The type is 0x7F, that of the end nodes, which are no nodes of a path.
     #[error("BadEnd")]
     BadEnd,
-    /// The data would have more than 65,531 bytes, a vendor's identifier included: two bytes cannot
+    /// The data would have more than [`BODY_MAX`](crate::BODY_MAX) bytes, a vendor's identifier included: two bytes cannot
     /// state the length of the node.
     #[error("TooLong")]
     TooLong,
@@ -26,7 +26,7 @@ pub enum NodeFault {
 
 /// Why bytes begin with no path. The number is the offset of the node with the fault, in bytes from
 /// the first byte of the path.
-#[derive(Clone, Copy, Debug, PartialEq, Eq, Error)]
+#[derive(Clone, Copy, Debug, PartialEq, Eq, Hash, Error)]
 pub enum PathFault {
     /// No byte remains where a node must stand.
     #[error("NoEnd {0}")]
@@ -50,12 +50,12 @@ pub enum PathFault {
 }
 
 /// Why units are no path name of a file.
-#[derive(Clone, Copy, Debug, PartialEq, Eq, Error)]
+#[derive(Clone, Copy, Debug, PartialEq, Eq, Hash, Error)]
 pub enum NameFault {
     /// A unit is zero. The number is the index of the first such unit.
     #[error("ZeroUnit {0}")]
     ZeroUnit(usize),
-    /// There are more than 32,764 units: two bytes cannot state the length of the node.
+    /// There are more than [`NAME_MAX`](crate::NAME_MAX) units: two bytes cannot state the length of the node.
     #[error("TooLong")]
     TooLong,
     /// Memory was refused.
@@ -79,7 +79,22 @@ impl NodeFault {
 }
 
 impl PathFault {
-    ghost use Rattle.uefi_path.specs.Words.{path_fault_words};
+    ghost use Rattle.uefi_path.specs.Words.{path_fault_words, path_fault_offset};
+
+    /// The offset of the node with the fault, in bytes from the first byte of the path, where the
+    /// fault has one: all but want of memory have.
+    pub fn offset(&self) -> Option<usize>
+        ensures { result ≡ path_fault_offset self.now }
+    {
+        match self {
+            PathFault::NoEnd(offset)
+            | PathFault::ShortHeader(offset)
+            | PathFault::BadLength(offset)
+            | PathFault::PastEnd(offset)
+            | PathFault::BadEnd(offset) => Some(*offset),
+            PathFault::OutOfMemory => None,
+        }
+    }
 
     /// The fault's name and, where it has one, its offset in decimal after a blank. The one refusal
     /// is for want of memory.
@@ -98,7 +113,17 @@ impl PathFault {
 }
 
 impl NameFault {
-    ghost use Rattle.uefi_path.specs.Words.{name_fault_words};
+    ghost use Rattle.uefi_path.specs.Words.{name_fault_words, name_fault_index};
+
+    /// The index of the unit that is refused, where the fault has one.
+    pub fn index(&self) -> Option<usize>
+        ensures { result ≡ name_fault_index self.now }
+    {
+        match self {
+            NameFault::ZeroUnit(at) => Some(*at),
+            NameFault::TooLong | NameFault::OutOfMemory => None,
+        }
+    }
 
     /// The fault's name and, where it has one, its index in decimal after a blank. The one refusal
     /// is for want of memory.

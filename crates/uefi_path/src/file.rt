@@ -1,6 +1,6 @@
 //! File paths.
 
-ghost use Rattle.std.specs.Prelude.{◌≡◌, ◌↔◌, ◌<◌, ◌≤◌, ◌++◌, ◌==◌, ℕ, length, Some, None, Err, IfOk, OnOk, OnErr};
+ghost use Rattle.std.specs.Prelude.{◌≡◌, ◌↔◌, ◌*◌, ◌<◌, ◌≤◌, ◌++◌, ◌==◌, ℕ, length, Some, None, Err, IfOk, OnOk, OnErr};
 ghost use Rattle.std.specs.List.{flat_map, position};
 ghost use Rattle.std.specs.Int.{w16, to_le_bytes};
 ghost use Rattle.uefi_path.specs.declared.fault.NameFault.{NameFault};
@@ -9,17 +9,18 @@ ghost use Rattle.uefi_path.specs.Reading.{name_of};
 ghost use Rattle.uefi_path.specs.Writing.{Extends};
 
 use crate::fault::NameFault;
+use crate::generic::{BODY_MAX, HEADER_LEN};
 use std::alloc::{AllocError, Global};
 use std::marker::Model;
-
-/// The most units that a name can have, without the zero that closes it.
-const NAME_MAX: usize = 32_764;
 
 /// The bytes of a unit.
 const UNIT_LEN: usize = 2;
 
+/// The most units that a name can have, without the zero that closes it.
+pub const NAME_MAX: usize = BODY_MAX / UNIT_LEN - 1;
+
 /// The path name of a file (UEFI 2.10, 10.3.5.4) as CHAR16 units. None of them is zero, and there
-/// are at most 32,764; the zero that closes the name in the bytes is not held.
+/// are at most [`NAME_MAX`]; the zero that closes the name in the bytes is not held.
 #[derive(Debug, Drop)]
 pub struct FileNode {
     units: Vec<u16>,
@@ -68,14 +69,14 @@ impl FileNode {
     /// # Errors
     ///
     /// [`NameFault::ZeroUnit`] where a unit is zero; else [`NameFault::TooLong`] where there are
-    /// more than 32,764 units; else [`NameFault::OutOfMemory`] where memory for them was refused.
+    /// more than [`NAME_MAX`] units; else [`NameFault::OutOfMemory`] where memory for them was refused.
     pub fn new(alloc: Global, units: &[u16]) -> Result<FileNode, NameFault>
         ensures made { IfOk result (λ node. node ≡ units.now) }
         ensures valid { IfOk result (λ node. IsName node) }
         ensures zero_unit { (at : ℕ) → (result ≡ Err (NameFault.ZeroUnit at))
             ↔ (position (λ unit. unit == 0) units.now ≡ Some at) }
         ensures too_long { (result ≡ Err NameFault.TooLong)
-            ↔ ((position (λ unit. unit == 0) units.now ≡ None) × (32764 < length units.now)) }
+            ↔ ((position (λ unit. unit == 0) units.now ≡ None) × (NAME_MAX < length units.now)) }
     {
         if let Some(at) = first_zero(units) {
             return Err(NameFault::ZeroUnit(at));
@@ -90,7 +91,7 @@ impl FileNode {
     /// The node that has these bytes: `None` where their units are no name with a zero behind it.
     /// The one refusal is for want of memory.
     pub(crate) fn from_bytes(alloc: Global, bytes: &[u8]) -> Result<Option<FileNode>, AllocError>
-        requires { length bytes.now ≤ 65531 }
+        requires { length bytes.now ≤ BODY_MAX }
         ensures { IfOk result (λ found. found ≡ name_of bytes.now) }
     {
         let mut units = Vec::with_capacity(alloc, bytes.len() / UNIT_LEN)?;
@@ -118,8 +119,8 @@ impl FileNode {
         &self.units
     }
 
-    /// An equal node, if there is memory for it.
-    pub(crate) fn copy(&self, alloc: Global) -> Result<FileNode, AllocError>
+    /// An equal node. The one refusal is for want of memory.
+    pub fn copy(&self, alloc: Global) -> Result<FileNode, AllocError>
         ensures equal { IfOk result (λ node. node ≡ self.now) }
         ensures valid { OnOk result (IsName self.now) }
     {
@@ -130,20 +131,23 @@ impl FileNode {
     /// How many bytes the name and its zero take.
     pub(crate) fn data_len(&self) -> usize
         ensures len { result ≡ length (name_bytes self.now) }
-        ensures bound { result ≤ 65531 }
+        ensures bound { result ≤ BODY_MAX }
     {
         UNIT_LEN * self.units.len() + UNIT_LEN
     }
 
-    /// Appends the name and its zero. An `Err` may leave a part of them.
-    pub(crate) fn append_fields(&self, out: &mut Vec<u8>) -> Result<(), AllocError>
+    /// Appends the header, the name and its zero. An `Err` may leave a part of them.
+    pub(crate) fn append(
+        &self,
+        header: [u8; HEADER_LEN],
+        out: &mut Vec<u8>,
+    ) -> Result<(), AllocError>
         ensures valid { OnOk result (IsName self.now) }
-        ensures ok { OnOk result (out.new.items ≡ out.old.items ++ name_bytes self.now) }
+        ensures ok { OnOk result (out.new.items ≡ out.old.items ++ (header ++ name_bytes self.now)) }
         ensures err { OnErr result (Extends out.old.items out.new.items) }
     {
-        append_units(&self.units, out)?;
-        out.extend_from_slice(&0u16.to_le_bytes())?;
-        Ok(())
+        out.extend_from_slice(&header)?;
+        append_closed(&self.units, out)
     }
 }
 
@@ -154,31 +158,28 @@ fn first_zero(units: &[u16]) -> Option<usize>
     units.iter().position(|unit| *unit == 0)
 }
 
-/// Appends units, each as two bytes, little-endian. An `Err` may leave a part of them.
-fn append_units(units: &[u16], out: &mut Vec<u8>) -> Result<(), AllocError>
-    ensures ok { OnOk result (out.new.items ≡ out.old.items ++ flat_map (to_le_bytes w16) units.now) }
-    ensures err { OnErr result (Extends out.old.items out.new.items) }
+/// Appends units, each as two bytes, little-endian, and a zero unit. An `Err` leaves the output as
+/// it was.
+fn append_closed(units: &[u16], out: &mut Vec<u8>) -> Result<(), AllocError>
+    requires { length units.now ≤ NAME_MAX }
+    ensures ok { OnOk result (out.new.items ≡ out.old.items ++ name_bytes units.now) }
+    ensures err { OnErr result (out.new.items ≡ out.old.items) }
 {
-    // four at a time: to append costs more than to copy eight bytes
-    let mut rest = units;
-    while let [first, second, third, fourth, others @ ..] = rest {
-        let [a, b] = first.to_le_bytes();
-        let [c, d] = second.to_le_bytes();
-        let [e, f] = third.to_le_bytes();
-        let [g, h] = fourth.to_le_bytes();
-        out.extend_from_slice(&[a, b, c, d, e, f, g, h])?;
-        rest = others;
-    }
-    append_each(rest, out)
+    let start = out.len();
+    let end = start + UNIT_LEN * units.len();
+    out.resize(end + UNIT_LEN, 0)?;
+    write_units(units, &mut out[start..end]);
+    Ok(())
 }
 
-/// Appends units one by one. An `Err` may leave a part of them.
-fn append_each(units: &[u16], out: &mut Vec<u8>) -> Result<(), AllocError>
-    ensures ok { OnOk result (out.new.items ≡ out.old.items ++ flat_map (to_le_bytes w16) units.now) }
-    ensures err { OnErr result (Extends out.old.items out.new.items) }
+/// Writes units, each as two bytes, little-endian, over as many bytes as they take.
+fn write_units(units: &[u16], bytes: &mut [u8])
+    requires { length bytes.old ≡ 2 * length units.now }
+    ensures { bytes.new ≡ flat_map (to_le_bytes w16) units.now }
 {
-    for unit in units {
-        out.extend_from_slice(&unit.to_le_bytes())?;
+    for (i, unit) in units.iter().enumerate() {
+        let [low, high] = unit.to_le_bytes();
+        bytes[UNIT_LEN * i] = low;
+        bytes[UNIT_LEN * i + 1] = high;
     }
-    Ok(())
 }

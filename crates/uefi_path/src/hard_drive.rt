@@ -2,16 +2,17 @@
 
 ghost use Rattle.std.specs.Prelude.{◌≡◌, ◌≤◌, ◌++◌, length, OnOk, OnErr};
 ghost use Rattle.std.specs.List.{concat};
+ghost use Rattle.uefi_path.specs.Reading.{hard_drive_at};
 ghost use Rattle.uefi_path.specs.Writing.{Extends};
 ghost use Rattle.uefi_path.specs.Parts.{AreHardDriveParts, hard_drive_parts, hard_drive_fields};
 
-use crate::generic::field;
-use crate::writing::append_all;
+use crate::fields::{NodeBytes, bytes_at, field, octets, u8_at, u32_at, u64_at};
+use crate::generic::{BODY_MAX, HEADER_LEN};
 use std::alloc::AllocError;
 use std::marker::Model;
 
 /// A partition of a hard drive (UEFI 2.10, 10.3.5.1).
-#[derive(Clone, Copy, Debug, PartialEq, Eq)]
+#[derive(Clone, Copy, Debug, PartialEq, Eq, Hash)]
 pub struct HardDriveNode {
     partition: u32,
     start: u64,
@@ -41,6 +42,21 @@ impl Model for HardDriveNode {
 }
 
 impl HardDriveNode {
+    /// The format of a partition table in the master boot record.
+    pub const FORMAT_MBR: u8 = 1;
+
+    /// The format of a GUID partition table.
+    pub const FORMAT_GPT: u8 = 2;
+
+    /// The type of a signature that there is none of.
+    pub const SIGNATURE_NONE: u8 = 0;
+
+    /// The type of a signature of 32 bits, that of the drive in its master boot record.
+    pub const SIGNATURE_MBR: u8 = 1;
+
+    /// The type of a signature that is a GUID, that of the partition.
+    pub const SIGNATURE_GUID: u8 = 2;
+
     /// A node of these parts (UEFI 2.10, 10.3.5.1): the number of the partition, its first logical
     /// block and how many it has, the signature, the format of the partition table and what the
     /// signature is.
@@ -55,15 +71,29 @@ impl HardDriveNode {
         ensures made { result ≡ hard_drive_parts partition start size signature format signature_kind }
         ensures valid { AreHardDriveParts result }
     {
-        let _ = field(&signature);
         HardDriveNode {
             partition,
             start,
             size,
-            signature,
+            signature: octets(signature),
             format,
             signature_kind,
         }
+    }
+
+    /// The node that has these bytes.
+    pub(crate) fn from_bytes(body: &[u8]) -> HardDriveNode
+        requires { length body.now ≡ 38 }
+        ensures { result ≡ hard_drive_at body.now }
+    {
+        HardDriveNode::new(
+            u32_at(body, 0),
+            u64_at(body, 4),
+            u64_at(body, 12),
+            bytes_at(body, 20),
+            u8_at(body, 36),
+            u8_at(body, 37),
+        )
     }
 
     /// The number of the partition, counted from 1; 0 stands for the whole drive.
@@ -89,20 +119,22 @@ impl HardDriveNode {
 
     /// The signature, whose meaning `signature_kind` tells.
     pub fn signature(&self) -> &[u8; 16]
-        ensures { result.now ≡ self.now.signature }
+        ensures bytes { result.now ≡ self.now.signature }
+        ensures valid { AreHardDriveParts self.now }
     {
         &self.signature
     }
 
-    /// The format of the partition table: 1 MBR, 2 GPT. Other values are kept.
+    /// The format of the partition table: [`HardDriveNode::FORMAT_MBR`] or [`HardDriveNode::FORMAT_GPT`]. Other
+    /// values are kept.
     pub fn format(&self) -> u8
         ensures { result ≡ self.now.format }
     {
         self.format
     }
 
-    /// What the signature is: 0 none, 1 that of an MBR in the first four bytes, 2 a GUID. Other
-    /// values are kept.
+    /// What the signature is: [`HardDriveNode::SIGNATURE_NONE`], [`HardDriveNode::SIGNATURE_MBR`] in
+    /// the first four bytes, or [`HardDriveNode::SIGNATURE_GUID`]. Other values are kept.
     pub fn signature_kind(&self) -> u8
         ensures { result ≡ self.now.signature_kind }
     {
@@ -127,27 +159,28 @@ impl HardDriveNode {
     /// How many bytes the fields take.
     pub(crate) fn data_len(&self) -> usize
         ensures len { result ≡ length (concat (hard_drive_fields self.now)) }
-        ensures bound { result ≤ 65531 }
+        ensures bound { result ≤ BODY_MAX }
     {
-        field(&self.signature).len() + 22
+        20 + field(&self.signature).len() + 2
     }
 
-    /// Appends the fields in their order. An `Err` may leave a part of them.
-    pub(crate) fn append_fields(&self, out: &mut Vec<u8>) -> Result<(), AllocError>
+    /// Appends the header and the fields in their order.
+    pub(crate) fn append(
+        &self,
+        header: [u8; HEADER_LEN],
+        out: &mut Vec<u8>,
+    ) -> Result<(), AllocError>
         ensures valid { OnOk result (AreHardDriveParts self.now) }
-        ensures ok { OnOk result (out.new.items ≡ out.old.items ++ concat (hard_drive_fields self.now)) }
+        ensures ok { OnOk result (out.new.items ≡ out.old.items ++ (header ++ concat (hard_drive_fields self.now))) }
         ensures err { OnErr result (Extends out.old.items out.new.items) }
     {
-        append_all(
-            &[
-                &self.partition.to_le_bytes(),
-                &self.start.to_le_bytes(),
-                &self.size.to_le_bytes(),
-                field(&self.signature),
-                &self.format.to_le_bytes(),
-                &self.signature_kind.to_le_bytes(),
-            ],
-            out,
-        )
+        let mut node = NodeBytes::<42>::new(header);
+        node.put(&self.partition.to_le_bytes());
+        node.put(&self.start.to_le_bytes());
+        node.put(&self.size.to_le_bytes());
+        node.put(&self.signature);
+        node.put(&self.format.to_le_bytes());
+        node.put(&self.signature_kind.to_le_bytes());
+        node.append_to(out)
     }
 }

@@ -2,16 +2,17 @@
 
 ghost use Rattle.std.specs.Prelude.{◌≡◌, ◌≤◌, ◌++◌, length, OnOk, OnErr};
 ghost use Rattle.std.specs.List.{concat};
+ghost use Rattle.uefi_path.specs.Reading.{ipv4_at};
 ghost use Rattle.uefi_path.specs.Writing.{Extends};
 ghost use Rattle.uefi_path.specs.Parts.{AreIpv4Parts, ipv4_parts, ipv4_fields};
 
-use crate::generic::field;
-use crate::writing::append_all;
+use crate::fields::{NodeBytes, bytes_at, field, octets, u8_at, u16_at};
+use crate::generic::{BODY_MAX, HEADER_LEN};
 use std::alloc::AllocError;
 use std::marker::Model;
 
 /// An IPv4 connection (UEFI 2.10, 10.3.4.12).
-#[derive(Clone, Copy, Debug, PartialEq, Eq)]
+#[derive(Clone, Copy, Debug, PartialEq, Eq, Hash)]
 pub struct Ipv4Node {
     local: [u8; 4],
     remote: [u8; 4],
@@ -45,6 +46,12 @@ impl Model for Ipv4Node {
 }
 
 impl Ipv4Node {
+    /// The static flag of a local address from DHCP.
+    pub const DHCP: u8 = 0;
+
+    /// The static flag of a local address that was set.
+    pub const STATIC: u8 = 1;
+
     /// A node of these parts (UEFI 2.10, 10.3.4.12): the addresses of this side and of the other, as
     /// four bytes in the order in which they are written, their ports, the number of the internet
     /// protocol, how the local address was set, the gateway's address and the subnet's mask.
@@ -61,32 +68,47 @@ impl Ipv4Node {
         ensures made { result ≡ ipv4_parts local remote local_port remote_port protocol fixed gateway mask }
         ensures valid { AreIpv4Parts result }
     {
-        let _ = field(&local);
-        let _ = field(&remote);
-        let _ = field(&gateway);
-        let _ = field(&mask);
         Ipv4Node {
-            local,
-            remote,
+            local: octets(local),
+            remote: octets(remote),
             local_port,
             remote_port,
             protocol,
             fixed,
-            gateway,
-            mask,
+            gateway: octets(gateway),
+            mask: octets(mask),
         }
+    }
+
+    /// The node that has these bytes.
+    pub(crate) fn from_bytes(body: &[u8]) -> Ipv4Node
+        requires { length body.now ≡ 23 }
+        ensures { result ≡ ipv4_at body.now }
+    {
+        Ipv4Node::new(
+            bytes_at(body, 0),
+            bytes_at(body, 4),
+            u16_at(body, 8),
+            u16_at(body, 10),
+            u16_at(body, 12),
+            u8_at(body, 14),
+            bytes_at(body, 15),
+            bytes_at(body, 19),
+        )
     }
 
     /// The local address, in the order in which it is written.
     pub fn local(&self) -> &[u8; 4]
-        ensures { result.now ≡ self.now.local }
+        ensures bytes { result.now ≡ self.now.local }
+        ensures valid { AreIpv4Parts self.now }
     {
         &self.local
     }
 
     /// The remote address, in the order in which it is written.
     pub fn remote(&self) -> &[u8; 4]
-        ensures { result.now ≡ self.now.remote }
+        ensures bytes { result.now ≡ self.now.remote }
+        ensures valid { AreIpv4Parts self.now }
     {
         &self.remote
     }
@@ -112,7 +134,8 @@ impl Ipv4Node {
         self.protocol
     }
 
-    /// How the local address was set: 0 by DHCP, 1 statically. Other values are kept.
+    /// The static flag, how the local address was set: [`Ipv4Node::DHCP`] or [`Ipv4Node::STATIC`].
+    /// Other values are kept.
     pub fn fixed(&self) -> u8
         ensures { result ≡ self.now.fixed }
     {
@@ -121,14 +144,16 @@ impl Ipv4Node {
 
     /// The address of the gateway, in the order in which it is written.
     pub fn gateway(&self) -> &[u8; 4]
-        ensures { result.now ≡ self.now.gateway }
+        ensures bytes { result.now ≡ self.now.gateway }
+        ensures valid { AreIpv4Parts self.now }
     {
         &self.gateway
     }
 
     /// The mask of the subnet, in the order in which it is written.
     pub fn mask(&self) -> &[u8; 4]
-        ensures { result.now ≡ self.now.mask }
+        ensures bytes { result.now ≡ self.now.mask }
+        ensures valid { AreIpv4Parts self.now }
     {
         &self.mask
     }
@@ -153,33 +178,34 @@ impl Ipv4Node {
     /// How many bytes the fields take.
     pub(crate) fn data_len(&self) -> usize
         ensures len { result ≡ length (concat (ipv4_fields self.now)) }
-        ensures bound { result ≤ 65531 }
+        ensures bound { result ≤ BODY_MAX }
     {
         field(&self.local).len()
             + field(&self.remote).len()
+            + 7
             + field(&self.gateway).len()
             + field(&self.mask).len()
-            + 7
     }
 
-    /// Appends the fields in their order. An `Err` may leave a part of them.
-    pub(crate) fn append_fields(&self, out: &mut Vec<u8>) -> Result<(), AllocError>
+    /// Appends the header and the fields in their order.
+    pub(crate) fn append(
+        &self,
+        header: [u8; HEADER_LEN],
+        out: &mut Vec<u8>,
+    ) -> Result<(), AllocError>
         ensures valid { OnOk result (AreIpv4Parts self.now) }
-        ensures ok { OnOk result (out.new.items ≡ out.old.items ++ concat (ipv4_fields self.now)) }
+        ensures ok { OnOk result (out.new.items ≡ out.old.items ++ (header ++ concat (ipv4_fields self.now))) }
         ensures err { OnErr result (Extends out.old.items out.new.items) }
     {
-        append_all(
-            &[
-                field(&self.local),
-                field(&self.remote),
-                &self.local_port.to_le_bytes(),
-                &self.remote_port.to_le_bytes(),
-                &self.protocol.to_le_bytes(),
-                &self.fixed.to_le_bytes(),
-                field(&self.gateway),
-                field(&self.mask),
-            ],
-            out,
-        )
+        let mut node = NodeBytes::<27>::new(header);
+        node.put(&self.local);
+        node.put(&self.remote);
+        node.put(&self.local_port.to_le_bytes());
+        node.put(&self.remote_port.to_le_bytes());
+        node.put(&self.protocol.to_le_bytes());
+        node.put(&self.fixed.to_le_bytes());
+        node.put(&self.gateway);
+        node.put(&self.mask);
+        node.append_to(out)
     }
 }

@@ -1,6 +1,6 @@
 //! Laws of the definitions. Each function's contract is one law; calling it does nothing.
 
-ghost use Rattle.std.specs.Prelude.{◌≡◌, ◌≢◌, ◌⊎◌, ◌↔◌, ℕ, ◌≤◌, List, [], ◌++◌, length, IsTrue};
+ghost use Rattle.std.specs.Prelude.{◌≡◌, ◌≢◌, ◌⊎◌, ◌↔◌, ℕ, ◌^◌, ◌<◌, List, [], ◌++◌, length, IsTrue};
 ghost use Rattle.std.specs.List.{AllByRecursion, flat_map};
 ghost use Rattle.uefi_path.specs.declared.node.Node.{Node};
 ghost use Rattle.uefi_path.specs.declared.fault.NameFault.{NameFault};
@@ -29,7 +29,7 @@ use crate::vendor::Vendor;
 pub fn each_node_is_spelled()
     ensures { (node : Node) → IsNode node →
         (bytes : List ℕ) × SpellsNode bytes node
-        × AllByRecursion IsByte bytes × (length bytes ≤ 65535) }
+        × AllByRecursion IsByte bytes × (length bytes < 2 ^ 16) }
 {}
 
 /// A node has at most one spelling.

@@ -7,6 +7,7 @@
 #![tactic(auto)]
 
 mod fault;
+mod fields;
 mod file;
 mod generic;
 mod guid;
@@ -17,22 +18,24 @@ mod node;
 mod other;
 mod path;
 mod reading;
+mod table;
 mod uri;
 mod vendor;
 mod writing;
 
 pub use fault::{NameFault, NodeFault, PathFault};
-pub use file::FileNode;
+pub use file::{FileNode, NAME_MAX};
+pub use generic::BODY_MAX;
 pub use guid::Guid;
 pub use hard_drive::HardDriveNode;
 pub use ipv4::Ipv4Node;
-pub use node::Node;
+pub use node::{Node, PCI_ROOT_HID, PCIE_ROOT_HID};
 pub use other::OtherNode;
-pub use path::{Path, make_path};
+pub use path::{Nodes, Path, make_path};
 pub use reading::{node_from_parts, read_path};
 pub use uri::UriNode;
-pub use vendor::Vendor;
-pub use writing::{path_len, write_node, write_path};
+pub use vendor::{VENDOR_BODY_MAX, Vendor};
+pub use writing::{node_len, path_len, write_node, write_path};
 
 #[cfg(test)]
 mod tests;

@@ -1,16 +1,22 @@
 //! The nodes of a path.
 
-ghost use Rattle.std.specs.Prelude.{◌≡◌, ◌≤◌, length, IfOk, OnOk};
+ghost use Rattle.std.specs.Prelude.{◌≡◌, IfOk, OnOk};
 ghost use Rattle.uefi_path.specs.Node.{row_of, IsNode};
 
+use crate::fields::{field, octets};
 use crate::file::FileNode;
-use crate::generic::field;
 use crate::hard_drive::HardDriveNode;
 use crate::ipv4::Ipv4Node;
 use crate::other::OtherNode;
 use crate::uri::UriNode;
 use crate::vendor::Vendor;
 use std::alloc::{AllocError, Global};
+
+/// The `_HID` of the root of a PCI bus, PNP0A03, as a compressed EISA identifier.
+pub const PCI_ROOT_HID: u32 = 0x0a03_41d0;
+
+/// The `_HID` of the root of a PCI Express bus, PNP0A08, as a compressed EISA identifier.
+pub const PCIE_ROOT_HID: u32 = 0x0a08_41d0;
 
 /// A node of a device path (UEFI 2.10, 10.3).
 #[derive(Debug, Drop, PartialEq, Eq)]
@@ -77,101 +83,115 @@ pub enum Node {
     Other(OtherNode),
 }
 
-/// What a node's header states: its type, its sub-type, and how many bytes of data follow.
-#[derive(Clone, Copy)]
-pub(crate) struct Shape {
-    pub(crate) kind: u8,
-    pub(crate) sub: u8,
-    pub(crate) data_len: usize,
-}
-
-impl Shape {
-    fn new(kind: u8, sub: u8, data_len: usize) -> Shape
-        ensures { result ≡ record { kind = kind; sub = sub; data_len = data_len } }
+impl Node {
+    /// The type, the first byte of the node (UEFI 2.10, 10.3.1).
+    pub fn kind(&self) -> u8
+        ensures { result ≡ (row_of self.now).kind }
     {
-        Shape {
-            kind,
-            sub,
-            data_len,
+        self.shape().kind
+    }
+
+    /// The sub-type, the second byte of the node (UEFI 2.10, 10.3.1).
+    pub fn sub(&self) -> u8
+        ensures { result ≡ (row_of self.now).sub }
+    {
+        self.shape().sub
+    }
+
+    /// Looks at each field, for the contract alone: what a field's type keeps is known where the field
+    /// is looked at.
+    pub(crate) fn look(&self)
+        ensures { IsNode self.now }
+    {
+        match self {
+            Node::Pci { function, device } => {
+                let _ = (*function, *device);
+            }
+            Node::VendorHw(vendor) | Node::VendorMsg(vendor) | Node::VendorMedia(vendor) => {
+                let _ = vendor.body();
+            }
+            Node::Acpi { hid, uid } => {
+                let _ = (*hid, *uid);
+            }
+            Node::Usb { port, interface } => {
+                let _ = (*port, *interface);
+            }
+            Node::Mac { address, if_kind } => {
+                let _ = field(address);
+                let _if_kind = *if_kind;
+            }
+            Node::Ipv4(node) => {
+                let _ = node.local();
+            }
+            Node::Sata {
+                hba,
+                multiplier,
+                lun,
+            } => {
+                let _ = (*hba, *multiplier, *lun);
+            }
+            Node::Nvme { namespace, eui } => {
+                let _namespace = *namespace;
+                let _ = field(eui);
+            }
+            Node::Uri(node) => {
+                let _ = node.bytes();
+            }
+            Node::HardDrive(node) => {
+                let _ = node.signature();
+            }
+            Node::FilePath(node) => {
+                let _ = node.units();
+            }
+            Node::Other(other) => {
+                let _ = other.body();
+            }
         }
     }
-}
 
-impl Node {
     /// An equal node. The one refusal is for want of memory.
     pub fn copy(&self, alloc: Global) -> Result<Node, AllocError>
         ensures equal { IfOk result (λ node. node ≡ self.now) }
         ensures valid { OnOk result (IsNode self.now) }
     {
-        match self {
-            Node::Pci { function, device } => Ok(Node::Pci {
+        Ok(match self {
+            Node::Pci { function, device } => Node::Pci {
                 function: *function,
                 device: *device,
-            }),
-            Node::VendorHw(vendor) => Ok(Node::VendorHw(vendor.copy(alloc)?)),
-            Node::Acpi { hid, uid } => Ok(Node::Acpi {
+            },
+            Node::VendorHw(vendor) => Node::VendorHw(vendor.copy(alloc)?),
+            Node::Acpi { hid, uid } => Node::Acpi {
                 hid: *hid,
                 uid: *uid,
-            }),
-            Node::Usb { port, interface } => Ok(Node::Usb {
+            },
+            Node::Usb { port, interface } => Node::Usb {
                 port: *port,
                 interface: *interface,
-            }),
-            Node::VendorMsg(vendor) => Ok(Node::VendorMsg(vendor.copy(alloc)?)),
-            Node::Mac { address, if_kind } => {
-                let _ = field(address);
-                Ok(Node::Mac {
-                    address: *address,
-                    if_kind: *if_kind,
-                })
-            }
-            Node::Ipv4(node) => Ok(Node::Ipv4(node.copied())),
+            },
+            Node::VendorMsg(vendor) => Node::VendorMsg(vendor.copy(alloc)?),
+            Node::Mac { address, if_kind } => Node::Mac {
+                address: octets(*address),
+                if_kind: *if_kind,
+            },
+            Node::Ipv4(node) => Node::Ipv4(node.copied()),
             Node::Sata {
                 hba,
                 multiplier,
                 lun,
-            } => Ok(Node::Sata {
+            } => Node::Sata {
                 hba: *hba,
                 multiplier: *multiplier,
                 lun: *lun,
-            }),
-            Node::Nvme { namespace, eui } => {
-                let _ = field(eui);
-                Ok(Node::Nvme {
-                    namespace: *namespace,
-                    eui: *eui,
-                })
-            }
-            Node::Uri(node) => Ok(Node::Uri(node.copy(alloc)?)),
-            Node::HardDrive(node) => Ok(Node::HardDrive(node.copied())),
-            Node::VendorMedia(vendor) => Ok(Node::VendorMedia(vendor.copy(alloc)?)),
-            Node::FilePath(node) => Ok(Node::FilePath(node.copy(alloc)?)),
-            Node::Other(other) => Ok(Node::Other(other.copy(alloc)?)),
-        }
-    }
-
-    /// What the node's header states.
-    pub(crate) fn shape(&self) -> Shape
-        ensures kind { result.kind ≡ (row_of self.now).kind }
-        ensures sub { result.sub ≡ (row_of self.now).sub }
-        ensures data_len { result.data_len ≡ length (row_of self.now).body }
-        ensures bound { result.data_len ≤ 65531 }
-    {
-        match self {
-            Node::Pci { .. } => Shape::new(1, 1, 2),
-            Node::VendorHw(vendor) => Shape::new(1, 4, vendor.data_len()),
-            Node::Acpi { .. } => Shape::new(2, 1, 8),
-            Node::Usb { .. } => Shape::new(3, 5, 2),
-            Node::VendorMsg(vendor) => Shape::new(3, 10, vendor.data_len()),
-            Node::Mac { address, .. } => Shape::new(3, 11, field(address).len() + 1),
-            Node::Ipv4(node) => Shape::new(3, 12, node.data_len()),
-            Node::Sata { .. } => Shape::new(3, 18, 6),
-            Node::Nvme { eui, .. } => Shape::new(3, 23, 4 + field(eui).len()),
-            Node::Uri(node) => Shape::new(3, 24, node.bytes().len()),
-            Node::HardDrive(node) => Shape::new(4, 1, node.data_len()),
-            Node::VendorMedia(vendor) => Shape::new(4, 3, vendor.data_len()),
-            Node::FilePath(node) => Shape::new(4, 4, node.data_len()),
-            Node::Other(other) => Shape::new(other.kind(), other.sub(), other.body().len()),
-        }
+            },
+            Node::Nvme { namespace, eui } => Node::Nvme {
+                namespace: *namespace,
+                eui: octets(*eui),
+            },
+            Node::Uri(node) => Node::Uri(node.copy(alloc)?),
+            Node::HardDrive(node) => Node::HardDrive(node.copied()),
+            Node::VendorMedia(vendor) => Node::VendorMedia(vendor.copy(alloc)?),
+            Node::FilePath(node) => Node::FilePath(node.copy(alloc)?),
+            Node::Other(other) => Node::Other(other.copy(alloc)?),
+        })
     }
 }

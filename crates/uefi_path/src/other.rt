@@ -6,7 +6,7 @@ use std::alloc::{AllocError, Global};
 use std::marker::Model;
 
 /// A node whose type, sub-type and data no other case of `Node` stands for (UEFI 2.10, 10.3.1). Its
-/// type isn't 0x7F, and its data has at most 65,531 bytes.
+/// type isn't 0x7F, and its data has at most [`BODY_MAX`](crate::BODY_MAX) bytes.
 #[derive(Debug, Drop)]
 pub struct OtherNode {
     kind: u8,
@@ -88,8 +88,8 @@ impl OtherNode {
         &self.body
     }
 
-    /// An equal node, if there is memory for it.
-    pub(crate) fn copy(&self, alloc: Global) -> Result<OtherNode, AllocError>
+    /// An equal node. The one refusal is for want of memory.
+    pub fn copy(&self, alloc: Global) -> Result<OtherNode, AllocError>
         ensures equal { IfOk result (λ node. node ≡ self.now) }
         ensures valid { OnOk result (IsOther self.now) }
     {

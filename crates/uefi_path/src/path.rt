@@ -16,14 +16,15 @@ pub struct Path {
 }
 
 impl Model for Path {
-    ghost use Rattle.std.specs.Prelude.{◌≢◌, List, [], map};
+    ghost use Rattle.std.specs.Prelude.{List, map};
     ghost use Rattle.uefi_path.specs.declared.node.Node.{Node};
+    ghost use Rattle.uefi_path.specs.Path.{IsPath};
 
     ghost Value = { List (List Node) };
 
     ghost view = { λ path. map (λ nodes. nodes.items) path.instances.items };
 
-    ghost invariant = { λ path. path.instances.items ≢ [] };
+    ghost invariant = { λ path. IsPath (map (λ nodes. nodes.items) path.instances.items) };
 }
 
 impl PartialEq for Path {
@@ -50,10 +51,42 @@ impl Eq for Path {
     ghost laws = { lists_equiv (lists_equiv laws-law) };
 }
 
+/// The nodes of a path, one after the other, as [`Path::nodes`] gives them.
+#[derive(Clone, Copy, Debug)]
+pub struct Nodes<'a> {
+    nodes: &'a [Node],
+    others: &'a [Vec<Node>],
+}
+
+impl<'a> Iterator for Nodes<'a> {
+    type Item = &'a Node;
+
+    ghost use Rattle.std.specs.Iterator.{YieldsFirstRef, item_count};
+    ghost use Rattle.uefi_path.specs.Nodes.{nodes_left};
+
+    ghost next_gives = { YieldsFirstRef nodes_left };
+
+    ghost remaining = { item_count nodes_left };
+
+    fn next(&mut self) -> Option<&'a Node> {
+        loop {
+            if let Some((node, nodes)) = self.nodes.split_first() {
+                self.nodes = nodes;
+                return Some(node);
+            }
+            let (nodes, others) = self.others.split_first()?;
+            self.nodes = nodes;
+            self.others = others;
+        }
+    }
+}
+
 impl Path {
+    ghost use Rattle.uefi_path.specs.Nodes.{nodes_left, all_nodes};
+
     /// The path of these instances, of which there is at least one.
     pub(crate) fn from_instances(instances: Vec<Vec<Node>>) -> Path
-        requires { instances.items ≢ [] }
+        requires { IsPath (map (λ nodes. nodes.items) instances.items) }
         ensures { result ≡ map (λ nodes. nodes.items) instances.items }
     {
         Path { instances }
@@ -74,9 +107,28 @@ impl Path {
     /// The instances, in order.
     pub fn instances(&self) -> &[Vec<Node>]
         ensures items { map (λ nodes. nodes.items) result.now ≡ self.now }
-        ensures some { self.now ≢ [] }
+        ensures valid { IsPath self.now }
     {
         &self.instances
+    }
+
+    /// The nodes of all instances, in order. The ends of instances aren't among them.
+    pub fn nodes(&self) -> Nodes<'_>
+        ensures { nodes_left result ≡ all_nodes self.now }
+    {
+        Nodes {
+            nodes: &[],
+            others: &self.instances,
+        }
+    }
+
+    /// The instances, in order, given away. This takes no memory.
+    pub fn into_instances(self) -> Vec<Vec<Node>>
+        ensures items { map (λ nodes. nodes.items) result.items ≡ self }
+        ensures valid { IsPath self }
+    {
+        let Path { instances } = self;
+        instances
     }
 }
 
@@ -87,13 +139,27 @@ impl Path {
 /// The list itself, where it is empty: a path has at least one instance.
 pub fn make_path(instances: Vec<Vec<Node>>) -> Result<Path, Vec<Vec<Node>>>
     ensures made { IfOk result (λ path. path ≡ map (λ nodes. nodes.items) instances.items) }
+    ensures valid { IfOk result (λ path. IsPath path) }
     ensures refused { (result ≡ Err instances) ↔ (instances.items ≡ []) }
     ensures handed_back { IfErr result (λ refused. refused ≡ instances) }
 {
     if instances.is_empty() {
         return Err(instances);
     }
+    for nodes in &instances {
+        look_at_each(nodes);
+    }
     Ok(Path::from_instances(instances))
+}
+
+/// Looks at each node, for the contract alone: what a value's type keeps is known where the value is
+/// looked at.
+fn look_at_each(nodes: &[Node])
+    ensures { AllByRecursion IsNode nodes.now }
+{
+    for node in nodes {
+        node.look();
+    }
 }
 
 /// Equal nodes, if there is memory for them.

@@ -1,7 +1,6 @@
 //! Bytes to nodes and paths.
 
 ghost use Rattle.std.specs.Prelude.{◌≡◌, ◌≢◌, ◌↔◌, ◌+◌, ◌<◌, ◌≤◌, ℕ, List, length, map, IsTrue, IfOk, IfErr, OnOk, Ok, Err};
-ghost use Rattle.std.specs.Int.{w8, w16, w32, w64};
 ghost use Rattle.uefi_path.specs.declared.node.Node.{Node};
 ghost use Rattle.uefi_path.specs.declared.fault.PathFault.{PathFault};
 ghost use Rattle.uefi_path.specs.Answer.{IsUnless};
@@ -9,19 +8,13 @@ ghost use Rattle.uefi_path.specs.Row.{row};
 ghost use Rattle.uefi_path.specs.Node.{row_of, IsNode};
 ghost use Rattle.uefi_path.specs.Path.{IsPathFront};
 ghost use Rattle.uefi_path.specs.Fault.{IsEnd, IsFaultAt, IsFirstFault};
-ghost use Rattle.uefi_path.specs.Reading.{number_at, bytes_at as bytes_of, ipv4_at, hard_drive_at, fixed_node_of, list_node_of, node_of, IsHeader, IsHeaderFault, SplitsRow};
+ghost use Rattle.uefi_path.specs.Reading.{IsHeader, IsHeaderFault, SplitsRow};
 
 use crate::fault::{NodeFault, PathFault};
-use crate::file::FileNode;
 use crate::generic::{BODY_MAX, END, END_ENTIRE, END_INSTANCE, HEADER_LEN};
-use crate::hard_drive::HardDriveNode;
-use crate::ipv4::Ipv4Node;
 use crate::node::Node;
-use crate::other::OtherNode;
 use crate::path::Path;
-use crate::uri::UriNode;
-use crate::vendor::Vendor;
-use std::alloc::{AllocError, Global};
+use std::alloc::Global;
 
 /// A node's parts as they stand in the bytes.
 #[derive(Clone, Copy)]
@@ -29,141 +22,6 @@ struct RawNode<'a> {
     kind: u8,
     sub: u8,
     body: &'a [u8],
-}
-
-/// The bytes at an offset of the data.
-fn bytes_at<const N: usize>(body: &[u8], at: usize) -> [u8; N]
-    requires { at + N ≤ length body.now }
-    ensures { result ≡ bytes_of at N body.now }
-{
-    let mut bytes = [0; N];
-    bytes.copy_from_slice(&body[at..at + N]);
-    bytes
-}
-
-fn u8_at(body: &[u8], at: usize) -> u8
-    requires { at < length body.now }
-    ensures { result ≡ number_at w8 at body.now }
-{
-    u8::from_le_bytes(bytes_at(body, at))
-}
-
-fn u16_at(body: &[u8], at: usize) -> u16
-    requires { at + 2 ≤ length body.now }
-    ensures { result ≡ number_at w16 at body.now }
-{
-    u16::from_le_bytes(bytes_at(body, at))
-}
-
-fn u32_at(body: &[u8], at: usize) -> u32
-    requires { at + 4 ≤ length body.now }
-    ensures { result ≡ number_at w32 at body.now }
-{
-    u32::from_le_bytes(bytes_at(body, at))
-}
-
-fn u64_at(body: &[u8], at: usize) -> u64
-    requires { at + 8 ≤ length body.now }
-    ensures { result ≡ number_at w64 at body.now }
-{
-    u64::from_le_bytes(bytes_at(body, at))
-}
-
-fn ipv4(body: &[u8]) -> Ipv4Node
-    requires { length body.now ≡ 23 }
-    ensures { result ≡ ipv4_at body.now }
-{
-    Ipv4Node::new(
-        bytes_at(body, 0),
-        bytes_at(body, 4),
-        u16_at(body, 8),
-        u16_at(body, 10),
-        u16_at(body, 12),
-        u8_at(body, 14),
-        bytes_at(body, 15),
-        bytes_at(body, 19),
-    )
-}
-
-fn hard_drive(body: &[u8]) -> HardDriveNode
-    requires { length body.now ≡ 38 }
-    ensures { result ≡ hard_drive_at body.now }
-{
-    HardDriveNode::new(
-        u32_at(body, 0),
-        u64_at(body, 4),
-        u64_at(body, 12),
-        bytes_at(body, 20),
-        u8_at(body, 36),
-        u8_at(body, 37),
-    )
-}
-
-/// The node of these parts, where the table has a row for them with data of one length.
-fn fixed_node(kind: u8, sub: u8, body: &[u8]) -> Option<Node>
-    ensures { result ≡ fixed_node_of (row kind sub body.now) }
-{
-    match (kind, sub, body.len()) {
-        (1, 1, 2) => Some(Node::Pci {
-            function: u8_at(body, 0),
-            device: u8_at(body, 1),
-        }),
-        (2, 1, 8) => Some(Node::Acpi {
-            hid: u32_at(body, 0),
-            uid: u32_at(body, 4),
-        }),
-        (3, 5, 2) => Some(Node::Usb {
-            port: u8_at(body, 0),
-            interface: u8_at(body, 1),
-        }),
-        (3, 11, 33) => Some(Node::Mac {
-            address: bytes_at(body, 0),
-            if_kind: u8_at(body, 32),
-        }),
-        (3, 12, 23) => Some(Node::Ipv4(ipv4(body))),
-        (3, 18, 6) => Some(Node::Sata {
-            hba: u16_at(body, 0),
-            multiplier: u16_at(body, 2),
-            lun: u16_at(body, 4),
-        }),
-        (3, 23, 12) => Some(Node::Nvme {
-            namespace: u32_at(body, 0),
-            eui: bytes_at(body, 4),
-        }),
-        (4, 1, 38) => Some(Node::HardDrive(hard_drive(body))),
-        _ => None,
-    }
-}
-
-/// The node of these parts, where the table has a row for them that holds a list, if there is
-/// memory for it.
-fn list_node(alloc: Global, kind: u8, sub: u8, body: &[u8]) -> Result<Option<Node>, AllocError>
-    requires { length body.now ≤ 65531 }
-    ensures { IfOk result (λ found. found ≡ list_node_of (row kind sub body.now)) }
-{
-    Ok(match (kind, sub) {
-        (1, 4) => Vendor::from_bytes(alloc, body)?.map(Node::VendorHw),
-        (3, 10) => Vendor::from_bytes(alloc, body)?.map(Node::VendorMsg),
-        (3, 24) => Some(Node::Uri(UriNode::from_bytes(alloc, body)?)),
-        (4, 3) => Vendor::from_bytes(alloc, body)?.map(Node::VendorMedia),
-        (4, 4) => FileNode::from_bytes(alloc, body)?.map(Node::FilePath),
-        _ => None,
-    })
-}
-
-/// The node that has these parts, if there is memory for it.
-fn make_node(alloc: Global, kind: u8, sub: u8, body: &[u8]) -> Result<Node, AllocError>
-    requires no_end { kind ≢ 0x7F }
-    requires len { length body.now ≤ 65531 }
-    ensures { IfOk result (λ node. node ≡ node_of (row kind sub body.now)) }
-{
-    if let Some(node) = fixed_node(kind, sub, body) {
-        return Ok(node);
-    }
-    match list_node(alloc, kind, sub, body)? {
-        Some(node) => Ok(node),
-        None => Ok(Node::Other(OtherNode::new(alloc, kind, sub, body)?)),
-    }
 }
 
 /// Whether a node of type 0x7F is one of the two end nodes.
@@ -231,7 +89,7 @@ fn read_instances(alloc: Global, bytes: &[u8]) -> Result<(Vec<Vec<Node>>, usize)
         let (node, behind) = split_node(rest, bytes.len() - rest.len())?;
         rest = behind;
         if node.kind != END {
-            nodes.push(make_node(alloc, node.kind, node.sub, node.body)?)?;
+            nodes.push(Node::from_parts(alloc, node.kind, node.sub, node.body)?)?;
         } else {
             instances.push(nodes)?;
             if node.sub == END_ENTIRE {
@@ -272,7 +130,7 @@ pub fn read_path(alloc: Global, bytes: &[u8]) -> Result<(Path, usize), PathFault
 /// # Errors
 ///
 /// [`NodeFault::BadEnd`] where the type is 0x7F; else [`NodeFault::TooLong`] where there are more
-/// than 65,531 bytes of data; else [`NodeFault::OutOfMemory`] where memory for the data was
+/// than [`BODY_MAX`] bytes of data; else [`NodeFault::OutOfMemory`] where memory for the data was
 /// refused.
 pub fn node_from_parts(alloc: Global, kind: u8, sub: u8, body: &[u8]) -> Result<Node, NodeFault>
     ensures made { IfOk result (λ node. IsNode node × (row_of node ≡ row kind sub body.now)) }
@@ -281,7 +139,7 @@ pub fn node_from_parts(alloc: Global, kind: u8, sub: u8, body: &[u8]) -> Result<
 
     ensures bad_end { (result ≡ Err NodeFault.BadEnd) ↔ (kind ≡ 0x7F) }
     ensures too_long { (result ≡ Err NodeFault.TooLong)
-        ↔ ((kind ≢ 0x7F) × (65531 < length body.now)) }
+        ↔ ((kind ≢ 0x7F) × (BODY_MAX < length body.now)) }
 {
     if kind == END {
         return Err(NodeFault::BadEnd);
@@ -289,5 +147,5 @@ pub fn node_from_parts(alloc: Global, kind: u8, sub: u8, body: &[u8]) -> Result<
     if body.len() > BODY_MAX {
         return Err(NodeFault::TooLong);
     }
-    Ok(make_node(alloc, kind, sub, body)?)
+    Ok(Node::from_parts(alloc, kind, sub, body)?)
 }

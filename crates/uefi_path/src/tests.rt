@@ -121,7 +121,7 @@ fn ipv4_from(local_port: u16) -> Ipv4Node {
         local_port,
         0,
         17,
-        1,
+        Ipv4Node::STATIC,
         [192, 168, 1, 254],
         [255, 255, 255, 0],
     )
@@ -174,7 +174,7 @@ fn example_nodes(alloc: Global) -> Result<[(&'static [u8], Case); 27], Fail> {
                 0x02, 0x01, 0x0c, 0x00, 0xd0, 0x41, 0x03, 0x0a, 0x00, 0x00, 0x00, 0x00,
             ],
             Case::Own(Node::Acpi {
-                hid: 0x0a03_41d0,
+                hid: PCI_ROOT_HID,
                 uid: 0,
             }),
         ),
@@ -198,7 +198,7 @@ fn example_nodes(alloc: Global) -> Result<[(&'static [u8], Case); 27], Fail> {
                 0x02, 0x01, 0x0c, 0x00, 0xd0, 0x41, 0x08, 0x0a, 0x02, 0x00, 0x00, 0x00,
             ],
             Case::Own(Node::Acpi {
-                hid: 0x0a08_41d0,
+                hid: PCIE_ROOT_HID,
                 uid: 2,
             }),
         ),
@@ -276,7 +276,14 @@ fn example_nodes(alloc: Global) -> Result<[(&'static [u8], Case); 27], Fail> {
                 0x00, 0x00, 0x00, 0x40, 0x06, 0x00, 0x00, 0x00, 0x00, 0x00, 0x61, 0xdf, 0xe4, 0x8b,
                 0xca, 0x93, 0xd2, 0x11, 0xaa, 0x0d, 0x00, 0xe0, 0x98, 0x03, 0x2b, 0x8c, 0x02, 0x02,
             ],
-            Case::Own(Node::HardDrive(HardDriveNode::new(1, 0x800, 0x64000, GUID, 2, 2))),
+            Case::Own(Node::HardDrive(HardDriveNode::new(
+                1,
+                0x800,
+                0x64000,
+                GUID,
+                HardDriveNode::FORMAT_GPT,
+                HardDriveNode::SIGNATURE_GUID,
+            ))),
         ),
         (
             &[
@@ -284,7 +291,14 @@ fn example_nodes(alloc: Global) -> Result<[(&'static [u8], Case); 27], Fail> {
                 0x00, 0x00, 0x00, 0x10, 0x00, 0x00, 0x00, 0x00, 0x00, 0x00, 0xcd, 0xab, 0x34, 0x12,
                 0x00, 0x00, 0x00, 0x00, 0x00, 0x00, 0x00, 0x00, 0x00, 0x00, 0x00, 0x00, 0x01, 0x01,
             ],
-            Case::Own(Node::HardDrive(HardDriveNode::new(1, 0x3f, 0x1000, mbr, 1, 1))),
+            Case::Own(Node::HardDrive(HardDriveNode::new(
+                1,
+                0x3f,
+                0x1000,
+                mbr,
+                HardDriveNode::FORMAT_MBR,
+                HardDriveNode::SIGNATURE_MBR,
+            ))),
         ),
         (
             &[
@@ -370,12 +384,296 @@ fn reads_each_node_into_its_case(rt: HostRuntime) -> Result<(), Fail> {
         match only_node(&path) {
             Some(node) => {
                 assert!(rt; case.is(node), "of {bytes:?}");
+                assert_eq!(rt; bytes.first(), Some(&node.kind()));
+                assert_eq!(rt; bytes.get(1), Some(&node.sub()));
+                assert_eq!(rt; node_len(node), bytes.len());
                 let mut out = Vec::new(alloc);
                 write_node(node, &mut out)?;
                 assert_eq!(rt; out.as_slice(), *bytes);
             }
             None => assert!(rt; false, "{bytes:?} is one node"),
         }
+    }
+    Ok(())
+}
+
+/// Paths that were stored, one instance each, and the nodes of each.
+fn stored_paths(alloc: Global) -> Result<[(&'static [u8], Vec<Case>); 6], Fail> {
+    let mut address = [0; 32];
+    address[..6].copy_from_slice(&[0x52, 0x54, 0x00, 0x12, 0x34, 0x56]);
+    let mut shim = Vec::new(alloc);
+    for byte in b"\\EFI\\debian\\shimx64.efi" {
+        shim.push(u16::from(*byte))?;
+    }
+    Ok([
+        // A SATA DVD drive, as OVMF stored it.
+        (
+            &[
+                0x02, 0x01, 0x0c, 0x00, 0xd0, 0x41, 0x03, 0x0a, 0x00, 0x00, 0x00, 0x00, 0x01, 0x01,
+                0x06, 0x00, 0x02, 0x1f, 0x03, 0x12, 0x0a, 0x00, 0x01, 0x00, 0xff, 0xff, 0x00, 0x00,
+                0x7f, 0xff, 0x04, 0x00,
+            ],
+            vec![in alloc;
+                Case::Own(Node::Acpi {
+                    hid: PCI_ROOT_HID,
+                    uid: 0
+                }),
+                Case::Own(Node::Pci {
+                    function: 2,
+                    device: 0x1f
+                }),
+                Case::Own(Node::Sata {
+                    hba: 1,
+                    multiplier: 0xffff,
+                    lun: 0
+                }),
+            ]?,
+        ),
+        // A namespace of an NVMe disk, as OVMF stored it.
+        (
+            &[
+                0x02, 0x01, 0x0c, 0x00, 0xd0, 0x41, 0x03, 0x0a, 0x00, 0x00, 0x00, 0x00, 0x01, 0x01,
+                0x06, 0x00, 0x00, 0x02, 0x03, 0x17, 0x10, 0x00, 0x01, 0x00, 0x00, 0x00, 0x00, 0x00,
+                0x00, 0x00, 0x00, 0x00, 0x00, 0x00, 0x7f, 0xff, 0x04, 0x00,
+            ],
+            vec![in alloc;
+                Case::Own(Node::Acpi {
+                    hid: PCI_ROOT_HID,
+                    uid: 0
+                }),
+                Case::Own(Node::Pci {
+                    function: 0,
+                    device: 2
+                }),
+                Case::Own(Node::Nvme {
+                    namespace: 1,
+                    eui: [0; 8]
+                }),
+            ]?,
+        ),
+        // A network boot over IPv4, as OVMF stored it.
+        (
+            &[
+                0x02, 0x01, 0x0c, 0x00, 0xd0, 0x41, 0x03, 0x0a, 0x00, 0x00, 0x00, 0x00, 0x01, 0x01,
+                0x06, 0x00, 0x00, 0x05, 0x03, 0x0b, 0x25, 0x00, 0x52, 0x54, 0x00, 0x12, 0x34, 0x56,
+                0x00, 0x00, 0x00, 0x00, 0x00, 0x00, 0x00, 0x00, 0x00, 0x00, 0x00, 0x00, 0x00, 0x00,
+                0x00, 0x00, 0x00, 0x00, 0x00, 0x00, 0x00, 0x00, 0x00, 0x00, 0x00, 0x00, 0x01, 0x03,
+                0x0c, 0x1b, 0x00, 0x00, 0x00, 0x00, 0x00, 0x00, 0x00, 0x00, 0x00, 0x00, 0x00, 0x00,
+                0x00, 0x00, 0x00, 0x00, 0x00, 0x00, 0x00, 0x00, 0x00, 0x00, 0x00, 0x00, 0x7f, 0xff,
+                0x04, 0x00,
+            ],
+            vec![in alloc;
+                Case::Own(Node::Acpi {
+                    hid: PCI_ROOT_HID,
+                    uid: 0
+                }),
+                Case::Own(Node::Pci {
+                    function: 0,
+                    device: 5
+                }),
+                Case::Own(Node::Mac {
+                    address,
+                    if_kind: 1
+                }),
+                Case::Own(Node::Ipv4(Ipv4Node::new(
+                    [0; 4],
+                    [0; 4],
+                    0,
+                    0,
+                    0,
+                    Ipv4Node::DHCP,
+                    [0; 4],
+                    [0; 4]
+                ))),
+            ]?,
+        ),
+        // An HTTP boot over IPv4, as OVMF stored it.
+        (
+            &[
+                0x02, 0x01, 0x0c, 0x00, 0xd0, 0x41, 0x03, 0x0a, 0x00, 0x00, 0x00, 0x00, 0x01, 0x01,
+                0x06, 0x00, 0x00, 0x05, 0x03, 0x0b, 0x25, 0x00, 0x52, 0x54, 0x00, 0x12, 0x34, 0x56,
+                0x00, 0x00, 0x00, 0x00, 0x00, 0x00, 0x00, 0x00, 0x00, 0x00, 0x00, 0x00, 0x00, 0x00,
+                0x00, 0x00, 0x00, 0x00, 0x00, 0x00, 0x00, 0x00, 0x00, 0x00, 0x00, 0x00, 0x01, 0x03,
+                0x0c, 0x1b, 0x00, 0x00, 0x00, 0x00, 0x00, 0x00, 0x00, 0x00, 0x00, 0x00, 0x00, 0x00,
+                0x00, 0x00, 0x00, 0x00, 0x00, 0x00, 0x00, 0x00, 0x00, 0x00, 0x00, 0x00, 0x03, 0x18,
+                0x04, 0x00, 0x7f, 0xff, 0x04, 0x00,
+            ],
+            vec![in alloc;
+                Case::Own(Node::Acpi {
+                    hid: PCI_ROOT_HID,
+                    uid: 0
+                }),
+                Case::Own(Node::Pci {
+                    function: 0,
+                    device: 5
+                }),
+                Case::Own(Node::Mac {
+                    address,
+                    if_kind: 1
+                }),
+                Case::Own(Node::Ipv4(Ipv4Node::new(
+                    [0; 4],
+                    [0; 4],
+                    0,
+                    0,
+                    0,
+                    Ipv4Node::DHCP,
+                    [0; 4],
+                    [0; 4]
+                ))),
+                Case::Own(Node::Uri(UriNode::new(alloc, &[])?)),
+            ]?,
+        ),
+        // An application in the firmware's own volume, as OVMF stored it.
+        (
+            &[
+                0x04, 0x07, 0x14, 0x00, 0xc9, 0xbd, 0xb8, 0x7c, 0xeb, 0xf8, 0x34, 0x4f, 0xaa, 0xea,
+                0x3e, 0xe4, 0xaf, 0x65, 0x16, 0xa1, 0x04, 0x06, 0x14, 0x00, 0x21, 0xaa, 0x2c, 0x46,
+                0x14, 0x76, 0x03, 0x45, 0x83, 0x6e, 0x8a, 0xb6, 0xf4, 0x66, 0x23, 0x31, 0x7f, 0xff,
+                0x04, 0x00,
+            ],
+            vec![in alloc;
+                Case::Kept(
+                    4,
+                    7,
+                    &[
+                        0xc9, 0xbd, 0xb8, 0x7c, 0xeb, 0xf8, 0x34, 0x4f, 0xaa, 0xea, 0x3e, 0xe4,
+                        0xaf, 0x65, 0x16, 0xa1
+                    ]
+                ),
+                Case::Kept(
+                    4,
+                    6,
+                    &[
+                        0x21, 0xaa, 0x2c, 0x46, 0x14, 0x76, 0x03, 0x45, 0x83, 0x6e, 0x8a, 0xb6,
+                        0xf4, 0x66, 0x23, 0x31
+                    ]
+                ),
+            ]?,
+        ),
+        // A file on an EFI system partition, as the library of Linux's efibootmgr makes it (libefiboot 37).
+        (
+            &[
+                0x04, 0x01, 0x2a, 0x00, 0x01, 0x00, 0x00, 0x00, 0x00, 0x08, 0x00, 0x00, 0x00, 0x00,
+                0x00, 0x00, 0x00, 0x00, 0x10, 0x00, 0x00, 0x00, 0x00, 0x00, 0x8e, 0x2a, 0x4f, 0x5b,
+                0x1d, 0x3c, 0x6f, 0x4e, 0x9a, 0x7b, 0x01, 0x23, 0x45, 0x67, 0x89, 0xab, 0x02, 0x02,
+                0x04, 0x04, 0x34, 0x00, 0x5c, 0x00, 0x45, 0x00, 0x46, 0x00, 0x49, 0x00, 0x5c, 0x00,
+                0x64, 0x00, 0x65, 0x00, 0x62, 0x00, 0x69, 0x00, 0x61, 0x00, 0x6e, 0x00, 0x5c, 0x00,
+                0x73, 0x00, 0x68, 0x00, 0x69, 0x00, 0x6d, 0x00, 0x78, 0x00, 0x36, 0x00, 0x34, 0x00,
+                0x2e, 0x00, 0x65, 0x00, 0x66, 0x00, 0x69, 0x00, 0x00, 0x00, 0x7f, 0xff, 0x04, 0x00,
+            ],
+            vec![in alloc;
+                Case::Own(Node::HardDrive(HardDriveNode::new(
+                    1,
+                    0x800,
+                    0x10_0000,
+                    [
+                        0x8e, 0x2a, 0x4f, 0x5b, 0x1d, 0x3c, 0x6f, 0x4e, 0x9a, 0x7b, 0x01, 0x23,
+                        0x45, 0x67, 0x89, 0xab
+                    ],
+                    HardDriveNode::FORMAT_GPT,
+                    HardDriveNode::SIGNATURE_GUID
+                ))),
+                Case::Own(Node::FilePath(FileNode::new(alloc, &shim)?)),
+            ]?,
+        ),
+    ])
+}
+
+#[test]
+fn reads_and_writes_what_was_stored(rt: HostRuntime) -> Result<(), Fail> {
+    let alloc = rt.alloc();
+    let paths = stored_paths(alloc)?;
+    for (bytes, cases) in &paths {
+        let (path, len) = read_path(alloc, bytes)?;
+        assert_eq!(rt; len, bytes.len());
+        assert_eq!(rt; path.instances().len(), 1);
+        let mut cases = cases.iter();
+        for node in path.nodes() {
+            match cases.next() {
+                Some(case) => assert!(rt; case.is(node), "{node:?} in {bytes:?}"),
+                None => assert!(rt; false, "{node:?} is one too many"),
+            }
+        }
+        assert!(rt; cases.next().is_none(), "in {bytes:?}");
+        let mut out = Vec::new(alloc);
+        write_path(&path, &mut out)?;
+        assert_eq!(rt; out.as_slice(), *bytes);
+    }
+    Ok(())
+}
+
+/// The node that ends an instance where another follows.
+const END_OF_INSTANCE: [u8; 4] = [0x7f, 0x01, 0x04, 0x00];
+
+/// The longest node there is, kept as bytes.
+fn longest_node(alloc: Global) -> Result<Vec<u8>, Fail> {
+    let mut bytes = vec![in alloc; 0x5a; 65_535]?;
+    bytes.as_mut_slice()[..4].copy_from_slice(&[0x05, 0x01, 0xff, 0xff]);
+    Ok(bytes)
+}
+
+#[test]
+fn works_on_large_paths(rt: HostRuntime) -> Result<(), Fail> {
+    let alloc = rt.alloc();
+    let mut empty = Vec::new(alloc);
+    for _ in 0..20_000 {
+        empty.extend_from_slice(&END_OF_INSTANCE)?;
+    }
+    let longest = longest_node(alloc)?;
+    let mut mixed = Vec::new(alloc);
+    let examples = example_nodes(alloc)?;
+    for _ in 0..371 {
+        for (bytes, _) in &examples {
+            mixed.extend_from_slice(bytes)?;
+        }
+    }
+    // the bytes before the end of the path, and how many instances and nodes there are
+    for (mut bytes, instances, nodes) in [(empty, 20_001, 0), (longest, 1, 1), (mixed, 1, 10_017)] {
+        bytes.extend_from_slice(&END)?;
+        let (path, len) = read_path(alloc, &bytes)?;
+        assert_eq!(rt; len, bytes.len());
+        assert_eq!(rt; path.instances().len(), instances);
+        let mut count = 0usize;
+        for _ in path.nodes() {
+            count = count.saturating_add(1);
+        }
+        assert_eq!(rt; count, nodes);
+        let mut out = Vec::new(alloc);
+        write_path(&path, &mut out)?;
+        assert!(rt; out == bytes);
+        assert_eq!(rt; path_len(&path), Some(len));
+        let copy = path.copy(alloc)?;
+        assert!(rt; copy == path);
+        match make_path(copy.into_instances()) {
+            Ok(made) => assert!(rt; made == path),
+            Err(_) => assert!(rt; false, "a path has instances"),
+        }
+    }
+    Ok(())
+}
+
+#[test]
+fn makes_and_copies_long_nodes(rt: HostRuntime) -> Result<(), Fail> {
+    let alloc = rt.alloc();
+    let longest = longest_node(alloc)?;
+    let node = node_from_parts(alloc, 5, 1, &longest[4..])?;
+    assert_eq!(rt; node_len(&node), 65_535);
+    let mut out = Vec::new(alloc);
+    write_node(&node, &mut out)?;
+    assert!(rt; out == longest);
+    assert!(rt; node.copy(alloc)? == node);
+
+    let vendor = Vendor::new(alloc, Guid(GUID), &longest[20..])?;
+    assert!(rt; vendor.copy(alloc)? == vendor);
+    let uri = UriNode::new(alloc, &longest[4..])?;
+    assert!(rt; uri.copy(alloc)? == uri);
+    let units = vec![in alloc; 0x41u16; NAME_MAX]?;
+    let file = FileNode::new(alloc, &units)?;
+    assert!(rt; file.copy(alloc)? == file);
+    match node {
+        Node::Other(other) => assert!(rt; other.copy(alloc)? == other),
+        _ => assert!(rt; false, "a node without a case of its own"),
     }
     Ok(())
 }
@@ -455,7 +753,7 @@ fn refuses_data_that_no_node_holds(rt: HostRuntime) -> Result<(), Fail> {
 #[test]
 fn refuses_what_is_no_name(rt: HostRuntime) -> Result<(), Fail> {
     let alloc = rt.alloc();
-    let most = vec![in alloc; 0x41u16; 32_764]?;
+    let most = vec![in alloc; 0x41u16; NAME_MAX]?;
     let mut more = vec![in alloc; 0x41u16; 32_765]?;
     assert!(rt; FileNode::new(alloc, &most).is_ok());
     assert!(rt; FileNode::new(alloc, &more) == Err(NameFault::TooLong));

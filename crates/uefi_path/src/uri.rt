@@ -9,7 +9,7 @@ use crate::generic::BODY_MAX;
 use std::alloc::{AllocError, Global};
 use std::marker::Model;
 
-/// A URI (UEFI 2.10, 10.3.4), at most 65,531 bytes, whatever they are.
+/// A URI (UEFI 2.10, 10.3.4), at most [`BODY_MAX`] bytes, whatever they are.
 #[derive(Debug, Drop)]
 pub struct UriNode {
     bytes: Vec<u8>,
@@ -56,12 +56,12 @@ impl UriNode {
     ///
     /// # Errors
     ///
-    /// [`NodeFault::TooLong`] where there are more than 65,531 bytes; else
+    /// [`NodeFault::TooLong`] where there are more than [`BODY_MAX`] bytes; else
     /// [`NodeFault::OutOfMemory`] where memory for them was refused.
     pub fn new(alloc: Global, bytes: &[u8]) -> Result<UriNode, NodeFault>
         ensures made { IfOk result (λ node. node ≡ bytes.now) }
         ensures valid { IfOk result (λ node. IsUri node) }
-        ensures too_long { (result ≡ Err NodeFault.TooLong) ↔ (65531 < length bytes.now) }
+        ensures too_long { (result ≡ Err NodeFault.TooLong) ↔ (BODY_MAX < length bytes.now) }
         ensures no_bad_end { result ≢ Err NodeFault.BadEnd }
     {
         if bytes.len() > BODY_MAX {
@@ -72,7 +72,7 @@ impl UriNode {
 
     /// A node of these bytes, if there is memory for them.
     pub(crate) fn from_bytes(alloc: Global, bytes: &[u8]) -> Result<UriNode, AllocError>
-        requires { length bytes.now ≤ 65531 }
+        requires { length bytes.now ≤ BODY_MAX }
         ensures { IfOk result (λ node. node ≡ bytes.now) }
     {
         let bytes = Vec::from_slice(alloc, bytes)?;
@@ -87,8 +87,8 @@ impl UriNode {
         &self.bytes
     }
 
-    /// An equal node, if there is memory for it.
-    pub(crate) fn copy(&self, alloc: Global) -> Result<UriNode, AllocError>
+    /// An equal node. The one refusal is for want of memory.
+    pub fn copy(&self, alloc: Global) -> Result<UriNode, AllocError>
         ensures equal { IfOk result (λ node. node ≡ self.now) }
         ensures valid { OnOk result (IsUri self.now) }
     {

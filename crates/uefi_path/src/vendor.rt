@@ -6,7 +6,8 @@ ghost use Rattle.uefi_path.specs.Parts.{vendor_parts, vendor_bytes, vendor_of, I
 ghost use Rattle.uefi_path.specs.Writing.{Extends};
 
 use crate::fault::NodeFault;
-use crate::generic::field;
+use crate::fields::{NodeBytes, bytes_at, field, octets};
+use crate::generic::{BODY_MAX, HEADER_LEN};
 use crate::guid::Guid;
 use std::alloc::{AllocError, Global};
 use std::marker::Model;
@@ -15,10 +16,10 @@ use std::marker::Model;
 const GUID_LEN: usize = 16;
 
 /// The most bytes of data that a vendor's node can have behind its identifier.
-const VENDOR_BODY_MAX: usize = 65_515;
+pub const VENDOR_BODY_MAX: usize = BODY_MAX - GUID_LEN;
 
 /// What a vendor's node holds (UEFI 2.10, 10.3.2.4, 10.3.4.17 and 10.3.5.3): the identifier that
-/// says what the data means, and at most 65,515 bytes of data.
+/// says what the data means, and at most [`VENDOR_BODY_MAX`] bytes of data.
 #[derive(Debug, Drop)]
 pub struct Vendor {
     guid: Guid,
@@ -66,12 +67,12 @@ impl Vendor {
     ///
     /// # Errors
     ///
-    /// [`NodeFault::TooLong`] where there are more than 65,515 bytes of data; else
+    /// [`NodeFault::TooLong`] where there are more than [`VENDOR_BODY_MAX`] bytes of data; else
     /// [`NodeFault::OutOfMemory`] where memory for them was refused.
     pub fn new(alloc: Global, guid: Guid, body: &[u8]) -> Result<Vendor, NodeFault>
         ensures made { IfOk result (λ node. node ≡ vendor_parts guid.0 body.now) }
         ensures valid { IfOk result (λ node. IsVendor node) }
-        ensures too_long { (result ≡ Err NodeFault.TooLong) ↔ (65515 < length body.now) }
+        ensures too_long { (result ≡ Err NodeFault.TooLong) ↔ (VENDOR_BODY_MAX < length body.now) }
         ensures no_bad_end { result ≢ Err NodeFault.BadEnd }
     {
         if body.len() > VENDOR_BODY_MAX {
@@ -81,11 +82,11 @@ impl Vendor {
     }
 
     fn from_parts(alloc: Global, guid: Guid, body: &[u8]) -> Result<Vendor, AllocError>
-        requires { length body.now ≤ 65515 }
+        requires { length body.now ≤ VENDOR_BODY_MAX }
         ensures made { IfOk result (λ node. node ≡ vendor_parts guid.0 body.now) }
         ensures valid { IfOk result (λ node. IsVendor node) }
     {
-        let _ = field(&guid.0);
+        let guid = Guid(octets(guid.0));
         let body = Vec::from_slice(alloc, body)?;
         Ok(Vendor { guid, body })
     }
@@ -93,20 +94,20 @@ impl Vendor {
     /// The node that has these bytes, the identifier first: `None` where they are too few for one.
     /// The one refusal is for want of memory.
     pub(crate) fn from_bytes(alloc: Global, bytes: &[u8]) -> Result<Option<Vendor>, AllocError>
-        requires { length bytes.now ≤ 65531 }
+        requires { length bytes.now ≤ BODY_MAX }
         ensures { IfOk result (λ found. found ≡ vendor_of bytes.now) }
     {
         if bytes.len() < GUID_LEN {
             return Ok(None);
         }
-        let mut guid = [0; GUID_LEN];
-        guid.copy_from_slice(&bytes[..GUID_LEN]);
-        Ok(Some(Vendor::from_parts(alloc, Guid(guid), &bytes[GUID_LEN..])?))
+        let guid = Guid(bytes_at(bytes, 0));
+        Ok(Some(Vendor::from_parts(alloc, guid, &bytes[GUID_LEN..])?))
     }
 
     /// The identifier of what the data means.
     pub fn guid(&self) -> &Guid
-        ensures { result.now.0 ≡ self.now.guid }
+        ensures bytes { result.now.0 ≡ self.now.guid }
+        ensures valid { IsVendor self.now }
     {
         &self.guid
     }
@@ -119,8 +120,8 @@ impl Vendor {
         &self.body
     }
 
-    /// An equal node, if there is memory for it.
-    pub(crate) fn copy(&self, alloc: Global) -> Result<Vendor, AllocError>
+    /// An equal value. The one refusal is for want of memory.
+    pub fn copy(&self, alloc: Global) -> Result<Vendor, AllocError>
         ensures equal { IfOk result (λ node. node ≡ self.now) }
         ensures valid { OnOk result (IsVendor self.now) }
     {
@@ -134,19 +135,32 @@ impl Vendor {
     /// How many bytes the identifier and the data take.
     pub(crate) fn data_len(&self) -> usize
         ensures len { result ≡ length (vendor_bytes self.now) }
-        ensures bound { result ≤ 65531 }
+        ensures bound { result ≤ BODY_MAX }
     {
         field(&self.guid.0).len() + self.body.len()
     }
 
-    /// Appends the identifier and the data. An `Err` may leave a part of them.
-    pub(crate) fn append_fields(&self, out: &mut Vec<u8>) -> Result<(), AllocError>
+    /// Appends the header, the identifier and the data. An `Err` may leave a part of them.
+    pub(crate) fn append(
+        &self,
+        header: [u8; HEADER_LEN],
+        out: &mut Vec<u8>,
+    ) -> Result<(), AllocError>
         ensures valid { OnOk result (IsVendor self.now) }
-        ensures ok { OnOk result (out.new.items ≡ out.old.items ++ vendor_bytes self.now) }
+        ensures ok { OnOk result (out.new.items ≡ out.old.items ++ (header ++ vendor_bytes self.now)) }
         ensures err { OnErr result (Extends out.old.items out.new.items) }
     {
-        out.extend_from_slice(field(&self.guid.0))?;
-        out.extend_from_slice(&self.body)?;
-        Ok(())
+        self.append_front(header, out)?;
+        out.extend_from_slice(&self.body)
+    }
+
+    /// Appends the header and the identifier.
+    fn append_front(&self, header: [u8; HEADER_LEN], out: &mut Vec<u8>) -> Result<(), AllocError>
+        ensures ok { OnOk result (out.new.items ≡ out.old.items ++ (header ++ self.now.guid)) }
+        ensures err { OnErr result (out.new.items ≡ out.old.items) }
+    {
+        let mut front = NodeBytes::<20>::new(header);
+        front.put(&self.guid.0);
+        front.append_to(out)
     }
 }

@@ -1,81 +1,24 @@
 //! Nodes and paths to bytes.
 
-ghost use Rattle.std.specs.Prelude.{◌≡◌, ◌<◌, ◌≤◌, ◌^◌, ◌++◌, length, map, OnOk, OnErr, SomeIff};
+ghost use Rattle.std.specs.Prelude.{◌≡◌, ◌+◌, ◌<◌, ◌≤◌, ◌^◌, ◌++◌, length, map, OnOk, OnErr, SomeIff};
 ghost use Rattle.std.specs.List.{flat_map, AllByRecursion};
 ghost use Rattle.uefi_path.specs.Row.{header_bytes};
-ghost use Rattle.uefi_path.specs.Node.{row_of, IsNode, node_bytes};
+ghost use Rattle.uefi_path.specs.Node.{IsNode, node_bytes};
 ghost use Rattle.uefi_path.specs.Path.{IsPath, path_bytes};
 ghost use Rattle.uefi_path.specs.Writing.{Extends};
 
-use crate::generic::{END, END_ENTIRE, END_INSTANCE, HEADER_LEN, field};
+use crate::generic::{BODY_MAX, END, END_ENTIRE, END_INSTANCE, HEADER_LEN};
 use crate::node::Node;
 use crate::path::Path;
 use std::alloc::AllocError;
 
 /// The four bytes in front of a node's data.
-fn header(kind: u8, sub: u8, len: usize) -> [u8; 4]
-    requires { len ≤ 65535 }
+fn header(kind: u8, sub: u8, len: usize) -> [u8; HEADER_LEN]
+    requires { len < 2 ^ 16 }
     ensures { result ≡ header_bytes kind sub len }
 {
     let [low, high] = (len as u16).to_le_bytes();
     [kind, sub, low, high]
-}
-
-/// Appends fields one after the other. An `Err` may leave a part of them.
-pub(crate) fn append_all(fields: &[&[u8]], out: &mut Vec<u8>) -> Result<(), AllocError>
-    ensures ok { OnOk result (out.new.items ≡ out.old.items ++ flat_map (λ field. field.now) fields.now) }
-    ensures err { OnErr result (Extends out.old.items out.new.items) }
-{
-    for field in fields {
-        out.extend_from_slice(field)?;
-    }
-    Ok(())
-}
-
-/// Appends the fields of a node in their order. An `Err` may leave a part of them.
-fn append_fields(node: &Node, out: &mut Vec<u8>) -> Result<(), AllocError>
-    ensures valid { OnOk result (IsNode node.now) }
-    ensures ok { OnOk result (out.new.items ≡ out.old.items ++ (row_of node.now).body) }
-    ensures err { OnErr result (Extends out.old.items out.new.items) }
-{
-    match node {
-        Node::Pci { function, device } => {
-            out.extend_from_slice(&[*function, *device])?;
-        }
-        Node::VendorHw(vendor) => vendor.append_fields(out)?,
-        Node::Acpi { hid, uid } => {
-            out.extend_from_slice(&hid.to_le_bytes())?;
-            out.extend_from_slice(&uid.to_le_bytes())?;
-        }
-        Node::Usb { port, interface } => {
-            out.extend_from_slice(&[*port, *interface])?;
-        }
-        Node::VendorMsg(vendor) => vendor.append_fields(out)?,
-        Node::Mac { address, if_kind } => {
-            out.extend_from_slice(field(address))?;
-            out.extend_from_slice(&if_kind.to_le_bytes())?;
-        }
-        Node::Ipv4(node) => node.append_fields(out)?,
-        Node::Sata {
-            hba,
-            multiplier,
-            lun,
-        } => {
-            out.extend_from_slice(&hba.to_le_bytes())?;
-            out.extend_from_slice(&multiplier.to_le_bytes())?;
-            out.extend_from_slice(&lun.to_le_bytes())?;
-        }
-        Node::Nvme { namespace, eui } => {
-            out.extend_from_slice(&namespace.to_le_bytes())?;
-            out.extend_from_slice(field(eui))?;
-        }
-        Node::Uri(node) => out.extend_from_slice(node.bytes())?,
-        Node::HardDrive(node) => node.append_fields(out)?,
-        Node::VendorMedia(vendor) => vendor.append_fields(out)?,
-        Node::FilePath(node) => node.append_fields(out)?,
-        Node::Other(other) => out.extend_from_slice(other.body())?,
-    }
-    Ok(())
 }
 
 /// Appends a node. An `Err` may leave a part of it.
@@ -86,8 +29,7 @@ fn append_node(node: &Node, out: &mut Vec<u8>) -> Result<(), AllocError>
 {
     let shape = node.shape();
     let header = header(shape.kind, shape.sub, HEADER_LEN + shape.data_len);
-    out.extend_from_slice(&header)?;
-    append_fields(node, out)
+    node.append(header, out)
 }
 
 /// Appends nodes one after the other. An `Err` may leave a part of them.
@@ -160,9 +102,10 @@ pub fn write_path(path: &Path, out: &mut Vec<u8>) -> Result<(), AllocError>
     written
 }
 
-fn node_len(node: &Node) -> usize
+/// How many bytes the spelling of a node has.
+pub fn node_len(node: &Node) -> usize
     ensures len { result ≡ length (node_bytes node.now) }
-    ensures bound { result ≤ 65535 }
+    ensures bound { result < 2 ^ 16 }
 {
     HEADER_LEN + node.shape().data_len
 }
@@ -180,7 +123,8 @@ fn nodes_len(nodes: &[Node]) -> Option<usize>
 
 /// How many bytes the spelling of a path has: `None` where `usize` can't count them.
 pub fn path_len(path: &Path) -> Option<usize>
-    ensures { let len = length (path_bytes path.now) in SomeIff result (len < 2 ^ 64) len }
+    ensures valid { IsPath path.now }
+    ensures len { let len = length (path_bytes path.now) in SomeIff result (len < 2 ^ 64) len }
 {
     let mut len: usize = 0;
     for nodes in path.instances() {

@@ -1,7 +1,7 @@
 use Rattle.std.proofs.Common.{ℕ, List, [], ◌++◌, ap, sym, ◌∙◌}
 use Rattle.uefi_path.specs.Node.{row_of}
 use Rattle.uefi_path.proofs.Rows.{same_row}
-use Rattle.uefi_path.proofs.Table.{row_of_is_row, same_node}
+use Rattle.uefi_path.proofs.Inverse.{row_of_is_row, same_node}
 use Rattle.uefi_path.proofs.laws.bytes_spell_one_node.Goals as goal
 
 pub returns : goal.returns

@@ -1,4 +1,4 @@
-use Rattle.uefi_path.proofs.Table.{typed_from_listed, listed_from_typed}
+use Rattle.uefi_path.proofs.Inverse.{typed_from_listed, listed_from_typed}
 use Rattle.uefi_path.proofs.laws.listed_rows_are_those_of_the_table.Goals as goal
 
 pub returns : goal.returns

@@ -13,8 +13,8 @@ returns-in_err-node-clause-fault c =
 pub loop-nodes-preserved-in_ok-push : goal.loop-nodes-preserved-in_ok-push
 loop-nodes-preserved-in_ok-push c =
     let node = c.in_ok-node.node in
-    rw c.in_ok-push.ensures.items (one_node c.args.bytes.now (map (λ nodes. nodes.items) c.loop-nodes.instances.items) c.loop-nodes.nodes.items c.loop-nodes.rest.now c.in_ok-node.behind.now (row node.kind node.sub node.body.now) c.in_ok-make_node.field-0
-    c.loop-nodes.invariant c.in_ok-node.ensures.found c.if-node-ne-END.true c.in_ok-make_node.ensures)
+    rw c.in_ok-push.ensures.items (one_node c.args.bytes.now (map (λ nodes. nodes.items) c.loop-nodes.instances.items) c.loop-nodes.nodes.items c.loop-nodes.rest.now c.in_ok-node.behind.now (row node.kind node.sub node.body.now) c.in_ok-from_parts.field-0
+    c.loop-nodes.invariant c.in_ok-node.ensures.found c.if-node-ne-END.true c.in_ok-from_parts.ensures)
 
 pub returns-then-node-clause-found : goal.returns-then-node-clause-found
 returns-then-node-clause-found c =

@@ -1,0 +1,205 @@
+//! The table of nodes (UEFI 2.10, 10.3): how each case of `Node` stands in the bytes.
+
+ghost use Rattle.std.specs.Prelude.{◌≡◌, ◌≢◌, ◌≤◌, ◌++◌, length, IfOk, OnOk, OnErr};
+ghost use Rattle.uefi_path.specs.Row.{row};
+ghost use Rattle.uefi_path.specs.Node.{row_of, IsNode};
+ghost use Rattle.uefi_path.specs.Reading.{fixed_node_of, list_node_of, node_of};
+ghost use Rattle.uefi_path.specs.Writing.{Extends};
+
+use crate::fields::{NodeBytes, bytes_at, field, u8_at, u16_at, u32_at};
+use crate::file::FileNode;
+use crate::generic::{BODY_MAX, HEADER_LEN};
+use crate::hard_drive::HardDriveNode;
+use crate::ipv4::Ipv4Node;
+use crate::node::Node;
+use crate::other::OtherNode;
+use crate::uri::UriNode;
+use crate::vendor::Vendor;
+use std::alloc::{AllocError, Global};
+
+/// What a node's header states: its type, its sub-type, and how many bytes of data follow.
+#[derive(Clone, Copy)]
+pub(crate) struct Shape {
+    pub(crate) kind: u8,
+    pub(crate) sub: u8,
+    pub(crate) data_len: usize,
+}
+
+impl Shape {
+    fn new(kind: u8, sub: u8, data_len: usize) -> Shape
+        ensures { result ≡ record { kind = kind; sub = sub; data_len = data_len } }
+    {
+        Shape {
+            kind,
+            sub,
+            data_len,
+        }
+    }
+}
+
+impl Node {
+    /// What the node's header states.
+    pub(crate) fn shape(&self) -> Shape
+        ensures kind { result.kind ≡ (row_of self.now).kind }
+        ensures sub { result.sub ≡ (row_of self.now).sub }
+        ensures data_len { result.data_len ≡ length (row_of self.now).body }
+        ensures bound { result.data_len ≤ BODY_MAX }
+    {
+        match self {
+            Node::Pci { .. } => Shape::new(1, 1, 2),
+            Node::VendorHw(vendor) => Shape::new(1, 4, vendor.data_len()),
+            Node::Acpi { .. } => Shape::new(2, 1, 8),
+            Node::Usb { .. } => Shape::new(3, 5, 2),
+            Node::VendorMsg(vendor) => Shape::new(3, 10, vendor.data_len()),
+            Node::Mac { address, .. } => Shape::new(3, 11, field(address).len() + 1),
+            Node::Ipv4(node) => Shape::new(3, 12, node.data_len()),
+            Node::Sata { .. } => Shape::new(3, 18, 6),
+            Node::Nvme { eui, .. } => Shape::new(3, 23, 4 + field(eui).len()),
+            Node::Uri(node) => Shape::new(3, 24, node.bytes().len()),
+            Node::HardDrive(node) => Shape::new(4, 1, node.data_len()),
+            Node::VendorMedia(vendor) => Shape::new(4, 3, vendor.data_len()),
+            Node::FilePath(node) => Shape::new(4, 4, node.data_len()),
+            Node::Other(other) => Shape::new(other.kind(), other.sub(), other.body().len()),
+        }
+    }
+
+    /// The node of these parts, where the table has a row for them with data of one length.
+    fn of_one_length(kind: u8, sub: u8, body: &[u8]) -> Option<Node>
+        ensures { result ≡ fixed_node_of (row kind sub body.now) }
+    {
+        match (kind, sub, body.len()) {
+            (1, 1, 2) => Some(Node::Pci {
+                function: u8_at(body, 0),
+                device: u8_at(body, 1),
+            }),
+            (2, 1, 8) => Some(Node::Acpi {
+                hid: u32_at(body, 0),
+                uid: u32_at(body, 4),
+            }),
+            (3, 5, 2) => Some(Node::Usb {
+                port: u8_at(body, 0),
+                interface: u8_at(body, 1),
+            }),
+            (3, 11, 33) => Some(Node::Mac {
+                address: bytes_at(body, 0),
+                if_kind: u8_at(body, 32),
+            }),
+            (3, 12, 23) => Some(Node::Ipv4(Ipv4Node::from_bytes(body))),
+            (3, 18, 6) => Some(Node::Sata {
+                hba: u16_at(body, 0),
+                multiplier: u16_at(body, 2),
+                lun: u16_at(body, 4),
+            }),
+            (3, 23, 12) => Some(Node::Nvme {
+                namespace: u32_at(body, 0),
+                eui: bytes_at(body, 4),
+            }),
+            (4, 1, 38) => Some(Node::HardDrive(HardDriveNode::from_bytes(body))),
+            _ => None,
+        }
+    }
+
+    /// The node of these parts, where the table has a row for them that holds a list, if there is
+    /// memory for it.
+    fn of_a_list(alloc: Global, kind: u8, sub: u8, body: &[u8]) -> Result<Option<Node>, AllocError>
+        requires { length body.now ≤ BODY_MAX }
+        ensures { IfOk result (λ found. found ≡ list_node_of (row kind sub body.now)) }
+    {
+        Ok(match (kind, sub) {
+            (1, 4) => Vendor::from_bytes(alloc, body)?.map(Node::VendorHw),
+            (3, 10) => Vendor::from_bytes(alloc, body)?.map(Node::VendorMsg),
+            (3, 24) => Some(Node::Uri(UriNode::from_bytes(alloc, body)?)),
+            (4, 3) => Vendor::from_bytes(alloc, body)?.map(Node::VendorMedia),
+            (4, 4) => FileNode::from_bytes(alloc, body)?.map(Node::FilePath),
+            _ => None,
+        })
+    }
+
+    /// The node that has these parts, if there is memory for it.
+    pub(crate) fn from_parts(
+        alloc: Global,
+        kind: u8,
+        sub: u8,
+        body: &[u8],
+    ) -> Result<Node, AllocError>
+        requires no_end { kind ≢ 0x7F }
+        requires len { length body.now ≤ BODY_MAX }
+        ensures { IfOk result (λ node. node ≡ node_of (row kind sub body.now)) }
+    {
+        if let Some(node) = Node::of_one_length(kind, sub, body) {
+            return Ok(node);
+        }
+        match Node::of_a_list(alloc, kind, sub, body)? {
+            Some(node) => Ok(node),
+            None => Ok(Node::Other(OtherNode::new(alloc, kind, sub, body)?)),
+        }
+    }
+
+    /// Appends the header, which is the node's, and the fields in their order. An `Err` may leave a
+    /// part of them.
+    pub(crate) fn append(
+        &self,
+        header: [u8; HEADER_LEN],
+        out: &mut Vec<u8>,
+    ) -> Result<(), AllocError>
+        ensures valid { OnOk result (IsNode self.now) }
+        ensures ok { OnOk result (out.new.items ≡ out.old.items ++ (header ++ (row_of self.now).body)) }
+        ensures err { OnErr result (Extends out.old.items out.new.items) }
+    {
+        match self {
+            Node::Pci { function, device } => {
+                let mut node = NodeBytes::<6>::new(header);
+                node.put(&[*function, *device]);
+                node.append_to(out)
+            }
+            Node::VendorHw(vendor) => vendor.append(header, out),
+            Node::Acpi { hid, uid } => {
+                let mut node = NodeBytes::<12>::new(header);
+                node.put(&hid.to_le_bytes());
+                node.put(&uid.to_le_bytes());
+                node.append_to(out)
+            }
+            Node::Usb { port, interface } => {
+                let mut node = NodeBytes::<6>::new(header);
+                node.put(&[*port, *interface]);
+                node.append_to(out)
+            }
+            Node::VendorMsg(vendor) => vendor.append(header, out),
+            Node::Mac { address, if_kind } => {
+                let mut node = NodeBytes::<37>::new(header);
+                node.put(field(address));
+                node.put(&if_kind.to_le_bytes());
+                node.append_to(out)
+            }
+            Node::Ipv4(node) => node.append(header, out),
+            Node::Sata {
+                hba,
+                multiplier,
+                lun,
+            } => {
+                let mut node = NodeBytes::<10>::new(header);
+                node.put(&hba.to_le_bytes());
+                node.put(&multiplier.to_le_bytes());
+                node.put(&lun.to_le_bytes());
+                node.append_to(out)
+            }
+            Node::Nvme { namespace, eui } => {
+                let mut node = NodeBytes::<16>::new(header);
+                node.put(&namespace.to_le_bytes());
+                node.put(field(eui));
+                node.append_to(out)
+            }
+            Node::Uri(node) => {
+                out.extend_from_slice(&header)?;
+                out.extend_from_slice(node.bytes())
+            }
+            Node::HardDrive(node) => node.append(header, out),
+            Node::VendorMedia(vendor) => vendor.append(header, out),
+            Node::FilePath(node) => node.append(header, out),
+            Node::Other(other) => {
+                out.extend_from_slice(&header)?;
+                out.extend_from_slice(other.body())
+            }
+        }
+    }
+}
