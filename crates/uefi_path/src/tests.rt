@@ -1,5 +1,8 @@
+ghost use Rattle.std.specs.Prelude.{◌≤◌, length};
+
 use super::*;
 use std::alloc::Global;
+use std::process::Abort;
 use std::test::Fail;
 
 /// The ACPI root 0, the PCI device 31 with function 2, and the SATA port 0.
@@ -657,24 +660,41 @@ fn works_on_large_paths(rt: HostRuntime) -> Result<(), Fail> {
 fn makes_and_copies_long_nodes(rt: HostRuntime) -> Result<(), Fail> {
     let alloc = rt.alloc();
     let longest = longest_node(alloc)?;
-    let node = node_from_parts(alloc, 5, 1, &longest[4..])?;
+    assert_eq!(rt; longest.len(), 65_535);
+    let (_, body) = longest.split_at(4);
+    let node = node_from_parts(alloc, 5, 1, body)?;
     assert_eq!(rt; node_len(&node), 65_535);
     let mut out = Vec::new(alloc);
     write_node(&node, &mut out)?;
     assert!(rt; out == longest);
-    assert!(rt; node.copy(alloc)? == node);
-
-    let vendor = Vendor::new(alloc, Guid(GUID), &longest[20..])?;
-    assert!(rt; vendor.copy(alloc)? == vendor);
-    let uri = UriNode::new(alloc, &longest[4..])?;
-    assert!(rt; uri.copy(alloc)? == uri);
-    let units = vec![in alloc; 0x41u16; NAME_MAX]?;
-    let file = FileNode::new(alloc, &units)?;
-    assert!(rt; file.copy(alloc)? == file);
-    match node {
-        Node::Other(other) => assert!(rt; other.copy(alloc)? == other),
+    let copy = node.copy(alloc)?;
+    assert!(rt; copy == node);
+    copies_a_list_of_each_type(&rt, &longest)?;
+    match &node {
+        Node::Other(other) => {
+            let copy = other.copy(alloc)?;
+            assert!(rt; copy == *other);
+        }
         _ => assert!(rt; false, "a node without a case of its own"),
     }
+    Ok(())
+}
+
+/// Copies nodes of as much data as a node can have, which is cut off the bytes of the longest node.
+fn copies_a_list_of_each_type(rt: &(impl Abort + AllocGlobal), longest: &[u8]) -> Result<(), Fail>
+    requires { 20 ≤ length longest.now }
+{
+    let alloc = rt.alloc();
+    let vendor = Vendor::new(alloc, Guid(GUID), &longest[20..])?;
+    let copy = vendor.copy(alloc)?;
+    assert!(rt; copy == vendor);
+    let uri = UriNode::new(alloc, &longest[4..])?;
+    let copy = uri.copy(alloc)?;
+    assert!(rt; copy == uri);
+    let units = vec![in alloc; 0x41u16; NAME_MAX]?;
+    let file = FileNode::new(alloc, &units)?;
+    let copy = file.copy(alloc)?;
+    assert!(rt; copy == file);
     Ok(())
 }
 
