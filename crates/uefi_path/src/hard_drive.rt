@@ -98,21 +98,24 @@ impl HardDriveNode {
 
     /// The number of the partition, counted from 1; 0 stands for the whole drive.
     pub fn partition(&self) -> u32
-        ensures { result ≡ self.now.partition }
+        ensures value { result ≡ self.now.partition }
+        ensures valid { AreHardDriveParts self.now }
     {
         self.partition
     }
 
     /// The first logical block, counted from the start of the drive.
     pub fn start(&self) -> u64
-        ensures { result ≡ self.now.start }
+        ensures value { result ≡ self.now.start }
+        ensures valid { AreHardDriveParts self.now }
     {
         self.start
     }
 
     /// How many logical blocks the partition has.
     pub fn size(&self) -> u64
-        ensures { result ≡ self.now.size }
+        ensures value { result ≡ self.now.size }
+        ensures valid { AreHardDriveParts self.now }
     {
         self.size
     }
@@ -128,7 +131,8 @@ impl HardDriveNode {
     /// The format of the partition table: [`HardDriveNode::FORMAT_MBR`] or [`HardDriveNode::FORMAT_GPT`]. Other
     /// values are kept.
     pub fn format(&self) -> u8
-        ensures { result ≡ self.now.format }
+        ensures value { result ≡ self.now.format }
+        ensures valid { AreHardDriveParts self.now }
     {
         self.format
     }
@@ -136,7 +140,8 @@ impl HardDriveNode {
     /// What the signature is: [`HardDriveNode::SIGNATURE_NONE`], [`HardDriveNode::SIGNATURE_MBR`] in
     /// the first four bytes, or [`HardDriveNode::SIGNATURE_GUID`]. Other values are kept.
     pub fn signature_kind(&self) -> u8
-        ensures { result ≡ self.now.signature_kind }
+        ensures value { result ≡ self.now.signature_kind }
+        ensures valid { AreHardDriveParts self.now }
     {
         self.signature_kind
     }

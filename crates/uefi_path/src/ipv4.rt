@@ -115,21 +115,24 @@ impl Ipv4Node {
 
     /// The port on this side.
     pub fn local_port(&self) -> u16
-        ensures { result ≡ self.now.local_port }
+        ensures value { result ≡ self.now.local_port }
+        ensures valid { AreIpv4Parts self.now }
     {
         self.local_port
     }
 
     /// The port on the other side.
     pub fn remote_port(&self) -> u16
-        ensures { result ≡ self.now.remote_port }
+        ensures value { result ≡ self.now.remote_port }
+        ensures valid { AreIpv4Parts self.now }
     {
         self.remote_port
     }
 
     /// The protocol number of the internet protocol, such as 17 for UDP.
     pub fn protocol(&self) -> u16
-        ensures { result ≡ self.now.protocol }
+        ensures value { result ≡ self.now.protocol }
+        ensures valid { AreIpv4Parts self.now }
     {
         self.protocol
     }
@@ -137,7 +140,8 @@ impl Ipv4Node {
     /// The static flag, how the local address was set: [`Ipv4Node::DHCP`] or [`Ipv4Node::STATIC`].
     /// Other values are kept.
     pub fn fixed(&self) -> u8
-        ensures { result ≡ self.now.fixed }
+        ensures value { result ≡ self.now.fixed }
+        ensures valid { AreIpv4Parts self.now }
     {
         self.fixed
     }

@@ -68,14 +68,16 @@ impl OtherNode {
 
     /// The type.
     pub fn kind(&self) -> u8
-        ensures { result ≡ self.now.kind }
+        ensures value { result ≡ self.now.kind }
+        ensures valid { IsOther self.now }
     {
         self.kind
     }
 
     /// The sub-type.
     pub fn sub(&self) -> u8
-        ensures { result ≡ self.now.sub }
+        ensures value { result ≡ self.now.sub }
+        ensures valid { IsOther self.now }
     {
         self.sub
     }
