@@ -1,8 +1,7 @@
-ghost use Rattle.std.specs.Prelude.{◌≤◌, length};
+ghost use Rattle.std.specs.Prelude.{◌≤◌, length, IfOk};
 
 use super::*;
 use std::alloc::Global;
-use std::process::Abort;
 use std::test::Fail;
 
 /// The ACPI root 0, the PCI device 31 with function 2, and the SATA port 0.
@@ -609,10 +608,16 @@ fn reads_and_writes_what_was_stored(rt: HostRuntime) -> Result<(), Fail> {
 /// The node that ends an instance where another follows.
 const END_OF_INSTANCE: [u8; 4] = [0x7f, 0x01, 0x04, 0x00];
 
-/// The longest node there is, kept as bytes.
-fn longest_node(alloc: Global) -> Result<Vec<u8>, Fail> {
-    let mut bytes = vec![in alloc; 0x5a; 65_535]?;
-    bytes.as_mut_slice()[..4].copy_from_slice(&[0x05, 0x01, 0xff, 0xff]);
+/// A node of this type and so many bytes in all, whose data end in two zeros, as a name does.
+fn long_node(alloc: Global, kind: u8, sub: u8, len: u16) -> Result<Vec<u8>, Fail>
+    requires { 6 ≤ len }
+    ensures { IfOk result (λ bytes. 6 ≤ length bytes.items) }
+{
+    let size = usize::from(len);
+    let mut bytes = vec![in alloc; 0x5a; size]?;
+    let [low, high] = len.to_le_bytes();
+    bytes.as_mut_slice()[..4].copy_from_slice(&[kind, sub, low, high]);
+    bytes.as_mut_slice()[size - 2..].copy_from_slice(&[0, 0]);
     Ok(bytes)
 }
 
@@ -623,7 +628,7 @@ fn works_on_large_paths(rt: HostRuntime) -> Result<(), Fail> {
     for _ in 0..20_000 {
         empty.extend_from_slice(&END_OF_INSTANCE)?;
     }
-    let longest = longest_node(alloc)?;
+    let longest = long_node(alloc, 5, 1, 65_535)?;
     let mut mixed = Vec::new(alloc);
     let examples = example_nodes(alloc)?;
     for _ in 0..371 {
@@ -657,44 +662,37 @@ fn works_on_large_paths(rt: HostRuntime) -> Result<(), Fail> {
 }
 
 #[test]
-fn makes_and_copies_long_nodes(rt: HostRuntime) -> Result<(), Fail> {
+fn reads_writes_and_copies_long_nodes(rt: HostRuntime) -> Result<(), Fail> {
     let alloc = rt.alloc();
-    let longest = longest_node(alloc)?;
-    assert_eq!(rt; longest.len(), 65_535);
-    let (_, body) = longest.split_at(4);
-    let node = node_from_parts(alloc, 5, 1, body)?;
-    assert_eq!(rt; node_len(&node), 65_535);
-    let mut out = Vec::new(alloc);
-    write_node(&node, &mut out)?;
-    assert!(rt; out == longest);
-    let copy = node.copy(alloc)?;
-    assert!(rt; copy == node);
-    copies_a_list_of_each_type(&rt, &longest)?;
-    match &node {
-        Node::Other(other) => {
-            let copy = other.copy(alloc)?;
-            assert!(rt; copy == *other);
-        }
-        _ => assert!(rt; false, "a node without a case of its own"),
+    // the longest node of each type that holds a list; all but the last have a case of their own
+    let table: [(u8, u8, u16); 6] = [
+        (1, 4, 65_535),
+        (3, 10, 65_535),
+        (3, 24, 65_535),
+        (4, 3, 65_535),
+        (4, 4, 65_534),
+        (5, 1, 65_535),
+    ];
+    for (kind, sub, len) in table {
+        let mut bytes = long_node(alloc, kind, sub, len)?;
+        let node = node_from_parts(alloc, kind, sub, &bytes.as_slice()[4..])?;
+        assert_eq!(rt; matches!(node, Node::Other(_)), kind == 5);
+        assert_eq!(rt; node_len(&node), usize::from(len));
+        assert!(rt; node.copy(alloc)? == node);
+        let mut twice = Vec::new(alloc);
+        write_node(&node, &mut twice)?;
+        write_node(&node, &mut twice)?;
+        bytes.extend_from_slice(&long_node(alloc, kind, sub, len)?)?;
+        assert!(rt; twice == bytes);
+        bytes.extend_from_slice(&END)?;
+        let (path, read) = read_path(alloc, &bytes)?;
+        assert_eq!(rt; read, bytes.len());
+        assert!(rt; path.nodes().all(|held| *held == node));
+        let mut again = long_node(alloc, kind, sub, len)?;
+        write_path(&path.copy(alloc)?, &mut again)?;
+        assert!(rt; again.as_slice().ends_with(&bytes));
+        assert_eq!(rt; again.len(), usize::from(len) + bytes.len());
     }
-    Ok(())
-}
-
-/// Copies nodes of as much data as a node can have, which is cut off the bytes of the longest node.
-fn copies_a_list_of_each_type(rt: &(impl Abort + AllocGlobal), longest: &[u8]) -> Result<(), Fail>
-    requires { 20 ≤ length longest.now }
-{
-    let alloc = rt.alloc();
-    let vendor = Vendor::new(alloc, Guid(GUID), &longest[20..])?;
-    let copy = vendor.copy(alloc)?;
-    assert!(rt; copy == vendor);
-    let uri = UriNode::new(alloc, &longest[4..])?;
-    let copy = uri.copy(alloc)?;
-    assert!(rt; copy == uri);
-    let units = vec![in alloc; 0x41u16; NAME_MAX]?;
-    let file = FileNode::new(alloc, &units)?;
-    let copy = file.copy(alloc)?;
-    assert!(rt; copy == file);
     Ok(())
 }
 
