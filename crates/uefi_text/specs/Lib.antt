@@ -1,0 +1,17 @@
+-- what public contracts and the laws cite
+pub mod Number
+pub mod Bytes
+pub mod Guid
+pub mod Segment
+pub mod Node
+pub mod Path
+pub mod Printed
+pub mod Fault
+pub mod Words
+-- what private contracts cite
+pub mod Printing
+pub mod Within
+pub mod Reading
+pub mod Answering
+pub mod Cutting
+pub mod Instances

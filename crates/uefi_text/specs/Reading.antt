@@ -1,0 +1,331 @@
+-- For private functions of the reader: what a text is read as, as functions of its arguments.
+use Rattle.std.specs.Prelude.{◌≡◌, ◌≤◌, ◌^◌, ℕ, ◌+◌, ◌*◌, Bool, false, ◌==◌, ◌&&◌, nat_lt, nat_le, List, [], ◌∷◌, ◌++◌}
+use Rattle.std.specs.Prelude.{not, length, drop, slice_index, replicate, codes, Option, Some, None, Result, Ok, Err}
+use Rattle.std.specs.Prelude.{if◌then◌else◌}
+use Rattle.std.specs.Char.{digit_value}
+use Rattle.std.specs.List.{list_all, slice_split}
+use Rattle.std.specs.Cmp.Lexicographic.{pointwise}
+use Rattle.std.specs.Option.{option_map}
+use Rattle.std.specs.Result.{result_ok}
+use Rattle.hex.specs.Hex.{decode_of, decode_sized}
+use Rattle.uuid.specs.Text.{parsed}
+use Rattle.uuid.specs.Parts.{swap_fields}
+use Rattle.std.specs.Str.Parse.{digits_value}
+use Rattle.std.specs.Int.{w32, to_le_bytes}
+use Rattle.uefi_path.specs.declared.node.Node.{Node}
+use Rattle.uefi_path.specs.declared.node.Node.TheVariants.{Pci, Acpi, Usb, Mac, Ipv4, Sata, Nvme, HardDrive}
+use Rattle.uefi_path.specs.declared.node.Node.TheVariants.{Uri, FilePath, VendorHw, VendorMsg, VendorMedia}
+use Rattle.uefi_text.specs.declared.fault.TextFault.{TextFault}
+use Rattle.uefi_text.specs.declared.fault.TextFault.TheVariants.{BadSegment, BadNumber, OutOfRange, BadEnd, OutOfMemory}
+use Rattle.uefi_path.specs.Parts.{ipv4_parts, hard_drive_parts, VendorParts, vendor_parts}
+use Rattle.uefi_path.specs.Row.{Row, row}
+use Rattle.uefi_path.specs.Node.{row_of, IsNode}
+use Rattle.uefi_text.specs.Printed.{is_plain_from}
+use Rattle.uefi_text.specs.Bytes.{dot, hyphen}
+use Rattle.uefi_text.specs.Segment.{comma}
+use Rattle.uefi_text.specs.Node.{pnp_hid}
+
+-- the second step, if the first gave a value
+infixl 10 ◌>>=◌
+abbrev pub ◌>>=◌ : {A B : Type 0} → Option A → (A → Option B) → Option B
+Some x >>= f = f x
+None >>= f = None
+
+-- where nothing is read, the fault is of the segment at this place, in a text of so many bytes; want of memory says
+-- nothing
+abbrev pub IsRefusal : {A : Type 0} → TextFault → Option A → ℕ → ℕ → Type 0
+IsRefusal (BadSegment at) read segment end = (read ≡ None) × (at ≡ segment)
+IsRefusal (BadNumber at) read segment end = (read ≡ None) × (segment ≤ at) × (at ≤ end)
+IsRefusal (OutOfRange at) read segment end = (read ≡ None) × (segment ≤ at) × (at ≤ end)
+IsRefusal (BadEnd at) read segment end = (read ≡ None) × (at ≡ segment)
+IsRefusal OutOfMemory read segment end = Unit {0}
+
+-- the answer, seen by view, is what is read
+abbrev pub ReadsAs : {X Y : Type 0} → (X → Y) → Result X TextFault → Option Y → ℕ → ℕ → Type 0
+ReadsAs view (Ok x) read segment end = read ≡ Some (view x)
+ReadsAs view (Err fault) read segment end = IsRefusal fault read segment end
+
+abbrev pub Reads : {X : Type 0} → Result X TextFault → Option X → ℕ → ℕ → Type 0
+Reads = ReadsAs (λ x. x)
+
+-- the parts that a text is cut into at each mark, and its arguments
+abbrev pub parts_of : ℕ → List ℕ → List (List ℕ)
+parts_of mark text = slice_split (λ byte. byte == mark) text
+
+abbrev pub arguments_of : List ℕ → List (List ℕ)
+arguments_of text = parts_of comma text
+
+-- so many arguments
+abbrev pub one_of : List (List ℕ) → Option (List ℕ)
+one_of (a ∷ []) = Some a
+one_of _ = None
+
+abbrev pub first_of : List (List ℕ) → Option (List ℕ × List (List ℕ))
+first_of (a ∷ b ∷ others) = Some (a, b ∷ others)
+first_of _ = None
+
+unfoldable pub two_of : List (List ℕ) → Option (List ℕ × List ℕ)
+two_of arguments = do
+  parts ← first_of arguments
+  second ← one_of parts.1
+  Some (parts.0, second)
+
+unfoldable pub first_two_of : List (List ℕ) → Option (List ℕ × List ℕ × List (List ℕ))
+first_two_of arguments = do
+  first ← first_of arguments
+  second ← first_of first.1
+  Some (first.0, second.0, second.1)
+
+unfoldable pub three_of : List (List ℕ) → Option (List ℕ × List ℕ × List ℕ)
+three_of arguments = do
+  parts ← first_of arguments
+  two ← two_of parts.1
+  Some (parts.0, two.0, two.1)
+
+abbrev pub is_numeral : ℕ → ℕ → List ℕ → Bool
+is_numeral base most digits =
+    nat_lt 0 (length digits)
+    && (nat_le (length digits) most && list_all (λ digit. nat_lt (digit_value digit) base) digits)
+
+-- the number of so many digits at most
+unfoldable pub numeral_of : ℕ → ℕ → List ℕ → Option ℕ
+numeral_of base most digits = if is_numeral base most digits then Some (digits_value base digits) else None
+
+abbrev pub begins_hexadecimal : List ℕ → Bool
+begins_hexadecimal text = (slice_index text 0 == 48) && (slice_index text 1 == 120)
+
+-- the number that a text is read as
+unfoldable pub number_of : List ℕ → Option ℕ
+number_of text = if begins_hexadecimal text then numeral_of 16 16 (drop 2 text) else numeral_of 10 20 text
+
+-- the answer is the number; inside it None stands for one that 64 bits can't hold
+abbrev pub TellsNumber : Option (Option ℕ) → Option ℕ → Type 0
+TellsNumber None read = read ≡ None
+TellsNumber (Some None) read = (n : ℕ) × (read ≡ Some n) × (2 ^ 64 ≤ n)
+TellsNumber (Some (Some value)) read = read ≡ Some value
+
+-- the same, where it is at most so large
+unfoldable pub number_up_to : ℕ → List ℕ → Option ℕ
+number_up_to most text = do
+  n ← number_of text
+  if nat_le n most then Some n else None
+
+-- a part of an address, and the four of them
+unfoldable pub octet_of : List ℕ → Option ℕ
+octet_of text = do
+  n ← numeral_of 10 3 text
+  if nat_le n 255 then Some n else None
+
+unfoldable pub address_of : List (List ℕ) → Option (List ℕ)
+address_of parts = do
+  front ← first_two_of parts
+  back ← two_of front.2
+  a ← octet_of front.0
+  b ← octet_of front.1
+  c ← octet_of back.0
+  d ← octet_of back.1
+  Some (a ∷ b ∷ c ∷ d ∷ [])
+
+-- the byte of two digits
+abbrev pub pair_of : ℕ → ℕ → Option ℕ
+pair_of high low =
+    if nat_lt (digit_value high) 16 && nat_lt (digit_value low) 16
+    then Some (digit_value high * 16 + digit_value low) else None
+
+abbrev pub byte_of : List ℕ → Option ℕ
+byte_of [] = None
+byte_of (_ ∷ []) = None
+byte_of (high ∷ low ∷ []) = pair_of high low
+byte_of (_ ∷ _ ∷ _ ∷ _) = None
+
+unfoldable pub two_bytes_of : List ℕ → List ℕ → Option (ℕ × ℕ)
+two_bytes_of first second = do
+  a ← byte_of first
+  b ← byte_of second
+  Some (a, b)
+
+unfoldable pub eui_of : List (List ℕ) → Option (List ℕ)
+eui_of parts = do
+  first ← first_two_of parts
+  second ← first_two_of first.2
+  third ← first_two_of second.2
+  last ← two_of third.2
+  a ← two_bytes_of first.0 first.1
+  b ← two_bytes_of second.0 second.1
+  c ← two_bytes_of third.0 third.1
+  d ← two_bytes_of last.0 last.1
+  Some (a.0 ∷ a.1 ∷ b.0 ∷ b.1 ∷ c.0 ∷ c.1 ∷ d.0 ∷ d.1 ∷ [])
+
+-- the stored bytes of a GUID, the bytes of data, and an address of six bytes
+abbrev pub guid_read : List ℕ → Option (List ℕ)
+guid_read text = if length text == 36 then option_map swap_fields (parsed text) else None
+
+abbrev pub data_of : List ℕ → Option (List ℕ)
+data_of text = result_ok (decode_of text)
+
+abbrev pub mac_of : List ℕ → Option (List ℕ)
+mac_of text = option_map (λ six. six ++ replicate 26 0) (result_ok (decode_sized text 6))
+
+-- an identifier that begins with PNP, and one in any form
+unfoldable pub pnp_of : List ℕ → Option ℕ
+pnp_of digits =
+    if length digits == 4
+    then (numeral_of 16 4 digits >>= λ high. (if nat_le high 0xFFFF then Some (pnp_hid high) else None))
+    else None
+
+abbrev pub begins_pnp : List ℕ → Bool
+begins_pnp text = (slice_index text 0 == 80) && ((slice_index text 1 == 78) && (slice_index text 2 == 80))
+
+unfoldable pub hid_of : List ℕ → Option ℕ
+hid_of text = if begins_pnp text then pnp_of (drop 3 text) else number_up_to 0xFFFFFFFF text
+
+abbrev pub is_text : List ℕ → List ℕ → Bool
+is_text text expected = pointwise ◌==◌ text expected
+
+abbrev pub origin_of : List ℕ → Option ℕ
+origin_of text =
+    if is_text text (codes "DHCP") then Some 0 else (if is_text text (codes "Static") then Some 1 else None)
+
+unfoldable pub pci_of : List (List ℕ) → Option Node
+pci_of arguments = do
+  two ← two_of arguments
+  device ← number_up_to 0xFF two.0
+  function ← number_up_to 0xFF two.1
+  Some (Pci function device)
+
+unfoldable pub usb_of : List (List ℕ) → Option Node
+usb_of arguments = do
+  two ← two_of arguments
+  port ← number_up_to 0xFF two.0
+  interface ← number_up_to 0xFF two.1
+  Some (Usb port interface)
+
+unfoldable pub sata_of : List (List ℕ) → Option Node
+sata_of arguments = do
+  three ← three_of arguments
+  hba ← number_up_to 0xFFFF three.0
+  multiplier ← number_up_to 0xFFFF three.1
+  lun ← number_up_to 0xFFFF three.2
+  Some (Sata hba multiplier lun)
+
+unfoldable pub root_of : ℕ → List (List ℕ) → Option Node
+root_of hid arguments = do
+  one ← one_of arguments
+  uid ← number_up_to 0xFFFFFFFF one
+  Some (Acpi hid uid)
+
+unfoldable pub nvme_of : List (List ℕ) → Option Node
+nvme_of arguments = do
+  two ← two_of arguments
+  namespace ← number_up_to 0xFFFFFFFF two.0
+  eui ← eui_of (parts_of hyphen two.1)
+  Some (Nvme namespace eui)
+
+unfoldable pub acpi_of : List (List ℕ) → Option Node
+acpi_of arguments = do
+  two ← two_of arguments
+  hid ← hid_of two.0
+  uid ← number_up_to 0xFFFFFFFF two.1
+  Some (Acpi hid uid)
+
+unfoldable pub mac_node_of : List (List ℕ) → Option Node
+mac_node_of arguments = do
+  two ← two_of arguments
+  address ← mac_of two.0
+  if_kind ← number_up_to 1 two.1
+  Some (Mac address if_kind)
+
+unfoldable pub ipv4_of : List (List ℕ) → Option Node
+ipv4_of arguments = do
+  first ← first_two_of arguments
+  second ← first_two_of first.2
+  last ← two_of second.2
+  remote ← address_of (parts_of dot first.0)
+  protocol ← number_up_to 0xFFFF first.1
+  fixed ← origin_of second.0
+  local ← address_of (parts_of dot second.1)
+  gateway ← address_of (parts_of dot last.0)
+  mask ← address_of (parts_of dot last.1)
+  Some (Ipv4 (ipv4_parts local remote 0 0 protocol fixed gateway mask))
+
+-- a signature and its kind
+unfoldable pub signature_of : List ℕ → List ℕ → Option (List ℕ × ℕ)
+signature_of format signature =
+    if is_text format (codes "GPT") then (guid_read signature >>= λ guid. Some (guid, 2))
+    else (if is_text format (codes "MBR")
+    then (number_up_to 0xFFFFFFFF signature >>= λ number. Some (to_le_bytes w32 number ++ replicate 12 0, 1)) else None)
+
+unfoldable pub hard_drive_of : List (List ℕ) → Option Node
+hard_drive_of arguments = do
+  first ← first_two_of arguments
+  last ← three_of first.2
+  partition ← number_up_to 0xFFFFFFFF first.0
+  signature ← signature_of first.1 last.0
+  start ← number_up_to 0xFFFFFFFFFFFFFFFF last.1
+  size ← number_up_to 0xFFFFFFFFFFFFFFFF last.2
+  Some (HardDrive (hard_drive_parts partition start size signature.0 signature.1 signature.1))
+
+abbrev pub uri_of : List ℕ → Option Node
+uri_of text = if list_all (is_plain_from 0x21) text && nat_le (length text) 65531 then Some (Uri text) else None
+
+abbrev pub file_of : List ℕ → Option Node
+file_of text = if list_all (is_plain_from 0x20) text && nat_le (length text) 32764 then Some (FilePath text) else None
+
+-- a part, and perhaps one behind it
+abbrev pub second_of : List (List ℕ) → Option (Option (List ℕ))
+second_of [] = Some None
+second_of (b ∷ others) = one_of (b ∷ others) >>= λ second. Some (Some second)
+
+abbrev pub one_or_two_of : List (List ℕ) → Option (List ℕ × Option (List ℕ))
+one_or_two_of [] = None
+one_or_two_of (a ∷ others) = second_of others >>= λ second. Some (a, second)
+
+abbrev pub optional_data_of : Option (List ℕ) → Option (List ℕ)
+optional_data_of None = Some []
+optional_data_of (Some text) = data_of text
+
+unfoldable pub vendor_of : List (List ℕ) → Option VendorParts
+vendor_of arguments = do
+  parts ← one_or_two_of arguments
+  guid ← guid_read parts.0
+  body ← optional_data_of parts.1
+  if nat_le (length body) 65515 then Some (vendor_parts guid body) else None
+
+unfoldable pub generic_of : List (List ℕ) → Option Row
+generic_of arguments = do
+  first ← first_of arguments
+  parts ← one_or_two_of first.1
+  kind ← number_up_to 0xFF first.0
+  sub ← number_up_to 0xFF parts.0
+  body ← optional_data_of parts.1
+  if nat_le (length body) 65531 then Some (row kind sub body) else None
+
+-- the node has the row, if there is one
+abbrev pub IsOfRow : Node → Option Row → Type 0
+IsOfRow node None = ⊥
+IsOfRow node (Some r) = IsNode node × (row_of node ≡ r)
+
+-- the place of the fault; want of memory has none
+abbrev pub IsFaultWithin : TextFault → ℕ → ℕ → Type 0
+IsFaultWithin (BadSegment at) segment end = at ≡ segment
+IsFaultWithin (BadNumber at) segment end = (segment ≤ at) × (at ≤ end)
+IsFaultWithin (OutOfRange at) segment end = (segment ≤ at) × (at ≤ end)
+IsFaultWithin (BadEnd at) segment end = at ≡ segment
+IsFaultWithin OutOfMemory segment end = Unit {0}
+
+unfoldable pub vendor_hw_of : List (List ℕ) → Option Node
+vendor_hw_of arguments = vendor_of arguments >>= λ vendor. Some (VendorHw vendor)
+
+unfoldable pub vendor_msg_of : List (List ℕ) → Option Node
+vendor_msg_of arguments = vendor_of arguments >>= λ vendor. Some (VendorMsg vendor)
+
+unfoldable pub vendor_media_of : List (List ℕ) → Option Node
+vendor_media_of arguments = vendor_of arguments >>= λ vendor. Some (VendorMedia vendor)
+
+-- a name that begins with a backslash, without slashes and commas behind it
+abbrev pub is_bare_name : List ℕ → Bool
+is_bare_name [] = false
+is_bare_name (first ∷ others) = (first == 0x5C) && list_all (λ byte. not (byte == 0x2F) && not (byte == 0x2C)) others
+
+abbrev pub bare_of : List ℕ → Option Node
+bare_of text = if is_bare_name text then file_of text else None

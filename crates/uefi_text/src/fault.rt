@@ -1,0 +1,68 @@
+//! Why a text stands for no path.
+
+ghost use Rattle.std.specs.Prelude.{◌≡◌, IfOk};
+ghost use Rattle.std.specs.String.{string_bytes};
+ghost use Rattle.uefi_text.specs.declared.fault.TextFault.TheVariants as text;
+
+use std::alloc::{AllocError, AllocFailed, Global};
+use thiserror::Error;
+
+/// Why a text stands for no path. The number is a place in the text, in bytes from its first one.
+///
+/// The first faulty segment from the left decides. Within it [`TextFault::BadSegment`] for its
+/// shape comes first, then its arguments from left to right, then [`TextFault::BadEnd`].
+#[derive(Clone, Copy, Debug, PartialEq, Eq, Error)]
+pub enum TextFault {
+    /// The segment at this place is none: empty where one must stand, without its parentheses, of
+    /// an unknown name, with another number of arguments, or with an argument that isn't of its
+    /// form and no number.
+    #[error("BadSegment {0}")]
+    BadSegment(usize),
+    /// The argument at this place must be a number and is no number's text.
+    #[error("BadNumber {0}")]
+    BadNumber(usize),
+    /// The argument at this place is out of its range: a number too large, or a name, data or a URI
+    /// too long.
+    #[error("OutOfRange {0}")]
+    OutOfRange(usize),
+    /// The segment at this place is a `Path` of type 0x7F, that of the end nodes.
+    #[error("BadEnd {0}")]
+    BadEnd(usize),
+    /// Memory was refused.
+    #[error("OutOfMemory")]
+    OutOfMemory,
+}
+
+impl TextFault {
+    ghost use Rattle.uefi_text.specs.Words.{text_fault_words};
+
+    /// The fault's name and, where it has one, its place in decimal after a blank. The one refusal
+    /// is for want of memory.
+    pub fn words(&self, alloc: Global) -> Result<String, AllocError>
+        ensures { IfOk result (λ words. string_bytes words ≡ text_fault_words self.now) }
+    {
+        match self {
+            TextFault::BadSegment(place) => format!(in alloc; "BadSegment {place}"),
+            TextFault::BadNumber(place) => format!(in alloc; "BadNumber {place}"),
+            TextFault::OutOfRange(place) => format!(in alloc; "OutOfRange {place}"),
+            TextFault::BadEnd(place) => format!(in alloc; "BadEnd {place}"),
+            TextFault::OutOfMemory => String::from_str(alloc, "OutOfMemory"),
+        }
+    }
+}
+
+impl From<AllocError> for TextFault {
+    ghost from_gives = { λ _ fault. fault ≡ text.OutOfMemory };
+
+    fn from(_refusal: AllocError) -> TextFault {
+        TextFault::OutOfMemory
+    }
+}
+
+impl<T: Drop> From<AllocFailed<T>> for TextFault {
+    ghost from_gives = { λ _ fault. fault ≡ text.OutOfMemory };
+
+    fn from(_refusal: AllocFailed<T>) -> TextFault {
+        TextFault::OutOfMemory
+    }
+}

@@ -1,0 +1,27 @@
+//! Device paths of the UEFI specification, version 2.10, as text (chapter 10.6), in one printed
+//! spelling and in the spellings that are read.
+//!
+//! [`path_text`] prints a path and [`read_text`] reads one back, exactly: what is read is what the
+//! grammar says, and a refusal says where. [`guid_text`] and [`read_guid`] do the same for GUIDs
+//! alone. [`PathText`] and [`GuidText`] are the printed texts as values that `{}` writes.
+#![tactic(auto)]
+
+mod fault;
+mod field;
+mod forms;
+mod guid;
+pub mod laws;
+mod node_text;
+mod piece;
+mod printed;
+mod printing;
+mod reading;
+mod segment;
+
+pub use fault::TextFault;
+pub use guid::{GuidText, guid_text, read_guid};
+pub use printing::{PathText, path_text};
+pub use reading::read_text;
+
+#[cfg(test)]
+mod tests;

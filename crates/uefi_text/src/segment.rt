@@ -1,0 +1,101 @@
+//! How a text is cut into segments.
+
+ghost use Rattle.std.specs.Prelude.{◌≡◌, ◌↔◌, ℕ, List, IsTrue, IfSome, MatchOption};
+ghost use Rattle.uefi_text.specs.Segment.{comma};
+ghost use Rattle.uefi_text.specs.Node.{IsBareUnit};
+ghost use Rattle.uefi_text.specs.Fault.{BeginsWithNode, ClosesSegment, EndsOr};
+ghost use Rattle.uefi_text.specs.Cutting.{BeginsBare, IsBareCut, IsFront, IsNamedFront, IsBareFront, IsNamed, IsBare, IsCutOf};
+
+use crate::node_text::{NAME_LOW, is_plain};
+use crate::piece::around_mark;
+
+/// A segment of a text.
+#[derive(Clone, Copy, Debug)]
+pub(crate) enum Segment<'a> {
+    /// A name, and what stands in the parentheses behind it.
+    Named { name: &'a [u8], inside: &'a [u8] },
+    /// A path name that begins with a backslash.
+    Bare(&'a [u8]),
+}
+
+/// The segment at the front of a text, and what follows it: a slash, a comma or nothing. `None`
+/// where there is no such segment.
+pub(crate) fn cut_segment(text: &[u8]) -> Option<(Segment<'_>, &[u8])>
+    ensures found { IfSome result (λ cut. IsFront text.now cut.0 cut.1.now) }
+    ensures only { (begins : BeginsWithNode text.now) →
+        MatchOption result ⊥ (λ cut. IsCutOf cut.0 begins.segment × (cut.1.now ≡ begins.behind)) }
+{
+    if begins_bare(text) {
+        cut_bare(text)
+    } else {
+        cut_named(text)
+    }
+}
+
+/// The bare path name at the front of a text, and what follows it.
+fn cut_bare(text: &[u8]) -> Option<(Segment<'_>, &[u8])>
+    ensures found { IfSome result (λ cut. IsFront text.now cut.0 cut.1.now) }
+    ensures only { (path_name behind : List ℕ) → IsBareFront text.now path_name behind →
+        MatchOption result ⊥ (λ cut. IsBare path_name cut.0 × (cut.1.now ≡ behind)) }
+{
+    let (name, rest) = split_bare(text);
+    if ends_segment(rest) {
+        Some((Segment::Bare(name), rest))
+    } else {
+        None
+    }
+}
+
+/// The name and the parentheses at the front of a text, and what follows them. Any bytes are taken
+/// for a name: whether a form has it is seen where the node is made.
+fn cut_named(text: &[u8]) -> Option<(Segment<'_>, &[u8])>
+    ensures found { IfSome result (λ cut. IsFront text.now cut.0 cut.1.now) }
+    ensures only { (name inside behind : List ℕ) → IsNamedFront text.now name inside behind →
+        MatchOption result ⊥ (λ cut. IsNamed name inside cut.0 × (cut.1.now ≡ behind)) }
+{
+    let (name, behind) = around_mark(text, b'(')?;
+    let (inside, rest) = around_mark(behind, b')')?;
+    if inside.contains(&b'(') || !ends_segment(rest) {
+        return None;
+    }
+    Some((Segment::Named { name, inside }, rest))
+}
+
+/// The longest front of a text that has only bytes of a bare path name, and the rest.
+fn split_bare(text: &[u8]) -> (&[u8], &[u8])
+    ensures { IsBareCut text.now result.0.now result.1.now }
+{
+    let len = text
+        .iter()
+        .position(|byte| !is_bare(*byte))
+        .unwrap_or(text.len());
+    text.split_at(len)
+}
+
+/// Whether a segment that begins here is a bare path name.
+fn begins_bare(text: &[u8]) -> bool
+    ensures { IsTrue result ↔ BeginsBare text.now }
+{
+    matches!(text, [b'\\', ..])
+}
+
+/// Whether a segment may end before this.
+fn ends_segment(rest: &[u8]) -> bool
+    ensures { IsTrue result ↔ ClosesSegment rest.now }
+{
+    matches!(rest, [] | [b'/', ..] | [b',', ..])
+}
+
+/// Whether an instance may end before this.
+pub(crate) fn ends_instance(rest: &[u8]) -> bool
+    ensures { IsTrue result ↔ EndsOr comma rest.now }
+{
+    matches!(rest, [] | [b',', ..])
+}
+
+/// Whether a bare path name goes on with this byte.
+fn is_bare(byte: u8) -> bool
+    ensures { IsTrue result ↔ IsBareUnit byte }
+{
+    is_plain(NAME_LOW, u16::from(byte)) && byte != b'/' && byte != b','
+}
