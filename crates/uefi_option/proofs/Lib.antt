@@ -1,0 +1,7 @@
+pub mod Bytes
+pub mod Units
+pub mod Lists
+pub mod Comparison
+pub mod Fronts
+pub mod Options
+pub mod Reader

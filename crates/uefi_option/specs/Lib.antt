@@ -1,0 +1,10 @@
+-- what public contracts and the laws cite
+pub mod LoadOption
+pub mod Attributes
+pub mod Text
+pub mod Fault
+pub mod Making
+pub mod Words
+pub mod Equality
+-- what private contracts cite
+pub mod Reading

@@ -1,0 +1,29 @@
+//! Load options of the UEFI specification, version 2.10, as values and as bytes (3.1.3).
+//!
+//! A [`LoadOption`] is what stands in a variable `Boot####`: attributes, a description, device paths and
+//! optional data. [`read_option`] reads one from its bytes, all of them, [`make_option`] makes one of its
+//! parts, and [`write_option`] gives its one spelling, so an option that was read is written as it was.
+#![tactic(auto)]
+
+mod attributes;
+mod fault;
+pub mod laws;
+mod load_option;
+mod making;
+mod reading;
+mod text;
+mod writing;
+
+pub use attributes::{
+    ACTIVE, CATEGORY, CATEGORY_APP, CATEGORY_BOOT, FORCE_RECONNECT, HIDDEN, category, is_active,
+    is_normal,
+};
+pub use fault::OptionFault;
+pub use load_option::{LIST_MAX, LoadOption};
+pub use making::make_option;
+pub use reading::read_option;
+pub use text::description_text;
+pub use writing::write_option;
+
+#[cfg(test)]
+mod tests;

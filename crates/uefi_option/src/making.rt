@@ -1,0 +1,54 @@
+//! Parts to load options.
+
+ghost use Rattle.std.specs.Prelude.{◌≡◌, ◌↔◌, ◌<◌, [], length, Contains, Err, IfOk, IfErr};
+ghost use Rattle.uefi_option.specs.declared.fault.OptionFault.{OptionFault};
+ghost use Rattle.uefi_option.specs.LoadOption.{option_parts, list_bytes, IsOption};
+ghost use Rattle.uefi_option.specs.Making.{IsPartsFault};
+
+use crate::fault::OptionFault;
+use crate::load_option::{LIST_MAX, LoadOption, copy_paths};
+use crate::writing::list_len;
+use std::alloc::Global;
+use uefi_path::Path;
+
+/// The load option of these parts, which are copied (UEFI 2.10, 3.1.3). The description is given as CHAR16 units
+/// without the zero that closes it.
+///
+/// # Errors
+///
+/// [`OptionFault::ZeroUnit`] where a unit of the description is zero; else [`OptionFault::EmptyList`] where there is
+/// no path; else [`OptionFault::ListTooLong`] where the spellings of the paths have more than [`LIST_MAX`] bytes together;
+/// else [`OptionFault::OutOfMemory`] where memory for the parts was refused.
+pub fn make_option(
+    alloc: Global,
+    attributes: u32,
+    description: &[u16],
+    paths: &[Path],
+    optional: &[u8],
+) -> Result<LoadOption, OptionFault>
+    ensures made { IfOk result (λ option.
+        option ≡ option_parts attributes description.now paths.now optional.now) }
+    ensures valid { IfOk result (λ option. IsOption option) }
+
+    ensures zero_unit { (result ≡ Err OptionFault.ZeroUnit) ↔ Contains description.now 0 }
+    ensures empty_list { (result ≡ Err OptionFault.EmptyList)
+        ↔ ((¬ Contains description.now 0) × (paths.now ≡ [])) }
+    ensures list_too_long { (result ≡ Err OptionFault.ListTooLong)
+        ↔ ((¬ Contains description.now 0) × (LIST_MAX < length (list_bytes paths.now))) }
+    // There is no other refusal, but for want of memory.
+    ensures named { IfErr result IsPartsFault }
+{
+    if description.contains(&0) {
+        return Err(OptionFault::ZeroUnit);
+    }
+    if paths.is_empty() {
+        return Err(OptionFault::EmptyList);
+    }
+    if list_len(paths).is_none() {
+        return Err(OptionFault::ListTooLong);
+    }
+    let description = Vec::from_slice(alloc, description)?;
+    let paths = copy_paths(alloc, paths)?;
+    let optional = Vec::from_slice(alloc, optional)?;
+    Ok(LoadOption::from_parts(attributes, description, paths, optional))
+}

@@ -1,0 +1,280 @@
+use super::*;
+use std::alloc::Global;
+use std::test::Fail;
+use uefi_path::{BODY_MAX, Path, PathFault, make_path, read_path};
+
+/// The option `A` of a disk: active, and with one path of three nodes, the ACPI root 0, the PCI device 31 with
+/// function 2, and the SATA port 0.
+const DISK: [u8; 42] = [
+    0x01, 0x00, 0x00, 0x00, 0x20, 0x00, 0x41, 0x00, 0x00, 0x00, 0x02, 0x01, 0x0c, 0x00, 0xd0, 0x41,
+    0x03, 0x0a, 0x00, 0x00, 0x00, 0x00, 0x01, 0x01, 0x06, 0x00, 0x02, 0x1f, 0x03, 0x12, 0x0a, 0x00,
+    0x00, 0x00, 0xff, 0xff, 0x00, 0x00, 0x7f, 0xff, 0x04, 0x00,
+];
+
+/// Where the list of [`DISK`] begins.
+const LIST: usize = 10;
+
+/// The bytes of [`DISK`], with another length of its list.
+fn with_list_len(alloc: Global, len: u8) -> Result<Vec<u8>, Fail> {
+    let mut bytes = Vec::from_slice(alloc, DISK.as_slice())?;
+    if let Some(byte) = bytes.as_mut_slice().get_mut(4) {
+        *byte = len;
+    }
+    Ok(bytes)
+}
+
+/// The path without nodes, so many times.
+fn empty_paths(alloc: Global, count: usize) -> Result<Vec<Path>, Fail> {
+    let mut paths = Vec::new(alloc);
+    for _ in 0..count {
+        paths.push(read_path(alloc, &[0x7f, 0xff, 0x04, 0x00])?.0)?;
+    }
+    Ok(paths)
+}
+
+#[test]
+fn reads_writes_makes_and_copies_options(rt: HostRuntime) -> Result<(), Fail> {
+    // the bytes, and what is read: attributes, units, how many paths and which optional data
+    let with_data: [u8; 43] = [
+        0x01, 0x00, 0x00, 0x00, 0x20, 0x00, 0x41, 0x00, 0x00, 0x00, 0x02, 0x01, 0x0c, 0x00, 0xd0,
+        0x41, 0x03, 0x0a, 0x00, 0x00, 0x00, 0x00, 0x01, 0x01, 0x06, 0x00, 0x02, 0x1f, 0x03, 0x12,
+        0x0a, 0x00, 0x00, 0x00, 0xff, 0xff, 0x00, 0x00, 0x7f, 0xff, 0x04, 0x00, 0x5a,
+    ];
+    // a list of two paths, and all attribute bits
+    let two: [u8; 18] = [
+        0xff, 0xff, 0xff, 0xff, 0x08, 0x00, 0x00, 0x00, 0x7f, 0xff, 0x04, 0x00, 0x7f, 0xff, 0x04,
+        0x00, 0x01, 0x02,
+    ];
+    // a list of three paths: a node that is kept as bytes, a USB device, and two empty instances
+    let three: [u8; 41] = [
+        0x01, 0x01, 0x00, 0x00, 0x1d, 0x00, 0x42, 0x00, 0x00, 0xd8, 0x00, 0x00, 0x01, 0x01, 0x07,
+        0x00, 0x02, 0x05, 0xaa, 0x7f, 0xff, 0x04, 0x00, 0x03, 0x05, 0x06, 0x00, 0x01, 0x00, 0x7f,
+        0xff, 0x04, 0x00, 0x7f, 0x01, 0x04, 0x00, 0x7f, 0xff, 0x04, 0x00,
+    ];
+    let table: [(&[u8], u32, &[u16], usize, &[u8]); 4] = [
+        (&DISK, 0x0000_0001, &[0x41], 1, &[]),
+        (&with_data, 0x0000_0001, &[0x41], 1, &[0x5a]),
+        (&two, 0xffff_ffff, &[], 2, &[0x01, 0x02]),
+        (&three, 0x0000_0101, &[0x42, 0xd800], 3, &[]),
+    ];
+    for (bytes, attributes, description, paths, optional) in table {
+        let option = read_option(rt.alloc(), bytes)?;
+        assert_eq!(rt; option.attributes(), attributes, "of {bytes:?}");
+        assert_eq!(rt; option.description(), description, "of {bytes:?}");
+        assert_eq!(rt; option.paths().len(), paths, "of {bytes:?}");
+        assert_eq!(rt; option.optional(), optional, "of {bytes:?}");
+        assert_eq!(rt; write_option(rt.alloc(), &option)?.as_slice(), bytes);
+        assert!(rt; option.copy(rt.alloc())? == option, "of {bytes:?}");
+        let made = make_option(
+            rt.alloc(),
+            attributes,
+            description,
+            option.paths(),
+            optional,
+        )?;
+        assert!(rt; made == option, "of {bytes:?}");
+    }
+    Ok(())
+}
+
+#[test]
+fn compares_every_part(rt: HostRuntime) -> Result<(), Fail> {
+    let (one, two) = (empty_paths(rt.alloc(), 1)?, empty_paths(rt.alloc(), 2)?);
+    let option = make_option(rt.alloc(), 1, &[0x41], one.as_slice(), &[0x5a])?;
+    let others = [
+        make_option(rt.alloc(), 3, &[0x41], one.as_slice(), &[0x5a])?,
+        make_option(rt.alloc(), 1, &[0x42], one.as_slice(), &[0x5a])?,
+        make_option(rt.alloc(), 1, &[0x41], two.as_slice(), &[0x5a])?,
+        make_option(rt.alloc(), 1, &[0x41], one.as_slice(), &[])?,
+    ];
+    for other in &others {
+        assert!(rt; *other != option, "{other:?}");
+        assert!(rt; *other == *other, "{other:?}");
+    }
+    Ok(())
+}
+
+#[test]
+fn tells_the_fault_of_each_cut(rt: HostRuntime) {
+    for len in 0..DISK.len() {
+        let fault = match len {
+            0..=5 => OptionFault::Short,
+            6..=9 => OptionFault::NoTerminator,
+            _ => OptionFault::ListPastEnd,
+        };
+        match read_option(rt.alloc(), &DISK[..len]) {
+            Ok(_) => assert!(rt; false, "{len} bytes are read"),
+            Err(found) => assert_eq!(rt; found, fault, "of {len} bytes"),
+        }
+    }
+}
+
+#[test]
+fn tells_the_first_fault_of_an_option(rt: HostRuntime) -> Result<(), Fail> {
+    let short_header = with_list_len(rt.alloc(), 31)?;
+    let no_end = with_list_len(rt.alloc(), 28)?;
+    let empty_list = with_list_len(rt.alloc(), 0)?;
+    let table: [(&[u8], OptionFault); 9] = [
+        (&[0x01, 0x00, 0x00, 0x00, 0x00], OptionFault::Short),
+        (
+            &[0x01, 0x00, 0x00, 0x00, 0x00, 0x00, 0x41],
+            OptionFault::NoTerminator,
+        ),
+        (empty_list.as_slice(), OptionFault::EmptyList),
+        (
+            short_header.as_slice(),
+            OptionFault::Path(LIST, PathFault::ShortHeader(28)),
+        ),
+        (
+            no_end.as_slice(),
+            OptionFault::Path(LIST, PathFault::NoEnd(28)),
+        ),
+        // no description and no list, not a byte too many
+        (
+            &[0x00, 0x00, 0x00, 0x00, 0x00, 0x00, 0x00, 0x00],
+            OptionFault::EmptyList,
+        ),
+        // a zero byte in two units is no zero unit
+        (
+            &[0x00, 0x00, 0x00, 0x00, 0x00, 0x00, 0x41, 0x00, 0x00, 0x42],
+            OptionFault::NoTerminator,
+        ),
+        // the second path is faulty, at its second node
+        (
+            &[
+                0x01, 0x00, 0x00, 0x00, 0x0e, 0x00, 0x00, 0x00, 0x7f, 0xff, 0x04, 0x00, 0x03, 0x05,
+                0x06, 0x00, 0x01, 0x00, 0x01, 0x01, 0x03, 0x00,
+            ],
+            OptionFault::Path(12, PathFault::BadLength(6)),
+        ),
+        // the second path ends behind the end of the list
+        (
+            &[
+                0x01, 0x00, 0x00, 0x00, 0x06, 0x00, 0x00, 0x00, 0x7f, 0xff, 0x04, 0x00, 0x7f, 0xff,
+                0x04, 0x00,
+            ],
+            OptionFault::Path(12, PathFault::ShortHeader(0)),
+        ),
+    ];
+    for (bytes, fault) in table {
+        match read_option(rt.alloc(), bytes) {
+            Ok(_) => assert!(rt; false, "{bytes:?} is read"),
+            Err(found) => assert_eq!(rt; found, fault, "of {bytes:?}"),
+        }
+    }
+    Ok(())
+}
+
+#[test]
+fn refuses_parts_in_order(rt: HostRuntime) -> Result<(), Fail> {
+    let none = empty_paths(rt.alloc(), 0)?;
+    // spelled by 65,532 and by 65,536 bytes
+    let longest = empty_paths(rt.alloc(), 16_383)?;
+    let too_long = empty_paths(rt.alloc(), 16_384)?;
+    let made = make_option(rt.alloc(), 1, &[0x41], longest.as_slice(), &[0x5a])?;
+    let bytes = write_option(rt.alloc(), &made)?;
+    assert_eq!(rt; bytes.len(), 65_543);
+    assert!(rt; read_option(rt.alloc(), bytes.as_slice())? == made);
+
+    let table: [(&[u16], &[Path], OptionFault); 5] = [
+        (&[0x00], none.as_slice(), OptionFault::ZeroUnit),
+        (&[0x41, 0x00], too_long.as_slice(), OptionFault::ZeroUnit),
+        (&[0x41], none.as_slice(), OptionFault::EmptyList),
+        (&[], none.as_slice(), OptionFault::EmptyList),
+        (&[0x41], too_long.as_slice(), OptionFault::ListTooLong),
+    ];
+    for (description, paths, fault) in table {
+        match make_option(rt.alloc(), 1, description, paths, &[]) {
+            Ok(_) => assert!(rt; false, "{fault:?} is no fault"),
+            Err(found) => assert_eq!(rt; found, fault),
+        }
+    }
+    Ok(())
+}
+
+#[test]
+fn refuses_a_list_of_one_long_path(rt: HostRuntime) -> Result<(), Fail> {
+    // a node of the longest length and the end node
+    let node = uefi_path::node_from_parts(
+        rt.alloc(),
+        0xff,
+        0x01,
+        vec![in rt.alloc(); 0u8; BODY_MAX]?.as_slice(),
+    )?;
+    let instance = vec![in rt.alloc(); node]?;
+    let Ok(path) = make_path(vec![in rt.alloc(); instance]?) else {
+        assert!(rt; false, "one instance is enough");
+        return Ok(());
+    };
+    match make_option(rt.alloc(), 1, &[], &[path], &[]) {
+        Ok(_) => assert!(rt; false, "65,539 bytes fit two"),
+        Err(found) => assert_eq!(rt; found, OptionFault::ListTooLong),
+    }
+    Ok(())
+}
+
+#[test]
+fn tells_what_attributes_mean(rt: HostRuntime) {
+    assert_eq!(rt; (ACTIVE, FORCE_RECONNECT, HIDDEN), (0x1, 0x2, 0x8));
+    assert_eq!(rt;
+        (CATEGORY, CATEGORY_BOOT, CATEGORY_APP),
+        (0x1f00, 0x0, 0x100)
+    );
+    let table = [
+        (0x0000_0000, false, 0x0000, false),
+        (0x0000_0001, true, 0x0000, true),
+        (0x0000_0009, true, 0x0000, true),
+        (0x0000_0101, true, 0x0100, false),
+        (0x0000_0201, true, 0x0200, false),
+        (0x0000_0100, false, 0x0100, false),
+        (0xffff_ffff, true, 0x1f00, false),
+        (0xffff_e0ff, true, 0x0000, true),
+        (0xffff_fffe, false, 0x1f00, false),
+    ];
+    for (attributes, active, bits, normal) in table {
+        assert_eq!(rt; is_active(attributes), active, "of {attributes:x}");
+        assert_eq!(rt; category(attributes), bits, "of {attributes:x}");
+        assert_eq!(rt; is_normal(attributes), normal, "of {attributes:x}");
+    }
+}
+
+#[test]
+fn shows_descriptions(rt: HostRuntime) -> Result<(), Fail> {
+    let table: [(&[u16], &str); 5] = [
+        (&[], ""),
+        (&[0x41], "A"),
+        (&[0x20, 0x7e, 0x5b, 0x5d], " ~[]"),
+        (&[0x5c, 0x1f, 0x7f, 0x00], "\\005c\\001f\\007f\\0000"),
+        (
+            &[0xe9, 0xd83d, 0xfffe, 0x1234, 0xabcd],
+            "\\00e9\\d83d\\fffe\\1234\\abcd",
+        ),
+    ];
+    for (units, text) in table {
+        assert_eq!(rt; description_text(rt.alloc(), units)?.as_str(), text);
+    }
+    Ok(())
+}
+
+#[test]
+fn words_are_the_display(rt: HostRuntime) -> Result<(), Fail> {
+    let table = [
+        (OptionFault::Short, "Short"),
+        (OptionFault::NoTerminator, "NoTerminator"),
+        (OptionFault::ListPastEnd, "ListPastEnd"),
+        (OptionFault::EmptyList, "EmptyList"),
+        (
+            OptionFault::Path(10, PathFault::ShortHeader(28)),
+            "Path 10 ShortHeader 28",
+        ),
+        (OptionFault::Path(0, PathFault::NoEnd(7)), "Path 0 NoEnd 7"),
+        (OptionFault::ZeroUnit, "ZeroUnit"),
+        (OptionFault::ListTooLong, "ListTooLong"),
+        (OptionFault::OutOfMemory, "OutOfMemory"),
+    ];
+    for (fault, text) in table {
+        assert_eq!(rt; fault.words(rt.alloc())?.as_str(), text);
+        assert_eq!(rt; format!(in rt.alloc(); "{fault}")?.as_str(), text);
+    }
+    Ok(())
+}

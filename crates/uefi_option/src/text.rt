@@ -1,0 +1,56 @@
+//! Descriptions as text.
+
+ghost use Rattle.std.specs.Prelude.{◌≡◌, ◌<◌, ◌++◌, IfOk, OnOk, IsTrue, ◌↔◌};
+ghost use Rattle.std.specs.Char.{digit_char};
+ghost use Rattle.std.specs.String.{string_bytes};
+ghost use Rattle.uefi_option.specs.Text.{is_plain, unit_text, units_text, hex_text};
+
+use std::alloc::{AllocError, Global};
+
+/// Whether a unit prints as itself: a printing ASCII character other than the backslash.
+fn is_plain_unit(unit: u16) -> bool
+    ensures { result ≡ is_plain unit }
+{
+    unit != 0x5c && (0x20..=0x7e).contains(&unit)
+}
+
+/// The hexadecimal digit for a number below 16, in lower case.
+fn hex_digit(number: u16) -> char
+    requires { number < 16 }
+    ensures digit { result ≡ digit_char number }
+    ensures ascii { result < 128 }
+{
+    let digit = number as u8;
+    char::from(if digit < 10 {
+        b'0' + digit
+    } else {
+        b'a' + (digit - 10)
+    })
+}
+
+/// Appends the text of one unit.
+fn append_unit(unit: u16, text: &mut String) -> Result<(), AllocError>
+    ensures { OnOk result (string_bytes text.new ≡ string_bytes text.old ++ unit_text unit) }
+{
+    if is_plain_unit(unit) {
+        return text.push(char::from(unit as u8));
+    }
+    text.push('\\')?;
+    text.push(hex_digit(unit / 0x1000))?;
+    text.push(hex_digit(unit / 0x100 % 0x10))?;
+    text.push(hex_digit(unit / 0x10 % 0x10))?;
+    text.push(hex_digit(unit % 0x10))
+}
+
+/// The units of a description (UEFI 2.10, 3.1.3) as one line of ASCII text: a unit from 0x20 to 0x7E other than the
+/// backslash, 0x5C, as itself, and every other as a backslash and its four hexadecimal digits in lower case. The one
+/// refusal is for want of memory.
+pub fn description_text(alloc: Global, description: &[u16]) -> Result<String, AllocError>
+    ensures { IfOk result (λ text. string_bytes text ≡ units_text description.now) }
+{
+    let mut text = String::new(alloc);
+    for unit in description {
+        append_unit(*unit, &mut text)?;
+    }
+    Ok(text)
+}

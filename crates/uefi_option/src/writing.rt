@@ -1,0 +1,59 @@
+//! Load options to bytes.
+
+ghost use Rattle.std.specs.Prelude.{◌≡◌, ◌≤◌, ◌++◌, length, IfOk, OnOk};
+ghost use Rattle.std.specs.Option.{SomeIff};
+ghost use Rattle.uefi_option.specs.LoadOption.{units_bytes, list_bytes, option_bytes, IsOption};
+
+use crate::load_option::{LIST_MAX, LoadOption};
+use std::alloc::{AllocError, Global};
+use uefi_path::{Path, path_len, write_path};
+
+/// How many bytes the list of these paths has: `None` where two bytes can't state it.
+pub(crate) fn list_len(paths: &[Path]) -> Option<u16>
+    ensures { let len = length (list_bytes paths.now) in SomeIff result (len ≤ LIST_MAX) len }
+{
+    let mut len: u16 = 0;
+    for path in paths {
+        len = len.checked_add(u16::try_from(path_len(path)?).ok()?)?;
+    }
+    Some(len)
+}
+
+/// Appends units, each as two bytes, little-endian.
+fn append_units(units: &[u16], out: &mut Vec<u8>) -> Result<(), AllocError>
+    ensures { OnOk result (out.new.items ≡ out.old.items ++ units_bytes units.now) }
+{
+    for unit in units {
+        out.extend_from_slice(&unit.to_le_bytes())?;
+    }
+    Ok(())
+}
+
+/// Appends the spellings of paths one after the other.
+fn append_paths(paths: &[Path], out: &mut Vec<u8>) -> Result<(), AllocError>
+    ensures { OnOk result (out.new.items ≡ out.old.items ++ list_bytes paths.now) }
+{
+    for path in paths {
+        write_path(path, out)?;
+    }
+    Ok(())
+}
+
+/// The spelling of a load option (UEFI 2.10, 3.1.3): its attributes in four bytes and the length of its list in two,
+/// little-endian, the units of its description and a zero unit, two bytes each, the spellings of its paths, and its
+/// optional data. The one refusal is for want of memory.
+pub fn write_option(alloc: Global, option: &LoadOption) -> Result<Vec<u8>, AllocError>
+    ensures written { IfOk result (λ out. out.items ≡ option_bytes option.now) }
+    ensures valid { IsOption option.now }
+{
+    // The paths of an option are never more than two bytes can state.
+    let len = list_len(option.paths()).unwrap();
+    let mut out = Vec::new(alloc);
+    out.extend_from_slice(&option.attributes().to_le_bytes())?;
+    out.extend_from_slice(&len.to_le_bytes())?;
+    append_units(option.description(), &mut out)?;
+    out.extend_from_slice(&0u16.to_le_bytes())?;
+    append_paths(option.paths(), &mut out)?;
+    out.extend_from_slice(option.optional())?;
+    Ok(out)
+}
