@@ -2,12 +2,15 @@
 use Rattle.std.specs.Prelude.{ℕ}
 use Rattle.bootkeep.specs.declared.failure.Failure.{Failure}
 use Rattle.bootkeep.specs.declared.failure.Failure.TheVariants as failure
+use Rattle.bootkeep.specs.declared.input.InputFault.{InputFault}
+use Rattle.bootkeep.specs.declared.input.InputFault.TheVariants as input
 use Rattle.bootkeep.specs.declared.report.Refusal.{Refusal}
 use Rattle.bootkeep.specs.declared.report.Refusal.TheVariants as refusal
 
 -- the status that the program ends with
 abbrev pub status_of : Failure → ℕ
 status_of (failure.Refused words) = 1
+status_of failure.TooMuch = 1
 status_of failure.CommandLine = 2
 status_of failure.Read = 3
 status_of failure.Write = 3
@@ -17,3 +20,9 @@ status_of failure.Memory = 4
 abbrev pub failure_of : Refusal → Failure
 failure_of (refusal.Input words) = failure.Refused words
 failure_of refusal.Memory = failure.Memory
+
+-- what an input that isn't read is to the program
+abbrev pub failure_of_input : InputFault → Failure
+failure_of_input input.TooMuch = failure.TooMuch
+failure_of_input input.Read = failure.Read
+failure_of_input input.Memory = failure.Memory

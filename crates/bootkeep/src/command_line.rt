@@ -13,6 +13,14 @@ const PATH: &str = "path";
 
 const HEX: &str = "HEX";
 
+const TEXT: &str = "text";
+
+const TEXT_WORD: &str = "TEXT";
+
+const OPTION: &str = "option";
+
+const FILE: &str = "FILE";
+
 /// What the words ask for.
 #[derive(Clone, Copy, Debug, PartialEq, Eq)]
 pub enum Request<'a> {
@@ -22,6 +30,16 @@ pub enum Request<'a> {
     Path {
         /// The bytes, in hexadecimal digits.
         hex: &'a str,
+    },
+    /// The device path that a text stands for.
+    Text {
+        /// The text.
+        text: &'a str,
+    },
+    /// The load option that a file holds.
+    LoadOption {
+        /// The path of the file.
+        file: &'a str,
     },
 }
 
@@ -47,15 +65,25 @@ pub fn read_words<'a>(alloc: Global, words: &'a [String]) -> Result<Request<'a>,
 
 fn command<'a>(alloc: Global) -> Result<Command<'a>, AllocError> {
     let path = Command::new(alloc, PATH).arg(Arg::new(alloc, HEX).required(true))?;
+    let text = Command::new(alloc, TEXT).arg(Arg::new(alloc, TEXT_WORD).required(true))?;
+    let option = Command::new(alloc, OPTION).arg(Arg::new(alloc, FILE).required(true))?;
     Command::new(alloc, "bootkeep")
         .subcommand_required(true)
-        .subcommand(path)
+        .subcommand(path)?
+        .subcommand(text)?
+        .subcommand(option)
 }
 
 fn request_of<'a>(matches: &ArgMatches<'a>) -> Option<Request<'a>> {
     match matches.subcommand()? {
         (PATH, matches) => Some(Request::Path {
             hex: matches.get_str(HEX)?,
+        }),
+        (TEXT, matches) => Some(Request::Text {
+            text: matches.get_str(TEXT_WORD)?,
+        }),
+        (OPTION, matches) => Some(Request::LoadOption {
+            file: matches.get_str(FILE)?,
         }),
         _ => None,
     }

@@ -1,10 +1,11 @@
 //! What keeps the program from doing what it was asked to.
 
 ghost use Rattle.std.specs.Prelude.{◌≡◌};
-ghost use Rattle.bootkeep.specs.Failure.{failure_of};
+ghost use Rattle.bootkeep.specs.Failure.{failure_of, failure_of_input};
 ghost use Rattle.bootkeep.specs.declared.failure.Failure.TheVariants as failure;
 
 use crate::command_line::USAGE;
+use crate::input::InputFault;
 use crate::report::Refusal;
 use std::alloc::{AllocError, AllocFailed};
 use thiserror::Error;
@@ -15,10 +16,13 @@ pub enum Failure {
     /// The input is refused. The words are those of its fault.
     #[error("refused: {0}")]
     Refused(String),
+    /// An input has more bytes than the program reads.
+    #[error("refused: TooMuch")]
+    TooMuch,
     /// The words of the command line ask for nothing that the program does.
     #[error("{}", USAGE)]
     CommandLine,
-    /// The words of the command line can't be had.
+    /// The words of the command line can't be had, or a file can't be opened or read.
     #[error("fault: read")]
     Read,
     /// Standard output took not all of the answer.
@@ -37,7 +41,7 @@ impl Failure {
         ensures { result ≡ status_of self.now }
     {
         match self {
-            Failure::Refused(_) => 1,
+            Failure::Refused(_) | Failure::TooMuch => 1,
             Failure::CommandLine => 2,
             Failure::Read | Failure::Write => 3,
             Failure::Memory => 4,
@@ -68,6 +72,18 @@ impl From<Refusal> for Failure {
         match refusal {
             Refusal::Input(words) => Failure::Refused(words),
             Refusal::Memory => Failure::Memory,
+        }
+    }
+}
+
+impl From<InputFault> for Failure {
+    ghost from_gives = { λ fault made. made ≡ failure_of_input fault };
+
+    fn from(fault: InputFault) -> Failure {
+        match fault {
+            InputFault::TooMuch => Failure::TooMuch,
+            InputFault::Read => Failure::Read,
+            InputFault::Memory => Failure::Memory,
         }
     }
 }

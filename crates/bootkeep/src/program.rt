@@ -5,13 +5,13 @@ ghost use Rattle.bootkeep.specs.Failure.{status_of};
 
 use crate::command_line::{self, Request, USAGE};
 use crate::failure::Failure;
-use crate::report;
-use std::rt::Env;
+use crate::{input, report};
+use std::rt::{Env, Files};
 use std::{env, io};
 
 /// Does what the words of the command line ask for, and returns the status to end with: 0, or that
 /// of the [`Failure`], whose line goes to standard error.
-pub fn run<R: Env + Print + Eprint + AllocGlobal>(rt: &R) -> u8 {
+pub fn run<R: Env + Files + Print + Eprint + AllocGlobal>(rt: &R) -> u8 {
     tell(rt, answer(rt))
 }
 
@@ -31,11 +31,16 @@ pub fn tell<R: Eprint>(rt: &R, outcome: Result<(), Failure>) -> u8
     }
 }
 
-fn answer<R: Env + Print + AllocGlobal>(rt: &R) -> Result<(), Failure> {
+fn answer<R: Env + Files + Print + AllocGlobal>(rt: &R) -> Result<(), Failure> {
     let words = words(rt)?;
     match command_line::read_words(rt.alloc(), words.as_slice())? {
         Request::Help => rt.println(USAGE),
         Request::Path { hex } => rt.print(report::path_report(rt.alloc(), hex)?),
+        Request::Text { text } => rt.print(report::text_report(rt.alloc(), text)?),
+        Request::LoadOption { file } => {
+            let bytes = input::read_file(rt, file)?;
+            rt.print(report::option_report(rt.alloc(), bytes.as_slice())?)
+        }
     }
     .map_err(|_| Failure::Write)
 }

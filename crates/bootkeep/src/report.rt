@@ -5,7 +5,9 @@ ghost use Rattle.bootkeep.specs.declared.report.Refusal.TheVariants as refusal;
 
 use hex::FromHexError;
 use std::alloc::{AllocError, Global};
-use uefi_path::PathFault;
+use uefi_option::{OptionFault, category, description_text, is_active, is_normal, read_option};
+use uefi_path::{PathFault, write_path};
+use uefi_text::{PathText, TextFault, read_text};
 
 /// Why a report is refused.
 #[derive(Debug, Drop)]
@@ -26,7 +28,8 @@ impl From<AllocError> for Refusal {
 
 /// Shows the device path (UEFI 2.10, 10.3) at the front of the bytes that `hex` writes out, two
 /// digits of either case for each. The report has the lines `instances N`, `nodes N`, over all
-/// instances and without the end nodes, and `rest N`, the bytes after the path.
+/// instances and without the end nodes, `rest N`, the bytes after the path, and `text T`, the path's
+/// text.
 ///
 /// # Errors
 ///
@@ -46,7 +49,69 @@ pub fn path_report(alloc: Global, hex: &str) -> Result<String, Refusal> {
         .iter()
         .fold(0usize, |sum, nodes| sum.saturating_add(nodes.len()));
     let rest = bytes.len() - len;
-    Ok(format!(in alloc; "instances {instances}\nnodes {nodes}\nrest {rest}\n")?)
+    let text = PathText(&path);
+    Ok(format!(in alloc; "instances {instances}\nnodes {nodes}\nrest {rest}\ntext {text}\n")?)
+}
+
+/// Shows the bytes of the device path (UEFI 2.10, 10.3) that the text stands for, two lower-case hexadecimal digits for
+/// each, on one line.
+///
+/// # Errors
+///
+/// [`Refusal::Input`] has the words of the text's fault where it stands for no path. [`Refusal::Memory`] comes only for
+/// want of memory.
+pub fn text_report(alloc: Global, text: &str) -> Result<String, Refusal> {
+    let path = match read_text(alloc, text) {
+        Ok(path) => path,
+        Err(fault) => return Err(text_refusal(alloc, fault)),
+    };
+    let mut bytes = Vec::new(alloc);
+    write_path(&path, &mut bytes)?;
+    let mut report = hex::encode(alloc, bytes.as_slice())?;
+    report.push('\n')?;
+    Ok(report)
+}
+
+/// Shows the load option (UEFI 2.10, 3.1.3) that the bytes are, all of them. The report has the lines `attributes`,
+/// with all eight hexadecimal digits, `active`, `category`, with four digits, `normal`, `description`, a line `path` for
+/// each path of the list, and `optional`, the optional data in hexadecimal digits or `-` where there is none.
+///
+/// # Errors
+///
+/// [`Refusal::Input`] has the words of the option's fault where the bytes are no load option. [`Refusal::Memory`] comes
+/// only for want of memory.
+pub fn option_report(alloc: Global, bytes: &[u8]) -> Result<String, Refusal> {
+    let option = match read_option(alloc, bytes) {
+        Ok(option) => option,
+        Err(fault) => return Err(option_refusal(alloc, fault)),
+    };
+    let attributes = option.attributes();
+    let active = yes_or_no(is_active(attributes));
+    let category = category(attributes);
+    let normal = yes_or_no(is_normal(attributes));
+    let description = description_text(alloc, option.description())?;
+    let mut report = format!(in alloc;
+        "attributes 0x{attributes:08x}\nactive {active}\ncategory 0x{category:04x}\nnormal {normal}\n"
+    )?;
+    writeln!(report, "description {description}")?;
+    for path in option.paths() {
+        writeln!(report, "path {}", PathText(path))?;
+    }
+    let optional = optional_text(alloc, option.optional())?;
+    writeln!(report, "optional {optional}")?;
+    Ok(report)
+}
+
+fn yes_or_no(is: bool) -> &'static str {
+    if is { "yes" } else { "no" }
+}
+
+fn optional_text(alloc: Global, bytes: &[u8]) -> Result<String, AllocError> {
+    if bytes.is_empty() {
+        String::from_str(alloc, "-")
+    } else {
+        hex::encode(alloc, bytes)
+    }
 }
 
 fn read_hex(alloc: Global, hex: &str) -> Result<Vec<u8>, Refusal> {
@@ -58,10 +123,29 @@ fn read_hex(alloc: Global, hex: &str) -> Result<Vec<u8>, Refusal> {
 }
 
 fn path_refusal(alloc: Global, fault: PathFault) -> Refusal {
-    if fault == PathFault::OutOfMemory {
-        return Refusal::Memory;
+    match fault {
+        PathFault::OutOfMemory => Refusal::Memory,
+        fault => refused(fault.words(alloc)),
     }
-    match fault.words(alloc) {
+}
+
+fn text_refusal(alloc: Global, fault: TextFault) -> Refusal {
+    match fault {
+        TextFault::OutOfMemory => Refusal::Memory,
+        fault => refused(fault.words(alloc)),
+    }
+}
+
+fn option_refusal(alloc: Global, fault: OptionFault) -> Refusal {
+    match fault {
+        OptionFault::OutOfMemory => Refusal::Memory,
+        fault => refused(fault.words(alloc)),
+    }
+}
+
+/// The refusal that these words tell, if there was memory for them.
+fn refused(words: Result<String, AllocError>) -> Refusal {
+    match words {
         Ok(words) => Refusal::Input(words),
         Err(AllocError) => Refusal::Memory,
     }

@@ -1,10 +1,14 @@
 //! What the program answers to words on a command line, over a runtime of the tests' own.
 
+mod files;
+
 use crate::failure::Failure;
+use crate::input::{self, InputFault};
 use crate::program;
 use crate::report::{self, Refusal};
+use files::{Contents, Fed, NamedFile};
 use std::alloc::Global;
-use std::cell::RefCell;
+use std::cell::{Cell, RefCell};
 use std::env::FillError;
 use std::fmt::Display;
 use std::io;
@@ -14,10 +18,54 @@ use std::test::Fail;
 const USAGE_LINE: &str =
     "usage: bootkeep path HEX | text TEXT | option FILE | show SET | run [--stream] SET SCRIPT --out FILE\n";
 
-const EMPTY_PATH_LINES: &str = "instances 1\nnodes 0\nrest 0\n";
+const EMPTY_PATH_LINES: &str = "instances 1\nnodes 0\nrest 0\ntext \n";
 
 /// A PCI root bridge, a PCI function and a SATA drive.
 const DRIVE: &str = "02010c00d041030a0000000001010600021f03120a000000ffff00007fff0400";
+
+/// The option `A` of that drive.
+const DRIVE_OPTION: [u8; 42] = [
+    0x01, 0x00, 0x00, 0x00, 0x20, 0x00, 0x41, 0x00, 0x00, 0x00, 0x02, 0x01, 0x0c, 0x00, 0xd0, 0x41,
+    0x03, 0x0a, 0x00, 0x00, 0x00, 0x00, 0x01, 0x01, 0x06, 0x00, 0x02, 0x1f, 0x03, 0x12, 0x0a, 0x00,
+    0x00, 0x00, 0xff, 0xff, 0x00, 0x00, 0x7f, 0xff, 0x04, 0x00,
+];
+
+const DRIVE_OPTION_LINES: &str =
+    "attributes 0x00000001\nactive yes\ncategory 0x0000\nnormal yes\ndescription A\npath PciRoot(0x0)/Pci(0x1f,0x2)/Sata(0x0,0xffff,0x0)\noptional -\n";
+
+/// A boot entry as an installer makes it: the first partition of a GPT drive, and a file on it.
+const DEBIAN_OPTION: &str = concat!(
+    "010000006200640065006200690061006e000000",
+    "04012a00010000000008000000000000004006000000000061dfe48bca93d211aa0d00e098032b8c0202",
+    "040434005c004500460049005c00640065006200690061006e005c007300680069006d007800360034002e0065006600690000007fff0400"
+);
+
+const DEBIAN_OPTION_LINES: &str =
+    "attributes 0x00000001\nactive yes\ncategory 0x0000\nnormal yes\ndescription debian\npath HD(1,GPT,8be4df61-93ca-11d2-aa0d-00e098032b8c,0x800,0x64000)/File(\\EFI\\debian\\shimx64.efi)\noptional -\n";
+
+/// The files that runs find.
+const FILES: [NamedFile<'static>; 5] = [
+    NamedFile {
+        path: "option",
+        contents: Contents::Bytes(&DRIVE_OPTION),
+    },
+    NamedFile {
+        path: "cut",
+        contents: Contents::Bytes(&[0x01, 0x00, 0x00, 0x00, 0x00, 0x00, 0x41]),
+    },
+    NamedFile {
+        path: "zeros",
+        contents: Contents::Zeros(u64::MAX),
+    },
+    NamedFile {
+        path: "folder",
+        contents: Contents::Refused,
+    },
+    NamedFile {
+        path: "large",
+        contents: Contents::OutOfMemory,
+    },
+];
 
 /// A stream that keeps what is written to it, or refuses it all.
 struct Stream {
@@ -69,6 +117,7 @@ enum Words<'a> {
 struct FakeRuntime<'a> {
     alloc: Global,
     words: Words<'a>,
+    files: &'a [NamedFile<'a>],
     stdout: Stream,
     stderr: Stream,
 }
@@ -140,6 +189,7 @@ impl Run {
         Run::over(FakeRuntime {
             alloc,
             words,
+            files: &FILES,
             stdout: Stream::new(alloc),
             stderr: Stream::new(alloc),
         })
@@ -150,6 +200,7 @@ impl Run {
         let FakeRuntime {
             alloc: _,
             words: _,
+            files: _,
             stdout,
             stderr,
         } = runtime;
@@ -165,15 +216,21 @@ impl Run {
 fn shows_a_path(rt: HostRuntime) -> Result<(), Fail> {
     for (hex, report) in [
         ("7fff0400", EMPTY_PATH_LINES),
-        (DRIVE, "instances 1\nnodes 3\nrest 0\n"),
-        ("7FFF0400aa", "instances 1\nnodes 0\nrest 1\n"),
-        ("7fff0400aa", "instances 1\nnodes 0\nrest 1\n"),
+        (
+            DRIVE,
+            "instances 1\nnodes 3\nrest 0\ntext PciRoot(0x0)/Pci(0x1f,0x2)/Sata(0x0,0xffff,0x0)\n",
+        ),
+        ("7FFF0400aa", "instances 1\nnodes 0\nrest 1\ntext \n"),
+        ("7fff0400aa", "instances 1\nnodes 0\nrest 1\ntext \n"),
         (
             "0305060001007f0104000305060002007fff0400",
-            "instances 2\nnodes 2\nrest 0\n",
+            "instances 2\nnodes 2\nrest 0\ntext USB(0x1,0x0),USB(0x2,0x0)\n",
         ),
-        ("7f0104007fff0400", "instances 2\nnodes 0\nrest 0\n"),
-        ("010107000205aa7fff0400", "instances 1\nnodes 1\nrest 0\n"),
+        ("7f0104007fff0400", "instances 2\nnodes 0\nrest 0\ntext ,\n"),
+        (
+            "010107000205aa7fff0400",
+            "instances 1\nnodes 1\nrest 0\ntext Path(0x1,0x1,0205aa)\n",
+        ),
     ] {
         match report::path_report(rt.alloc(), hex) {
             Ok(shown) => assert_eq!(rt; shown.as_str(), report, "at {hex}"),
@@ -206,8 +263,133 @@ fn refuses_what_is_no_path(rt: HostRuntime) -> Result<(), Fail> {
     Ok(())
 }
 
+#[test]
+fn shows_the_bytes_of_a_text(rt: HostRuntime) -> Result<(), Fail> {
+    for (text, bytes) in [
+        ("", "7fff0400"),
+        ("PciRoot(0)/Pci(31,02)/Sata(0x00,65535,0)", DRIVE),
+        ("PciRoot(0x0)/Pci(0x1f,0x2)/Sata(0x0,0xffff,0x0)", DRIVE),
+        (",", "7f0104007fff0400"),
+        (
+            "USB(0x1,0x0),USB(0x2,0x0)",
+            "0305060001007f0104000305060002007fff0400",
+        ),
+        ("\\A", "04040a005c00410000007fff0400"),
+        ("Path(0x1,0x1,021f)", "01010600021f7fff0400"),
+    ] {
+        match report::text_report(rt.alloc(), text) {
+            Ok(shown) => assert_eq!(rt;
+                shown.as_str().strip_suffix('\n'),
+                Some(bytes),
+                "at {text}"
+            ),
+            Err(refusal) => panic!(rt; "{text} is refused: {refusal:?}"),
+        }
+    }
+    for (text, words) in [
+        ("Pci(0x1f)", "BadSegment 0"),
+        ("PciRoot(0x0)/Pci(,0x2)", "BadNumber 17"),
+        ("Pci(0x100,0x0)", "OutOfRange 4"),
+        ("Path(0x7f,0xff)", "BadEnd 0"),
+        ("Pci(0x1,0x2)/", "BadSegment 13"),
+    ] {
+        match report::text_report(rt.alloc(), text) {
+            Err(Refusal::Input(fault)) => assert_eq!(rt; fault.as_str(), words, "at {text}"),
+            answer => panic!(rt; "{text} gives {answer:?}"),
+        }
+    }
+    Ok(())
+}
+
+#[test]
+fn shows_an_option(rt: HostRuntime) -> Result<(), Fail> {
+    let mut with_data = Vec::from_slice(rt.alloc(), DRIVE_OPTION.as_slice())?;
+    with_data.push(0x5a)?;
+    // two paths, of which the second has two instances, no normal option, and a description to escape
+    let two: [u8; 25] = [
+        0x00, 0x01, 0x00, 0x80, 0x0c, 0x00, 0x5c, 0x00, 0xe9, 0x00, 0x00, 0x00, 0x7f, 0xff, 0x04,
+        0x00, 0x7f, 0x01, 0x04, 0x00, 0x7f, 0xff, 0x04, 0x00, 0xa0,
+    ];
+    let two_lines =
+        "attributes 0x80000100\nactive no\ncategory 0x0100\nnormal no\ndescription \\005c\\00e9\npath \npath ,\noptional a0\n";
+    let no_name: [u8; 12] = [
+        0x01, 0x02, 0x00, 0x00, 0x04, 0x00, 0x00, 0x00, 0x7f, 0xff, 0x04, 0x00,
+    ];
+    let no_name_lines =
+        "attributes 0x00000201\nactive yes\ncategory 0x0200\nnormal no\ndescription \npath \noptional -\n";
+    let debian = hex::decode(rt.alloc(), DEBIAN_OPTION)?;
+    let table: [(&[u8], &str); 5] = [
+        (&DRIVE_OPTION, DRIVE_OPTION_LINES),
+        (debian.as_slice(), DEBIAN_OPTION_LINES),
+        (
+            with_data.as_slice(),
+            "attributes 0x00000001\nactive yes\ncategory 0x0000\nnormal yes\ndescription A\npath PciRoot(0x0)/Pci(0x1f,0x2)/Sata(0x0,0xffff,0x0)\noptional 5a\n",
+        ),
+        (&two, two_lines),
+        (&no_name, no_name_lines),
+    ];
+    for (bytes, report) in table {
+        match report::option_report(rt.alloc(), bytes) {
+            Ok(shown) => assert_eq!(rt; shown.as_str(), report, "at {bytes:?}"),
+            Err(refusal) => panic!(rt; "{bytes:?} is refused: {refusal:?}"),
+        }
+    }
+    Ok(())
+}
+
+#[test]
+fn refuses_what_is_no_option(rt: HostRuntime) -> Result<(), Fail> {
+    let mut short_header = Vec::from_slice(rt.alloc(), DRIVE_OPTION.as_slice())?;
+    if let Some(len) = short_header.as_mut_slice().get_mut(4) {
+        *len = 31;
+    }
+    let table: [(&[u8], &str); 5] = [
+        (&[], "Short"),
+        (&[0x01, 0x00, 0x00, 0x00, 0x00], "Short"),
+        (&DRIVE_OPTION[..9], "NoTerminator"),
+        (&DRIVE_OPTION[..41], "ListPastEnd"),
+        (short_header.as_slice(), "Path 10 ShortHeader 28"),
+    ];
+    for (bytes, words) in table {
+        match report::option_report(rt.alloc(), bytes) {
+            Err(Refusal::Input(fault)) => assert_eq!(rt; fault.as_str(), words, "at {bytes:?}"),
+            answer => panic!(rt; "{bytes:?} gives {answer:?}"),
+        }
+    }
+    Ok(())
+}
+
 /// Words with the status, standard output and standard error that they end with.
-const CALLS: [(&[&str], u8, &str, &str); 8] = [
+const CALLS: [(&[&str], u8, &str, &str); 17] = [
+    (
+        &["bootkeep", "text", "USB(1,0)"],
+        0,
+        "0305060001007fff0400\n",
+        "",
+    ),
+    (&["bootkeep", "text", ""], 0, "7fff0400\n", ""),
+    (
+        &["bootkeep", "text", "USB(1,0"],
+        1,
+        "",
+        "refused: BadSegment 0\n",
+    ),
+    (&["bootkeep", "option", "option"], 0, DRIVE_OPTION_LINES, ""),
+    (
+        &["bootkeep", "option", "cut"],
+        1,
+        "",
+        "refused: NoTerminator\n",
+    ),
+    (
+        &["bootkeep", "option", "zeros"],
+        1,
+        "",
+        "refused: TooMuch\n",
+    ),
+    (&["bootkeep", "option", "folder"], 3, "", "fault: read\n"),
+    (&["bootkeep", "option", "missing"], 3, "", "fault: read\n"),
+    (&["bootkeep", "option", "large"], 4, "", "fault: memory\n"),
     (&["bootkeep", "--help"], 0, USAGE_LINE, ""),
     (&["bootkeep", "path", "7fff0400"], 0, EMPTY_PATH_LINES, ""),
     (
@@ -245,7 +427,7 @@ fn ends_with_one_answer(rt: HostRuntime) -> Result<(), Fail> {
 }
 
 /// Words that ask for nothing that the program does.
-const OTHER_CALLS: [&[&str]; 31] = [
+const OTHER_CALLS: [&[&str]; 33] = [
     &[],
     &["bootkeep"],
     &["bootkeep", ""],
@@ -258,8 +440,10 @@ const OTHER_CALLS: [&[&str]; 31] = [
     &["bootkeep", "pat", "7fff0400"],
     &["bootkeep", "--", "path", "7fff0400"],
     &["bootkeep", "--path", "7fff0400"],
-    &["bootkeep", "text", "Pci(0x1f,0x2)"],
-    &["bootkeep", "option", "Boot0001"],
+    &["bootkeep", "text"],
+    &["bootkeep", "text", "USB(1,0)", "USB(1,0)"],
+    &["bootkeep", "option"],
+    &["bootkeep", "option", "option", "option"],
     &["bootkeep", "show", "set"],
     &["bootkeep", "run", "set", "script", "--out", "new"],
     &[
@@ -308,6 +492,7 @@ fn ends_where_standard_output_refuses(rt: HostRuntime) -> Result<(), Fail> {
         let run = Run::over(FakeRuntime {
             alloc: rt.alloc(),
             words: Words::Given(words),
+            files: &FILES,
             stdout: Stream::refusing(rt.alloc()),
             stderr: Stream::new(rt.alloc()),
         });
@@ -328,6 +513,7 @@ fn keeps_its_status_where_standard_error_refuses(rt: HostRuntime) -> Result<(), 
         let run = Run::over(FakeRuntime {
             alloc: rt.alloc(),
             words: Words::Given(words),
+            files: &FILES,
             stdout: Stream::refusing(rt.alloc()),
             stderr: Stream::refusing(rt.alloc()),
         });
@@ -341,6 +527,7 @@ fn tells_each_failure(rt: HostRuntime) -> Result<(), Fail> {
     let words = String::from_str(rt.alloc(), "PastEnd 7")?;
     for (failure, status, line) in [
         (Failure::Refused(words), 1, "refused: PastEnd 7\n"),
+        (Failure::TooMuch, 1, "refused: TooMuch\n"),
         (Failure::CommandLine, 2, USAGE_LINE),
         (Failure::Read, 3, "fault: read\n"),
         (Failure::Write, 3, "fault: write\n"),
@@ -349,6 +536,7 @@ fn tells_each_failure(rt: HostRuntime) -> Result<(), Fail> {
         let runtime = FakeRuntime {
             alloc: rt.alloc(),
             words: Words::NotText,
+            files: &[],
             stdout: Stream::new(rt.alloc()),
             stderr: Stream::new(rt.alloc()),
         };
@@ -356,11 +544,56 @@ fn tells_each_failure(rt: HostRuntime) -> Result<(), Fail> {
         let FakeRuntime {
             alloc: _,
             words: _,
+            files: _,
             stdout,
             stderr,
         } = runtime;
         assert_eq!(rt; stdout.into_text().as_str(), "");
         assert_eq!(rt; stderr.into_text().as_str(), line);
+    }
+    Ok(())
+}
+
+#[test]
+fn reads_inputs_up_to_the_limit(rt: HostRuntime) -> Result<(), Fail> {
+    const LIMIT: u64 = input::LIMIT as u64;
+    // how many bytes there are, how many a read gives at most, and after how many a read fails; what the answer is,
+    // and how many bytes were read
+    let table: [(u64, usize, Option<u64>, Result<u64, InputFault>, u64); 8] = [
+        (0, 1, None, Ok(0), 0),
+        (1000, 1, None, Ok(1000), 1000),
+        (1000, 7, Some(500), Err(InputFault::Read), 500),
+        (0, 1, Some(0), Err(InputFault::Read), 0),
+        (LIMIT, usize::MAX, None, Ok(LIMIT), LIMIT),
+        (
+            LIMIT + 1,
+            usize::MAX,
+            None,
+            Err(InputFault::TooMuch),
+            LIMIT + 1,
+        ),
+        (
+            u64::MAX,
+            usize::MAX,
+            None,
+            Err(InputFault::TooMuch),
+            LIMIT + 1,
+        ),
+        // what fails behind the first byte past the limit isn't read
+        (
+            u64::MAX,
+            usize::MAX,
+            Some(LIMIT + 1),
+            Err(InputFault::TooMuch),
+            LIMIT + 1,
+        ),
+    ];
+    for (bytes, at_once, fails_at, answer, read) in table {
+        let given = Cell::new(0);
+        let reader = Fed::new(bytes, at_once, fails_at, &given);
+        let found = input::read_input(rt.alloc(), reader).map(|bytes| bytes.len() as u64);
+        assert_eq!(rt; found, answer, "of {bytes} bytes");
+        assert_eq!(rt; given.get(), read, "of {bytes} bytes");
     }
     Ok(())
 }

@@ -1,0 +1,175 @@
+//! Files in memory.
+
+use super::FakeRuntime;
+use std::cell::Cell;
+use std::fs::{Metadata, OpenOptions};
+use std::io::{self, Read, Seek, SeekFrom, Write};
+use std::rt::Files;
+
+/// What a file gives to its reader.
+#[derive(Clone, Copy)]
+pub enum Contents<'a> {
+    /// These bytes.
+    Bytes(&'a [u8]),
+    /// So many zeros.
+    Zeros(u64),
+    /// An error at the first read, as of a folder.
+    Refused,
+    /// Want of memory at the first read.
+    OutOfMemory,
+}
+
+/// A file and where it is found.
+#[derive(Clone, Copy)]
+pub struct NamedFile<'a> {
+    pub path: &'a str,
+    pub contents: Contents<'a>,
+}
+
+/// An open file, which is read and never written.
+#[derive(Drop)]
+pub struct FakeFile<'a> {
+    rest: Contents<'a>,
+}
+
+impl Read for FakeFile<'_> {
+    fn read(&mut self, buf: &mut [u8]) -> io::Result<usize> {
+        match self.rest {
+            Contents::Bytes(bytes) => {
+                let len = bytes.len().min(buf.len());
+                let (front, rest) = bytes.split_at(len);
+                buf[..len].copy_from_slice(front);
+                self.rest = Contents::Bytes(rest);
+                Ok(len)
+            }
+            Contents::Zeros(left) => {
+                let len = (buf.len() as u64).min(left);
+                self.rest = Contents::Zeros(left - len);
+                Ok(len as usize)
+            }
+            Contents::Refused => Err(io::Error::from(io::ErrorKind::IsADirectory)),
+            Contents::OutOfMemory => Err(io::Error::from(io::ErrorKind::OutOfMemory)),
+        }
+    }
+}
+
+impl Write for FakeFile<'_> {
+    fn write(&mut self, _buf: &[u8]) -> io::Result<usize> {
+        Err(io::Error::from(io::ErrorKind::Unsupported))
+    }
+
+    fn flush(&mut self) -> io::Result<()> {
+        Err(io::Error::from(io::ErrorKind::Unsupported))
+    }
+}
+
+impl Seek for FakeFile<'_> {
+    fn seek(&mut self, _to: SeekFrom) -> io::Result<u64> {
+        Err(io::Error::from(io::ErrorKind::Unsupported))
+    }
+}
+
+impl std::fs::OpenFile for FakeFile<'_> {
+    fn metadata(&self) -> io::Result<Metadata> {
+        Err(io::Error::from(io::ErrorKind::Unsupported))
+    }
+
+    fn set_len(&self, _size: u64) -> io::Result<()> {
+        Err(io::Error::from(io::ErrorKind::Unsupported))
+    }
+
+    fn sync_all(&self) -> io::Result<()> {
+        Err(io::Error::from(io::ErrorKind::Unsupported))
+    }
+
+    fn sync_data(&self) -> io::Result<()> {
+        Err(io::Error::from(io::ErrorKind::Unsupported))
+    }
+}
+
+impl<'a> Files for FakeRuntime<'a> {
+    type File = FakeFile<'a>;
+
+    type Dir = FakeFile<'a>;
+
+    fn open_file(&self, _how: &OpenOptions, path: &str) -> io::Result<FakeFile<'a>> {
+        for file in self.files {
+            if file.path == path {
+                return Ok(FakeFile {
+                    rest: file.contents,
+                });
+            }
+        }
+        Err(io::Error::from(io::ErrorKind::NotFound))
+    }
+
+    fn open_dir(&self, _path: &str) -> io::Result<FakeFile<'a>> {
+        Err(io::Error::from(io::ErrorKind::Unsupported))
+    }
+
+    fn metadata(&self, _path: &str) -> io::Result<Metadata> {
+        Err(io::Error::from(io::ErrorKind::Unsupported))
+    }
+
+    fn symlink_metadata(&self, _path: &str) -> io::Result<Metadata> {
+        Err(io::Error::from(io::ErrorKind::Unsupported))
+    }
+
+    fn copy(&self, _from: &str, _to: &str) -> io::Result<u64> {
+        Err(io::Error::from(io::ErrorKind::Unsupported))
+    }
+
+    fn rename(&self, _from: &str, _to: &str) -> io::Result<()> {
+        Err(io::Error::from(io::ErrorKind::Unsupported))
+    }
+
+    fn remove_file(&self, _path: &str) -> io::Result<()> {
+        Err(io::Error::from(io::ErrorKind::Unsupported))
+    }
+
+    fn create_dir(&self, _path: &str) -> io::Result<()> {
+        Err(io::Error::from(io::ErrorKind::Unsupported))
+    }
+
+    fn remove_dir(&self, _path: &str) -> io::Result<()> {
+        Err(io::Error::from(io::ErrorKind::Unsupported))
+    }
+
+    fn remove_dir_all<B: std::alloc::Allocator>(&self, _alloc: B, _path: &str) -> io::Result<()> {
+        Err(io::Error::from(io::ErrorKind::Unsupported))
+    }
+}
+
+/// A reader of so many bytes, a few at once, that fails after some, and counts what it has given.
+#[derive(Drop)]
+pub struct Fed<'a> {
+    bytes: u64,
+    at_once: usize,
+    fails_at: Option<u64>,
+    given: &'a Cell<u64>,
+}
+
+impl<'a> Fed<'a> {
+    pub fn new(bytes: u64, at_once: usize, fails_at: Option<u64>, given: &'a Cell<u64>) -> Fed<'a> {
+        Fed {
+            bytes,
+            at_once,
+            fails_at,
+            given,
+        }
+    }
+}
+
+impl Read for Fed<'_> {
+    fn read(&mut self, buf: &mut [u8]) -> io::Result<usize> {
+        let given = self.given.get();
+        if self.fails_at == Some(given) {
+            return Err(io::Error::from(io::ErrorKind::BrokenPipe));
+        }
+        let end = self.fails_at.unwrap_or(self.bytes).min(self.bytes);
+        let len = buf.len().min(self.at_once) as u64;
+        let len = len.min(end.saturating_sub(given));
+        self.given.set(given.saturating_add(len));
+        Ok(len as usize)
+    }
+}
