@@ -1,14 +1,18 @@
-//! The plain side of the benchmark: what reads and writes paths without proofs, in the Rust of
-//! `rustc` and its standard library alone. It also makes the paths that both sides are timed on.
+//! The plain side of the benchmark: what reads and writes paths, and prints and reads their text,
+//! without proofs, in the Rust of `rustc` and its standard library alone. It also makes the paths
+//! that both sides are timed on.
 //!
 //! `plain make COUNT FILE` writes a path of so many nodes to a file. `plain time FILE` times the
 //! path in a file and prints one line: how many instances, nodes and nodes of the case `Other` the
-//! path has, how many bytes it takes, and the shortest time of a read and of a write in
-//! nanoseconds. The times have the growth of what is made in them, and not its drop. Each answer is
-//! compared with the file outside of them, and a wrong one ends the program.
+//! path has, how many bytes it and its text take, and the shortest time of a read, of a write, of
+//! printing and of reading the text, in nanoseconds. The times have the growth of what is made in
+//! them, and not its drop. Each answer is compared outside of them, and a wrong one ends the
+//! program.
 
 mod mixed;
 mod node;
+mod parsing;
+mod printing;
 mod reading;
 mod writing;
 
@@ -40,24 +44,29 @@ fn print_times(bytes: &[u8]) -> Result<(), Box<dyn Error>> {
         .flatten()
         .filter(|node| matches!(node, Node::Other { .. }))
         .count();
-    let (read, write) = shortest_times(bytes)?;
+    let text = printing::path_text(&path)?;
+    let times = shortest_times(bytes, &text)?;
     println!(
         "{instances} {nodes} {others} {} {} {}",
         bytes.len(),
-        read.as_nanos(),
-        write.as_nanos()
+        text.len(),
+        times.map(|time| time.as_nanos().to_string()).join(" ")
     );
     Ok(())
 }
 
-/// The shortest time of a read and of a write, of as many as take a second.
-fn shortest_times(bytes: &[u8]) -> Result<(Duration, Duration), Box<dyn Error>> {
-    let mut shortest = (Duration::MAX, Duration::MAX);
+/// The shortest time of each task, of as many turns as take a second.
+fn shortest_times(bytes: &[u8], text: &str) -> Result<[Duration; 4], Box<dyn Error>> {
+    let mut shortest = [Duration::MAX; 4];
     let start = Instant::now();
     while start.elapsed() < ENOUGH {
         let (path, read) = read_timed(bytes)?;
         let write = write_timed(&path, bytes)?;
-        shortest = (shortest.0.min(read), shortest.1.min(write));
+        let print = print_timed(&path, text)?;
+        let parse = parse_timed(text, bytes)?;
+        for (least, time) in shortest.iter_mut().zip([read, write, print, parse]) {
+            *least = time.min(*least);
+        }
     }
     Ok(shortest)
 }
@@ -81,6 +90,30 @@ fn write_timed(path: &Path, bytes: &[u8]) -> Result<Duration, Box<dyn Error>> {
     let time = start.elapsed();
     if out != bytes {
         return Err("plain Rust writes other bytes than it has read".into());
+    }
+    Ok(time)
+}
+
+/// Prints the path, which has this text, and tells how long that takes.
+fn print_timed(path: &Path, text: &str) -> Result<Duration, Box<dyn Error>> {
+    let start = Instant::now();
+    let printed = black_box(printing::path_text(black_box(path)))?;
+    let time = start.elapsed();
+    if printed != text {
+        return Err("plain Rust prints the path in two ways".into());
+    }
+    Ok(time)
+}
+
+/// Reads the text, and tells how long that takes.
+fn parse_timed(text: &str, bytes: &[u8]) -> Result<Duration, Box<dyn Error>> {
+    let start = Instant::now();
+    let path = black_box(parsing::read_text(black_box(text)))?;
+    let time = start.elapsed();
+    let mut out = Vec::new();
+    writing::write_path(&path, &mut out);
+    if out != bytes {
+        return Err("plain Rust reads another path off the text".into());
     }
     Ok(time)
 }

@@ -67,7 +67,7 @@ fn split_node(bytes: &[u8], offset: usize) -> Result<(u8, u8, &[u8]), Fault> {
     Ok((kind, sub, body))
 }
 
-fn node(kind: u8, sub: u8, body: &[u8]) -> Node {
+pub fn node(kind: u8, sub: u8, body: &[u8]) -> Node {
     match (kind, sub, body.len()) {
         (1, 1, 2) => Node::Pci {
             function: body[0],
