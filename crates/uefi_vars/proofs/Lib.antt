@@ -1,0 +1,13 @@
+pub mod Bytes
+pub mod Faults
+pub mod Maps
+pub mod Names
+pub mod Next
+pub mod Numbers
+pub mod Places
+pub mod PlanComparison
+pub mod Plans
+pub mod Reader
+pub mod Records
+pub mod Same
+pub mod Sets

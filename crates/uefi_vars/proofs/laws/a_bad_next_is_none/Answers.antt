@@ -1,0 +1,5 @@
+use Rattle.uefi_vars.proofs.Next.{next_is_not_bad}
+use Rattle.uefi_vars.proofs.laws.a_bad_next_is_none.Goals as goal
+
+pub returns : goal.returns
+returns c = λ vars next bad has. next_is_not_bad vars next has bad

@@ -1,0 +1,10 @@
+use Rattle.std.proofs.lemmas.Cmp.{nat_list_cmp_total}
+use Rattle.uefi_vars.proofs.Maps.{name_cmp-IsAntisymmetric}
+use Rattle.uefi_vars.specs.Maps.{insert_same, remove_absent}
+use Rattle.uefi_vars.proofs.laws.a_change_to_what_is_there_is_none.Goals as goal
+
+pub returns : goal.returns
+returns c = record {
+  put = λ vars name value held. insert_same nat_list_cmp_total name_cmp-IsAntisymmetric vars name value held;
+  removed = λ vars name absent. remove_absent nat_list_cmp_total name_cmp-IsAntisymmetric vars name absent;
+}

@@ -1,0 +1,5 @@
+use Rattle.uefi_vars.proofs.Numbers.{order_or_bad}
+use Rattle.uefi_vars.proofs.laws.variables_have_an_order_or_a_bad_one.Goals as goal
+
+pub returns : goal.returns
+returns c = order_or_bad

@@ -1,0 +1,5 @@
+use Rattle.uefi_vars.proofs.Numbers.{one_order}
+use Rattle.uefi_vars.proofs.laws.variables_have_one_order.Goals as goal
+
+pub returns : goal.returns
+returns c = one_order

@@ -1,0 +1,110 @@
+-- The first fault of the bytes of a set file.
+use Rattle.std.specs.Prelude.{◌≡◌, ◌≢◌, ◌⊎◌, ℕ, ◌^◌, ◌<◌, ◌≤◌, List, ◌∷◌, ◌++◌, map, length}
+use Rattle.std.specs.List.{AllByRecursion}
+use Rattle.std.specs.List.Sorted.{IsStrictlySortedBy}
+use Rattle.std.specs.Int.{w32, to_le_bytes}
+use Rattle.std.specs.declared.cmp.Ordering.TheVariants.{Less}
+use Rattle.uefi_vars.specs.declared.fault.SetFault.{SetFault}
+use Rattle.uefi_vars.specs.declared.fault.SetFault.TheVariants as fault
+use Rattle.uefi_vars.specs.declared.name.TheConstants.{NAME_MAX}
+use Rattle.uefi_vars.specs.declared.vars.TheConstants.{DATA_MAX}
+use Rattle.uefi_vars.specs.Name.{IsNameByte, IsName}
+use Rattle.uefi_vars.specs.Vars.{name_cmp, IsVariable}
+use Rattle.uefi_vars.specs.Set.{magic, name_bytes, records_bytes}
+
+-- the magic doesn't stand at the front
+abbrev pub HasNoMagic : List ℕ → Type 0
+HasNoMagic input = (rest : List ℕ) → input ≢ magic ++ rest
+
+-- The magic, whole records of rising names, and a rest, in which something is to stand. The place is that of the rest.
+pub record HasRest (input : List ℕ) (place : ℕ) (names : List (List ℕ)) (rest : List ℕ) : Type 0 where
+  pub variables : List (List ℕ × List ℕ)
+  pub whole : AllByRecursion IsVariable variables
+  pub named : names ≡ map (λ v. v.0) variables
+  pub rising : IsStrictlySortedBy name_cmp names
+  pub parts : input ≡ (magic ++ records_bytes variables) ++ rest
+  pub at : place ≡ length (magic ++ records_bytes variables)
+
+-- the name is above each of these
+abbrev pub IsAbove : List (List ℕ) → List ℕ → Type 0
+IsAbove names name = AllByRecursion (λ before. name_cmp before name ≡ Less) names
+
+-- ---- what may be at fault in a record, behind these names
+
+-- a length that no name has
+pub record HasBadNameLength (rest : List ℕ) : Type 0 where
+  pub len : ℕ
+  pub behind : List ℕ
+  pub bad : (len ≡ 0) ⊎ (NAME_MAX < len)
+  pub parts : rest ≡ len ∷ behind
+
+-- fewer characters than the name is to have
+pub record HasCutName (rest : List ℕ) : Type 0 where
+  pub len : ℕ
+  pub behind : List ℕ
+  pub good : (0 < len) × (len ≤ NAME_MAX)
+  pub parts : rest ≡ len ∷ behind
+  pub cut : length behind < len
+
+-- a character that no name has
+pub record HasBadCharacter (rest : List ℕ) : Type 0 where
+  pub name : List ℕ
+  pub behind : List ℕ
+  pub good : (0 < length name) × (length name ≤ NAME_MAX)
+  pub bad : ¬ AllByRecursion IsNameByte name
+  pub parts : rest ≡ name_bytes name ++ behind
+
+-- a name that isn't above those before
+pub record HasLowName (names : List (List ℕ)) (rest : List ℕ) : Type 0 where
+  pub name : List ℕ
+  pub behind : List ℕ
+  pub is : IsName name
+  pub low : ¬ IsAbove names name
+  pub parts : rest ≡ name_bytes name ++ behind
+
+-- a name that is, and these bytes behind it
+pub record HasName (names : List (List ℕ)) (rest behind : List ℕ) : Type 0 where
+  pub name : List ℕ
+  pub is : IsName name
+  pub above : IsAbove names name
+  pub parts : rest ≡ name_bytes name ++ behind
+
+-- such a name, and fewer than the four bytes of the length of its data
+pub record HasCutLength (names : List (List ℕ)) (rest : List ℕ) : Type 0 where
+  pub behind : List ℕ
+  pub name : HasName names rest behind
+  pub cut : length behind < 4
+
+-- such a name, and a length that no data has
+pub record HasBadLength (names : List (List ℕ)) (rest : List ℕ) : Type 0 where
+  pub len : ℕ
+  pub behind : List ℕ
+  pub name : HasName names rest (to_le_bytes w32 len ++ behind)
+  pub four_bytes : len < 2 ^ 32
+  pub bad : (len ≡ 0) ⊎ (DATA_MAX < len)
+
+-- such a name, a length, and fewer bytes than the data is to have
+pub record HasCutData (names : List (List ℕ)) (rest : List ℕ) : Type 0 where
+  pub len : ℕ
+  pub behind : List ℕ
+  pub name : HasName names rest (to_le_bytes w32 len ++ behind)
+  pub good : (0 < len) × (len ≤ DATA_MAX)
+  pub cut : length behind < len
+
+-- one of these at the rest
+pub record HasRestWith (input : List ℕ) (place : ℕ) (P : List (List ℕ) → List ℕ → Type 0) : Type 0 where
+  pub names : List (List ℕ)
+  pub rest : List ℕ
+  pub before : HasRest input place names rest
+  pub here : P names rest
+
+-- The fault is the first of the input, by cases.
+abbrev pub IsFirstFault : List ℕ → SetFault → Type 0
+IsFirstFault input (fault.BadMagic place) = HasNoMagic input × (place ≡ 0)
+IsFirstFault input (fault.Truncated place) =
+    HasRestWith input place (λ names rest. HasCutName rest ⊎ (HasCutLength names rest ⊎ HasCutData names rest))
+IsFirstFault input (fault.BadName place) =
+    HasRestWith input place (λ names rest. HasBadNameLength rest ⊎ HasBadCharacter rest)
+IsFirstFault input (fault.BadData place) = HasRestWith input place HasBadLength
+IsFirstFault input (fault.NotRising place) = HasRestWith input place HasLowName
+IsFirstFault input fault.OutOfMemory = ⊥

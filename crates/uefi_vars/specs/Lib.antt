@@ -1,0 +1,15 @@
+-- what public contracts and the laws cite
+pub mod Name
+pub mod Vars
+pub mod Set
+pub mod Fault
+pub mod Order
+pub mod Plan
+pub mod Words
+pub mod Maps
+pub mod Equality
+pub mod PlanEquality
+-- what private contracts cite
+pub mod Records
+pub mod Reading
+pub mod Numbers

@@ -1,0 +1,35 @@
+-- The names of variables, and those of the boot manager (UEFI 2.10, 3.3): Boot#### for each load option, BootOrder and
+-- BootNext.
+use Rattle.std.specs.Prelude.{◌≢◌, ℕ, ◌+◌, ◌/◌, ◌%◌, ◌≤◌, nat_lt, if◌then◌else◌, List, [], ◌∷◌, ◌++◌, length, codes}
+use Rattle.std.specs.List.{AllByRecursion}
+use Rattle.uefi_vars.specs.declared.name.TheConstants.{NAME_MAX}
+
+-- a character of a name: ASCII that prints, and no blank
+abbrev pub IsNameByte : ℕ → Type 0
+IsNameByte byte = (0x21 ≤ byte) × (byte ≤ 0x7E)
+
+-- 1 to NAME_MAX characters
+pub record IsName (name : List ℕ) : Type 0 where
+  pub some : name ≢ []
+  pub len : length name ≤ NAME_MAX
+  pub printing : AllByRecursion IsNameByte name
+
+-- the hexadecimal digit for a number below 16, 0 to 9 and A to F
+abbrev pub upper_digit : ℕ → ℕ
+upper_digit number = if nat_lt number 10 then 0x30 + number else 0x37 + number
+
+-- the four hexadecimal digits of a number below 65,536
+abbrev pub four_digits : ℕ → List ℕ
+four_digits number =
+    upper_digit (number / 0x1000) ∷ upper_digit (number / 0x100 % 0x10) ∷ upper_digit (number / 0x10 % 0x10)
+    ∷ upper_digit (number % 0x10) ∷ []
+
+-- Boot####: the name of the entry of this number
+abbrev pub entry_text : ℕ → List ℕ
+entry_text number = codes "Boot" ++ four_digits number
+
+abbrev pub order_text : List ℕ
+order_text = codes "BootOrder"
+
+abbrev pub next_text : List ℕ
+next_text = codes "BootNext"

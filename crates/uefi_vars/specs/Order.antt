@@ -1,0 +1,50 @@
+-- BootOrder and BootNext (UEFI 2.10, 3.3): which numbers are stored there.
+use Rattle.std.specs.Prelude.{◌≡◌, ◌≢◌, ◌⊎◌, ℕ, ◌*◌, ◌%◌, ◌^◌, ◌<◌, ◌≤◌, List, [], ◌∷◌, length, Option, Some, None, IfSome}
+use Rattle.std.specs.Option.{IsSomeAnd}
+use Rattle.std.specs.List.{AllByRecursion, flat_map}
+use Rattle.std.specs.Int.{w16, to_le_bytes}
+use Rattle.std.specs.FinMap.{get}
+use Rattle.uefi_vars.specs.declared.order.TheConstants.{ORDER_MAX}
+use Rattle.uefi_vars.specs.Name.{order_text, next_text}
+use Rattle.uefi_vars.specs.Vars.{Variables}
+
+-- the number of an entry
+abbrev pub IsNumber : ℕ → Type 0
+IsNumber number = number < 2 ^ 16
+
+-- the numbers, two bytes each
+abbrev pub numbers_bytes : List ℕ → List ℕ
+numbers_bytes numbers = flat_map (to_le_bytes w16) numbers
+
+-- what is stored of an order: nothing where it is empty
+abbrev pub stored_order : List ℕ → Option (List ℕ)
+stored_order [] = None
+stored_order (number ∷ numbers) = Some (numbers_bytes (number ∷ numbers))
+
+-- what is stored of the entry that the next boot tries first, if there is one
+abbrev pub stored_next : Option ℕ → Option (List ℕ)
+stored_next None = None
+stored_next (Some number) = Some (to_le_bytes w16 number)
+
+-- at most ORDER_MAX numbers
+pub record IsOrder (order : List ℕ) : Type 0 where
+  pub numbers : AllByRecursion IsNumber order
+  pub len : length order ≤ ORDER_MAX
+
+-- the variables have this BootOrder
+pub record HasOrder (vars : Variables) (order : List ℕ) : Type 0 where
+  pub is : IsOrder order
+  pub stored : get vars order_text ≡ stored_order order
+
+-- the variables have this BootNext
+pub record HasNext (vars : Variables) (next : Option ℕ) : Type 0 where
+  pub is : IfSome next IsNumber
+  pub stored : get vars next_text ≡ stored_next next
+
+-- the bytes of BootOrder are no numbers of two bytes each, or are too many
+abbrev pub HasBadOrder : Variables → Type 0
+HasBadOrder vars = IsSomeAnd (get vars order_text) (λ bytes. (length bytes % 2 ≢ 0) ⊎ (2 * ORDER_MAX < length bytes))
+
+-- the bytes of BootNext are no number of two bytes
+abbrev pub HasBadNext : Variables → Type 0
+HasBadNext vars = IsSomeAnd (get vars next_text) (λ bytes. length bytes ≢ 2)

@@ -1,0 +1,240 @@
+//! Laws of the definitions. Each function's contract is one law; calling it does nothing.
+
+ghost use Rattle.std.specs.Prelude.{◌≡◌, ◌≢◌, ◌⊎◌, ◌↔◌, ℕ, ◌<◌, ◌^◌, List, length, Contains, Option, Some, None, IfSome, IsTrue};
+ghost use Rattle.std.specs.List.{AllByRecursion};
+ghost use Rattle.std.specs.FinMap as map;
+ghost use Rattle.std.specs.declared.cmp.Ordering.TheVariants.{Less};
+ghost use Rattle.uefi_path.specs.Row.{IsByte};
+ghost use Rattle.uefi_vars.specs.declared.boot_plan.Choice.{Choice};
+ghost use Rattle.uefi_vars.specs.declared.fault.PutFault.{PutFault};
+ghost use Rattle.uefi_vars.specs.declared.fault.SetFault.{SetFault};
+ghost use Rattle.uefi_vars.specs.declared.fault.VarFault.{VarFault};
+ghost use Rattle.uefi_vars.specs.Name.{IsName, entry_text, order_text, next_text};
+ghost use Rattle.uefi_vars.specs.Vars.{Variables, name_cmp, IsVars, entry_of};
+ghost use Rattle.uefi_vars.specs.Set.{SpellsSet};
+ghost use Rattle.uefi_vars.specs.Fault.{IsFirstFault};
+ghost use Rattle.uefi_vars.specs.Order.{IsNumber, HasOrder, HasNext, HasBadOrder, HasBadNext};
+ghost use Rattle.uefi_vars.specs.Plan.{PlanParts, IsNormalChoice, IsPlan, HasPlan};
+
+use crate::boot_plan::BootPlan;
+use crate::fault::{PutFault, SetFault, VarFault};
+use crate::vars::Vars;
+use uefi_option::laws as option_laws;
+
+/// Variables that may stand in a set have a spelling, of bytes.
+pub fn each_set_is_spelled()
+    ensures { (vars : Variables) → IsVars vars →
+        (bytes : List ℕ) × SpellsSet bytes vars × AllByRecursion IsByte bytes }
+{}
+
+/// Variables have at most one spelling.
+pub fn a_set_has_one_spelling()
+    ensures { (vars : Variables) (a b : List ℕ) → SpellsSet a vars → SpellsSet b vars → a ≡ b }
+{}
+
+/// Bytes spell at most one set of variables.
+pub fn bytes_spell_one_set()
+    ensures { (bytes : List ℕ) (a b : Variables) → SpellsSet bytes a → SpellsSet bytes b → a ≡ b }
+{}
+
+/// Bytes spell variables, or have a first fault.
+pub fn bytes_spell_a_set_or_have_a_fault()
+    ensures { (bytes : List ℕ) → AllByRecursion IsByte bytes →
+        ((vars : Variables) × SpellsSet bytes vars)
+        ⊎ ((fault : SetFault) × IsFirstFault bytes fault) }
+{}
+
+/// Bytes that have a first fault spell no variables.
+pub fn a_fault_leaves_no_set()
+    ensures { (bytes : List ℕ) (fault : SetFault) (vars : Variables) →
+        IsFirstFault bytes fault → SpellsSet bytes vars → ⊥ }
+{}
+
+/// Bytes have at most one first fault.
+pub fn bytes_have_one_first_fault()
+    ensures { (bytes : List ℕ) (f g : SetFault) →
+        IsFirstFault bytes f → IsFirstFault bytes g → f ≡ g }
+{}
+
+/// Variables have at most one BootOrder.
+pub fn variables_have_one_order()
+    ensures { (vars : Variables) (a b : List ℕ) → HasOrder vars a → HasOrder vars b → a ≡ b }
+{}
+
+/// Where BootOrder is bad, it gives no order.
+pub fn a_bad_order_is_none()
+    ensures { (vars : Variables) (order : List ℕ) → HasBadOrder vars → HasOrder vars order → ⊥ }
+{}
+
+/// Where variables may stand in a set, BootOrder gives an order, or is bad.
+pub fn variables_have_an_order_or_a_bad_one()
+    ensures { (vars : Variables) → IsVars vars →
+        ((order : List ℕ) × HasOrder vars order) ⊎ HasBadOrder vars }
+{}
+
+/// Variables have at most one BootNext: a number, or none.
+pub fn variables_have_one_next()
+    ensures { (vars : Variables) (a b : Option ℕ) → HasNext vars a → HasNext vars b → a ≡ b }
+{}
+
+/// Where BootNext is bad, it is neither a number nor none.
+pub fn a_bad_next_is_none()
+    ensures { (vars : Variables) (next : Option ℕ) → HasBadNext vars → HasNext vars next → ⊥ }
+{}
+
+/// Where variables may stand in a set, BootNext is a number or none, or is bad.
+pub fn variables_have_a_next_or_a_bad_one()
+    ensures { (vars : Variables) → IsVars vars →
+        ((next : Option ℕ) × HasNext vars next) ⊎ HasBadNext vars }
+{}
+
+/// `==` on variables tells whether they are equal.
+pub fn variables_compare_as_values()
+    ensures { (a b : Variables) → IsTrue (⟦<Vars as PartialEq>⟧.eq a b) ↔ (a ≡ b) }
+{}
+
+/// `==` on the faults of a set tells whether they are equal.
+pub fn set_faults_compare_as_values()
+    ensures { (a b : SetFault) → IsTrue (⟦<SetFault as PartialEq>⟧.eq a b) ↔ (a ≡ b) }
+{}
+
+/// `==` on the faults of a put tells whether they are equal.
+pub fn put_faults_compare_as_values()
+    ensures { (a b : PutFault) → IsTrue (⟦<PutFault as PartialEq>⟧.eq a b) ↔ (a ≡ b) }
+{}
+
+/// `==` on the faults of variables tells whether they are equal.
+pub fn var_faults_compare_as_values()
+    ensures { (a b : VarFault) → IsTrue (⟦<VarFault as PartialEq>⟧.eq a b) ↔ (a ≡ b) }
+{}
+
+/// Variables are equal where they have the same data under each name.
+pub fn variables_are_equal_name_by_name()
+    ensures { (a b : Variables) → ((name : List ℕ) → map.get a name ≡ map.get b name) → a ≡ b }
+{}
+
+/// Of puts and removals under one name the last one counts.
+pub fn the_last_change_of_a_name_counts()
+    ensures put_put { (vars : Variables) (name value other : List ℕ) →
+        map.insert (map.insert vars name value) name other ≡ map.insert vars name other }
+    ensures put_removed { (vars : Variables) (name value : List ℕ) →
+        map.remove (map.insert vars name value) name ≡ map.remove vars name }
+    ensures removed_put { (vars : Variables) (name value : List ℕ) →
+        map.insert (map.remove vars name) name value ≡ map.insert vars name value }
+{}
+
+/// Puts under two names may come in either order.
+pub fn puts_under_two_names_commute()
+    ensures { (vars : Variables) (a b value other : List ℕ) → a ≢ b →
+        map.insert (map.insert vars a value) b other ≡ map.insert (map.insert vars b other) a value }
+{}
+
+/// To put what is there, or to remove what isn't, changes nothing.
+pub fn a_change_to_what_is_there_is_none()
+    ensures put { (vars : Variables) (name value : List ℕ) →
+        map.get vars name ≡ Some value → map.insert vars name value ≡ vars }
+    ensures removed { (vars : Variables) (name : List ℕ) →
+        map.get vars name ≡ None → map.remove vars name ≡ vars }
+{}
+
+/// Two numbers have two entries' names.
+pub fn entry_names_are_distinct()
+    ensures { (m n : ℕ) → m < 2 ^ 16 → n < 2 ^ 16 → entry_text m ≡ entry_text n → m ≡ n }
+{}
+
+/// The names of entries rise with their numbers.
+pub fn entry_names_rise()
+    ensures { (m n : ℕ) → m < n → n < 2 ^ 16 → name_cmp (entry_text m) (entry_text n) ≡ Less }
+{}
+
+/// The names of entries, BootOrder and BootNext are names that a variable may have.
+pub fn boot_names_are_names()
+    ensures entry { (number : ℕ) → number < 2 ^ 16 → IsName (entry_text number) }
+    ensures order { IsName order_text }
+    ensures next { IsName next_text }
+{}
+
+/// The name of an entry has eight characters, and is neither BootOrder, which has nine, nor BootNext.
+pub fn no_other_name_is_an_entrys()
+    ensures len { (number : ℕ) → length (entry_text number) ≡ 8 }
+    ensures order { (number : ℕ) → entry_text number ≢ order_text }
+    ensures next { (number : ℕ) → entry_text number ≢ next_text }
+    ensures apart { order_text ≢ next_text }
+{}
+
+/// To put an entry sets it, and leaves the others.
+pub fn a_put_sets_one_entry()
+    ensures here { (vars : Variables) (k : ℕ) (value : List ℕ) →
+        entry_of (map.insert vars (entry_text k) value) k ≡ Some value }
+    ensures others { (vars : Variables) (k n : ℕ) (value : List ℕ) →
+        k < 2 ^ 16 → n < 2 ^ 16 → n ≢ k →
+        entry_of (map.insert vars (entry_text k) value) n ≡ entry_of vars n }
+{}
+
+/// To remove an entry takes it out, and leaves the others.
+pub fn a_remove_takes_one_entry()
+    ensures here { (vars : Variables) (k : ℕ) → entry_of (map.remove vars (entry_text k)) k ≡ None }
+    ensures others { (vars : Variables) (k n : ℕ) → k < 2 ^ 16 → n < 2 ^ 16 → n ≢ k →
+        entry_of (map.remove vars (entry_text k)) n ≡ entry_of vars n }
+{}
+
+/// What is put or removed under another name leaves an entry as it is.
+pub fn other_names_leave_the_entries()
+    ensures put { (vars : Variables) (name value : List ℕ) (n : ℕ) → name ≢ entry_text n →
+        entry_of (map.insert vars name value) n ≡ entry_of vars n }
+    ensures removed { (vars : Variables) (name : List ℕ) (n : ℕ) → name ≢ entry_text n →
+        entry_of (map.remove vars name) n ≡ entry_of vars n }
+{}
+
+/// A plan depends on what is stored under the numbers of entries, and on nothing else.
+pub fn a_plan_reads_entries_alone()
+    ensures { (entries others : ℕ → Option (List ℕ)) (order : List ℕ) (next : Option ℕ)
+        (plan : PlanParts) → AllByRecursion IsNumber order → IfSome next IsNumber →
+        ((number : ℕ) → IsNumber number → entries number ≡ others number) →
+        IsPlan entries order next plan → IsPlan others order next plan }
+{}
+
+/// Entries have at most one plan for an order and a next.
+pub fn entries_have_one_plan()
+    ensures { (entries : ℕ → Option (List ℕ)) (order : List ℕ) (next : Option ℕ)
+        (p q : PlanParts) → IsPlan entries order next p → IsPlan entries order next q → p ≡ q }
+{
+    option_laws::bytes_spell_one_option();
+}
+
+/// Entries of bytes have a plan for each order and each next.
+pub fn entries_have_a_plan()
+    ensures { (entries : ℕ → Option (List ℕ)) (order : List ℕ) (next : Option ℕ) →
+        ((number : ℕ) → IfSome (entries number) (AllByRecursion IsByte)) →
+        (plan : PlanParts) × IsPlan entries order next plan }
+{
+    option_laws::bytes_spell_one_option();
+    option_laws::bytes_spell_an_option_or_have_a_fault();
+    option_laws::a_fault_leaves_no_option();
+}
+
+/// A number of the order with a normal option has its choice in the plan.
+pub fn a_plan_has_each_normal_option()
+    ensures { (entries : ℕ → Option (List ℕ)) (order : List ℕ) (next : Option ℕ)
+        (plan : PlanParts) (choice : Choice) →
+        IsPlan entries order next plan → Contains order choice.number →
+        IsNormalChoice entries choice.number choice → Contains plan.normal choice }
+{
+    option_laws::bytes_spell_one_option();
+}
+
+/// Variables have at most one plan.
+pub fn variables_have_one_plan()
+    ensures { (vars : Variables) (p q : PlanParts) → HasPlan vars p → HasPlan vars q → p ≡ q }
+{
+    variables_have_one_order();
+    variables_have_one_next();
+    entries_have_one_plan();
+}
+
+/// `==` on plans tells whether they are equal.
+pub fn plans_compare_as_values()
+    ensures { (a b : PlanParts) → IsTrue (⟦<BootPlan as PartialEq>⟧.eq a b) ↔ (a ≡ b) }
+{
+    option_laws::load_options_compare_as_values();
+}

@@ -1,0 +1,29 @@
+//! The boot variables of a machine, as one value and as one file, and what they say of the next boot (UEFI specification,
+//! version 2.10, chapter 3).
+//!
+//! [`Vars`] is a finite map from names to data. [`read_set`] reads one from the bytes of a set file, all of them, and
+//! [`write_set`] gives its one spelling. Load options stand under the names that [`entry_name`] gives; [`boot_order`] and
+//! [`boot_next`] read which of them are to be tried, and [`plan`] puts together what a boot would try.
+#![tactic(auto)]
+
+mod boot_plan;
+mod fault;
+pub mod laws;
+mod name;
+mod order;
+mod planning;
+mod reading;
+mod vars;
+mod writing;
+
+pub use boot_plan::{BootPlan, Choice};
+pub use fault::{PutFault, SetFault, VarFault};
+pub use name::{NAME_MAX, entry_name, entry_number};
+pub use order::{ORDER_MAX, boot_next, boot_order};
+pub use planning::plan;
+pub use reading::read_set;
+pub use vars::{DATA_MAX, Vars};
+pub use writing::write_set;
+
+#[cfg(test)]
+mod tests;

@@ -1,0 +1,84 @@
+//! The names of variables.
+
+ghost use Rattle.std.specs.Prelude.{◌≡◌, ◌↔◌, ℕ, ◌<◌, ◌^◌, Some, IfSome, IsTrue};
+ghost use Rattle.std.specs.List.{AllByRecursion};
+ghost use Rattle.uefi_vars.specs.Name.{IsNameByte, IsName, upper_digit, four_digits, entry_text};
+
+/// The most characters that a name has.
+pub const NAME_MAX: usize = 64;
+
+/// The name of the order in which entries are tried.
+pub(crate) const BOOT_ORDER: &str = "BootOrder";
+
+/// The name of the entry that the next boot tries first.
+pub(crate) const BOOT_NEXT: &str = "BootNext";
+
+/// Whether these bytes are the characters of a name: one to [`NAME_MAX`] of them, each from 0x21 to 0x7E.
+pub(crate) fn is_name(name: &[u8]) -> bool
+    ensures { IsTrue result ↔ IsName name.now }
+{
+    !name.is_empty() && name.len() <= NAME_MAX && name.iter().all(|byte| byte.is_ascii_graphic())
+}
+
+/// The hexadecimal digit for a number below 16, in upper case.
+fn upper_digit(number: u16) -> u8
+    requires { number < 16 }
+    ensures { result ≡ upper_digit number }
+{
+    let digit = number as u8;
+    if digit < 10 {
+        b'0' + digit
+    } else {
+        b'A' + (digit - 10)
+    }
+}
+
+/// The number that an upper-case hexadecimal digit stands for.
+fn digit_value(digit: u8) -> Option<u16>
+    ensures found { IfSome result (λ number. (number < 16) × (digit ≡ upper_digit number)) }
+    ensures only { (number : ℕ) → number < 16 → digit ≡ upper_digit number → result ≡ Some number }
+{
+    match digit {
+        b'0'..=b'9' => Some(u16::from(digit - b'0')),
+        b'A'..=b'F' => Some(u16::from(digit - b'A') + 10),
+        _ => None,
+    }
+}
+
+/// The four hexadecimal digits of a number, in upper case.
+pub(crate) fn four_digits(number: u16) -> [u8; 4]
+    ensures digits { result ≡ four_digits number }
+    ensures ascii { AllByRecursion IsNameByte result }
+{
+    [
+        upper_digit(number / 0x1000),
+        upper_digit(number / 0x100 % 0x10),
+        upper_digit(number / 0x10 % 0x10),
+        upper_digit(number % 0x10),
+    ]
+}
+
+/// The name of the entry of this number (UEFI 2.10, 3.1.1 and 3.3), as ASCII: `Boot` and its four hexadecimal digits in
+/// upper case.
+pub fn entry_name(number: u16) -> [u8; 8]
+    ensures text { result ≡ entry_text number }
+    // So it is text, and the name of a variable.
+    ensures name { IsName result }
+{
+    let [a, b, c, d] = four_digits(number);
+    [b'B', b'o', b'o', b't', a, b, c, d]
+}
+
+/// The number of the entry that has this name (UEFI 2.10, 3.1.1 and 3.3), if it is that of an entry: as ASCII, `Boot`
+/// and four hexadecimal digits, of which the letters are in upper case. `Boot00ab` is no entry's name.
+pub fn entry_number(name: &str) -> Option<u16>
+    ensures { (number : ℕ) →
+        (result ≡ Some number) ↔ ((number < 2 ^ 16) × (name.now ≡ entry_text number)) }
+{
+    let [b'B', b'o', b'o', b't', a, b, c, d] = name.as_bytes() else {
+        return None;
+    };
+    let high = digit_value(*a)? * 0x1000 + digit_value(*b)? * 0x100;
+    let low = digit_value(*c)? * 0x10 + digit_value(*d)?;
+    Some(high + low)
+}

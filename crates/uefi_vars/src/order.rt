@@ -1,0 +1,87 @@
+//! BootOrder and BootNext (UEFI 2.10, 3.3).
+
+ghost use Rattle.std.specs.Prelude.{◌≡◌, ◌≢◌, ◌↔◌, ℕ, List, Option, Some, Ok, Err, IfOk, IfErr, MatchResult};
+ghost use Rattle.uefi_vars.specs.declared.fault.VarFault.{VarFault};
+ghost use Rattle.uefi_vars.specs.Vars.{IsVars};
+ghost use Rattle.uefi_vars.specs.Order.{HasOrder, HasNext, HasBadOrder, HasBadNext};
+ghost use Rattle.uefi_vars.specs.Numbers.{numbers_of, HasStoredOrder};
+
+use crate::fault::VarFault;
+use crate::name::{BOOT_NEXT, BOOT_ORDER};
+use crate::vars::Vars;
+use std::alloc::{AllocError, Global};
+
+/// The most numbers that BootOrder has: as many as there are names of entries.
+pub const ORDER_MAX: usize = 65_536;
+
+/// The bytes of a number.
+const NUMBER_LEN: usize = 2;
+
+/// The bytes of BootOrder, two for each number. There are none where it isn't stored.
+pub(crate) fn stored_order(vars: &Vars) -> Result<&[u8], VarFault>
+    ensures found { IfOk result (λ bytes. HasStoredOrder vars.now bytes.now) }
+    ensures bad_order { (result ≡ Err VarFault.BadOrder) ↔ HasBadOrder vars.now }
+    ensures named { IfErr result (λ fault. fault ≡ VarFault.BadOrder) }
+    ensures valid { IsVars vars.now }
+{
+    let Some(bytes) = vars.get(BOOT_ORDER) else {
+        return Ok(&[]);
+    };
+    if bytes.len() % NUMBER_LEN != 0 || bytes.len() > ORDER_MAX * NUMBER_LEN {
+        return Err(VarFault::BadOrder);
+    }
+    Ok(bytes)
+}
+
+/// The numbers that the bytes spell, two bytes each, if there is memory for them.
+pub(crate) fn read_numbers(alloc: Global, bytes: &[u8]) -> Result<Vec<u16>, AllocError>
+    ensures { IfOk result (λ numbers. numbers.items ≡ numbers_of bytes.now) }
+{
+    let mut numbers = Vec::with_capacity(alloc, bytes.len() / NUMBER_LEN)?;
+    let mut rest = bytes;
+    while let [low, high, others @ ..] = rest {
+        numbers.push(u16::from_le_bytes([*low, *high]))?;
+        rest = others;
+    }
+    Ok(numbers)
+}
+
+/// The numbers of BootOrder (UEFI 2.10, 3.3), in their order; a number may stand there twice. There are none where
+/// BootOrder isn't stored.
+///
+/// # Errors
+///
+/// [`VarFault::BadOrder`] where its bytes are odd in number or more than two for each of [`ORDER_MAX`] numbers; else
+/// [`VarFault::OutOfMemory`] where memory for the numbers was refused.
+pub fn boot_order(alloc: Global, vars: &Vars) -> Result<Vec<u16>, VarFault>
+    ensures found { IfOk result (λ order. HasOrder vars.now order.items) }
+    ensures only { (order : List ℕ) → HasOrder vars.now order →
+        MatchResult result (λ numbers. numbers.items ≡ order)
+        (λ fault. fault ≡ VarFault.OutOfMemory) }
+    ensures bad_order { (result ≡ Err VarFault.BadOrder) ↔ HasBadOrder vars.now }
+    // There is no other refusal, but for want of memory.
+    ensures named { IfErr result (λ fault. fault ≢ VarFault.BadNext) }
+    ensures valid { IsVars vars.now }
+{
+    let bytes = stored_order(vars)?;
+    Ok(read_numbers(alloc, bytes)?)
+}
+
+/// The number in BootNext (UEFI 2.10, 3.3), or `None` where BootNext isn't stored.
+///
+/// # Errors
+///
+/// [`VarFault::BadNext`] where it has another number of bytes than two. No other comes: the call takes no memory.
+pub fn boot_next(vars: &Vars) -> Result<Option<u16>, VarFault>
+    ensures found { IfOk result (λ next. HasNext vars.now next) }
+    ensures only { (next : Option ℕ) → HasNext vars.now next → result ≡ Ok next }
+    ensures bad_next { (result ≡ Err VarFault.BadNext) ↔ HasBadNext vars.now }
+    ensures named { IfErr result (λ fault. fault ≡ VarFault.BadNext) }
+    ensures valid { IsVars vars.now }
+{
+    match vars.get(BOOT_NEXT) {
+        None => Ok(None),
+        Some([low, high]) => Ok(Some(u16::from_le_bytes([*low, *high]))),
+        Some(_) => Err(VarFault::BadNext),
+    }
+}

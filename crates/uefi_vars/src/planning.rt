@@ -1,0 +1,90 @@
+//! Variables to a plan.
+
+ghost use Rattle.std.specs.Prelude.{◌≡◌, ◌↔◌, Some, Ok, Err, IfOk};
+ghost use Rattle.uefi_path.specs.Answer.{IsUnless};
+ghost use Rattle.uefi_vars.specs.declared.fault.VarFault.{VarFault};
+ghost use Rattle.uefi_vars.specs.Vars.{IsVars, entry_of};
+ghost use Rattle.uefi_vars.specs.Order.{HasBadOrder, HasBadNext};
+ghost use Rattle.uefi_vars.specs.Plan.{PlanParts, IsNextChoice, AreNormalChoices, HasPlan};
+
+use crate::boot_plan::{BootPlan, Choice};
+use crate::fault::VarFault;
+use crate::laws;
+use crate::order::{boot_next, read_numbers, stored_order};
+use crate::vars::Vars;
+use std::alloc::{AllocError, Global};
+use uefi_option::{OptionFault, is_normal, laws as option_laws, read_option};
+
+/// The option of the entry of this number, if the entry is there and is one.
+fn read_choice(alloc: Global, vars: &Vars, number: u16) -> Result<Option<Choice>, AllocError>
+    ensures { IfOk result (λ choice. IsNextChoice (entry_of vars.now) (Some number) choice) }
+{
+    let Some(bytes) = vars.entry(number) else {
+        return Ok(None);
+    };
+    match read_option(alloc, bytes) {
+        Ok(option) => Ok(Some(Choice { number, option })),
+        Err(OptionFault::OutOfMemory) => Err(AllocError),
+        Err(_) => Ok(None),
+    }
+}
+
+/// The option of the entry with the number of BootNext, if there is a number, and the entry is there and is one.
+fn read_next_choice(
+    alloc: Global,
+    vars: &Vars,
+    next: Option<u16>,
+) -> Result<Option<Choice>, AllocError>
+    ensures { IfOk result (λ choice. IsNextChoice (entry_of vars.now) next choice) }
+{
+    match next {
+        Some(number) => read_choice(alloc, vars, number),
+        None => Ok(None),
+    }
+}
+
+/// The normal options of these entries, in their order.
+fn read_normal_choices(alloc: Global, vars: &Vars, order: &[u16]) -> Result<Vec<Choice>, AllocError>
+    ensures { IfOk result (λ choices.
+        AreNormalChoices (entry_of vars.now) order.now choices.items) }
+{
+    option_laws::bytes_spell_one_option();
+    let mut choices = Vec::new(alloc);
+    for number in order {
+        if let Some(choice) = read_choice(alloc, vars, *number)? {
+            if is_normal(choice.option.attributes()) {
+                choices.push(choice)?;
+            }
+        }
+    }
+    Ok(choices)
+}
+
+/// What a boot would try: the option that BootNext names, and then those that BootOrder names, in its order and as
+/// often as they stand there (UEFI 2.10, 3.3). Which of them count is this crate's choice: BootNext's whatever its
+/// attributes are, and of BootOrder's the normal ones, which are active and of the category of the normal boot (3.1.3).
+/// A number whose entry isn't there or is no load option is left out of both. The variables stay as they are: who
+/// boots by the plan deletes BootNext first.
+///
+/// # Errors
+///
+/// [`VarFault::BadOrder`] where the bytes of BootOrder are odd in number or more than two for each of
+/// [`ORDER_MAX`](crate::ORDER_MAX) numbers; else [`VarFault::BadNext`] where BootNext has another number of bytes than two;
+/// else [`VarFault::OutOfMemory`] where memory was refused.
+pub fn plan(alloc: Global, vars: &Vars) -> Result<BootPlan, VarFault>
+    ensures found { IfOk result (λ plan. HasPlan vars.now plan) }
+    ensures only { (plan : PlanParts) → HasPlan vars.now plan →
+        IsUnless result (Ok plan) VarFault.OutOfMemory }
+
+    ensures bad_order { (result ≡ Err VarFault.BadOrder) ↔ HasBadOrder vars.now }
+    ensures bad_next { (result ≡ Err VarFault.BadNext)
+        ↔ ((¬ HasBadOrder vars.now) × HasBadNext vars.now) }
+    ensures valid { IsVars vars.now }
+{
+    laws::variables_have_one_plan();
+    let order = stored_order(vars)?;
+    let next = read_next_choice(alloc, vars, boot_next(vars)?)?;
+    let numbers = read_numbers(alloc, order)?;
+    let normal = read_normal_choices(alloc, vars, &numbers)?;
+    Ok(BootPlan::from_choices(next, normal))
+}

@@ -1,0 +1,136 @@
+//! Bytes to variables.
+
+ghost use Rattle.std.specs.Prelude.{◌≡◌, ◌≢◌, ◌↔◌, ◌≤◌, [], length, drop, IfOk, IfErr, Ok, Err, IsTrue};
+ghost use Rattle.std.specs.List.Sorted.{IsStrictlySortedBy};
+ghost use Rattle.uefi_path.specs.Answer.{IsUnless};
+ghost use Rattle.uefi_vars.specs.declared.fault.SetFault.{SetFault};
+ghost use Rattle.uefi_vars.specs.Vars.{Variables, name_cmp};
+ghost use Rattle.uefi_vars.specs.Set.{SpellsSet};
+ghost use Rattle.uefi_vars.specs.Fault.{IsAbove, IsFirstFault};
+ghost use Rattle.uefi_vars.specs.Records.{pairs_of};
+ghost use Rattle.uefi_vars.specs.Reading.{names_of, SplitsName, IsNameFault, SplitsData, IsDataFault, HasRecords, HasRecordsFault};
+
+use crate::fault::SetFault;
+use crate::laws;
+use crate::name::{NAME_MAX, is_name};
+use crate::vars::{DATA_MAX, Variable, Vars, copy_variable};
+use crate::writing::MAGIC;
+use std::alloc::Global;
+
+/// The name at the front of a record, which stands at this place, and the bytes behind it.
+fn split_name(bytes: &[u8], place: usize) -> Result<(&str, &[u8]), SetFault>
+    requires { bytes.now ≢ [] }
+    ensures found { IfOk result (λ split. SplitsName bytes.now split.0.now split.1.now) }
+    ensures fault { IfErr result (IsNameFault bytes.now place) }
+{
+    let Some((len, behind)) = bytes.split_first() else {
+        return Err(SetFault::Truncated(place));
+    };
+    let len = usize::from(*len);
+    if len == 0 || len > NAME_MAX {
+        return Err(SetFault::BadName(place));
+    }
+    if len > behind.len() {
+        return Err(SetFault::Truncated(place));
+    }
+    let (name, behind) = behind.split_at(len);
+    match str::from_utf8(name) {
+        Ok(text) if is_name(name) => Ok((text, behind)),
+        _ => Err(SetFault::BadName(place)),
+    }
+}
+
+/// The data at the front of what stands behind a name, and the bytes behind it. The record stands at this place.
+fn split_data(bytes: &[u8], place: usize) -> Result<(&[u8], &[u8]), SetFault>
+    ensures found { IfOk result (λ split. SplitsData bytes.now split.0.now split.1.now) }
+    ensures fault { IfErr result (IsDataFault bytes.now place) }
+{
+    let [a, b, c, d, behind @ ..] = bytes else {
+        return Err(SetFault::Truncated(place));
+    };
+    let len = u32::from_le_bytes([*a, *b, *c, *d]) as usize;
+    if len == 0 || len > DATA_MAX {
+        return Err(SetFault::BadData(place));
+    }
+    if len > behind.len() {
+        return Err(SetFault::Truncated(place));
+    }
+    Ok(behind.split_at(len))
+}
+
+/// Whether the name is above those of these variables, which rise.
+fn rises(variables: &[Variable], name: &str) -> bool
+    requires { IsStrictlySortedBy name_cmp (names_of (pairs_of variables.now)) }
+    ensures { IsTrue result ↔ IsAbove (names_of (pairs_of variables.now)) name.now }
+{
+    match variables.last() {
+        Some(last) => last.name.as_str() < name,
+        None => true,
+    }
+}
+
+/// The variables whose records the bytes are from this place on, one after the other.
+fn read_variables(alloc: Global, bytes: &[u8], start: usize) -> Result<Vec<Variable>, SetFault>
+    requires { start ≤ length bytes.now }
+    ensures found { IfOk result (λ variables.
+        HasRecords (drop start bytes.now) (pairs_of variables.items) []) }
+    ensures fault { IfErr result (λ fault.
+        fault ≢ SetFault.OutOfMemory → HasRecordsFault (drop start bytes.now) start fault) }
+{
+    let mut variables = Vec::new(alloc);
+    let mut rest = &bytes[start..];
+    while !rest.is_empty() {
+        let place = bytes.len() - rest.len();
+        let (name, behind) = split_name(rest, place)?;
+        if !rises(&variables, name) {
+            return Err(SetFault::NotRising(place));
+        }
+        let (data, behind) = split_data(behind, place)?;
+        variables.push(copy_variable(alloc, name, data)?)?;
+        rest = behind;
+    }
+    Ok(variables)
+}
+
+/// Reads a set, and says of its answer what is found.
+fn read_magic_and_variables(alloc: Global, bytes: &[u8]) -> Result<Vars, SetFault>
+    ensures found { IfOk result (λ vars. SpellsSet bytes.now vars) }
+    ensures fault { IfErr result (λ fault. fault ≢ SetFault.OutOfMemory → IsFirstFault bytes.now fault) }
+{
+    if !bytes.starts_with(&MAGIC) {
+        return Err(SetFault::BadMagic(0));
+    }
+    let variables = read_variables(alloc, bytes, MAGIC.len())?;
+    Ok(Vars::from_variables(variables))
+}
+
+/// Reads the variables whose set file the bytes are, all of them. The file is the four bytes `BVS1` and, for each
+/// variable, in the rising order of the names' bytes, the length of its name in one byte, its name, the length of its data
+/// in four bytes, little-endian, and its data.
+///
+/// # Errors
+///
+/// The first of these faults. [`SetFault::BadMagic`] where the file doesn't begin with `BVS1`. Then for each record, in
+/// this order: [`SetFault::BadName`] where the name is to have no character or more than [`NAME_MAX`];
+/// [`SetFault::Truncated`] where the file ends in it; [`SetFault::BadName`] where a character isn't from 0x21 to 0x7E;
+/// [`SetFault::NotRising`] where the name isn't above the one before; [`SetFault::Truncated`] where the file ends in the
+/// length of the data; [`SetFault::BadData`] where the data is to have no byte or more than [`DATA_MAX`];
+/// [`SetFault::Truncated`] where the file ends in it. [`SetFault::OutOfMemory`] comes where memory was refused, also
+/// before a fault of a later record.
+pub fn read_set(alloc: Global, bytes: &[u8]) -> Result<Vars, SetFault>
+    // What is read is spelled so.
+    ensures found { IfOk result (λ vars. SpellsSet bytes.now vars) }
+    // What is spelled so is read.
+    ensures only { (vars : Variables) → SpellsSet bytes.now vars →
+        IsUnless result (Ok vars) SetFault.OutOfMemory }
+
+    ensures fault { IfErr result (λ fault.
+        fault ≢ SetFault.OutOfMemory → IsFirstFault bytes.now fault) }
+    ensures only_fault { (fault : SetFault) → IsFirstFault bytes.now fault →
+        IsUnless result (Err fault) SetFault.OutOfMemory }
+{
+    laws::bytes_spell_one_set();
+    laws::a_fault_leaves_no_set();
+    laws::bytes_have_one_first_fault();
+    read_magic_and_variables(alloc, bytes)
+}

@@ -1,0 +1,418 @@
+use super::*;
+use std::alloc::Global;
+use std::test::Fail;
+
+/// The option `A` of a disk: active, and with one path of three nodes.
+const DISK: [u8; 42] = [
+    0x01, 0x00, 0x00, 0x00, 0x20, 0x00, 0x41, 0x00, 0x00, 0x00, 0x02, 0x01, 0x0c, 0x00, 0xd0, 0x41,
+    0x03, 0x0a, 0x00, 0x00, 0x00, 0x00, 0x01, 0x01, 0x06, 0x00, 0x02, 0x1f, 0x03, 0x12, 0x0a, 0x00,
+    0x00, 0x00, 0xff, 0xff, 0x00, 0x00, 0x7f, 0xff, 0x04, 0x00,
+];
+
+/// A set file of three variables: `Boot0001` with [`DISK`], `BootKeepState`, and `BootOrder` with the entry 1.
+const SET: [u8; 100] = [
+    0x42, 0x56, 0x53, 0x31, 0x08, 0x42, 0x6f, 0x6f, 0x74, 0x30, 0x30, 0x30, 0x31, 0x2a, 0x00, 0x00,
+    0x00, 0x01, 0x00, 0x00, 0x00, 0x20, 0x00, 0x41, 0x00, 0x00, 0x00, 0x02, 0x01, 0x0c, 0x00, 0xd0,
+    0x41, 0x03, 0x0a, 0x00, 0x00, 0x00, 0x00, 0x01, 0x01, 0x06, 0x00, 0x02, 0x1f, 0x03, 0x12, 0x0a,
+    0x00, 0x00, 0x00, 0xff, 0xff, 0x00, 0x00, 0x7f, 0xff, 0x04, 0x00, 0x0d, 0x42, 0x6f, 0x6f, 0x74,
+    0x4b, 0x65, 0x65, 0x70, 0x53, 0x74, 0x61, 0x74, 0x65, 0x07, 0x00, 0x00, 0x00, 0x01, 0x01, 0x00,
+    0x00, 0x00, 0x01, 0x00, 0x09, 0x42, 0x6f, 0x6f, 0x74, 0x4f, 0x72, 0x64, 0x65, 0x72, 0x02, 0x00,
+    0x00, 0x00, 0x01, 0x00,
+];
+
+/// The variables of [`SET`].
+fn set_variables(alloc: Global) -> Result<Vars, Fail> {
+    let mut vars = Vars::new(alloc);
+    vars.put("BootOrder", &[0x01, 0x00])?;
+    vars.put("Boot0001", &DISK)?;
+    vars.put("BootKeepState", &[0x01, 0x01, 0x00, 0x00, 0x00, 0x01, 0x00])?;
+    Ok(vars)
+}
+
+/// A set file of these records, of which each is given with its lengths.
+fn set_file(alloc: Global, records: &[&[u8]]) -> Result<Vec<u8>, Fail> {
+    let mut bytes = Vec::from_slice(alloc, b"BVS1")?;
+    for record in records {
+        bytes.extend_from_slice(record)?;
+    }
+    Ok(bytes)
+}
+
+/// A set file of one variable `A` with so many bytes of data.
+fn set_of_one(alloc: Global, len: u32) -> Result<Vec<u8>, Fail> {
+    let mut bytes = set_file(alloc, &[&[0x01, 0x41]])?;
+    bytes.extend_from_slice(&len.to_le_bytes())?;
+    for _ in 0..len {
+        bytes.push(0x5a)?;
+    }
+    Ok(bytes)
+}
+
+#[test]
+fn reads_writes_and_copies_a_set(rt: HostRuntime) -> Result<(), Fail> {
+    let vars = read_set(rt.alloc(), &SET)?;
+    assert!(rt; vars == set_variables(rt.alloc())?);
+    assert_eq!(rt; write_set(rt.alloc(), &vars)?.as_slice(), SET.as_slice());
+    assert!(rt; vars.copy(rt.alloc())? == vars);
+    let empty = read_set(rt.alloc(), b"BVS1")?;
+    assert!(rt; empty == Vars::new(rt.alloc()));
+    assert_eq!(rt;
+        write_set(rt.alloc(), &empty)?.as_slice(),
+        b"BVS1".as_slice()
+    );
+    Ok(())
+}
+
+#[test]
+fn reads_each_cut_of_a_set(rt: HostRuntime) -> Result<(), Fail> {
+    for len in 0..=SET.len() {
+        let read = read_set(rt.alloc(), &SET[..len]);
+        let fault = match len {
+            0..=3 => SetFault::BadMagic(0),
+            5..=58 => SetFault::Truncated(4),
+            60..=83 => SetFault::Truncated(59),
+            85..=99 => SetFault::Truncated(84),
+            _ => {
+                let count = match len {
+                    4 => 0,
+                    59 => 1,
+                    84 => 2,
+                    _ => 3,
+                };
+                assert_eq!(rt; read?.len(), count, "of {len} bytes");
+                continue;
+            }
+        };
+        match read {
+            Ok(_) => assert!(rt; false, "{len} bytes are read"),
+            Err(found) => assert_eq!(rt; found, fault, "of {len} bytes"),
+        }
+    }
+    Ok(())
+}
+
+#[test]
+fn tells_the_first_fault_of_a_record(rt: HostRuntime) -> Result<(), Fail> {
+    let first: &[u8] = &[0x01, 0x41, 0x01, 0x00, 0x00, 0x00, 0x00];
+    // the bytes of a record, the name of its fault as the first record, and as one behind the variable `A`
+    let table: [(&[u8], &str, &str); 17] = [
+        (&[0x00], "BadName", "BadName"),
+        (&[0x00, 0x41], "BadName", "BadName"),
+        (&[0x41], "BadName", "BadName"),
+        (&[0xff, 0x42], "BadName", "BadName"),
+        (&[0x01], "Truncated", "Truncated"),
+        (&[0x40, 0x42], "Truncated", "Truncated"),
+        (&[0x03, 0x20, 0x42], "Truncated", "Truncated"),
+        (&[0x01, 0x20], "BadName", "BadName"),
+        (&[0x02, 0x42, 0x7f], "BadName", "BadName"),
+        (&[0x02, 0x42, 0xc3], "BadName", "BadName"),
+        (&[0x02, 0xc3, 0xa9], "BadName", "BadName"),
+        (&[0x01, 0x41], "Truncated", "NotRising"),
+        (
+            &[0x01, 0x40, 0x00, 0x00, 0x00, 0x00],
+            "BadData",
+            "NotRising",
+        ),
+        (
+            &[0x02, 0x41, 0x21, 0x00, 0x00, 0x00],
+            "Truncated",
+            "Truncated",
+        ),
+        (&[0x01, 0x42, 0x00, 0x00, 0x00, 0x00], "BadData", "BadData"),
+        (&[0x01, 0x42, 0x01, 0x00, 0x10, 0x00], "BadData", "BadData"),
+        (
+            &[0x01, 0x42, 0x02, 0x00, 0x00, 0x00, 0x5a],
+            "Truncated",
+            "Truncated",
+        ),
+    ];
+    for (record, alone, behind) in table {
+        let inputs = [
+            (
+                set_file(rt.alloc(), &[record])?,
+                format!(in rt.alloc(); "{alone} 4")?,
+            ),
+            (
+                set_file(rt.alloc(), &[first, record])?,
+                format!(in rt.alloc(); "{behind} 11")?,
+            ),
+        ];
+        for (bytes, words) in &inputs {
+            match read_set(rt.alloc(), bytes.as_slice()) {
+                Ok(_) => assert!(rt; false, "{record:?} is read"),
+                Err(fault) => assert_eq!(rt; fault.words(rt.alloc())?, *words, "of {record:?}"),
+            }
+        }
+    }
+    assert_eq!(rt;
+        read_set(rt.alloc(), b"BVS0").err(),
+        Some(SetFault::BadMagic(0))
+    );
+    Ok(())
+}
+
+#[test]
+fn keeps_variables_by_name(rt: HostRuntime) -> Result<(), Fail> {
+    let mut vars = set_variables(rt.alloc())?;
+    assert_eq!(rt; vars.len(), 3);
+    assert!(rt; vars.get("Boot0001") == Some(DISK.as_slice()));
+    assert!(rt; vars.get("Boot").is_none() && vars.get("Boot0002").is_none());
+    assert!(rt; vars.entry(1) == Some(DISK.as_slice()) && vars.entry(2).is_none());
+    assert!(rt; vars.item(0) == Some(("Boot0001", DISK.as_slice())));
+    assert!(rt; vars.item(2) == Some(("BootOrder", [0x01, 0x00].as_slice())));
+    assert!(rt; vars.item(3).is_none());
+    vars.put("BootOrder", &[0x02, 0x00])?;
+    vars.put("BootNext", &[0x02, 0x00])?;
+    assert!(rt; vars != set_variables(rt.alloc())?);
+    assert!(rt; vars.item(2) == Some(("BootNext", [0x02, 0x00].as_slice())));
+    assert!(rt; vars.item(3) == Some(("BootOrder", [0x02, 0x00].as_slice())));
+    assert!(rt; vars.remove("BootNext"));
+    assert!(rt; !vars.remove("BootNext"));
+    assert!(rt; vars != set_variables(rt.alloc())?);
+    vars.put("BootOrder", &[0x01, 0x00])?;
+    assert!(rt; vars == set_variables(rt.alloc())?);
+    for name in ["Boot0001", "BootKeepState", "BootOrder"] {
+        assert!(rt; vars.remove(name), "{name}");
+    }
+    assert!(rt; vars.is_empty() && vars == Vars::new(rt.alloc()));
+    Ok(())
+}
+
+#[test]
+fn puts_what_may_stand_in_a_set(rt: HostRuntime) -> Result<(), Fail> {
+    let longest = "0123456789abcdef0123456789abcdef0123456789abcdef0123456789abcdef";
+    let too_long = "0123456789abcdef0123456789abcdef0123456789abcdef0123456789abcdef0";
+    let most = vec![in rt.alloc(); 0u8; DATA_MAX]?;
+    let too_many = vec![in rt.alloc(); 0u8; DATA_MAX + 1]?;
+    let mut vars = Vars::new(rt.alloc());
+    vars.put(longest, most.as_slice())?;
+    vars.put("!~", &[0x00])?;
+    let table: [(&str, &[u8], PutFault); 10] = [
+        ("", &[0x00], PutFault::BadName),
+        (too_long, &[0x00], PutFault::BadName),
+        ("A B", &[0x00], PutFault::BadName),
+        ("A\u{7f}", &[0x00], PutFault::BadName),
+        ("\u{e9}", &[0x00], PutFault::BadName),
+        ("A B", &[], PutFault::BadName),
+        ("A B", too_many.as_slice(), PutFault::BadName),
+        ("A", &[], PutFault::EmptyData),
+        ("A", too_many.as_slice(), PutFault::DataTooLong),
+        (longest, too_many.as_slice(), PutFault::DataTooLong),
+    ];
+    for (name, value, fault) in table {
+        assert_eq!(rt; vars.put(name, value).err(), Some(fault), "of {name}");
+    }
+    assert_eq!(rt; vars.len(), 2);
+    assert!(rt; vars.get(longest) == Some(most.as_slice()));
+    // the same limits in a set file
+    let bytes = write_set(rt.alloc(), &vars)?;
+    assert!(rt; read_set(rt.alloc(), bytes.as_slice())? == vars);
+    assert_eq!(rt;
+        read_set(rt.alloc(), set_of_one(rt.alloc(), 1_048_576)?.as_slice())?.len(),
+        1
+    );
+    let fault = read_set(rt.alloc(), set_of_one(rt.alloc(), 1_048_577)?.as_slice()).err();
+    assert_eq!(rt; fault, Some(SetFault::BadData(4)));
+    let mut long_name = set_file(rt.alloc(), &[&[0x41], too_long.as_bytes()])?;
+    long_name.extend_from_slice(&[0x01, 0x00, 0x00, 0x00, 0x00])?;
+    assert_eq!(rt;
+        read_set(rt.alloc(), long_name.as_slice()).err(),
+        Some(SetFault::BadName(4))
+    );
+    Ok(())
+}
+
+#[test]
+fn names_entries(rt: HostRuntime) -> Result<(), Fail> {
+    let table: [(u16, &str); 6] = [
+        (0x0000, "Boot0000"),
+        (0x0001, "Boot0001"),
+        (0x00ab, "Boot00AB"),
+        (0x09af, "Boot09AF"),
+        (0x1234, "Boot1234"),
+        (0xffff, "BootFFFF"),
+    ];
+    for (number, name) in table {
+        assert_eq!(rt; entry_name(number).as_slice(), name.as_bytes());
+        assert_eq!(rt; entry_number(name), Some(number), "{name}");
+    }
+    for name in [
+        "",
+        "Boot",
+        "Boot00ab",
+        "Boot000G",
+        "Boot000",
+        "Boot00000",
+        "boot0000",
+        "BootNext",
+        "BootOrder",
+    ] {
+        assert!(rt; entry_number(name).is_none(), "{name}");
+    }
+    Ok(())
+}
+
+#[test]
+fn reads_order_and_next(rt: HostRuntime) -> Result<(), Fail> {
+    let full = vec![in rt.alloc(); 0u8; 2 * ORDER_MAX]?;
+    let too_long = vec![in rt.alloc(); 0u8; 2 * ORDER_MAX + 2]?;
+    let mut vars = Vars::new(rt.alloc());
+    assert!(rt; boot_order(rt.alloc(), &vars)?.is_empty());
+    assert_eq!(rt; boot_next(&vars)?, None);
+    vars.put("BootOrder", &[0x02, 0x01, 0x02, 0x01, 0xff, 0x00])?;
+    vars.put("BootNext", &[0xab, 0x00])?;
+    assert_eq!(rt;
+        boot_order(rt.alloc(), &vars)?.as_slice(),
+        [0x0102u16, 0x0102, 0x00ff].as_slice()
+    );
+    assert_eq!(rt; boot_next(&vars)?, Some(0x00ab));
+    vars.put("BootOrder", full.as_slice())?;
+    assert_eq!(rt; boot_order(rt.alloc(), &vars)?.len(), 65_536);
+    let orders: [&[u8]; 3] = [&[0x00], &[0x00, 0x01, 0x00], too_long.as_slice()];
+    for order in orders {
+        vars.put("BootOrder", order)?;
+        assert_eq!(rt;
+            boot_order(rt.alloc(), &vars).err(),
+            Some(VarFault::BadOrder)
+        );
+    }
+    let nexts: [&[u8]; 3] = [&[0x00], &[0x00, 0x01, 0x00], &[0x00, 0x01, 0x00, 0x00]];
+    for next in nexts {
+        vars.put("BootNext", next)?;
+        assert_eq!(rt; boot_next(&vars).err(), Some(VarFault::BadNext));
+        // both are at fault
+        assert_eq!(rt; plan(rt.alloc(), &vars).err(), Some(VarFault::BadOrder));
+    }
+    assert!(rt; vars.remove("BootOrder"));
+    assert_eq!(rt; plan(rt.alloc(), &vars).err(), Some(VarFault::BadNext));
+    Ok(())
+}
+
+/// The bytes of [`DISK`] with other attributes.
+fn with_attributes(alloc: Global, attributes: u32) -> Result<Vec<u8>, Fail> {
+    let mut bytes = Vec::from_slice(alloc, &attributes.to_le_bytes())?;
+    bytes.extend_from_slice(&DISK[4..])?;
+    Ok(bytes)
+}
+
+/// Entries of most kinds: 1 is inactive, 2 of the category APP, 3 no option, 4 normal, 6 normal and hidden, and 7 of a
+/// reserved category. There is no entry 5.
+fn entries(alloc: Global) -> Result<Vars, Fail> {
+    let mut vars = Vars::new(alloc);
+    vars.put("Boot0003", &[0x00])?;
+    for (name, attributes) in [
+        ("Boot0001", 0x0),
+        ("Boot0002", 0x101),
+        ("Boot0004", 0x1),
+        ("Boot0006", 0x9),
+        ("Boot0007", 0x201),
+    ] {
+        vars.put(name, with_attributes(alloc, attributes)?.as_slice())?;
+    }
+    Ok(vars)
+}
+
+#[test]
+fn plans_the_normal_options_behind_the_next(rt: HostRuntime) -> Result<(), Fail> {
+    let mut vars = entries(rt.alloc())?;
+    vars.put("BootOrder", &[5, 0, 1, 0, 2, 0, 3, 0, 4, 0, 6, 0, 7, 0])?;
+    vars.put("BootNext", &[7, 0])?;
+    let before = vars.copy(rt.alloc())?;
+    let choice = plan(rt.alloc(), &vars)?;
+    assert!(rt; vars == before);
+    assert!(rt; choice.next().is_some_and(|first| first.number == 7));
+    assert_eq!(rt; choice.normal().len(), 2);
+    let copy = choice.copy(rt.alloc())?;
+    assert!(rt; copy == choice);
+    assert!(rt; vars.remove("BootNext"));
+    let other = plan(rt.alloc(), &vars)?;
+    assert!(rt; other != choice);
+    Ok(())
+}
+
+#[test]
+fn puts_plans_into_words(rt: HostRuntime) -> Result<(), Fail> {
+    // what BootNext and BootOrder say, and the plan
+    let table: [(&[u8], &[u8], &str); 7] = [
+        (
+            &[7, 0],
+            &[5, 0, 1, 0, 2, 0, 3, 0, 4, 0, 6, 0, 7, 0],
+            "plan next 0007 normal 0004 0006",
+        ),
+        (
+            &[1, 0],
+            &[4, 0, 6, 0, 4, 0],
+            "plan next 0001 normal 0004 0006 0004",
+        ),
+        (&[4, 0], &[4, 0], "plan next 0004 normal 0004"),
+        (&[3, 0], &[6, 0, 4, 0], "plan next - normal 0006 0004"),
+        (&[5, 0], &[7, 0], "plan next - normal -"),
+        (&[2, 0], &[1, 0], "plan next 0002 normal -"),
+        (&[6, 0], &[3, 0, 5, 0], "plan next 0006 normal -"),
+    ];
+    let mut vars = entries(rt.alloc())?;
+    for (next, order, line) in table {
+        vars.put("BootNext", next)?;
+        vars.put("BootOrder", order)?;
+        let words = plan(rt.alloc(), &vars)?.words(rt.alloc())?;
+        assert_eq!(rt; words.as_str(), line);
+    }
+    let words = plan(rt.alloc(), &Vars::new(rt.alloc()))?.words(rt.alloc())?;
+    assert_eq!(rt; words.as_str(), "plan next - normal -");
+    Ok(())
+}
+
+#[test]
+fn tells_faults_in_words(rt: HostRuntime) -> Result<(), Fail> {
+    let put = [
+        (PutFault::BadName, "BadName"),
+        (PutFault::EmptyData, "EmptyData"),
+        (PutFault::DataTooLong, "DataTooLong"),
+        (PutFault::OutOfMemory, "OutOfMemory"),
+    ];
+    for (fault, words) in put {
+        assert_eq!(rt; fault.words(rt.alloc())?.as_str(), words);
+        assert_eq!(rt; fault.to_string(rt.alloc())?.as_str(), words);
+    }
+    let set = [
+        (SetFault::BadMagic(0), "BadMagic 0"),
+        (SetFault::Truncated(84), "Truncated 84"),
+        (SetFault::BadName(4), "BadName 4"),
+        (SetFault::BadData(11), "BadData 11"),
+        (SetFault::NotRising(11), "NotRising 11"),
+        (SetFault::OutOfMemory, "OutOfMemory"),
+    ];
+    for (fault, words) in set {
+        assert_eq!(rt; fault.words(rt.alloc())?.as_str(), words);
+        assert_eq!(rt; fault.to_string(rt.alloc())?.as_str(), words);
+    }
+    let var = [
+        (VarFault::BadOrder, "BadOrder"),
+        (VarFault::BadNext, "BadNext"),
+        (VarFault::OutOfMemory, "OutOfMemory"),
+    ];
+    for (fault, words) in var {
+        assert_eq!(rt; fault.words(rt.alloc())?.as_str(), words);
+        assert_eq!(rt; fault.to_string(rt.alloc())?.as_str(), words);
+    }
+    Ok(())
+}
+
+#[test]
+fn keeps_many_variables(rt: HostRuntime) -> Result<(), Fail> {
+    let mut vars = Vars::new(rt.alloc());
+    let mut order = Vec::new(rt.alloc());
+    for number in 0..10_000u16 {
+        let name = entry_name(number);
+        if let Ok(name) = str::from_utf8(&name) {
+            vars.put(name, &DISK)?;
+        }
+        order.extend_from_slice(&number.to_le_bytes())?;
+    }
+    vars.put("BootOrder", order.as_slice())?;
+    assert_eq!(rt; vars.len(), 10_001);
+    let bytes = write_set(rt.alloc(), &vars)?;
+    assert!(rt; read_set(rt.alloc(), bytes.as_slice())? == vars);
+    assert_eq!(rt; plan(rt.alloc(), &vars)?.normal().len(), 10_000);
+    Ok(())
+}

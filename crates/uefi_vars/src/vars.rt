@@ -1,0 +1,271 @@
+//! The variables of a machine as one value.
+
+ghost use Rattle.std.specs.Prelude.{◌≡◌, ◌≢◌, ◌⊎◌, ◌↔◌, ◌<◌, ℕ, List, [], length, slice_get, is_some, Err, IfOk, IfErr, OnOk, OnErr, IsTrue};
+ghost use Rattle.std.specs.Option.{option_map};
+ghost use Rattle.std.specs.FinMap as map;
+ghost use Rattle.uefi_vars.specs.declared.fault.PutFault.{PutFault};
+ghost use Rattle.uefi_vars.specs.Name.{IsName};
+ghost use Rattle.uefi_vars.specs.Vars.{name_cmp, IsVariable, IsVars, entry_of};
+ghost use Rattle.uefi_vars.specs.Records.{pair_of, pairs_of, AreVariables, vars_of, without, IsAt, IsGap};
+
+use crate::fault::PutFault;
+use crate::name::{entry_name, is_name};
+use std::alloc::{AllocError, Global};
+use std::marker::Model;
+
+/// The most bytes that the data of a variable has.
+pub const DATA_MAX: usize = 1_048_576;
+
+/// A variable: its name, and its data.
+#[derive(Debug, PartialEq, Eq, Drop)]
+pub(crate) struct Variable {
+    pub(crate) name: String,
+    pub(crate) data: Vec<u8>,
+}
+
+/// The variables of a machine: a finite map from names to data. A name has one to [`NAME_MAX`](crate::NAME_MAX) characters
+/// from 0x21 to 0x7E. No variable is without data, since setting a variable to no data deletes it (UEFI 2.10, 8.2), and none
+/// has more than [`DATA_MAX`] bytes.
+#[derive(Debug, Drop)]
+pub struct Vars {
+    /// In the order of their names.
+    variables: Vec<Variable>,
+}
+
+impl Model for Vars {
+    ghost use Rattle.std.specs.FinMap as map;
+    ghost use Rattle.std.specs.Coded.{coded_ℕ, coded_list};
+    ghost use Rattle.uefi_vars.specs.Vars.{Variables};
+
+    ghost Value = { Variables };
+
+    ghost coded = { map.code (coded_list coded_ℕ) (coded_list coded_ℕ) };
+
+    ghost use Rattle.uefi_vars.specs.Records.{pairs_of, AreVariables, vars_of};
+
+    ghost view = { λ v. vars_of v.variables.items };
+
+    ghost invariant = { λ v. AreVariables (pairs_of v.variables.items) };
+}
+
+impl PartialEq for Vars {
+    ghost use Rattle.std.specs.Prelude.{◌≡◌, ◌↔◌, IsTrue};
+    ghost use Rattle.std.proofs.Common.{rules};
+    ghost use Rattle.std.specs.Cmp.Rules.{comparing};
+    ghost use Rattle.uefi_vars.specs.Equality.{vars_eq};
+
+    ghost eq = { vars_eq };
+
+    ghost laws = { Prim.search (comparing, rules) };
+
+    fn eq(&self, other: &Vars) -> bool
+        ensures value { result ≡ vars_eq self.now other.now }
+        ensures equal { IsTrue result ↔ (self.now ≡ other.now) }
+    {
+        self.variables == other.variables
+    }
+}
+
+impl Eq for Vars {
+    ghost use Rattle.std.proofs.Common.{rules};
+    ghost use Rattle.std.specs.Cmp.Rules.{comparing};
+
+    ghost laws = { Prim.search (comparing, rules) };
+}
+
+impl Vars {
+    /// No variables.
+    pub fn new(alloc: Global) -> Vars
+        ensures { result ≡ map.empty }
+    {
+        Vars {
+            variables: Vec::new(alloc),
+        }
+    }
+
+    /// These variables, which are in the order of their names.
+    pub(crate) fn from_variables(variables: Vec<Variable>) -> Vars
+        requires { AreVariables (pairs_of variables.items) }
+        ensures { result ≡ vars_of variables.items }
+    {
+        Vars { variables }
+    }
+
+    /// The variables, in the order of their names.
+    pub(crate) fn variables(&self) -> &[Variable]
+        ensures pairs { pairs_of result.now ≡ map.entries self.now }
+        ensures valid { IsVars self.now }
+    {
+        &self.variables
+    }
+
+    /// An equal value. The one refusal is for want of memory.
+    pub fn copy(&self, alloc: Global) -> Result<Vars, AllocError>
+        ensures equal { IfOk result (λ vars. vars ≡ self.now) }
+        ensures valid { IsVars self.now }
+    {
+        Ok(Vars {
+            variables: copy_variables(alloc, &self.variables)?,
+        })
+    }
+
+    /// How many variables there are.
+    pub fn len(&self) -> usize
+        ensures len { result ≡ map.len self.now }
+        ensures valid { IsVars self.now }
+    {
+        self.variables.len()
+    }
+
+    /// Whether there is no variable.
+    pub fn is_empty(&self) -> bool
+        ensures { IsTrue result ↔ (self.now ≡ map.empty) }
+    {
+        self.variables.is_empty()
+    }
+
+    /// The data of the variable of this name, if there is one.
+    pub fn get(&self, name: &str) -> Option<&[u8]>
+        ensures value { option_map (λ bytes. bytes.now) result ≡ map.get self.now name.now }
+        ensures valid { IsVars self.now }
+    {
+        find(&self.variables, name.as_bytes())
+    }
+
+    /// The data of the entry of this number, the variable `Boot####` (UEFI 2.10, 3.1.1), if there is one.
+    pub fn entry(&self, number: u16) -> Option<&[u8]>
+        ensures value { option_map (λ bytes. bytes.now) result ≡ entry_of self.now number }
+        ensures valid { IsVars self.now }
+    {
+        find(&self.variables, &entry_name(number))
+    }
+
+    /// The variable at this place in the rising order of the names' bytes, counted from 0: its name and its data, if there
+    /// are so many.
+    pub fn item(&self, index: usize) -> Option<(&str, &[u8])>
+        ensures item { option_map (λ item. (item.0.now, item.1.now)) result
+            ≡ slice_get (map.entries self.now) index }
+        ensures valid { IsVars self.now }
+    {
+        let variable = self.variables.get(index)?;
+        Some((variable.name.as_str(), variable.data.as_slice()))
+    }
+
+    /// Sets the variable of this name to this data, which is copied: one more variable where there was none of the name,
+    /// and else its new data. A refusal changes nothing.
+    ///
+    /// # Errors
+    ///
+    /// [`PutFault::BadName`] where the name isn't one to [`NAME_MAX`](crate::NAME_MAX) characters from 0x21 to 0x7E; else
+    /// [`PutFault::EmptyData`] where there is no data; else [`PutFault::DataTooLong`] where it has more than [`DATA_MAX`]
+    /// bytes; else [`PutFault::OutOfMemory`] where memory for it was refused.
+    pub fn put(&mut self, name: &str, value: &[u8]) -> Result<(), PutFault>
+        ensures put { OnOk result (self.new ≡ map.insert self.old name.now value.now) }
+        ensures unchanged { OnErr result (self.new ≡ self.old) }
+
+        ensures bad_name { (result ≡ Err PutFault.BadName) ↔ (¬ IsName name.now) }
+        ensures empty_data { (result ≡ Err PutFault.EmptyData) ↔ (IsName name.now × (value.now ≡ [])) }
+        ensures data_too_long { (result ≡ Err PutFault.DataTooLong)
+            ↔ (IsName name.now × (DATA_MAX < length value.now)) }
+        ensures valid { IsVars self.new }
+    {
+        let variables = &mut self.variables;
+        if !is_name(name.as_bytes()) {
+            return Err(PutFault::BadName);
+        }
+        if value.is_empty() {
+            return Err(PutFault::EmptyData);
+        }
+        if value.len() > DATA_MAX {
+            return Err(PutFault::DataTooLong);
+        }
+        store(variables, name, value)?;
+        Ok(())
+    }
+
+    /// Takes out the variable of this name. Whether there was one.
+    pub fn remove(&mut self, name: &str) -> bool
+        ensures was { result ≡ map.contains_key self.old name.now }
+        ensures removed { self.new ≡ map.remove self.old name.now }
+        ensures valid { IsVars self.new }
+    {
+        erase(&mut self.variables, name.as_bytes())
+    }
+}
+
+/// Where the variable of this name stands among those, which are in the order of their names, or else where it would.
+fn search(variables: &[Variable], name: &[u8]) -> Result<usize, usize>
+    requires { AreVariables (pairs_of variables.now) }
+    ensures found { IfOk result (IsAt (pairs_of variables.now) name.now) }
+    ensures absent { IfErr result (IsGap (pairs_of variables.now) name.now) }
+{
+    variables.binary_search_by(|variable| variable.name.as_bytes().cmp(name))
+}
+
+/// The data of the variable of this name, if there is one.
+fn find<'a>(variables: &'a [Variable], name: &[u8]) -> Option<&'a [u8]>
+    requires { AreVariables (pairs_of variables.now) }
+    ensures { option_map (λ bytes. bytes.now) result ≡ map.find name_cmp name.now (pairs_of variables.now) }
+{
+    match search(variables, name) {
+        Ok(place) => Some(&variables[place].data),
+        Err(_) => None,
+    }
+}
+
+/// Sets the variable of this name to this data.
+fn store(variables: &mut Vec<Variable>, name: &str, value: &[u8]) -> Result<(), AllocError>
+    requires rising { AreVariables (pairs_of variables.old.items) }
+    requires valid { IsVariable (name.now, value.now) }
+    ensures stored { OnOk result (pairs_of variables.new.items
+        ≡ map.put name_cmp name.now value.now (pairs_of variables.old.items)) }
+    ensures unchanged { OnErr result (variables.new.items ≡ variables.old.items) }
+    ensures held { AreVariables (pairs_of variables.new.items) }
+{
+    let alloc = *variables.allocator();
+    let data = Vec::from_slice(alloc, value)?;
+    match search(variables, name.as_bytes()) {
+        Ok(place) => variables[place].data = data,
+        Err(place) => {
+            let name = String::from_str(alloc, name)?;
+            variables.insert(place, Variable { name, data })?;
+        }
+    }
+    Ok(())
+}
+
+/// Takes out the variable of this name. Whether there was one.
+fn erase(variables: &mut Vec<Variable>, name: &[u8]) -> bool
+    requires { AreVariables (pairs_of variables.old.items) }
+    ensures was { result ≡ is_some (map.find name_cmp name.now (pairs_of variables.old.items)) }
+    ensures erased { pairs_of variables.new.items ≡ without name.now (pairs_of variables.old.items) }
+    ensures held { AreVariables (pairs_of variables.new.items) }
+{
+    match search(variables, name) {
+        Ok(place) => {
+            variables.remove(place);
+            true
+        }
+        Err(_) => false,
+    }
+}
+
+/// Equal variables, if there is memory for them.
+fn copy_variables(alloc: Global, variables: &[Variable]) -> Result<Vec<Variable>, AllocError>
+    ensures { IfOk result (λ copies. pairs_of copies.items ≡ pairs_of variables.now) }
+{
+    let mut copies = Vec::with_capacity(alloc, variables.len())?;
+    for variable in variables {
+        copies.push(copy_variable(alloc, &variable.name, &variable.data)?)?;
+    }
+    Ok(copies)
+}
+
+/// A variable of this name and this data, which are copied.
+pub(crate) fn copy_variable(alloc: Global, name: &str, value: &[u8]) -> Result<Variable, AllocError>
+    ensures { IfOk result (λ variable. pair_of variable ≡ (name.now, value.now)) }
+{
+    let name = String::from_str(alloc, name)?;
+    let data = Vec::from_slice(alloc, value)?;
+    Ok(Variable { name, data })
+}
