@@ -21,6 +21,10 @@ const OPTION: &str = "option";
 
 const FILE: &str = "FILE";
 
+const SHOW: &str = "show";
+
+const SET: &str = "SET";
+
 /// What the words ask for.
 #[derive(Clone, Copy, Debug, PartialEq, Eq)]
 pub enum Request<'a> {
@@ -40,6 +44,11 @@ pub enum Request<'a> {
     LoadOption {
         /// The path of the file.
         file: &'a str,
+    },
+    /// The boot variables that a set file holds.
+    Show {
+        /// The path of the set file.
+        set: &'a str,
     },
 }
 
@@ -67,11 +76,13 @@ fn command<'a>(alloc: Global) -> Result<Command<'a>, AllocError> {
     let path = Command::new(alloc, PATH).arg(Arg::new(alloc, HEX).required(true))?;
     let text = Command::new(alloc, TEXT).arg(Arg::new(alloc, TEXT_WORD).required(true))?;
     let option = Command::new(alloc, OPTION).arg(Arg::new(alloc, FILE).required(true))?;
+    let show = Command::new(alloc, SHOW).arg(Arg::new(alloc, SET).required(true))?;
     Command::new(alloc, "bootkeep")
         .subcommand_required(true)
         .subcommand(path)?
         .subcommand(text)?
-        .subcommand(option)
+        .subcommand(option)?
+        .subcommand(show)
 }
 
 fn request_of<'a>(matches: &ArgMatches<'a>) -> Option<Request<'a>> {
@@ -84,6 +95,9 @@ fn request_of<'a>(matches: &ArgMatches<'a>) -> Option<Request<'a>> {
         }),
         (OPTION, matches) => Some(Request::LoadOption {
             file: matches.get_str(FILE)?,
+        }),
+        (SHOW, matches) => Some(Request::Show {
+            set: matches.get_str(SET)?,
         }),
         _ => None,
     }

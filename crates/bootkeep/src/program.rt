@@ -41,6 +41,10 @@ fn answer<R: Env + Files + Print + AllocGlobal>(rt: &R) -> Result<(), Failure> {
             let bytes = input::read_file(rt, file)?;
             rt.print(report::option_report(rt.alloc(), bytes.as_slice())?)
         }
+        Request::Show { set } => {
+            let bytes = input::read_file(rt, set)?;
+            rt.print(report::set_report(rt.alloc(), bytes.as_slice())?)
+        }
     }
     .map_err(|_| Failure::Write)
 }

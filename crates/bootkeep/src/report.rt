@@ -8,6 +8,7 @@ use std::alloc::{AllocError, Global};
 use uefi_option::{OptionFault, category, description_text, is_active, is_normal, read_option};
 use uefi_path::{PathFault, write_path};
 use uefi_text::{PathText, TextFault, read_text};
+use uefi_vars::{SetFault, VarFault, Vars, boot_next, boot_order, entry_number, plan, read_set};
 
 /// Why a report is refused.
 #[derive(Debug, Drop)]
@@ -102,6 +103,81 @@ pub fn option_report(alloc: Global, bytes: &[u8]) -> Result<String, Refusal> {
     Ok(report)
 }
 
+/// Shows the boot variables (UEFI 2.10, 3.3) that the bytes of a set file hold, all of them. The report has the lines
+/// `variables N`, one for each entry, a variable named `Boot` and four hexadecimal digits in upper case, by rising
+/// number, `order` with the numbers of BootOrder or `-` where there is none, `next` with that of BootNext or `-`, and
+/// the words of the [`plan`] of what a boot would try (3.1). The line of an entry has its name, `normal` or `other`, as
+/// [`is_normal`] says, and its description, or its name and `undecodable` where its bytes are no load option.
+///
+/// # Errors
+///
+/// [`Refusal::Input`] has the words of the set's fault where the bytes are no set file, else `BadOrder` where BootOrder
+/// is no list of numbers, and else `BadNext` where BootNext is no number. [`Refusal::Memory`] comes only for want of
+/// memory.
+pub fn set_report(alloc: Global, bytes: &[u8]) -> Result<String, Refusal> {
+    let vars = read_set(alloc, bytes).map_err(|fault| set_refusal(alloc, fault))?;
+    let order = boot_order(alloc, &vars).map_err(|fault| variable_refusal(alloc, fault))?;
+    let next = boot_next(&vars).map_err(|fault| variable_refusal(alloc, fault))?;
+    let plan = plan(alloc, &vars).map_err(|fault| variable_refusal(alloc, fault))?;
+    let mut report = format!(in alloc; "variables {}\n", vars.len())?;
+    append_entries(alloc, &vars, &mut report)?;
+    append_numbers("order", &order, &mut report)?;
+    append_numbers("next", next.as_slice(), &mut report)?;
+    writeln!(report, "{}", plan.words(alloc)?)?;
+    Ok(report)
+}
+
+/// Appends the line of each entry.
+fn append_entries(alloc: Global, vars: &Vars, report: &mut String) -> Result<(), AllocError> {
+    for index in 0..vars.len() {
+        if let Some((name, bytes)) = vars.item(index)
+            && entry_number(name).is_some()
+        {
+            append_entry(alloc, name, bytes, report)?;
+        }
+    }
+    Ok(())
+}
+
+/// Appends the line of the entry of this name and these bytes.
+fn append_entry(
+    alloc: Global,
+    name: &str,
+    bytes: &[u8],
+    report: &mut String,
+) -> Result<(), AllocError> {
+    match read_option(alloc, bytes) {
+        Ok(option) => {
+            let kind = normal_or_other(option.attributes());
+            let description = description_text(alloc, option.description())?;
+            writeln!(report, "{name} {kind} {description}")
+        }
+        Err(OptionFault::OutOfMemory) => Err(AllocError),
+        Err(_) => writeln!(report, "{name} undecodable"),
+    }
+}
+
+fn normal_or_other(attributes: u32) -> &'static str {
+    if is_normal(attributes) {
+        "normal"
+    } else {
+        "other"
+    }
+}
+
+/// Appends a line of the word and the numbers, each with four hexadecimal digits in upper case, or `-` where there is
+/// none.
+fn append_numbers(word: &str, numbers: &[u16], report: &mut String) -> Result<(), AllocError> {
+    report.push_str(word)?;
+    if numbers.is_empty() {
+        report.push_str(" -")?;
+    }
+    for number in numbers {
+        write!(report, " {number:04X}")?;
+    }
+    report.push('\n')
+}
+
 fn yes_or_no(is: bool) -> &'static str {
     if is { "yes" } else { "no" }
 }
@@ -139,6 +215,20 @@ fn text_refusal(alloc: Global, fault: TextFault) -> Refusal {
 fn option_refusal(alloc: Global, fault: OptionFault) -> Refusal {
     match fault {
         OptionFault::OutOfMemory => Refusal::Memory,
+        fault => refused(fault.words(alloc)),
+    }
+}
+
+fn set_refusal(alloc: Global, fault: SetFault) -> Refusal {
+    match fault {
+        SetFault::OutOfMemory => Refusal::Memory,
+        fault => refused(fault.words(alloc)),
+    }
+}
+
+fn variable_refusal(alloc: Global, fault: VarFault) -> Refusal {
+    match fault {
+        VarFault::OutOfMemory => Refusal::Memory,
         fault => refused(fault.words(alloc)),
     }
 }

@@ -14,6 +14,7 @@ use std::fmt::Display;
 use std::io;
 use std::rt::Env;
 use std::test::Fail;
+use uefi_vars::{Vars, write_set};
 
 const USAGE_LINE: &str =
     "usage: bootkeep path HEX | text TEXT | option FILE | show SET | run [--stream] SET SCRIPT --out FILE\n";
@@ -43,8 +44,30 @@ const DEBIAN_OPTION: &str = concat!(
 const DEBIAN_OPTION_LINES: &str =
     "attributes 0x00000001\nactive yes\ncategory 0x0000\nnormal yes\ndescription debian\npath HD(1,GPT,8be4df61-93ca-11d2-aa0d-00e098032b8c,0x800,0x64000)/File(\\EFI\\debian\\shimx64.efi)\noptional -\n";
 
+/// A set file of `Boot0001`, which is the option of the drive, `BootKeepState`, and `BootOrder` with the entry 1.
+const SET: [u8; 100] = [
+    0x42, 0x56, 0x53, 0x31, 0x08, 0x42, 0x6f, 0x6f, 0x74, 0x30, 0x30, 0x30, 0x31, 0x2a, 0x00, 0x00,
+    0x00, 0x01, 0x00, 0x00, 0x00, 0x20, 0x00, 0x41, 0x00, 0x00, 0x00, 0x02, 0x01, 0x0c, 0x00, 0xd0,
+    0x41, 0x03, 0x0a, 0x00, 0x00, 0x00, 0x00, 0x01, 0x01, 0x06, 0x00, 0x02, 0x1f, 0x03, 0x12, 0x0a,
+    0x00, 0x00, 0x00, 0xff, 0xff, 0x00, 0x00, 0x7f, 0xff, 0x04, 0x00, 0x0d, 0x42, 0x6f, 0x6f, 0x74,
+    0x4b, 0x65, 0x65, 0x70, 0x53, 0x74, 0x61, 0x74, 0x65, 0x07, 0x00, 0x00, 0x00, 0x01, 0x01, 0x00,
+    0x00, 0x00, 0x01, 0x00, 0x09, 0x42, 0x6f, 0x6f, 0x74, 0x4f, 0x72, 0x64, 0x65, 0x72, 0x02, 0x00,
+    0x00, 0x00, 0x01, 0x00,
+];
+
+const SET_LINES: &str =
+    "variables 3\nBoot0001 normal A\norder 0001\nnext -\nplan next - normal 0001\n";
+
 /// The files that runs find.
-const FILES: [NamedFile<'static>; 5] = [
+const FILES: [NamedFile<'static>; 7] = [
+    NamedFile {
+        path: "set",
+        contents: Contents::Bytes(&SET),
+    },
+    NamedFile {
+        path: "bad order",
+        contents: Contents::Bytes(b"BVS1\x09BootOrder\x03\x00\x00\x00\x01\x00\x02"),
+    },
     NamedFile {
         path: "option",
         contents: Contents::Bytes(&DRIVE_OPTION),
@@ -359,8 +382,86 @@ fn refuses_what_is_no_option(rt: HostRuntime) -> Result<(), Fail> {
     Ok(())
 }
 
+/// A set file in which entries of most kinds are ordered, and another is to be tried first.
+fn choice_set(alloc: Global) -> Result<Vec<u8>, Fail> {
+    let mut vars = Vars::new(alloc);
+    let order = hex::decode(alloc, "0500010002000300040006000700")?;
+    vars.put("BootOrder", order.as_slice())?;
+    vars.put("BootNext", &[0x07, 0x00])?;
+    vars.put("Boot0003", &[0x00])?;
+    for (name, low, high) in [
+        ("Boot0001", 0x00, 0x00),
+        ("Boot0002", 0x01, 0x01),
+        ("Boot0004", 0x01, 0x00),
+        ("Boot0006", 0x09, 0x00),
+        ("Boot0007", 0x01, 0x02),
+    ] {
+        let mut option = DRIVE_OPTION;
+        option[0] = low;
+        option[1] = high;
+        vars.put(name, &option)?;
+    }
+    Ok(write_set(alloc, &vars)?)
+}
+
+#[test]
+fn shows_a_set(rt: HostRuntime) -> Result<(), Fail> {
+    let choice = choice_set(rt.alloc())?;
+    let choice_lines = concat!(
+        "variables 8\n",
+        "Boot0001 other A\nBoot0002 other A\nBoot0003 undecodable\n",
+        "Boot0004 normal A\nBoot0006 normal A\nBoot0007 other A\n",
+        "order 0005 0001 0002 0003 0004 0006 0007\nnext 0007\nplan next 0007 normal 0004 0006\n"
+    );
+    let table: [(&[u8], &str); 5] = [
+        (
+            b"BVS1",
+            "variables 0\norder -\nnext -\nplan next - normal -\n",
+        ),
+        (&SET, SET_LINES),
+        (
+            b"BVS1\x08Boot00ab\x01\x00\x00\x00\x00",
+            "variables 1\norder -\nnext -\nplan next - normal -\n",
+        ),
+        (
+            b"BVS1\x08Boot00AB\x01\x00\x00\x00\x00",
+            "variables 1\nBoot00AB undecodable\norder -\nnext -\nplan next - normal -\n",
+        ),
+        (choice.as_slice(), choice_lines),
+    ];
+    for (bytes, report) in table {
+        match report::set_report(rt.alloc(), bytes) {
+            Ok(shown) => assert_eq!(rt; shown.as_str(), report, "at {bytes:?}"),
+            Err(refusal) => panic!(rt; "{bytes:?} is refused: {refusal:?}"),
+        }
+    }
+    Ok(())
+}
+
+#[test]
+fn refuses_what_is_no_set(rt: HostRuntime) -> Result<(), Fail> {
+    let table: [(&[u8], &str); 6] = [
+        (&SET[..99], "Truncated 84"),
+        (b"BVS0", "BadMagic 0"),
+        (b"BVS1\x00", "BadName 4"),
+        (
+            b"BVS1\x01A\x01\x00\x00\x00\x00\x01A\x01\x00\x00\x00\x00",
+            "NotRising 11",
+        ),
+        (b"BVS1\x09BootOrder\x03\x00\x00\x00\x01\x00\x02", "BadOrder"),
+        (b"BVS1\x08BootNext\x01\x00\x00\x00\x00", "BadNext"),
+    ];
+    for (bytes, words) in table {
+        match report::set_report(rt.alloc(), bytes) {
+            Err(Refusal::Input(fault)) => assert_eq!(rt; fault.as_str(), words, "at {bytes:?}"),
+            answer => panic!(rt; "{bytes:?} gives {answer:?}"),
+        }
+    }
+    Ok(())
+}
+
 /// Words with the status, standard output and standard error that they end with.
-const CALLS: [(&[&str], u8, &str, &str); 17] = [
+const CALLS: [(&[&str], u8, &str, &str); 24] = [
     (
         &["bootkeep", "text", "USB(1,0)"],
         0,
@@ -390,6 +491,23 @@ const CALLS: [(&[&str], u8, &str, &str); 17] = [
     (&["bootkeep", "option", "folder"], 3, "", "fault: read\n"),
     (&["bootkeep", "option", "missing"], 3, "", "fault: read\n"),
     (&["bootkeep", "option", "large"], 4, "", "fault: memory\n"),
+    (&["bootkeep", "show", "set"], 0, SET_LINES, ""),
+    (
+        &["bootkeep", "show", "option"],
+        1,
+        "",
+        "refused: BadMagic 0\n",
+    ),
+    (
+        &["bootkeep", "show", "bad order"],
+        1,
+        "",
+        "refused: BadOrder\n",
+    ),
+    (&["bootkeep", "show", "zeros"], 1, "", "refused: TooMuch\n"),
+    (&["bootkeep", "show", "folder"], 3, "", "fault: read\n"),
+    (&["bootkeep", "show", "missing"], 3, "", "fault: read\n"),
+    (&["bootkeep", "show", "large"], 4, "", "fault: memory\n"),
     (&["bootkeep", "--help"], 0, USAGE_LINE, ""),
     (&["bootkeep", "path", "7fff0400"], 0, EMPTY_PATH_LINES, ""),
     (
@@ -427,7 +545,7 @@ fn ends_with_one_answer(rt: HostRuntime) -> Result<(), Fail> {
 }
 
 /// Words that ask for nothing that the program does.
-const OTHER_CALLS: [&[&str]; 33] = [
+const OTHER_CALLS: [&[&str]; 34] = [
     &[],
     &["bootkeep"],
     &["bootkeep", ""],
@@ -444,7 +562,8 @@ const OTHER_CALLS: [&[&str]; 33] = [
     &["bootkeep", "text", "USB(1,0)", "USB(1,0)"],
     &["bootkeep", "option"],
     &["bootkeep", "option", "option", "option"],
-    &["bootkeep", "show", "set"],
+    &["bootkeep", "show"],
+    &["bootkeep", "show", "set", "set"],
     &["bootkeep", "run", "set", "script", "--out", "new"],
     &[
         "bootkeep", "run", "--stream", "set", "script", "--out", "new",
@@ -487,7 +606,11 @@ fn refuses_words_that_are_no_text(rt: HostRuntime) -> Result<(), Fail> {
 
 #[test]
 fn ends_where_standard_output_refuses(rt: HostRuntime) -> Result<(), Fail> {
-    let calls: [&[&str]; 2] = [&["bootkeep", "path", "7fff0400"], &["bootkeep", "--help"]];
+    let calls: [&[&str]; 3] = [
+        &["bootkeep", "path", "7fff0400"],
+        &["bootkeep", "show", "set"],
+        &["bootkeep", "--help"],
+    ];
     for words in calls {
         let run = Run::over(FakeRuntime {
             alloc: rt.alloc(),
