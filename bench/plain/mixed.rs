@@ -1,4 +1,7 @@
-//! The path that both sides are timed on.
+//! The values that both sides are timed on. They are the same at each call.
+
+use crate::plan::entry_name;
+use std::error::Error;
 
 /// Type, sub-type and lengths of data of the nodes, which follow one another in this order. At each
 /// round a node takes the next of its lengths. The last two rows are kept as bytes: the one has a
@@ -27,8 +30,62 @@ const FILE_PATH: (u8, u8) = (4, 4);
 /// How many nodes an instance has.
 const INSTANCE: usize = 1_000;
 
-/// The bytes of a path of so many nodes. They are the same at each call.
-pub fn path_of(count: usize) -> Vec<u8> {
+/// How far apart the numbers of neighbours in BootOrder are. It is a prime.
+const STRIDE: usize = 7_919;
+
+/// A path to a disk: an ACPI root, a PCI function and a SATA port.
+const DISK: [u8; 32] = [
+    0x02, 0x01, 0x0c, 0x00, 0xd0, 0x41, 0x03, 0x0a, 0x00, 0x00, 0x00, 0x00, 0x01, 0x01, 0x06, 0x00,
+    0x02, 0x1f, 0x03, 0x12, 0x0a, 0x00, 0x00, 0x00, 0xff, 0xff, 0x00, 0x00, 0x7f, 0xff, 0x04, 0x00,
+];
+
+/// The bytes of a value of this kind and size.
+pub fn value_of(kind: &str, count: usize) -> Result<Vec<u8>, Box<dyn Error>> {
+    match kind {
+        "path" => Ok(path_of(count)),
+        "option" => option_of(count),
+        "set" => set_of(count),
+        _ => Err("the kinds are path, option and set".into()),
+    }
+}
+
+/// The bytes of an active option of so many paths to a disk, with as many letters in its
+/// description, and with 16 bytes of optional data for each path but the first.
+fn option_of(paths: usize) -> Result<Vec<u8>, Box<dyn Error>> {
+    let mut option = vec![1, 0, 0, 0];
+    option.extend(u16::try_from(paths * DISK.len())?.to_le_bytes());
+    option.extend([b'A', 0].repeat(paths));
+    option.extend([0, 0]);
+    option.extend(DISK.repeat(paths));
+    option.extend([0x5a; 16].repeat(paths - 1));
+    Ok(option)
+}
+
+/// The bytes of a set of so many entries of the option of one path, and of a BootOrder that names
+/// each of them once, in another order than that of their numbers.
+fn set_of(entries: usize) -> Result<Vec<u8>, Box<dyn Error>> {
+    let mut set = b"BVS1".to_vec();
+    for index in 0..entries {
+        append_variable(&entry_name(u16::try_from(index)?), &option_of(1)?, &mut set)?;
+    }
+    let mut order = Vec::new();
+    for index in 0..entries {
+        order.extend(u16::try_from(index * STRIDE % entries)?.to_le_bytes());
+    }
+    append_variable(b"BootOrder", &order, &mut set)?;
+    Ok(set)
+}
+
+fn append_variable(name: &[u8], data: &[u8], set: &mut Vec<u8>) -> Result<(), Box<dyn Error>> {
+    set.push(u8::try_from(name.len())?);
+    set.extend_from_slice(name);
+    set.extend(u32::try_from(data.len())?.to_le_bytes());
+    set.extend_from_slice(data);
+    Ok(())
+}
+
+/// The bytes of a path of so many nodes.
+fn path_of(count: usize) -> Vec<u8> {
     let mut path = Vec::new();
     let mut seed = 1;
     for index in 0..count {

@@ -1,0 +1,111 @@
+//! Sets of variables, as values and as bytes.
+
+use std::error::Error;
+use std::fmt;
+
+const MAGIC: &[u8] = b"BVS1";
+
+const NAME_MAX: usize = 64;
+
+const DATA_MAX: usize = 1_048_576;
+
+/// Names and data, in the order of the names.
+pub struct Vars(Vec<(String, Vec<u8>)>);
+
+/// Why bytes are no set, and the offset of the record with the fault.
+#[derive(Debug)]
+pub enum Fault {
+    BadMagic(usize),
+    Truncated(usize),
+    BadName(usize),
+    BadData(usize),
+    NotRising(usize),
+}
+
+impl fmt::Display for Fault {
+    fn fmt(&self, f: &mut fmt::Formatter<'_>) -> fmt::Result {
+        match self {
+            Fault::BadMagic(offset) => write!(f, "BadMagic {offset}"),
+            Fault::Truncated(offset) => write!(f, "Truncated {offset}"),
+            Fault::BadName(offset) => write!(f, "BadName {offset}"),
+            Fault::BadData(offset) => write!(f, "BadData {offset}"),
+            Fault::NotRising(offset) => write!(f, "NotRising {offset}"),
+        }
+    }
+}
+
+impl Error for Fault {}
+
+impl Vars {
+    pub fn len(&self) -> usize {
+        self.0.len()
+    }
+
+    /// The data of the variable of this name.
+    pub fn get(&self, name: &str) -> Option<&[u8]> {
+        let place = self
+            .0
+            .binary_search_by(|(other, _)| other.as_str().cmp(name))
+            .ok()?;
+        Some(&self.0[place].1)
+    }
+}
+
+/// The variables whose set the bytes are, all of them.
+pub fn read_set(bytes: &[u8]) -> Result<Vars, Fault> {
+    let mut rest = bytes.strip_prefix(MAGIC).ok_or(Fault::BadMagic(0))?;
+    let mut variables: Vec<(String, Vec<u8>)> = Vec::new();
+    while !rest.is_empty() {
+        let offset = bytes.len() - rest.len();
+        let (name, behind) = split_name(rest, offset)?;
+        if variables
+            .last()
+            .is_some_and(|(last, _)| last.as_str() >= name)
+        {
+            return Err(Fault::NotRising(offset));
+        }
+        let (data, behind) = split_data(behind, offset)?;
+        variables.push((name.to_owned(), data.to_vec()));
+        rest = behind;
+    }
+    Ok(Vars(variables))
+}
+
+/// The name at the front of a record, and the bytes behind it.
+fn split_name(record: &[u8], offset: usize) -> Result<(&str, &[u8]), Fault> {
+    let (len, behind) = record.split_first().ok_or(Fault::Truncated(offset))?;
+    let len = usize::from(*len);
+    if len == 0 || len > NAME_MAX {
+        return Err(Fault::BadName(offset));
+    }
+    let (name, behind) = behind
+        .split_at_checked(len)
+        .ok_or(Fault::Truncated(offset))?;
+    match str::from_utf8(name) {
+        Ok(text) if name.iter().all(u8::is_ascii_graphic) => Ok((text, behind)),
+        _ => Err(Fault::BadName(offset)),
+    }
+}
+
+/// The data behind a name, and the bytes behind it.
+fn split_data(bytes: &[u8], offset: usize) -> Result<(&[u8], &[u8]), Fault> {
+    let (len, behind) = bytes.split_first_chunk().ok_or(Fault::Truncated(offset))?;
+    let len = u32::from_le_bytes(*len) as usize;
+    if len == 0 || len > DATA_MAX {
+        return Err(Fault::BadData(offset));
+    }
+    behind.split_at_checked(len).ok_or(Fault::Truncated(offset))
+}
+
+/// The bytes of a set.
+pub fn write_set(vars: &Vars) -> Vec<u8> {
+    let mut out = Vec::new();
+    out.extend_from_slice(MAGIC);
+    for (name, data) in &vars.0 {
+        out.push(name.len() as u8);
+        out.extend_from_slice(name.as_bytes());
+        out.extend_from_slice(&(data.len() as u32).to_le_bytes());
+        out.extend_from_slice(data);
+    }
+    out
+}
