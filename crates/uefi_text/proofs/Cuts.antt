@@ -73,7 +73,7 @@ has_close text name inside behind before middle front cut lacks =
     has_mark close_mark inside behind (subst (Lacks close_mark) outer.1 lacks)
 
 -- a backslash is a byte of a bare path name
-first_is_bare : (first : ℕ) → first ≡ 0x5C → IsBareUnit first
+pub first_is_bare : (first : ℕ) → first ≡ 0x5C → IsBareUnit first
 first_is_bare first is = record {
   plain = record { low = omega arith; high = omega arith; no_open = (λ e. omega arith); no_close = (λ e. omega arith) };
   no_slash = (λ e. omega arith);

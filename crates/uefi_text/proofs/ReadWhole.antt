@@ -6,7 +6,7 @@ use Rattle.std.proofs.lemmas.Bool.{and_parts, leb-true, le-leb}
 use Rattle.std.proofs.lemmas.Bool.Decides.{nat_tests}
 use Rattle.uefi_path.specs.declared.node.Node.{Node}
 use Rattle.uefi_path.specs.declared.node.Node.TheVariants.{Uri, FilePath}
-use Rattle.uefi_path.specs.Parts.{IsUnit}
+use Rattle.uefi_path.specs.Parts.{IsUnit, IsName}
 use Rattle.uefi_path.specs.Row.{IsByte}
 use Rattle.uefi_text.specs.Segment.{named}
 use Rattle.uefi_text.specs.Node.{uri, file, IsUriByte, IsNameUnit}
@@ -61,20 +61,25 @@ name_units (c ∷ cs) h =
       ((grind (arith, nat_tests), grind (arith, nat_tests)), rest.1),
     )
 
-units_plain : (text : List ℕ) → AllByRecursion IsNameUnit text → list_all (is_plain_from 0x20) text ≡ true
+pub units_plain : (text : List ℕ) → AllByRecursion IsNameUnit text → list_all (is_plain_from 0x20) text ≡ true
 units_plain [] h = refl
 units_plain (c ∷ cs) h =
     let low = h.0.low in let high = h.0.high in let a = h.0.no_open in let b = h.0.no_close in
     let plain : is_plain_from 0x20 c ≡ true = grind (arith, nat_tests) in
     rw (plain, units_plain cs h.1) refl
 
-pub file_found : (text : List ℕ) (node : Node) → file_of text ≡ Some node → IsNodeText (named (codes "File") (text ∷ [])) node
-file_found text node e =
+-- the node of a name that is read, and that the name is one
+pub file_read : (text : List ℕ) (node : Node) → file_of text ≡ Some node → (AllByRecursion IsNameUnit text × IsName text) × (FilePath text ≡ node)
+file_read text node e =
     let read = chosen_some (list_all (is_plain_from 0x20) text && leb (length text) 32764) (Some (FilePath text)) node e in
     let both = and_parts (list_all (is_plain_from 0x20) text) (leb (length text) 32764) read.0 in
     let units = name_units text both.0 in
-    subst (IsNodeText (named (codes "File") (text ∷ []))) (some_same (FilePath text) node read.1)
-    (record { valid = (units.1, leb-true (length text) 32764 both.1); means = file units.0 })
+    ((units.0, (units.1, leb-true (length text) 32764 both.1)), some_same (FilePath text) node read.1)
+
+pub file_found : (text : List ℕ) (node : Node) → file_of text ≡ Some node → IsNodeText (named (codes "File") (text ∷ [])) node
+file_found text node e =
+    let read = file_read text node e in
+    subst (IsNodeText (named (codes "File") (text ∷ []))) read.1 (record { valid = read.0.1; means = file read.0.0 })
 
 pub file_again : (inside : List ℕ) (node : Node) → MeansNamed (codes "File") inside node → file_of inside ≡ Some node
 file_again inside node m =

@@ -50,9 +50,15 @@ abbrev pub text_of : code.Segment → List ℕ
 text_of (Named name inside) = name.now ++ codes "(" ++ inside.now ++ codes ")"
 text_of (Bare text) = text.now
 
+-- what stands without parentheses is a bare path name
+abbrev pub HasBareName : code.Segment → Type 0
+HasBareName (Named _ _) = Unit {0}
+HasBareName (Bare text) = IsBareName text.now
+
 -- the text is that of the segment and the rest, and a segment may end between them
 pub record IsFront (text : List ℕ) (segment : code.Segment) (rest : List ℕ) : Type 0 where
   pub parts : text ≡ text_of segment ++ rest
+  pub bare : HasBareName segment
   pub closed : ClosesSegment rest
 
 abbrev pub IsNamed : List ℕ → List ℕ → code.Segment → Type 0

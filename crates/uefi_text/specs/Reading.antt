@@ -1,6 +1,6 @@
 -- For private functions of the reader: what a text is read as, as functions of its arguments.
-use Rattle.std.specs.Prelude.{◌≡◌, ◌≤◌, ◌^◌, ℕ, ◌+◌, ◌*◌, Bool, false, ◌==◌, ◌&&◌, nat_lt, nat_le, List, [], ◌∷◌, ◌++◌}
-use Rattle.std.specs.Prelude.{not, length, drop, slice_index, replicate, codes, Option, Some, None, Result, Ok, Err}
+use Rattle.std.specs.Prelude.{◌≡◌, ◌≤◌, ◌^◌, ℕ, ◌+◌, ◌*◌, Bool, ◌==◌, ◌&&◌, nat_lt, nat_le, List, [], ◌∷◌, ◌++◌}
+use Rattle.std.specs.Prelude.{length, drop, slice_index, replicate, codes, Option, Some, None, Result, Ok, Err}
 use Rattle.std.specs.Prelude.{if◌then◌else◌}
 use Rattle.std.specs.Char.{digit_value}
 use Rattle.std.specs.List.{list_all, slice_split}
@@ -321,11 +321,3 @@ vendor_msg_of arguments = vendor_of arguments >>= λ vendor. Some (VendorMsg ven
 
 unfoldable pub vendor_media_of : List (List ℕ) → Option Node
 vendor_media_of arguments = vendor_of arguments >>= λ vendor. Some (VendorMedia vendor)
-
--- a name that begins with a backslash, without slashes and commas behind it
-abbrev pub is_bare_name : List ℕ → Bool
-is_bare_name [] = false
-is_bare_name (first ∷ others) = (first == 0x5C) && list_all (λ byte. not (byte == 0x2F) && not (byte == 0x2C)) others
-
-abbrev pub bare_of : List ℕ → Option Node
-bare_of text = if is_bare_name text then file_of text else None

@@ -11,8 +11,8 @@ ghost use Rattle.uefi_text.specs.Answering.{AnswersNamed};
 ghost use Rattle.uefi_text.specs.Segment.{Segment as TextSegment};
 ghost use Rattle.uefi_text.specs.Path.{IsNodeText};
 ghost use Rattle.uefi_text.specs.Fault.{IsPlaceOf};
-ghost use Rattle.uefi_text.specs.Cutting.{IsCutOf, text_of};
-ghost use Rattle.uefi_text.specs.Reading.{Reads, arguments_of, pci_of, usb_of, sata_of, root_of, nvme_of, acpi_of, mac_node_of, ipv4_of, hard_drive_of, signature_of, ReadsAs, uri_of, file_of, bare_of, is_bare_name, vendor_of, vendor_hw_of, vendor_msg_of, vendor_media_of, optional_data_of, generic_of, IsOfRow, IsFaultWithin};
+ghost use Rattle.uefi_text.specs.Cutting.{IsCutOf, text_of, HasBareName};
+ghost use Rattle.uefi_text.specs.Reading.{Reads, arguments_of, pci_of, usb_of, sata_of, root_of, nvme_of, acpi_of, mac_node_of, ipv4_of, hard_drive_of, signature_of, ReadsAs, uri_of, file_of, vendor_of, vendor_hw_of, vendor_msg_of, vendor_media_of, optional_data_of, generic_of, IsOfRow, IsFaultWithin};
 ghost use Rattle.std.specs.Int.{w32, to_le_bytes};
 
 use crate::fault::TextFault;
@@ -30,7 +30,8 @@ use uefi_path::{
 ///
 /// The faults are those of the segment, in the order of [`TextFault`].
 pub(crate) fn node_of(alloc: Global, segment: Segment<'_>, span: Span) -> Result<Node, TextFault>
-    requires { span.segment + length (text_of segment) ≤ span.end }
+    requires within { span.segment + length (text_of segment) ≤ span.end }
+    requires bare { HasBareName segment }
     ensures found { IfOk result (λ node. (s : TextSegment) × IsCutOf segment.entry s × IsNodeText s node) }
     ensures fault { IfErr result (λ fault. fault ≢ TextFault.OutOfMemory →
         ((s : TextSegment) (node : Node) → IsCutOf segment.entry s → IsNodeText s node → ⊥)
@@ -39,7 +40,7 @@ pub(crate) fn node_of(alloc: Global, segment: Segment<'_>, span: Span) -> Result
     match segment {
         Segment::Bare(name) => {
             let place = span.segment;
-            bare_file(alloc, Piece { text: name, place }, span)
+            file(alloc, Piece { text: name, place }, span)
         }
         Segment::Named { name, inside } => {
             let place = span.segment + name.len() + 1;
@@ -62,56 +63,42 @@ fn named_node(alloc: Global, name: &[u8], inside: Piece<'_>, span: Span) -> Resu
     ensures { AnswersNamed name.now inside.entry.text.now result span.segment span.end }
 {
     if is_name(name, b"Pci") {
-        return pci(inside, span);
-    }
-    if is_name(name, b"USB") {
-        return usb(inside, span);
-    }
-    if is_name(name, b"Sata") {
-        return sata(inside, span);
-    }
-    if is_name(name, b"NVMe") {
-        return nvme(inside, span);
-    }
-    if is_name(name, b"PciRoot") {
-        return root(inside, PCI_ROOT_HID, span);
-    }
-    if is_name(name, b"PcieRoot") {
-        return root(inside, PCIE_ROOT_HID, span);
-    }
-    if is_name(name, b"Acpi") {
-        return acpi(inside, span);
-    }
-    if is_name(name, b"MAC") {
-        return mac_node(inside, span);
-    }
-    if is_name(name, b"IPv4") {
-        return ipv4(inside, span);
-    }
-    if is_name(name, b"Uri") {
-        return uri(alloc, inside, span);
-    }
-    if is_name(name, b"File") {
-        return file(alloc, inside, span);
-    }
-    if is_name(name, b"HD") {
-        return hard_drive(inside, span);
-    }
-    if is_name(name, b"VenHw") {
-        return vendor_hw(alloc, inside, span);
-    }
-    if is_name(name, b"VenMsg") {
-        return vendor_msg(alloc, inside, span);
-    }
-    if is_name(name, b"VenMedia") {
-        return vendor_media(alloc, inside, span);
-    }
-    if is_name(name, b"Path") {
+        pci(inside, span)
+    } else if is_name(name, b"USB") {
+        usb(inside, span)
+    } else if is_name(name, b"Sata") {
+        sata(inside, span)
+    } else if is_name(name, b"NVMe") {
+        nvme(inside, span)
+    } else if is_name(name, b"PciRoot") {
+        root(inside, PCI_ROOT_HID, span)
+    } else if is_name(name, b"PcieRoot") {
+        root(inside, PCIE_ROOT_HID, span)
+    } else if is_name(name, b"Acpi") {
+        acpi(inside, span)
+    } else if is_name(name, b"MAC") {
+        mac_node(inside, span)
+    } else if is_name(name, b"IPv4") {
+        ipv4(inside, span)
+    } else if is_name(name, b"Uri") {
+        uri(alloc, inside, span)
+    } else if is_name(name, b"File") {
+        file(alloc, inside, span)
+    } else if is_name(name, b"HD") {
+        hard_drive(inside, span)
+    } else if is_name(name, b"VenHw") {
+        vendor_hw(alloc, inside, span)
+    } else if is_name(name, b"VenMsg") {
+        vendor_msg(alloc, inside, span)
+    } else if is_name(name, b"VenMedia") {
+        vendor_media(alloc, inside, span)
+    } else if is_name(name, b"Path") {
         // for its contract: two bytes state the length of a node
         each_node_is_spelled();
-        return generic(alloc, inside, span);
+        generic(alloc, inside, span)
+    } else {
+        Err(TextFault::BadSegment(span.segment))
     }
-    Err(TextFault::BadSegment(span.segment))
 }
 
 fn is_name(name: &[u8], expected: &[u8]) -> bool
@@ -309,33 +296,7 @@ fn uri(alloc: Global, inside: Piece<'_>, span: Span) -> Result<Node, TextFault>
     }
 }
 
-/// A file path whose name stands without parentheses.
-fn bare_file(alloc: Global, name: Piece<'_>, span: Span) -> Result<Node, TextFault>
-    requires { IsWithin name.text.now name.place span }
-    ensures { Reads result (bare_of name.entry.text.now) span.segment span.end }
-{
-    if !is_bare_name(name.text) {
-        return Err(TextFault::BadSegment(span.segment));
-    }
-    file(alloc, name, span)
-}
-
-/// Whether a name begins with a backslash and has neither slashes nor commas behind it.
-fn is_bare_name(name: &[u8]) -> bool
-    ensures { result ≡ is_bare_name name.now }
-{
-    match name.split_first() {
-        Some((first, others)) => *first == b'\\' && have_no_marks(others),
-        None => false,
-    }
-}
-
-fn have_no_marks(bytes: &[u8]) -> bool
-    ensures { result ≡ list_all (λ byte. not (byte == 0x2F) && not (byte == 0x2C)) bytes.now }
-{
-    bytes.iter().all(|byte| *byte != b'/' && *byte != b',')
-}
-
+/// A file path, whose name stands in the parentheses of `File` or by itself.
 fn file(alloc: Global, name: Piece<'_>, span: Span) -> Result<Node, TextFault>
     requires { IsWithin name.text.now name.place span }
     ensures { Reads result (file_of name.entry.text.now) span.segment span.end }

@@ -40,15 +40,6 @@ pub(crate) struct Span {
     pub(crate) end: usize,
 }
 
-impl Span {
-    /// The fault of a segment that is none.
-    pub(crate) fn bad_segment(self) -> TextFault
-        ensures { result ≡ faults.BadSegment self.segment }
-    {
-        TextFault::BadSegment(self.segment)
-    }
-}
-
 /// Some bytes of a text, and the place of the first.
 #[derive(Clone, Copy, Debug)]
 pub(crate) struct Piece<'a> {

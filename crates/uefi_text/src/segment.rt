@@ -34,6 +34,7 @@ pub(crate) fn cut_segment(text: &[u8]) -> Option<(Segment<'_>, &[u8])>
 
 /// The bare path name at the front of a text, and what follows it.
 fn cut_bare(text: &[u8]) -> Option<(Segment<'_>, &[u8])>
+    requires { BeginsBare text.now }
     ensures found { IfSome result (λ cut. IsFront text.now cut.0 cut.1.now) }
     ensures only { (path_name behind : List ℕ) → IsBareFront text.now path_name behind →
         MatchOption result ⊥ (λ cut. IsBare path_name cut.0 × (cut.1.now ≡ behind)) }
