@@ -20,7 +20,7 @@ ComparesOptions = (o p : OptionParts) → Decides (ghosts.eq o p) (o ≡ p)
 abbrev SameChoice : Choice → Choice → Type 0
 SameChoice a b = (a.number ≡ b.number) × (a.option ≡ b.option)
 
-choice_Decides : ComparesOptions → (a b : Choice) → Decides (choice_eq a b) (a ≡ b)
+pub choice_Decides : ComparesOptions → (a b : Choice) → Decides (choice_eq a b) (a ≡ b)
 choice_Decides each a b =
     let decides : Decides (choice_eq a b) (SameChoice a b) = Decides-and _ _ (Decides-eqb a.number b.number) (each a.option b.option) in
     (λ yes. let e = decides.0 yes in same_choice a b e.0 e.1, λ e. decides.1 (ap (λ (c : Choice). c.number) e, ap (λ (c : Choice). c.option) e))

@@ -22,6 +22,11 @@ pub record HasOption (entries : ℕ → Option (List ℕ)) (number : ℕ) (optio
   pub stored : entries number ≡ Some bytes
   pub spelled : SpellsOption bytes option
 
+-- this is the option under the number, or there is none
+abbrev pub IsEntryOption : (ℕ → Option (List ℕ)) → ℕ → Option OptionParts → Type 0
+IsEntryOption entries number (Some option) = HasOption entries number option
+IsEntryOption entries number None = (option : OptionParts) → HasOption entries number option → ⊥
+
 -- the choice is the number with its option
 abbrev pub IsChoice : (ℕ → Option (List ℕ)) → ℕ → Choice → Type 0
 IsChoice entries number choice = (choice.number ≡ number) × HasOption entries number choice.option

@@ -71,14 +71,15 @@ impl BootPlan {
         BootPlan { next, normal }
     }
 
-    /// The option that is tried first, whatever the others are, if there is one.
+    /// BootNext's option, which is tried first whatever its attributes are: `None` where BootNext isn't stored, or its
+    /// entry isn't or is no load option.
     pub fn next(&self) -> Option<&Choice>
         ensures { option_map (λ choice. choice.now) result ≡ self.now.next }
     {
         self.next.as_ref()
     }
 
-    /// The options that are tried then, in their order.
+    /// The normal options of BootOrder, which are tried then, in their order.
     pub fn normal(&self) -> &[Choice]
         ensures { result.now ≡ self.now.normal }
     {

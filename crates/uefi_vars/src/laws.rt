@@ -16,7 +16,7 @@ ghost use Rattle.uefi_vars.specs.Fault.{IsFirstFault};
 ghost use Rattle.uefi_vars.specs.Order.{IsNumber, HasOrder, HasNext, HasBadOrder, HasBadNext};
 ghost use Rattle.uefi_vars.specs.Plan.{PlanParts, IsNormalChoice, IsPlan, HasPlan};
 
-use crate::boot_plan::BootPlan;
+use crate::boot_plan::{BootPlan, Choice};
 use crate::fault::{PutFault, SetFault, VarFault};
 use crate::vars::Vars;
 use uefi_option::laws as option_laws;
@@ -62,7 +62,7 @@ pub fn variables_have_one_order()
 {}
 
 /// Where BootOrder is bad, it gives no order.
-pub fn a_bad_order_is_none()
+pub fn a_bad_order_gives_no_order()
     ensures { (vars : Variables) (order : List ℕ) → HasBadOrder vars → HasOrder vars order → ⊥ }
 {}
 
@@ -78,7 +78,7 @@ pub fn variables_have_one_next()
 {}
 
 /// Where BootNext is bad, it is neither a number nor none.
-pub fn a_bad_next_is_none()
+pub fn a_bad_next_gives_no_next()
     ensures { (vars : Variables) (next : Option ℕ) → HasBadNext vars → HasNext vars next → ⊥ }
 {}
 
@@ -130,7 +130,7 @@ pub fn puts_under_two_names_commute()
 {}
 
 /// To put what is there, or to remove what isn't, changes nothing.
-pub fn a_change_to_what_is_there_is_none()
+pub fn needless_changes_change_nothing()
     ensures put { (vars : Variables) (name value : List ℕ) →
         map.get vars name ≡ Some value → map.insert vars name value ≡ vars }
     ensures removed { (vars : Variables) (name : List ℕ) →
@@ -155,7 +155,7 @@ pub fn boot_names_are_names()
 {}
 
 /// The name of an entry has eight characters, and is neither BootOrder, which has nine, nor BootNext.
-pub fn no_other_name_is_an_entrys()
+pub fn order_and_next_are_no_entries()
     ensures len { (number : ℕ) → length (entry_text number) ≡ 8 }
     ensures order { (number : ℕ) → entry_text number ≢ order_text }
     ensures next { (number : ℕ) → entry_text number ≢ next_text }
@@ -230,6 +230,13 @@ pub fn variables_have_one_plan()
     variables_have_one_order();
     variables_have_one_next();
     entries_have_one_plan();
+}
+
+/// `==` on choices tells whether they are equal.
+pub fn choices_compare_as_values()
+    ensures { (a b : Choice) → IsTrue (⟦<Choice as PartialEq>⟧.eq a b) ↔ (a ≡ b) }
+{
+    option_laws::load_options_compare_as_values();
 }
 
 /// `==` on plans tells whether they are equal.

@@ -2,8 +2,9 @@
 //! version 2.10, chapter 3).
 //!
 //! [`Vars`] is a finite map from names to data. [`read_set`] reads one from the bytes of a set file, all of them, and
-//! [`write_set`] gives its one spelling. Load options stand under the names that [`entry_name`] gives; [`boot_order`] and
-//! [`boot_next`] read which of them are to be tried, and [`plan`] puts together what a boot would try.
+//! [`write_set`] gives its one spelling. Load options stand under the names that [`entry_name`] gives, and [`entry_option`]
+//! reads one; [`boot_order`] and [`boot_next`] read which of them are to be tried, and [`plan`] puts together what a boot
+//! would try.
 #![tactic(auto)]
 
 mod boot_plan;
@@ -20,7 +21,7 @@ pub use boot_plan::{BootPlan, Choice};
 pub use fault::{PutFault, SetFault, VarFault};
 pub use name::{NAME_MAX, entry_name, entry_number};
 pub use order::{ORDER_MAX, boot_next, boot_order};
-pub use planning::plan;
+pub use planning::{entry_option, plan};
 pub use reading::read_set;
 pub use vars::{DATA_MAX, Vars};
 pub use writing::write_set;

@@ -18,7 +18,7 @@ pub const ORDER_MAX: usize = 65_536;
 const NUMBER_LEN: usize = 2;
 
 /// The bytes of BootOrder, two for each number. There are none where it isn't stored.
-pub(crate) fn stored_order(vars: &Vars) -> Result<&[u8], VarFault>
+pub(crate) fn order_bytes(vars: &Vars) -> Result<&[u8], VarFault>
     ensures found { IfOk result (λ bytes. HasStoredOrder vars.now bytes.now) }
     ensures bad_order { (result ≡ Err VarFault.BadOrder) ↔ HasBadOrder vars.now }
     ensures named { IfErr result (λ fault. fault ≡ VarFault.BadOrder) }
@@ -46,8 +46,8 @@ pub(crate) fn read_numbers(alloc: Global, bytes: &[u8]) -> Result<Vec<u16>, Allo
     Ok(numbers)
 }
 
-/// The numbers of BootOrder (UEFI 2.10, 3.3), in their order; a number may stand there twice. There are none where
-/// BootOrder isn't stored.
+/// The numbers of BootOrder (UEFI 2.10, 3.3), two bytes each, little-endian, in their order; a number may stand there
+/// twice. There are none where BootOrder isn't stored.
 ///
 /// # Errors
 ///
@@ -63,11 +63,11 @@ pub fn boot_order(alloc: Global, vars: &Vars) -> Result<Vec<u16>, VarFault>
     ensures named { IfErr result (λ fault. fault ≢ VarFault.BadNext) }
     ensures valid { IsVars vars.now }
 {
-    let bytes = stored_order(vars)?;
+    let bytes = order_bytes(vars)?;
     Ok(read_numbers(alloc, bytes)?)
 }
 
-/// The number in BootNext (UEFI 2.10, 3.3), or `None` where BootNext isn't stored.
+/// The number in BootNext (UEFI 2.10, 3.3), two bytes, little-endian, or `None` where BootNext isn't stored.
 ///
 /// # Errors
 ///

@@ -1,31 +1,51 @@
-//! Variables to a plan.
+//! Variables to the options of entries, and to a plan.
 
 ghost use Rattle.std.specs.Prelude.{◌≡◌, ◌↔◌, Some, Ok, Err, IfOk};
 ghost use Rattle.uefi_path.specs.Answer.{IsUnless};
 ghost use Rattle.uefi_vars.specs.declared.fault.VarFault.{VarFault};
 ghost use Rattle.uefi_vars.specs.Vars.{IsVars, entry_of};
 ghost use Rattle.uefi_vars.specs.Order.{HasBadOrder, HasBadNext};
-ghost use Rattle.uefi_vars.specs.Plan.{PlanParts, IsNextChoice, AreNormalChoices, HasPlan};
+ghost use Rattle.uefi_vars.specs.Plan.{PlanParts, IsEntryOption, IsNextChoice, AreNormalChoices, HasPlan};
 
 use crate::boot_plan::{BootPlan, Choice};
 use crate::fault::VarFault;
 use crate::laws;
-use crate::order::{boot_next, read_numbers, stored_order};
+use crate::order::{boot_next, order_bytes, read_numbers};
 use crate::vars::Vars;
 use std::alloc::{AllocError, Global};
-use uefi_option::{OptionFault, is_normal, laws as option_laws, read_option};
+use uefi_option::{LoadOption, OptionFault, is_normal, laws as option_laws, read_option};
 
-/// The option of the entry of this number, if the entry is there and is one.
-fn read_choice(alloc: Global, vars: &Vars, number: u16) -> Result<Option<Choice>, AllocError>
-    ensures { IfOk result (λ choice. IsNextChoice (entry_of vars.now) (Some number) choice) }
+/// The load option of the entry of this number, Boot#### (UEFI 2.10, 3.1.3), whatever its attributes are: `None` where
+/// nothing is stored there, or what is stored is no load option. [`read_option`] tells of the bytes of
+/// [`Vars::entry`] why they are none.
+///
+/// # Errors
+///
+/// [`AllocError`] where memory was refused.
+pub fn entry_option(
+    alloc: Global,
+    vars: &Vars,
+    number: u16,
+) -> Result<Option<LoadOption>, AllocError>
+    ensures { IfOk result (λ option. IsEntryOption (entry_of vars.now) number option) }
 {
     let Some(bytes) = vars.entry(number) else {
         return Ok(None);
     };
     match read_option(alloc, bytes) {
-        Ok(option) => Ok(Some(Choice { number, option })),
+        Ok(option) => Ok(Some(option)),
         Err(OptionFault::OutOfMemory) => Err(AllocError),
         Err(_) => Ok(None),
+    }
+}
+
+/// The option of the entry of this number with the number, if the entry is there and is one.
+fn read_choice(alloc: Global, vars: &Vars, number: u16) -> Result<Option<Choice>, AllocError>
+    ensures { IfOk result (λ choice. IsNextChoice (entry_of vars.now) (Some number) choice) }
+{
+    match entry_option(alloc, vars, number)? {
+        Some(option) => Ok(Some(Choice { number, option })),
+        None => Ok(None),
     }
 }
 
@@ -66,6 +86,9 @@ fn read_normal_choices(alloc: Global, vars: &Vars, order: &[u16]) -> Result<Vec<
 /// A number whose entry isn't there or is no load option is left out of both. The variables stay as they are: who
 /// boots by the plan deletes BootNext first.
 ///
+/// An option is held as often as its number stands there, so the plan of a small set may be large: up to
+/// [`ORDER_MAX`](crate::ORDER_MAX) times [`DATA_MAX`](crate::DATA_MAX) bytes.
+///
 /// # Errors
 ///
 /// [`VarFault::BadOrder`] where the bytes of BootOrder are odd in number or more than two for each of
@@ -75,14 +98,13 @@ pub fn plan(alloc: Global, vars: &Vars) -> Result<BootPlan, VarFault>
     ensures found { IfOk result (λ plan. HasPlan vars.now plan) }
     ensures only { (plan : PlanParts) → HasPlan vars.now plan →
         IsUnless result (Ok plan) VarFault.OutOfMemory }
-
     ensures bad_order { (result ≡ Err VarFault.BadOrder) ↔ HasBadOrder vars.now }
     ensures bad_next { (result ≡ Err VarFault.BadNext)
         ↔ ((¬ HasBadOrder vars.now) × HasBadNext vars.now) }
     ensures valid { IsVars vars.now }
 {
     laws::variables_have_one_plan();
-    let order = stored_order(vars)?;
+    let order = order_bytes(vars)?;
     let next = read_next_choice(alloc, vars, boot_next(vars)?)?;
     let numbers = read_numbers(alloc, order)?;
     let normal = read_normal_choices(alloc, vars, &numbers)?;

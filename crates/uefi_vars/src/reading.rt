@@ -24,7 +24,7 @@ fn split_name(bytes: &[u8], place: usize) -> Result<(&str, &[u8]), SetFault>
     ensures fault { IfErr result (IsNameFault bytes.now place) }
 {
     let Some((len, behind)) = bytes.split_first() else {
-        return Err(SetFault::Truncated(place));
+        unreachable!();
     };
     let len = usize::from(*len);
     if len == 0 || len > NAME_MAX {
@@ -104,9 +104,9 @@ fn read_magic_and_variables(alloc: Global, bytes: &[u8]) -> Result<Vars, SetFaul
     Ok(Vars::from_variables(variables))
 }
 
-/// Reads the variables whose set file the bytes are, all of them. The file is the four bytes `BVS1` and, for each
-/// variable, in the rising order of the names' bytes, the length of its name in one byte, its name, the length of its data
-/// in four bytes, little-endian, and its data.
+/// Reads the variables whose set file the bytes are, all of them. The file has this crate's own format, not one of the
+/// standard's: the four bytes `BVS1` and, for each variable, in the rising order of the names' bytes, the length of its
+/// name in one byte, its name, the length of its data in four bytes, little-endian, and its data.
 ///
 /// # Errors
 ///

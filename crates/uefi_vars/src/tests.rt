@@ -317,6 +317,9 @@ fn plans_the_normal_options_behind_the_next(rt: HostRuntime) -> Result<(), Fail>
     let mut vars = entries(rt.alloc())?;
     vars.put("BootOrder", &[5, 0, 1, 0, 2, 0, 3, 0, 4, 0, 6, 0, 7, 0])?;
     vars.put("BootNext", &[7, 0])?;
+    assert!(rt; entry_option(rt.alloc(), &vars, 7)?.is_some_and(|app| app.attributes() == 0x201));
+    assert!(rt; entry_option(rt.alloc(), &vars, 3)?.is_none());
+    assert!(rt; entry_option(rt.alloc(), &vars, 5)?.is_none());
     let before = vars.copy(rt.alloc())?;
     let choice = plan(rt.alloc(), &vars)?;
     assert!(rt; vars == before);

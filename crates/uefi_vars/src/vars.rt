@@ -25,7 +25,7 @@ pub(crate) struct Variable {
 
 /// The variables of a machine: a finite map from names to data. A name has one to [`NAME_MAX`](crate::NAME_MAX) characters
 /// from 0x21 to 0x7E. No variable is without data, since setting a variable to no data deletes it (UEFI 2.10, 8.2), and none
-/// has more than [`DATA_MAX`] bytes.
+/// has more than [`DATA_MAX`] bytes. The vendors' GUIDs of variables and their attributes are not kept.
 #[derive(Debug, Drop)]
 pub struct Vars {
     /// In the order of their names.

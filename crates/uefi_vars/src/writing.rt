@@ -17,7 +17,7 @@ fn append_variable(variable: &Variable, out: &mut Vec<u8>) -> Result<(), AllocEr
     requires { IsVariable (pair_of variable.now) }
     ensures { OnOk result (out.new.items ≡ out.old.items ++ record_bytes (pair_of variable.now)) }
 {
-    // A name has at most 64 characters, and data at most 1,048,576 bytes.
+    // A name has at most NAME_MAX characters, and data at most DATA_MAX bytes.
     let name_len = variable.name.len() as u8;
     let data_len = variable.data.len() as u32;
     out.push(name_len)?;
@@ -37,9 +37,9 @@ fn append_variables(variables: &[Variable], out: &mut Vec<u8>) -> Result<(), All
     Ok(())
 }
 
-/// The set file of the variables, their one spelling: the four bytes `BVS1`, and for each variable, in the rising order of
-/// the names' bytes, the length of its name in one byte, its name, the length of its data in four bytes, little-endian, and
-/// its data. The one refusal is for want of memory.
+/// The set file of the variables, their one spelling, in this crate's own format: the four bytes `BVS1`, and for each
+/// variable, in the rising order of the names' bytes, the length of its name in one byte, its name, the length of its data
+/// in four bytes, little-endian, and its data. The one refusal is for want of memory.
 pub fn write_set(alloc: Global, vars: &Vars) -> Result<Vec<u8>, AllocError>
     ensures written { IfOk result (λ out. out.items ≡ set_bytes vars.now) }
     ensures valid { IsVars vars.now }

@@ -11,7 +11,7 @@ planned c =
     rw c.from_choices.ensures (plan_found c.args.vars.now c.in_ok-order.order.now c.in_ok-boot_next.field-0 c.in_ok-next.next c.in_ok-normal.normal.items c.in_ok-order.ensures.found c.in_ok-boot_next.ensures.found c.in_ok-next.ensures others)
 
 pub returns-in_err-order-clause-only : goal.returns-in_err-order-clause-only
-returns-in_err-order-clause-only c = λ plan has. absurd (order_is_not_bad c.args.vars.now has.order has.has_order (c.stored_order.ensures.bad_order.0 (c.in_err-order.was ∙ ap Err c.in_err-order.ensures.named)))
+returns-in_err-order-clause-only c = λ plan has. absurd (order_is_not_bad c.args.vars.now has.order has.has_order (c.order_bytes.ensures.bad_order.0 (c.in_err-order.was ∙ ap Err c.in_err-order.ensures.named)))
 
 pub returns-clause-found : goal.returns-clause-found
 returns-clause-found c = planned c

@@ -1,5 +1,5 @@
 use Rattle.uefi_vars.proofs.Numbers.{order_is_not_bad}
-use Rattle.uefi_vars.proofs.laws.a_bad_order_is_none.Goals as goal
+use Rattle.uefi_vars.proofs.laws.a_bad_order_gives_no_order.Goals as goal
 
 pub returns : goal.returns
 returns c = λ vars order bad has. order_is_not_bad vars order has bad

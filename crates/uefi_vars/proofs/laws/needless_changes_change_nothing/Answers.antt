@@ -1,7 +1,7 @@
 use Rattle.std.proofs.lemmas.Cmp.{nat_list_cmp_total}
 use Rattle.uefi_vars.proofs.Maps.{name_cmp-IsAntisymmetric}
 use Rattle.uefi_vars.specs.Maps.{insert_same, remove_absent}
-use Rattle.uefi_vars.proofs.laws.a_change_to_what_is_there_is_none.Goals as goal
+use Rattle.uefi_vars.proofs.laws.needless_changes_change_nothing.Goals as goal
 
 pub returns : goal.returns
 returns c = record {
