@@ -1,2 +1,3 @@
 pub mod Failure
 pub mod Input
+pub mod Report

@@ -9,21 +9,23 @@ use std::alloc::{AllocError, Global};
 pub const USAGE: &str =
     "usage: bootkeep path HEX | text TEXT | option FILE | show SET | run [--stream] SET SCRIPT --out FILE";
 
-const PATH: &str = "path";
+// The subcommands, each by its word.
+const PATH_COMMAND: &str = "path";
 
-const HEX: &str = "HEX";
+const TEXT_COMMAND: &str = "text";
 
-const TEXT: &str = "text";
+const OPTION_COMMAND: &str = "option";
 
-const TEXT_WORD: &str = "TEXT";
+const SHOW_COMMAND: &str = "show";
 
-const OPTION: &str = "option";
+// The values that stand behind them, each by its name in the usage line.
+const HEX_VALUE: &str = "HEX";
 
-const FILE: &str = "FILE";
+const TEXT_VALUE: &str = "TEXT";
 
-const SHOW: &str = "show";
+const FILE_VALUE: &str = "FILE";
 
-const SET: &str = "SET";
+const SET_VALUE: &str = "SET";
 
 /// What the words ask for.
 #[derive(Clone, Copy, Debug, PartialEq, Eq)]
@@ -73,31 +75,32 @@ pub fn read_words<'a>(alloc: Global, words: &'a [String]) -> Result<Request<'a>,
 }
 
 fn command<'a>(alloc: Global) -> Result<Command<'a>, AllocError> {
-    let path = Command::new(alloc, PATH).arg(Arg::new(alloc, HEX).required(true))?;
-    let text = Command::new(alloc, TEXT).arg(Arg::new(alloc, TEXT_WORD).required(true))?;
-    let option = Command::new(alloc, OPTION).arg(Arg::new(alloc, FILE).required(true))?;
-    let show = Command::new(alloc, SHOW).arg(Arg::new(alloc, SET).required(true))?;
     Command::new(alloc, "bootkeep")
         .subcommand_required(true)
-        .subcommand(path)?
-        .subcommand(text)?
-        .subcommand(option)?
-        .subcommand(show)
+        .subcommand(subcommand(alloc, PATH_COMMAND, HEX_VALUE)?)?
+        .subcommand(subcommand(alloc, TEXT_COMMAND, TEXT_VALUE)?)?
+        .subcommand(subcommand(alloc, OPTION_COMMAND, FILE_VALUE)?)?
+        .subcommand(subcommand(alloc, SHOW_COMMAND, SET_VALUE)?)
+}
+
+/// The subcommand of this name, which takes one value.
+fn subcommand<'a>(alloc: Global, name: &'a str, value: &'a str) -> Result<Command<'a>, AllocError> {
+    Command::new(alloc, name).arg(Arg::new(alloc, value).required(true))
 }
 
 fn request_of<'a>(matches: &ArgMatches<'a>) -> Option<Request<'a>> {
     match matches.subcommand()? {
-        (PATH, matches) => Some(Request::Path {
-            hex: matches.get_str(HEX)?,
+        (PATH_COMMAND, matches) => Some(Request::Path {
+            hex: matches.get_str(HEX_VALUE)?,
         }),
-        (TEXT, matches) => Some(Request::Text {
-            text: matches.get_str(TEXT_WORD)?,
+        (TEXT_COMMAND, matches) => Some(Request::Text {
+            text: matches.get_str(TEXT_VALUE)?,
         }),
-        (OPTION, matches) => Some(Request::LoadOption {
-            file: matches.get_str(FILE)?,
+        (OPTION_COMMAND, matches) => Some(Request::LoadOption {
+            file: matches.get_str(FILE_VALUE)?,
         }),
-        (SHOW, matches) => Some(Request::Show {
-            set: matches.get_str(SET)?,
+        (SHOW_COMMAND, matches) => Some(Request::Show {
+            set: matches.get_str(SET_VALUE)?,
         }),
         _ => None,
     }

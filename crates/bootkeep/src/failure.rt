@@ -36,7 +36,9 @@ pub enum Failure {
 impl Failure {
     ghost use Rattle.bootkeep.specs.Failure.{status_of};
 
-    /// The status that the program ends with.
+    /// The status that the program ends with: 1 where the input is refused or too much, 2 where the
+    /// command line asks for nothing that there is, 3 where reading or writing failed, and 4 where
+    /// memory was refused.
     pub fn status(&self) -> u8
         ensures { result ≡ status_of self.now }
     {

@@ -1,9 +1,10 @@
 //! The command `bootkeep`, which shows what firmware keeps about how a machine starts.
 //!
-//! `bootkeep path HEX` shows the device path at the front of some bytes, `bootkeep option FILE` the
-//! load option that a file holds, and `bootkeep show SET` the boot variables of a set file. The
-//! program ends with status 0 where it did what it was asked to, and otherwise with the status and
-//! the line on standard error of its [`Failure`].
+//! `bootkeep path HEX` shows the device path at the front of some bytes, `bootkeep text TEXT` the
+//! bytes of the device path that a text stands for, `bootkeep option FILE` the load option that a
+//! file holds, and `bootkeep show SET` the boot variables of a set file. The program ends with
+//! status 0 where it did what it was asked to, and otherwise with the status and the line on
+//! standard error of its [`Failure`].
 //!
 //! [`Failure`]: failure::Failure
 #![tactic(auto)]

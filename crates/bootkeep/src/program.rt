@@ -5,9 +5,10 @@ ghost use Rattle.bootkeep.specs.Failure.{status_of};
 
 use crate::command_line::{self, Request, USAGE};
 use crate::failure::Failure;
-use crate::{input, report};
+use crate::input::{self, InputFault};
+use crate::report;
+use std::env;
 use std::rt::{Env, Files};
-use std::{env, io};
 
 /// Does what the words of the command line ask for, and returns the status to end with: 0, or that
 /// of the [`Failure`], whose line goes to standard error.
@@ -50,11 +51,7 @@ fn answer<R: Env + Files + Print + AllocGlobal>(rt: &R) -> Result<(), Failure> {
 }
 
 fn words<R: Env + AllocGlobal>(rt: &R) -> Result<Vec<String>, Failure> {
-    let given = match env::args(rt) {
-        Ok(given) => given,
-        Err(error) if error.kind() == io::ErrorKind::OutOfMemory => return Err(Failure::Memory),
-        Err(_) => return Err(Failure::Read),
-    };
+    let given = env::args(rt).map_err(InputFault::from)?;
     let mut words = Vec::new(rt.alloc());
     for word in given {
         words.push(word)?;

@@ -1,14 +1,24 @@
 //! What the showing subcommands answer: the whole of standard output, as text.
 
-ghost use Rattle.std.specs.Prelude.{◌≡◌};
+ghost use Rattle.std.specs.Prelude.{◌≡◌, IfOk, IfErr, MatchResult};
+ghost use Rattle.hex.specs.Hex.{decode_of};
+ghost use Rattle.uefi_option.specs.Words.{option_fault_words};
+ghost use Rattle.uefi_path.specs.Words.{path_fault_words};
+ghost use Rattle.uefi_text.specs.Words.{text_fault_words};
+ghost use Rattle.uefi_vars.specs.Order.{HasBadOrder};
+ghost use Rattle.uefi_vars.specs.Words.{set_fault_words, var_fault_words};
+ghost use Rattle.bootkeep.specs.Report.{IfInput, TellsBadHex, TellsPathFault, TellsTextFault, TellsOptionFault, TellsVarFault, TellsSetFault};
 ghost use Rattle.bootkeep.specs.declared.report.Refusal.TheVariants as refusal;
 
 use hex::FromHexError;
 use std::alloc::{AllocError, Global};
 use uefi_option::{OptionFault, category, description_text, is_active, is_normal, read_option};
-use uefi_path::{PathFault, write_path};
+use uefi_path::{PathFault, read_path, write_path};
 use uefi_text::{PathText, TextFault, read_text};
-use uefi_vars::{SetFault, VarFault, Vars, boot_next, boot_order, entry_number, plan, read_set};
+use uefi_vars::{
+    BootPlan, SetFault, VarFault, Vars, boot_next, boot_order, entry_number, entry_option, plan,
+    read_set,
+};
 
 /// Why a report is refused.
 #[derive(Debug, Drop)]
@@ -37,12 +47,11 @@ impl From<AllocError> for Refusal {
 /// [`Refusal::Input`] has the words `BadHex` where `hex` is no even number of hexadecimal digits,
 /// and else those of the path's fault where the bytes begin with no path. [`Refusal::Memory`] comes
 /// only for want of memory.
-pub fn path_report(alloc: Global, hex: &str) -> Result<String, Refusal> {
+pub fn path_report(alloc: Global, hex: &str) -> Result<String, Refusal>
+    ensures { IfErr result (λ refusal. IfInput refusal (TellsPathFault hex.now)) }
+{
     let bytes = read_hex(alloc, hex)?;
-    let (path, len) = match uefi_path::read_path(alloc, bytes.as_slice()) {
-        Ok(read) => read,
-        Err(fault) => return Err(path_refusal(alloc, fault)),
-    };
+    let (path, len) = read_path(alloc, &bytes).map_err(|fault| path_refusal(alloc, fault))?;
     let instances = path.instances().len();
     // Each node takes bytes of the input, so the sum is never cut short.
     let nodes = path
@@ -61,11 +70,10 @@ pub fn path_report(alloc: Global, hex: &str) -> Result<String, Refusal> {
 ///
 /// [`Refusal::Input`] has the words of the text's fault where it stands for no path. [`Refusal::Memory`] comes only for
 /// want of memory.
-pub fn text_report(alloc: Global, text: &str) -> Result<String, Refusal> {
-    let path = match read_text(alloc, text) {
-        Ok(path) => path,
-        Err(fault) => return Err(text_refusal(alloc, fault)),
-    };
+pub fn text_report(alloc: Global, text: &str) -> Result<String, Refusal>
+    ensures { IfErr result (λ refusal. IfInput refusal (TellsTextFault text.now)) }
+{
+    let path = read_text(alloc, text).map_err(|fault| text_refusal(alloc, fault))?;
     let mut bytes = Vec::new(alloc);
     write_path(&path, &mut bytes)?;
     let mut report = hex::encode(alloc, bytes.as_slice())?;
@@ -81,11 +89,10 @@ pub fn text_report(alloc: Global, text: &str) -> Result<String, Refusal> {
 ///
 /// [`Refusal::Input`] has the words of the option's fault where the bytes are no load option. [`Refusal::Memory`] comes
 /// only for want of memory.
-pub fn option_report(alloc: Global, bytes: &[u8]) -> Result<String, Refusal> {
-    let option = match read_option(alloc, bytes) {
-        Ok(option) => option,
-        Err(fault) => return Err(option_refusal(alloc, fault)),
-    };
+pub fn option_report(alloc: Global, bytes: &[u8]) -> Result<String, Refusal>
+    ensures { IfErr result (λ refusal. IfInput refusal (TellsOptionFault bytes.now)) }
+{
+    let option = read_option(alloc, bytes).map_err(|fault| option_refusal(alloc, fault))?;
     let attributes = option.attributes();
     let active = yes_or_no(is_active(attributes));
     let category = category(attributes);
@@ -114,46 +121,78 @@ pub fn option_report(alloc: Global, bytes: &[u8]) -> Result<String, Refusal> {
 /// [`Refusal::Input`] has the words of the set's fault where the bytes are no set file, else `BadOrder` where BootOrder
 /// is no list of numbers, and else `BadNext` where BootNext is no number. [`Refusal::Memory`] comes only for want of
 /// memory.
-pub fn set_report(alloc: Global, bytes: &[u8]) -> Result<String, Refusal> {
+pub fn set_report(alloc: Global, bytes: &[u8]) -> Result<String, Refusal>
+    ensures { IfErr result (λ refusal. IfInput refusal (TellsSetFault bytes.now)) }
+{
     let vars = read_set(alloc, bytes).map_err(|fault| set_refusal(alloc, fault))?;
-    let order = boot_order(alloc, &vars).map_err(|fault| variable_refusal(alloc, fault))?;
-    let next = boot_next(&vars).map_err(|fault| variable_refusal(alloc, fault))?;
-    let plan = plan(alloc, &vars).map_err(|fault| variable_refusal(alloc, fault))?;
+    variables_report(alloc, &vars)
+}
+
+/// Shows the boot variables.
+fn variables_report(alloc: Global, vars: &Vars) -> Result<String, Refusal>
+    ensures { IfErr result (λ refusal. IfInput refusal (TellsVarFault vars.now)) }
+{
+    let order = read_order(alloc, vars)?;
+    let next = read_next(alloc, vars)?;
+    let plan = read_plan(alloc, vars)?;
     let mut report = format!(in alloc; "variables {}\n", vars.len())?;
-    append_entries(alloc, &vars, &mut report)?;
+    append_entries(alloc, vars, &mut report)?;
     append_numbers("order", &order, &mut report)?;
     append_numbers("next", next.as_slice(), &mut report)?;
     writeln!(report, "{}", plan.words(alloc)?)?;
     Ok(report)
 }
 
+/// The numbers of BootOrder.
+fn read_order(alloc: Global, vars: &Vars) -> Result<Vec<u16>, Refusal>
+    ensures good { IfOk result (λ _. HasBadOrder vars.now → ⊥) }
+    ensures refused { IfErr result (λ refusal. IfInput refusal (TellsVarFault vars.now)) }
+{
+    boot_order(alloc, vars).map_err(|fault| variable_refusal(alloc, fault))
+}
+
+/// The number of BootNext, where BootOrder isn't bad.
+fn read_next(alloc: Global, vars: &Vars) -> Result<Option<u16>, Refusal>
+    requires { HasBadOrder vars.now → ⊥ }
+    ensures refused { IfErr result (λ refusal. IfInput refusal (TellsVarFault vars.now)) }
+{
+    boot_next(vars).map_err(|fault| variable_refusal(alloc, fault))
+}
+
+/// The plan of what a boot would try.
+fn read_plan(alloc: Global, vars: &Vars) -> Result<BootPlan, Refusal>
+    ensures refused { IfErr result (λ refusal. IfInput refusal (TellsVarFault vars.now)) }
+{
+    plan(alloc, vars).map_err(|fault| variable_refusal(alloc, fault))
+}
+
 /// Appends the line of each entry.
 fn append_entries(alloc: Global, vars: &Vars, report: &mut String) -> Result<(), AllocError> {
     for index in 0..vars.len() {
-        if let Some((name, bytes)) = vars.item(index)
-            && entry_number(name).is_some()
+        if let Some((name, _)) = vars.item(index)
+            && let Some(number) = entry_number(name)
         {
-            append_entry(alloc, name, bytes, report)?;
+            append_entry(alloc, vars, name, number, report)?;
         }
     }
     Ok(())
 }
 
-/// Appends the line of the entry of this name and these bytes.
+/// Appends the line of the entry of this name and number.
 fn append_entry(
     alloc: Global,
+    vars: &Vars,
     name: &str,
-    bytes: &[u8],
+    number: u16,
     report: &mut String,
 ) -> Result<(), AllocError> {
-    match read_option(alloc, bytes) {
-        Ok(option) => {
+    match entry_option(alloc, vars, number)? {
+        Some(option) => {
             let kind = normal_or_other(option.attributes());
             let description = description_text(alloc, option.description())?;
             writeln!(report, "{name} {kind} {description}")
         }
-        Err(OptionFault::OutOfMemory) => Err(AllocError),
-        Err(_) => writeln!(report, "{name} undecodable"),
+        None => writeln!(report, "{name} undecodable"),
     }
 }
 
@@ -190,7 +229,10 @@ fn optional_text(alloc: Global, bytes: &[u8]) -> Result<String, AllocError> {
     }
 }
 
-fn read_hex(alloc: Global, hex: &str) -> Result<Vec<u8>, Refusal> {
+fn read_hex(alloc: Global, hex: &str) -> Result<Vec<u8>, Refusal>
+    ensures found { IfOk result (λ bytes. decode_of hex.now ≡ Ok bytes.items) }
+    ensures refused { IfErr result (λ refusal. IfInput refusal (TellsBadHex hex.now)) }
+{
     match hex::decode(alloc, hex) {
         Ok(bytes) => Ok(bytes),
         Err(FromHexError::OutOfMemory) => Err(Refusal::Memory),
@@ -198,35 +240,50 @@ fn read_hex(alloc: Global, hex: &str) -> Result<Vec<u8>, Refusal> {
     }
 }
 
-fn path_refusal(alloc: Global, fault: PathFault) -> Refusal {
+fn path_refusal(alloc: Global, fault: PathFault) -> Refusal
+    ensures memory { fault ≡ PathFault.OutOfMemory → result ≡ Refusal.Memory }
+    ensures words { IfInput result (λ words. words ≡ path_fault_words fault) }
+{
     match fault {
         PathFault::OutOfMemory => Refusal::Memory,
         fault => refused(fault.words(alloc)),
     }
 }
 
-fn text_refusal(alloc: Global, fault: TextFault) -> Refusal {
+fn text_refusal(alloc: Global, fault: TextFault) -> Refusal
+    ensures memory { fault ≡ TextFault.OutOfMemory → result ≡ Refusal.Memory }
+    ensures words { IfInput result (λ words. words ≡ text_fault_words fault) }
+{
     match fault {
         TextFault::OutOfMemory => Refusal::Memory,
         fault => refused(fault.words(alloc)),
     }
 }
 
-fn option_refusal(alloc: Global, fault: OptionFault) -> Refusal {
+fn option_refusal(alloc: Global, fault: OptionFault) -> Refusal
+    ensures memory { fault ≡ OptionFault.OutOfMemory → result ≡ Refusal.Memory }
+    ensures words { IfInput result (λ words. words ≡ option_fault_words fault) }
+{
     match fault {
         OptionFault::OutOfMemory => Refusal::Memory,
         fault => refused(fault.words(alloc)),
     }
 }
 
-fn set_refusal(alloc: Global, fault: SetFault) -> Refusal {
+fn set_refusal(alloc: Global, fault: SetFault) -> Refusal
+    ensures memory { fault ≡ SetFault.OutOfMemory → result ≡ Refusal.Memory }
+    ensures words { IfInput result (λ words. words ≡ set_fault_words fault) }
+{
     match fault {
         SetFault::OutOfMemory => Refusal::Memory,
         fault => refused(fault.words(alloc)),
     }
 }
 
-fn variable_refusal(alloc: Global, fault: VarFault) -> Refusal {
+fn variable_refusal(alloc: Global, fault: VarFault) -> Refusal
+    ensures memory { fault ≡ VarFault.OutOfMemory → result ≡ Refusal.Memory }
+    ensures words { IfInput result (λ words. words ≡ var_fault_words fault) }
+{
     match fault {
         VarFault::OutOfMemory => Refusal::Memory,
         fault => refused(fault.words(alloc)),
@@ -234,9 +291,12 @@ fn variable_refusal(alloc: Global, fault: VarFault) -> Refusal {
 }
 
 /// The refusal that these words tell, if there was memory for them.
-fn refused(words: Result<String, AllocError>) -> Refusal {
+fn refused(words: Result<String, AllocError>) -> Refusal
+    ensures { MatchResult words
+        (λ text. result ≡ Refusal.Input text) (λ _. result ≡ Refusal.Memory) }
+{
     match words {
-        Ok(words) => Refusal::Input(words),
+        Ok(text) => Refusal::Input(text),
         Err(AllocError) => Refusal::Memory,
     }
 }
