@@ -1,6 +1,6 @@
--- The words of faults: a fault's name, and after one blank each of its numbers in decimal, and the words of the
--- fault that it holds.
-use Rattle.std.specs.Prelude.{ℕ, List, ◌++◌, codes}
+-- The places of faults, and their words: a fault's name, and after one blank each of its numbers in decimal, and the
+-- words of the fault that it holds.
+use Rattle.std.specs.Prelude.{ℕ, List, ◌++◌, codes, Option, Some, None}
 use Rattle.std.specs.Fmt.{decimal}
 use Rattle.uefi_path.specs.Words.{path_fault_words}
 use Rattle.uefi_option.specs.declared.fault.OptionFault.{OptionFault}
@@ -16,3 +16,14 @@ option_fault_words (fault.Path place path_fault) =
 option_fault_words fault.ZeroUnit = codes "ZeroUnit"
 option_fault_words fault.ListTooLong = codes "ListTooLong"
 option_fault_words fault.OutOfMemory = codes "OutOfMemory"
+
+-- where the fault is
+abbrev pub option_fault_place : OptionFault → Option ℕ
+option_fault_place fault.Short = None
+option_fault_place fault.NoTerminator = None
+option_fault_place fault.ListPastEnd = None
+option_fault_place fault.EmptyList = None
+option_fault_place (fault.Path place _) = Some place
+option_fault_place fault.ZeroUnit = None
+option_fault_place fault.ListTooLong = None
+option_fault_place fault.OutOfMemory = None

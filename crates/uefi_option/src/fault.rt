@@ -6,7 +6,7 @@ ghost use Rattle.uefi_option.specs.declared.fault.OptionFault.TheVariants as fau
 
 use std::alloc::{AllocError, AllocFailed, Global};
 use thiserror::Error;
-use uefi_path::PathFault;
+use uefi_path::{Path, PathFault};
 
 /// Why bytes or parts are no load option.
 #[derive(Clone, Copy, Debug, PartialEq, Eq, Hash, Error)]
@@ -38,8 +38,38 @@ pub enum OptionFault {
     OutOfMemory,
 }
 
+/// Parts that are those of no load option, handed back, and why.
+#[derive(Debug, Drop)]
+pub struct OptionRefused {
+    /// Why they are refused: never for want of memory.
+    pub fault: OptionFault,
+    /// The units of the description.
+    pub description: Vec<u16>,
+    /// The device paths.
+    pub paths: Vec<Path>,
+    /// The optional data.
+    pub optional: Vec<u8>,
+}
+
 impl OptionFault {
-    ghost use Rattle.uefi_option.specs.Words.{option_fault_words};
+    ghost use Rattle.uefi_option.specs.Words.{option_fault_place, option_fault_words};
+
+    /// The offset of the bytes that begin with no path, from the option's first byte, where the fault is
+    /// [`OptionFault::Path`]; no other fault has a place.
+    pub fn place(&self) -> Option<usize>
+        ensures { result ≡ option_fault_place self.now }
+    {
+        match self {
+            OptionFault::Path(place, _) => Some(*place),
+            OptionFault::Short
+            | OptionFault::NoTerminator
+            | OptionFault::ListPastEnd
+            | OptionFault::EmptyList
+            | OptionFault::ZeroUnit
+            | OptionFault::ListTooLong
+            | OptionFault::OutOfMemory => None,
+        }
+    }
 
     /// The fault's name and, for [`OptionFault::Path`], its offset in decimal and the words of the path's fault,
     /// each after a blank. The one refusal is for want of memory.

@@ -18,7 +18,7 @@ pub use attributes::{
     ACTIVE, CATEGORY, CATEGORY_APP, CATEGORY_BOOT, FORCE_RECONNECT, HIDDEN, category, is_active,
     is_normal,
 };
-pub use fault::OptionFault;
+pub use fault::{OptionFault, OptionRefused};
 pub use load_option::{LIST_MAX, LoadOption};
 pub use making::make_option;
 pub use reading::read_option;

@@ -1,10 +1,16 @@
 //! Load options as values.
 
-ghost use Rattle.std.specs.Prelude.{◌≡◌, IfOk, OnOk};
+ghost use Rattle.std.specs.Prelude.{◌≡◌, ◌≢◌, ◌<◌, ◌↔◌, [], length, Contains, IsErrAnd, IsTrue, IfErr, IfOk, OnOk};
 ghost use Rattle.std.specs.List.{AllByRecursion};
 ghost use Rattle.uefi_path.specs.Path.{IsPath};
-ghost use Rattle.uefi_option.specs.LoadOption.{option_parts, IsOption};
+ghost use Rattle.uefi_option.specs.declared.fault.OptionFault.{OptionFault};
+ghost use Rattle.uefi_option.specs.Attributes.{IsActive, category_of, IsNormal};
+ghost use Rattle.uefi_option.specs.LoadOption.{option_parts, list_bytes, IsOption};
+ghost use Rattle.uefi_option.specs.Making.{IsPartsFault};
 
+use crate::attributes;
+use crate::fault::OptionRefused;
+use crate::making::check_parts;
 use std::alloc::{AllocError, Global};
 use std::marker::Model;
 use uefi_path::{Path, laws};
@@ -66,8 +72,66 @@ impl Eq for LoadOption {
 }
 
 impl LoadOption {
+    /// The load option of these parts (UEFI 2.10, 3.1.3), which takes no memory. The description is given as CHAR16 units
+    /// without the zero that closes it.
+    ///
+    /// # Errors
+    ///
+    /// The parts themselves, with [`OptionFault::ZeroUnit`](crate::OptionFault::ZeroUnit) where a unit of the description is
+    /// zero; else with [`OptionFault::EmptyList`](crate::OptionFault::EmptyList) where there is no path; else with
+    /// [`OptionFault::ListTooLong`](crate::OptionFault::ListTooLong) where the spellings of the paths have more than
+    /// [`LIST_MAX`] bytes together.
+    pub fn from_parts(
+        attributes: u32,
+        description: Vec<u16>,
+        paths: Vec<Path>,
+        optional: Vec<u8>,
+    ) -> Result<LoadOption, OptionRefused>
+        ensures made { IfOk result (λ option.
+            option ≡ option_parts attributes description.items paths.items optional.items) }
+        ensures valid { IfOk result (λ option. IsOption option) }
+
+        ensures zero_unit { IsErrAnd result (λ refused. refused.fault ≡ OptionFault.ZeroUnit)
+            ↔ Contains description.items 0 }
+        ensures empty_list { IsErrAnd result (λ refused. refused.fault ≡ OptionFault.EmptyList)
+            ↔ ((¬ Contains description.items 0) × (paths.items ≡ [])) }
+        ensures list_too_long { IsErrAnd result (λ refused. refused.fault ≡ OptionFault.ListTooLong)
+            ↔ ((¬ Contains description.items 0) × (LIST_MAX < length (list_bytes paths.items))) }
+        // There is no other refusal.
+        ensures named { IfErr result (λ refused. IsPartsFault refused.fault) }
+        ensures no_memory { IfErr result (λ refused. refused.fault ≢ OptionFault.OutOfMemory) }
+
+        ensures handed_back { IfErr result (λ refused. (refused.description ≡ description)
+            × (refused.paths ≡ paths) × (refused.optional ≡ optional)) }
+    {
+        if let Err(fault) = check_parts(&description, &paths) {
+            return Err(OptionRefused {
+                fault,
+                description,
+                paths,
+                optional,
+            });
+        }
+        Ok(LoadOption::of_parts(attributes, description, paths, optional))
+    }
+
+    /// The attributes, the units of the description without the zero that closes it, the paths and the optional data,
+    /// given away. This takes no memory.
+    pub fn into_parts(self) -> (u32, Vec<u16>, Vec<Path>, Vec<u8>)
+        ensures parts { option_parts result.0 result.1.items result.2.items result.3.items ≡ self }
+        ensures valid { IsOption self }
+    {
+        let LoadOption {
+            attributes,
+            description,
+            paths,
+            optional,
+        } = self;
+        (attributes, description, paths, optional)
+    }
+
     /// The option of these parts.
-    pub(crate) fn from_parts(
+    pub(crate) fn of_parts(
         attributes: u32,
         description: Vec<u16>,
         paths: Vec<Path>,
@@ -106,6 +170,32 @@ impl LoadOption {
         ensures valid { IsOption self.now }
     {
         self.attributes
+    }
+
+    /// Whether the option has LOAD_OPTION_ACTIVE (UEFI 2.10, 3.1.3).
+    pub fn is_active(&self) -> bool
+        ensures active { IsTrue result ↔ IsActive self.now.attributes }
+        ensures valid { IsOption self.now }
+    {
+        attributes::is_active(self.attributes)
+    }
+
+    /// The bits of LOAD_OPTION_CATEGORY (UEFI 2.10, 3.1.3), where they stand in the attributes:
+    /// [`CATEGORY_BOOT`](crate::CATEGORY_BOOT), [`CATEGORY_APP`](crate::CATEGORY_APP) or a reserved value.
+    pub fn category(&self) -> u32
+        ensures value { result ≡ category_of self.now.attributes }
+        ensures valid { IsOption self.now }
+    {
+        attributes::category(self.attributes)
+    }
+
+    /// Whether the boot manager tries the option by itself: it has LOAD_OPTION_ACTIVE, and its category is
+    /// LOAD_OPTION_CATEGORY_BOOT (UEFI 2.10, 3.1.3). Whether it is hidden doesn't matter.
+    pub fn is_normal(&self) -> bool
+        ensures normal { IsTrue result ↔ IsNormal self.now.attributes }
+        ensures valid { IsOption self.now }
+    {
+        attributes::is_normal(self.attributes)
     }
 
     /// The CHAR16 units of the description, without the zero unit that closes it.

@@ -1,9 +1,9 @@
 //! Parts to load options.
 
-ghost use Rattle.std.specs.Prelude.{◌≡◌, ◌↔◌, ◌<◌, [], length, Contains, Err, IfOk, IfErr};
+ghost use Rattle.std.specs.Prelude.{◌≡◌, ◌≢◌, ◌↔◌, ◌<◌, [], length, Contains, Err, IfOk, IfErr, OnOk};
 ghost use Rattle.uefi_option.specs.declared.fault.OptionFault.{OptionFault};
 ghost use Rattle.uefi_option.specs.LoadOption.{option_parts, list_bytes, IsOption};
-ghost use Rattle.uefi_option.specs.Making.{IsPartsFault};
+ghost use Rattle.uefi_option.specs.Making.{ArePartsOfOption, IsPartsFault};
 
 use crate::fault::OptionFault;
 use crate::load_option::{LIST_MAX, LoadOption, copy_paths};
@@ -38,6 +38,24 @@ pub fn make_option(
     // There is no other refusal, but for want of memory.
     ensures named { IfErr result IsPartsFault }
 {
+    check_parts(description, paths)?;
+    let description = Vec::from_slice(alloc, description)?;
+    let paths = copy_paths(alloc, paths)?;
+    let optional = Vec::from_slice(alloc, optional)?;
+    Ok(LoadOption::of_parts(attributes, description, paths, optional))
+}
+
+/// Looks whether a description and paths are those of an option.
+pub(crate) fn check_parts(description: &[u16], paths: &[Path]) -> Result<(), OptionFault>
+    ensures ok { OnOk result (ArePartsOfOption description.now paths.now) }
+    ensures zero_unit { (result ≡ Err OptionFault.ZeroUnit) ↔ Contains description.now 0 }
+    ensures empty_list { (result ≡ Err OptionFault.EmptyList)
+        ↔ ((¬ Contains description.now 0) × (paths.now ≡ [])) }
+    ensures list_too_long { (result ≡ Err OptionFault.ListTooLong)
+        ↔ ((¬ Contains description.now 0) × (LIST_MAX < length (list_bytes paths.now))) }
+    ensures named { IfErr result IsPartsFault }
+    ensures no_memory { IfErr result (λ fault. fault ≢ OptionFault.OutOfMemory) }
+{
     if description.contains(&0) {
         return Err(OptionFault::ZeroUnit);
     }
@@ -47,8 +65,5 @@ pub fn make_option(
     if list_len(paths).is_none() {
         return Err(OptionFault::ListTooLong);
     }
-    let description = Vec::from_slice(alloc, description)?;
-    let paths = copy_paths(alloc, paths)?;
-    let optional = Vec::from_slice(alloc, optional)?;
-    Ok(LoadOption::from_parts(attributes, description, paths, optional))
+    Ok(())
 }

@@ -144,7 +144,7 @@ fn read_parts(alloc: Global, bytes: &[u8]) -> Result<LoadOption, OptionFault>
     let paths = read_paths(alloc, raw.list, start)?;
     let description = read_units(alloc, raw.description)?;
     let optional = Vec::from_slice(alloc, raw.optional)?;
-    Ok(LoadOption::from_parts(raw.attributes, description, paths, optional))
+    Ok(LoadOption::of_parts(raw.attributes, description, paths, optional))
 }
 
 /// Reads the load option that the bytes are, all of them (UEFI 2.10, 3.1.3). What stands behind the list of paths is

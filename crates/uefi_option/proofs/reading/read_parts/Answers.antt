@@ -19,5 +19,5 @@ returns-in_err-paths-clause-fault c =
     let p = err_from_is_err_and c.from_residual-in_err-paths.result c.from_residual-in_err-paths.ensures.1 in
     rw (p.1, p.2) (list_fault_is c.args.bytes.now raw.attributes raw.description.now raw.list.now raw.optional.now _ c.in_err-paths.field-0.0 c.in_ok-raw.ensures.found refl c.in_err-paths.ensures.fault)
 
-pub from_parts-requires : goal.from_parts-requires
-from_parts-requires c = (spelled c).0
+pub of_parts-requires : goal.of_parts-requires
+of_parts-requires c = (spelled c).0
