@@ -7,7 +7,6 @@ use Rattle.uefi_path.specs.declared.node.Node.{Node}
 use Rattle.uefi_path.specs.Row.{IsByte}
 use Rattle.uefi_path.specs.Parts.{IsUnit}
 use Rattle.uefi_path.specs.Path.{IsPath, path_bytes}
-use Rattle.uefi_option.specs.declared.load_option.TheConstants.{LIST_MAX}
 
 -- What a load option holds. A path is the list of its instances, and an instance the list of its nodes. The zero
 -- unit that closes the description in the bytes is not held.
@@ -20,6 +19,10 @@ pub record OptionParts : Type 0 where
 abbrev pub option_parts : ℕ → List ℕ → List (List (List Node)) → List ℕ → OptionParts
 option_parts attributes description paths optional =
     record { attributes = attributes; description = description; paths = paths; optional = optional }
+
+-- the most bytes that a list has whose length two bytes can state
+abbrev pub list_max : ℕ
+list_max = 65535
 
 -- FilePathList: the spellings of the paths, one after the other
 abbrev pub list_bytes : List (List (List Node)) → List ℕ
@@ -51,7 +54,7 @@ pub record IsOption (o : OptionParts) : Type 0 where
   pub description : AllByRecursion IsUnit o.description
   pub some : o.paths ≢ []
   pub paths : AllByRecursion IsPath o.paths
-  pub len : length (list_bytes o.paths) ≤ LIST_MAX
+  pub len : length (list_bytes o.paths) ≤ list_max
   pub optional : AllByRecursion IsByte o.optional
 
 -- the bytes, all of them, spell the load option

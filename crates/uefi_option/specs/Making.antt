@@ -4,10 +4,9 @@ use Rattle.std.specs.List.{AllByRecursion}
 use Rattle.uefi_path.specs.declared.node.Node.{Node}
 use Rattle.uefi_path.specs.Parts.{IsUnit}
 use Rattle.uefi_path.specs.Path.{IsPath}
-use Rattle.uefi_option.specs.declared.load_option.TheConstants.{LIST_MAX}
 use Rattle.uefi_option.specs.declared.fault.OptionFault.{OptionFault}
 use Rattle.uefi_option.specs.declared.fault.OptionFault.TheVariants as fault
-use Rattle.uefi_option.specs.LoadOption.{list_bytes}
+use Rattle.uefi_option.specs.LoadOption.{list_max, list_bytes}
 
 -- one of the faults with which parts are refused
 abbrev pub IsPartsFault : OptionFault → Type 0
@@ -22,4 +21,4 @@ pub record ArePartsOfOption (description : List ℕ) (paths : List (List (List N
   pub nonzero : AllByRecursion IsUnit description
   pub some : paths ≢ []
   pub whole : AllByRecursion IsPath paths
-  pub len : length (list_bytes paths) ≤ LIST_MAX
+  pub len : length (list_bytes paths) ≤ list_max

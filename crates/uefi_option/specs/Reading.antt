@@ -7,10 +7,9 @@ use Rattle.uefi_path.specs.declared.fault.PathFault.{PathFault}
 use Rattle.uefi_path.specs.Parts.{IsUnit}
 use Rattle.uefi_path.specs.Path.{IsPath}
 use Rattle.uefi_path.specs.Fault.{IsFirstFault as IsFirstPathFault}
-use Rattle.uefi_option.specs.declared.load_option.TheConstants.{LIST_MAX}
 use Rattle.uefi_option.specs.declared.fault.OptionFault.{OptionFault}
 use Rattle.uefi_option.specs.declared.fault.OptionFault.TheVariants as fault
-use Rattle.uefi_option.specs.LoadOption.{header_bytes, units_bytes, list_bytes}
+use Rattle.uefi_option.specs.LoadOption.{list_max, header_bytes, units_bytes, list_bytes}
 
 -- each two bytes as a unit
 abbrev pub units_of : List ℕ → List ℕ
@@ -40,7 +39,7 @@ pub record SplitsOption (bytes : List ℕ) (attributes : ℕ) (description list 
   pub four_bytes : attributes < 2 ^ 32
   pub units : AreUnits description
   pub some : 0 < length list
-  pub len : length list ≤ LIST_MAX
+  pub len : length list ≤ list_max
   pub parts : bytes
       ≡ header_bytes attributes (length list) ++ ((description ++ to_le_bytes w16 0) ++ (list ++ optional))
 

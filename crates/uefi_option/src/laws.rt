@@ -4,11 +4,13 @@ ghost use Rattle.std.specs.Prelude.{◌≡◌, ◌⊎◌, ◌↔◌, ℕ, List, 
 ghost use Rattle.std.specs.List.{AllByRecursion};
 ghost use Rattle.uefi_path.specs.Row.{IsByte};
 ghost use Rattle.uefi_option.specs.declared.fault.OptionFault.{OptionFault};
-ghost use Rattle.uefi_option.specs.LoadOption.{OptionParts, IsOption, SpellsOption};
+ghost use Rattle.uefi_option.specs.Attributes.{active_bit, category_bits, category_boot};
+ghost use Rattle.uefi_option.specs.LoadOption.{OptionParts, list_max, IsOption, SpellsOption};
 ghost use Rattle.uefi_option.specs.Fault.{IsFirstFault};
 
+use crate::attributes::{ACTIVE, CATEGORY, CATEGORY_APP, CATEGORY_BOOT, FORCE_RECONNECT, HIDDEN};
 use crate::fault::OptionFault;
-use crate::load_option::LoadOption;
+use crate::load_option::{LIST_MAX, LoadOption};
 use uefi_path::laws as path_laws;
 
 /// Each load option whose numbers are in their ranges has a spelling, of bytes.
@@ -74,4 +76,15 @@ pub fn load_options_compare_as_values()
 /// `==` on the faults of load options tells whether they are equal.
 pub fn option_faults_compare_as_values()
     ensures { (a b : OptionFault) → IsTrue (⟦<OptionFault as PartialEq>⟧.eq a b) ↔ (a ≡ b) }
+{}
+
+/// The public constants are the numbers of the standard (UEFI 2.10, 3.1.3).
+pub fn constants_are_the_standards_numbers()
+    ensures active { ACTIVE ≡ active_bit }
+    ensures force_reconnect { FORCE_RECONNECT ≡ 0x00000002 }
+    ensures hidden { HIDDEN ≡ 0x00000008 }
+    ensures category { CATEGORY ≡ category_bits }
+    ensures category_boot { CATEGORY_BOOT ≡ category_boot }
+    ensures category_app { CATEGORY_APP ≡ 0x00000100 }
+    ensures list_max { LIST_MAX ≡ list_max }
 {}

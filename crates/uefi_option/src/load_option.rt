@@ -5,7 +5,7 @@ ghost use Rattle.std.specs.List.{AllByRecursion};
 ghost use Rattle.uefi_path.specs.Path.{IsPath};
 ghost use Rattle.uefi_option.specs.declared.fault.OptionFault.{OptionFault};
 ghost use Rattle.uefi_option.specs.Attributes.{IsActive, category_of, IsNormal};
-ghost use Rattle.uefi_option.specs.LoadOption.{option_parts, list_bytes, IsOption};
+ghost use Rattle.uefi_option.specs.LoadOption.{option_parts, list_max, list_bytes, IsOption};
 ghost use Rattle.uefi_option.specs.Making.{IsPartsFault};
 
 use crate::attributes;
@@ -72,15 +72,15 @@ impl Eq for LoadOption {
 }
 
 impl LoadOption {
-    /// The load option of these parts (UEFI 2.10, 3.1.3), which takes no memory. The description is given as CHAR16 units
-    /// without the zero that closes it.
+    /// The load option of these parts (UEFI 2.10, 3.1.3), which takes no memory. The description is given as CHAR16
+    /// units without the zero that closes it.
     ///
     /// # Errors
     ///
-    /// The parts themselves, with [`OptionFault::ZeroUnit`](crate::OptionFault::ZeroUnit) where a unit of the description is
-    /// zero; else with [`OptionFault::EmptyList`](crate::OptionFault::EmptyList) where there is no path; else with
-    /// [`OptionFault::ListTooLong`](crate::OptionFault::ListTooLong) where the spellings of the paths have more than
-    /// [`LIST_MAX`] bytes together.
+    /// The parts are handed back, with [`OptionFault::ZeroUnit`](crate::OptionFault::ZeroUnit) where a unit of the
+    /// description is zero; else with [`OptionFault::EmptyList`](crate::OptionFault::EmptyList) where there is no path;
+    /// else with [`OptionFault::ListTooLong`](crate::OptionFault::ListTooLong) where the spellings of the paths have more
+    /// than [`LIST_MAX`] bytes together.
     pub fn from_parts(
         attributes: u32,
         description: Vec<u16>,
@@ -96,7 +96,7 @@ impl LoadOption {
         ensures empty_list { IsErrAnd result (λ refused. refused.fault ≡ OptionFault.EmptyList)
             ↔ ((¬ Contains description.items 0) × (paths.items ≡ [])) }
         ensures list_too_long { IsErrAnd result (λ refused. refused.fault ≡ OptionFault.ListTooLong)
-            ↔ ((¬ Contains description.items 0) × (LIST_MAX < length (list_bytes paths.items))) }
+            ↔ ((¬ Contains description.items 0) × (list_max < length (list_bytes paths.items))) }
         // There is no other refusal.
         ensures named { IfErr result (λ refused. IsPartsFault refused.fault) }
         ensures no_memory { IfErr result (λ refused. refused.fault ≢ OptionFault.OutOfMemory) }

@@ -2,11 +2,11 @@
 
 ghost use Rattle.std.specs.Prelude.{◌≡◌, ◌≢◌, ◌↔◌, ◌<◌, [], length, Contains, Err, IfOk, IfErr, OnOk};
 ghost use Rattle.uefi_option.specs.declared.fault.OptionFault.{OptionFault};
-ghost use Rattle.uefi_option.specs.LoadOption.{option_parts, list_bytes, IsOption};
+ghost use Rattle.uefi_option.specs.LoadOption.{option_parts, list_max, list_bytes, IsOption};
 ghost use Rattle.uefi_option.specs.Making.{ArePartsOfOption, IsPartsFault};
 
 use crate::fault::OptionFault;
-use crate::load_option::{LIST_MAX, LoadOption, copy_paths};
+use crate::load_option::{LoadOption, copy_paths};
 use crate::writing::list_len;
 use std::alloc::Global;
 use uefi_path::Path;
@@ -17,8 +17,8 @@ use uefi_path::Path;
 /// # Errors
 ///
 /// [`OptionFault::ZeroUnit`] where a unit of the description is zero; else [`OptionFault::EmptyList`] where there is
-/// no path; else [`OptionFault::ListTooLong`] where the spellings of the paths have more than [`LIST_MAX`] bytes together;
-/// else [`OptionFault::OutOfMemory`] where memory for the parts was refused.
+/// no path; else [`OptionFault::ListTooLong`] where the spellings of the paths have more than
+/// [`LIST_MAX`](crate::LIST_MAX) bytes together; else [`OptionFault::OutOfMemory`] where memory for the parts was refused.
 pub fn make_option(
     alloc: Global,
     attributes: u32,
@@ -34,7 +34,7 @@ pub fn make_option(
     ensures empty_list { (result ≡ Err OptionFault.EmptyList)
         ↔ ((¬ Contains description.now 0) × (paths.now ≡ [])) }
     ensures list_too_long { (result ≡ Err OptionFault.ListTooLong)
-        ↔ ((¬ Contains description.now 0) × (LIST_MAX < length (list_bytes paths.now))) }
+        ↔ ((¬ Contains description.now 0) × (list_max < length (list_bytes paths.now))) }
     // There is no other refusal, but for want of memory.
     ensures named { IfErr result IsPartsFault }
 {
@@ -52,7 +52,7 @@ pub(crate) fn check_parts(description: &[u16], paths: &[Path]) -> Result<(), Opt
     ensures empty_list { (result ≡ Err OptionFault.EmptyList)
         ↔ ((¬ Contains description.now 0) × (paths.now ≡ [])) }
     ensures list_too_long { (result ≡ Err OptionFault.ListTooLong)
-        ↔ ((¬ Contains description.now 0) × (LIST_MAX < length (list_bytes paths.now))) }
+        ↔ ((¬ Contains description.now 0) × (list_max < length (list_bytes paths.now))) }
     ensures named { IfErr result IsPartsFault }
     ensures no_memory { IfErr result (λ fault. fault ≢ OptionFault.OutOfMemory) }
 {

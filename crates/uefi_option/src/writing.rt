@@ -4,15 +4,15 @@ ghost use Rattle.std.specs.Prelude.{◌≡◌, ◌≤◌, ◌++◌, length, IfOk
 ghost use Rattle.std.specs.List.{AllByRecursion};
 ghost use Rattle.std.specs.Option.{SomeIff};
 ghost use Rattle.uefi_path.specs.Path.{IsPath};
-ghost use Rattle.uefi_option.specs.LoadOption.{units_bytes, list_bytes, option_bytes, IsOption};
+ghost use Rattle.uefi_option.specs.LoadOption.{list_max, units_bytes, list_bytes, option_bytes, IsOption};
 
-use crate::load_option::{LIST_MAX, LoadOption};
+use crate::load_option::LoadOption;
 use std::alloc::{AllocError, Global};
 use uefi_path::{Path, path_len, write_path};
 
 /// How many bytes the list of these paths has: `None` where two bytes can't state it.
 pub(crate) fn list_len(paths: &[Path]) -> Option<u16>
-    ensures len { let len = length (list_bytes paths.now) in SomeIff result (len ≤ LIST_MAX) len }
+    ensures len { let len = length (list_bytes paths.now) in SomeIff result (len ≤ list_max) len }
     ensures valid { OnSome result (AllByRecursion IsPath paths.now) }
 {
     let mut len: u16 = 0;

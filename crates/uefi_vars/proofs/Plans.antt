@@ -5,9 +5,8 @@ use Rattle.std.proofs.lemmas.Bool.Decides.{eqb_tells}
 use Rattle.std.proofs.lemmas.List.{append-nil, take_more}
 use Rattle.std.proofs.lemmas.List.Elements.{Contains-append_right}
 use Rattle.uefi_path.specs.Row.{IsByte}
-use Rattle.uefi_option.specs.declared.attributes.TheConstants.{ACTIVE, CATEGORY_BOOT}
 use Rattle.uefi_option.specs.LoadOption.{OptionParts, SpellsOption}
-use Rattle.uefi_option.specs.Attributes.{category_of, IsNormal}
+use Rattle.uefi_option.specs.Attributes.{active_bit, category_boot, category_of, IsNormal}
 use Rattle.uefi_vars.specs.declared.boot_plan.Choice.{Choice}
 use Rattle.uefi_vars.specs.Vars.{Variables, entry_of}
 use Rattle.uefi_vars.specs.Order.{IsNumber, HasNext}
@@ -89,8 +88,8 @@ module _ (entries : ℕ → Option (List ℕ)) where
 normal_or_not : (attributes : ℕ) → IsNormal attributes ⊎ (¬ IsNormal attributes)
 normal_or_not attributes =
     ⊎_elim (λ off. inr (λ normal. normal.0 off.1))
-    (λ active. ⊎_elim (λ boot. inl (active.1, boot.1)) (λ other. inr (λ normal. other.1 normal.1)) (eqb_tells (category_of attributes) CATEGORY_BOOT))
-    (eqb_tells (bit_and attributes ACTIVE) 0)
+    (λ active. ⊎_elim (λ boot. inl (active.1, boot.1)) (λ other. inr (λ normal. other.1 normal.1)) (eqb_tells (category_of attributes) category_boot))
+    (eqb_tells (bit_and attributes active_bit) 0)
 
 -- bytes spell a load option, or none
 abbrev pub SpellsOrNot : Type 0
