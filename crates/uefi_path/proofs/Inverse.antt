@@ -167,7 +167,7 @@ file_of_named r is e (Some units) named =
 file_found : (r : Row) → IsRow r → has_type 4 4 r ≡ true → IfSome (option_map (λ units. FilePath units) (name_of r.body)) (IsFound r)
 file_found r is e = file_of_named r is e (name_of r.body) (name_found r.body (bytes_from_recursion r.body is.body))
 
-fixed_node_found : (r : Row) → IsRow r → IfSome (fixed_node_of r) (IsFound r)
+pub fixed_node_found : (r : Row) → IsRow r → IfSome (fixed_node_of r) (IsFound r)
 fixed_node_found r is =
     let P : Option Node → Type 0 = λ found. IfSome found (IsFound r) in
     cond_both _ _ _ P (λ e. pci_found r is (shape_is 1 1 2 r e)) (λ _.
@@ -180,7 +180,7 @@ fixed_node_found r is =
     cond_both _ _ _ P (λ e. hard_drive_found r is (shape_is 4 1 38 r e)) (λ _.
     tt))))))))
 
-list_node_found : (r : Row) → IsRow r → IfSome (list_node_of r) (IsFound r)
+pub list_node_found : (r : Row) → IsRow r → IfSome (list_node_of r) (IsFound r)
 list_node_found r is =
     let P : Option Node → Type 0 = λ found. IfSome found (IsFound r) in
     cond_both _ _ _ P (λ e. vendor_found (λ vendor. VendorHw vendor) 1 4 r is e (λ body long. vendor_hw long) (λ p v. v) (λ p. refl) (λ p. tt)) (λ _.
@@ -408,6 +408,16 @@ row_of_is_row (Other other) valid = (valid.row, valid.no_end)
 -- ---- the listed rows
 
 -- what the inverse finds has a case of its own
+-- such a node shows that its row is listed
+pub found_is_listed : (r : Row) (found : Option Node) → IfSome found (IsFound r) → IsSome found → IsListed r
+found_is_listed r None is some = absurd (false≢true some)
+found_is_listed r (Some node) is some = is.listed
+
+-- where none of one length is found, one that holds a list is
+pub or_else : (a b : Option Node) → IsSome (option_or a b) → ¬ IsSome a → IsSome b
+or_else None b some none = some
+or_else (Some node) b some none = absurd (none refl)
+
 found_typed : (r : Row) (found : Option Node) → IfSome found (IsFound r) → IsSome found → HasTypedNode r
 found_typed r None typed some = absurd (false≢true some)
 found_typed r (Some node) typed some = (node, typed.valid, typed.same, typed.own)

@@ -1,6 +1,6 @@
 -- The units of a name, and the bytes of one.
-use Rattle.std.proofs.Common.{◌≡◌, ◌≢◌, ℕ, suc, ◌+◌, ◌-◌, ◌*◌, ◌^◌, ◌<◌, ◌≤◌, List, [], ◌∷◌, ◌++◌, length, take, drop, get_or, eqb, Option, Some, None, refl, sym, ap, subst, ◌∙◌, arith, append_assoc, inl, inr, replicate}
-use Rattle.std.specs.Prelude.{◌==◌, IsSome, IfSome}
+use Rattle.std.proofs.Common.{◌≡◌, ◌≢◌, ℕ, suc, ◌+◌, ◌-◌, ◌*◌, ◌^◌, ◌<◌, ◌≤◌, List, [], ◌∷◌, ◌++◌, length, take, drop, get_or, eqb, Option, Some, None, Result, Ok, Err, refl, sym, ap, subst, ◌∙◌, arith, append_assoc, inl, inr, replicate}
+use Rattle.std.specs.Prelude.{◌==◌, is_some, IsSome, IfSome}
 use Rattle.std.specs.Option.{option_map}
 use Rattle.std.specs.Int.{w16, to_le_bytes, from_le_bytes}
 use Rattle.std.specs.List.{flat_map, position, position_or_len, AllByRecursion}
@@ -43,6 +43,18 @@ one_unit bytes units (low ∷ high ∷ behind) unit h front nonzero fits =
       len = omega (arith, h.len, length-append units (unit ∷ []));
     })
 
+is_some-option_map : (unit : ℕ) (found : Option (List ℕ)) → is_some (option_map (λ (name : List ℕ). unit ∷ name) found) ≡ is_some found
+is_some-option_map unit None = refl
+is_some-option_map unit (Some name) = refl
+
+-- a unit that is not zero doesn't decide whether bytes are a name's
+pub unit_passed : (rest : List ℕ) (unit : ℕ) → IsFront rest unit → unit ≢ 0 → is_some (name_of (take (length rest - 2) (drop 2 rest))) ≡ is_some (name_of rest)
+unit_passed [] unit front nonzero = absurd (omega (arith, front.enough))
+unit_passed (low ∷ []) unit front nonzero = absurd (omega (arith, front.enough))
+unit_passed (low ∷ high ∷ behind) unit front nonzero =
+    let here : name_of (low ∷ high ∷ behind) ≡ option_map (λ (name : List ℕ). unit ∷ name) (name_of behind) = rw (← front.is, ne_eqb unit 0 nonzero) refl in
+    rw (take_all (length (low ∷ high ∷ behind) - 2) behind (omega arith), here) (sym (is_some-option_map unit (name_of behind)))
+
 -- ---- what a caller gives
 
 no_earlier : (units : List ℕ) → position (λ (u : ℕ). u == 0) units ≡ None → length units ≤ position_or_len (λ (u : ℕ). u == 0) units
@@ -58,6 +70,14 @@ pub no_zero : (units : List ℕ) → ((i : ℕ) → get_or units i 0 < 2 ^ 16) �
 no_zero units fits none =
     recursion_from_All IsUnit units (All-from_get_or IsUnit units 0 (λ i lt.
     (eqb-false _ 0 (fails_before_first (λ (u : ℕ). u == 0) units i 0 (omega (arith, no_earlier units none))), fits i)))
+
+-- ---- what is refused
+
+pub no_refusal : {T F P : Type 0} (value : T) (fault : F) → Ok value ≡ Err fault → P
+no_refusal value fault e = cc
+
+pub same_refusal : {T F : Type 0} (a b : F) → ◌≡◌ {A = Result T F} (Err a) (Err b) → a ≡ b
+same_refusal a b e = cc
 
 -- ---- what is read
 

@@ -65,7 +65,8 @@ pub(crate) fn field<const N: usize>(bytes: &[u8; N]) -> &[u8]
     each_octet(bytes.as_slice())
 }
 
-fn each_octet(bytes: &[u8]) -> &[u8]
+/// The same bytes. A contract learns here what the type says: that these are bytes.
+pub(crate) fn each_octet(bytes: &[u8]) -> &[u8]
     ensures same { result.now ≡ bytes.now }
     ensures valid { AllByRecursion IsByte bytes.now }
 {

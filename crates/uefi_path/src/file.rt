@@ -1,6 +1,6 @@
 //! File paths.
 
-ghost use Rattle.std.specs.Prelude.{◌≡◌, ◌↔◌, ◌*◌, ◌<◌, ◌≤◌, ◌++◌, ◌==◌, ℕ, length, Some, None, Err, IfOk, OnOk, OnErr};
+ghost use Rattle.std.specs.Prelude.{◌≡◌, ◌↔◌, ◌*◌, ◌<◌, ◌≤◌, ◌++◌, ◌==◌, ◌≢◌, ℕ, length, is_some, Some, None, Err, IfOk, IfErr, OnOk, OnErr};
 ghost use Rattle.std.specs.List.{flat_map, position};
 ghost use Rattle.std.specs.Int.{w16, to_le_bytes};
 ghost use Rattle.uefi_path.specs.declared.fault.NameFault.{NameFault};
@@ -18,6 +18,15 @@ const UNIT_LEN: usize = 2;
 
 /// The most units that a name can have, without the zero that closes it.
 pub const NAME_MAX: usize = BODY_MAX / UNIT_LEN - 1;
+
+/// Units that are no path name of a file, handed back, and why they are none.
+#[derive(Debug, Drop)]
+pub struct NameRefused {
+    /// Why they are none. It is never [`NameFault::OutOfMemory`].
+    pub fault: NameFault,
+    /// The units.
+    pub units: Vec<u16>,
+}
 
 /// The path name of a file (UEFI 2.10, 10.3.5.4) as CHAR16 units. None of them is zero, and there
 /// are at most [`NAME_MAX`]; the zero that closes the name in the bytes is not held.
@@ -78,14 +87,35 @@ impl FileNode {
         ensures too_long { (result ≡ Err NameFault.TooLong)
             ↔ ((position (λ unit. unit == 0) units.now ≡ None) × (NAME_MAX < length units.now)) }
     {
-        if let Some(at) = first_zero(units) {
-            return Err(NameFault::ZeroUnit(at));
-        }
-        if units.len() > NAME_MAX {
-            return Err(NameFault::TooLong);
+        if let Err(fault) = check_name(units) {
+            return Err(fault);
         }
         let units = Vec::from_slice(alloc, units)?;
         Ok(FileNode { units })
+    }
+
+    /// A node of this path name, given as CHAR16 units without the zero that closes it (UEFI 2.10,
+    /// 10.3.5.4). This takes no memory.
+    ///
+    /// # Errors
+    ///
+    /// The units themselves, with the fault: [`NameFault::ZeroUnit`] where a unit is zero; else
+    /// [`NameFault::TooLong`] where there are more than [`NAME_MAX`] units.
+    pub fn from_vec(units: Vec<u16>) -> Result<FileNode, NameRefused>
+        ensures made { IfOk result (λ node. node ≡ units.items) }
+        ensures valid { IfOk result (λ node. IsName node) }
+        ensures zero_unit { (at : ℕ) →
+            (result ≡ Err (record { fault = NameFault.ZeroUnit at; units = units }))
+            ↔ (position (λ unit. unit == 0) units.items ≡ Some at) }
+        ensures too_long { (result ≡ Err (record { fault = NameFault.TooLong; units = units }))
+            ↔ ((position (λ unit. unit == 0) units.items ≡ None) × (NAME_MAX < length units.items)) }
+        ensures named { IfErr result (λ refused. refused.fault ≢ NameFault.OutOfMemory) }
+        ensures handed_back { IfErr result (λ refused. refused.units ≡ units) }
+    {
+        match check_name(&units) {
+            Ok(()) => Ok(FileNode { units }),
+            Err(fault) => Err(NameRefused { fault, units }),
+        }
     }
 
     /// The node that has these bytes: `None` where their units are no name with a zero behind it.
@@ -119,6 +149,15 @@ impl FileNode {
         &self.units
     }
 
+    /// The units of the name, given away. This takes no memory.
+    pub fn into_units(self) -> Vec<u16>
+        ensures units { result.items ≡ self }
+        ensures valid { IsName self }
+    {
+        let FileNode { units } = self;
+        units
+    }
+
     /// An equal node. The one refusal is for want of memory.
     pub fn copy(&self, alloc: Global) -> Result<FileNode, AllocError>
         ensures equal { IfOk result (λ node. node ≡ self.now) }
@@ -149,6 +188,39 @@ impl FileNode {
         out.extend_from_slice(&header)?;
         append_closed(&self.units, out)
     }
+}
+
+/// Whether the bytes are those of a name's units with a zero behind it.
+pub(crate) fn is_name(bytes: &[u8]) -> bool
+    ensures { result ≡ is_some (name_of bytes.now) }
+{
+    let mut rest = bytes;
+    while let [low, high, behind @ ..] = rest {
+        if u16::from_le_bytes([*low, *high]) == 0 {
+            return behind.is_empty();
+        }
+        rest = behind;
+    }
+    false
+}
+
+/// Tests whether units are a path name.
+fn check_name(units: &[u16]) -> Result<(), NameFault>
+    ensures ok { OnOk result (IsName units.now) }
+    ensures no_zero { OnOk result (position (λ unit. unit == 0) units.now ≡ None) }
+    ensures zero_unit { (at : ℕ) → (result ≡ Err (NameFault.ZeroUnit at))
+        ↔ (position (λ unit. unit == 0) units.now ≡ Some at) }
+    ensures too_long { (result ≡ Err NameFault.TooLong)
+        ↔ ((position (λ unit. unit == 0) units.now ≡ None) × (NAME_MAX < length units.now)) }
+    ensures named { result ≢ Err NameFault.OutOfMemory }
+{
+    if let Some(at) = first_zero(units) {
+        return Err(NameFault::ZeroUnit(at));
+    }
+    if units.len() > NAME_MAX {
+        return Err(NameFault::TooLong);
+    }
+    Ok(())
 }
 
 /// The index of the first unit that is zero.

@@ -24,7 +24,7 @@ mod vendor;
 mod writing;
 
 pub use fault::{NameFault, NodeFault, PathFault};
-pub use file::{FileNode, NAME_MAX};
+pub use file::{FileNode, NAME_MAX, NameRefused};
 pub use generic::BODY_MAX;
 pub use guid::Guid;
 pub use hard_drive::HardDriveNode;

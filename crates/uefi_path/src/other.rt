@@ -1,7 +1,10 @@
 //! Nodes that are kept as bytes.
 
-ghost use Rattle.std.specs.Prelude.{◌≡◌, IfOk, OnOk};
+ghost use Rattle.std.specs.Prelude.{◌≡◌, ◌↔◌, ◌⊎◌, ◌<◌, length, Err, IfOk, IfErr, OnOk};
 
+use crate::fields::each_octet;
+use crate::generic::{BODY_MAX, END};
+use crate::node::Node;
 use std::alloc::{AllocError, Global};
 use std::marker::Model;
 
@@ -50,7 +53,29 @@ impl Eq for OtherNode {
 }
 
 impl OtherNode {
-    ghost use Rattle.uefi_path.specs.Row.{row, IsOther};
+    ghost use Rattle.uefi_path.specs.Row.{row, IsListed, IsOther};
+
+    /// A node of this type, this sub-type and this data (UEFI 2.10, 10.3.1), which no other case of
+    /// `Node` stands for. This takes no memory.
+    ///
+    /// # Errors
+    ///
+    /// The data itself, where the type is 0x7F, where there are more than
+    /// [`BODY_MAX`](crate::BODY_MAX) bytes of it, or where another case of `Node` stands for these
+    /// parts, which [`node_from_parts`](crate::node_from_parts) makes.
+    pub fn from_vec(kind: u8, sub: u8, body: Vec<u8>) -> Result<OtherNode, Vec<u8>>
+        ensures made { IfOk result (λ node. node ≡ row kind sub body.items) }
+        ensures valid { IfOk result (λ node. IsOther node) }
+        ensures refused { (result ≡ Err body) ↔ ((kind ≡ 0x7F)
+            ⊎ ((BODY_MAX < length body.items) ⊎ IsListed (row kind sub body.items))) }
+        ensures handed_back { IfErr result (λ refused. refused ≡ body) }
+    {
+        if kind == END || body.len() > BODY_MAX || Node::is_listed(kind, sub, &body) {
+            return Err(body);
+        }
+        let _ = each_octet(&body);
+        Ok(OtherNode { kind, sub, body })
+    }
 
     /// A node of these bytes, if there is memory for them.
     pub(crate) fn new(
@@ -88,6 +113,17 @@ impl OtherNode {
         ensures valid { IsOther self.now }
     {
         &self.body
+    }
+
+    /// The type, the sub-type and the data, given away. This takes no memory.
+    pub fn into_parts(self) -> (u8, u8, Vec<u8>)
+        ensures kind { result.0 ≡ self.kind }
+        ensures sub { result.1 ≡ self.sub }
+        ensures body { result.2.items ≡ self.body }
+        ensures valid { IsOther self }
+    {
+        let OtherNode { kind, sub, body } = self;
+        (kind, sub, body)
     }
 
     /// An equal node. The one refusal is for want of memory.

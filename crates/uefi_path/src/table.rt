@@ -1,20 +1,20 @@
 //! The table of nodes (UEFI 2.10, 10.3): how each case of `Node` stands in the bytes.
 
-ghost use Rattle.std.specs.Prelude.{◌≡◌, ◌≢◌, ◌≤◌, ◌++◌, length, IfOk, OnOk, OnErr};
-ghost use Rattle.uefi_path.specs.Row.{row};
+ghost use Rattle.std.specs.Prelude.{◌≡◌, ◌≢◌, ◌↔◌, ◌≤◌, ◌++◌, length, is_some, IsTrue, IfOk, OnOk, OnErr};
+ghost use Rattle.uefi_path.specs.Row.{row, IsListed};
 ghost use Rattle.uefi_path.specs.Node.{row_of, IsNode};
 ghost use Rattle.uefi_path.specs.Reading.{fixed_node_of, list_node_of, node_of};
 ghost use Rattle.uefi_path.specs.Writing.{Extends};
 
 use crate::fields::{NodeBytes, bytes_at, field, u8_at, u16_at, u32_at};
-use crate::file::FileNode;
+use crate::file::{FileNode, is_name};
 use crate::generic::{BODY_MAX, HEADER_LEN};
 use crate::hard_drive::HardDriveNode;
 use crate::ipv4::Ipv4Node;
 use crate::node::Node;
 use crate::other::OtherNode;
 use crate::uri::UriNode;
-use crate::vendor::Vendor;
+use crate::vendor::{GUID_LEN, Vendor};
 use std::alloc::{AllocError, Global};
 
 /// What a node's header states: its type, its sub-type, and how many bytes of data follow.
@@ -113,6 +113,26 @@ impl Node {
             (4, 4) => FileNode::from_bytes(alloc, body)?.map(Node::FilePath),
             _ => None,
         })
+    }
+
+    /// Whether the table has a row for these parts that holds a list.
+    fn is_of_a_list(kind: u8, sub: u8, body: &[u8]) -> bool
+        ensures { result ≡ is_some (list_node_of (row kind sub body.now)) }
+    {
+        match (kind, sub) {
+            (1, 4) | (3, 10) | (4, 3) => body.len() >= GUID_LEN,
+            (3, 24) => true,
+            (4, 4) => is_name(body),
+            _ => false,
+        }
+    }
+
+    /// Whether the table has a row for these parts. This takes no memory.
+    pub(crate) fn is_listed(kind: u8, sub: u8, body: &[u8]) -> bool
+        requires { length body.now ≤ BODY_MAX }
+        ensures { IsTrue result ↔ IsListed (row kind sub body.now) }
+    {
+        Node::of_one_length(kind, sub, body).is_some() || Node::is_of_a_list(kind, sub, body)
     }
 
     /// The node that has these parts, if there is memory for it.

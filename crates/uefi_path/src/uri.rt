@@ -1,10 +1,11 @@
 //! URI nodes.
 
-ghost use Rattle.std.specs.Prelude.{◌≡◌, ◌≢◌, ◌↔◌, ◌<◌, ◌≤◌, length, Err, IfOk, OnOk};
+ghost use Rattle.std.specs.Prelude.{◌≡◌, ◌≢◌, ◌↔◌, ◌<◌, ◌≤◌, length, Err, IfOk, IfErr, OnOk};
 ghost use Rattle.uefi_path.specs.declared.fault.NodeFault.{NodeFault};
 ghost use Rattle.uefi_path.specs.Parts.{IsUri};
 
 use crate::fault::NodeFault;
+use crate::fields::each_octet;
 use crate::generic::BODY_MAX;
 use std::alloc::{AllocError, Global};
 use std::marker::Model;
@@ -70,6 +71,24 @@ impl UriNode {
         Ok(UriNode::from_bytes(alloc, bytes)?)
     }
 
+    /// A node of these bytes (UEFI 2.10, 10.3.4). This takes no memory.
+    ///
+    /// # Errors
+    ///
+    /// The bytes themselves, where there are more than [`BODY_MAX`].
+    pub fn from_vec(bytes: Vec<u8>) -> Result<UriNode, Vec<u8>>
+        ensures made { IfOk result (λ node. node ≡ bytes.items) }
+        ensures valid { IfOk result (λ node. IsUri node) }
+        ensures refused { (result ≡ Err bytes) ↔ (BODY_MAX < length bytes.items) }
+        ensures handed_back { IfErr result (λ refused. refused ≡ bytes) }
+    {
+        if bytes.len() > BODY_MAX {
+            return Err(bytes);
+        }
+        let _ = each_octet(&bytes);
+        Ok(UriNode { bytes })
+    }
+
     /// A node of these bytes, if there is memory for them.
     pub(crate) fn from_bytes(alloc: Global, bytes: &[u8]) -> Result<UriNode, AllocError>
         requires { length bytes.now ≤ BODY_MAX }
@@ -85,6 +104,15 @@ impl UriNode {
         ensures valid { IsUri self.now }
     {
         &self.bytes
+    }
+
+    /// The bytes of the URI, given away. This takes no memory.
+    pub fn into_bytes(self) -> Vec<u8>
+        ensures bytes { result.items ≡ self }
+        ensures valid { IsUri self }
+    {
+        let UriNode { bytes } = self;
+        bytes
     }
 
     /// An equal node. The one refusal is for want of memory.

@@ -1,19 +1,19 @@
 //! Nodes that a vendor defines.
 
-ghost use Rattle.std.specs.Prelude.{◌≡◌, ◌≢◌, ◌↔◌, ◌<◌, ◌≤◌, ◌++◌, length, Err, IfOk, OnOk, OnErr};
+ghost use Rattle.std.specs.Prelude.{◌≡◌, ◌≢◌, ◌↔◌, ◌<◌, ◌≤◌, ◌++◌, length, Err, IfOk, IfErr, OnOk, OnErr};
 ghost use Rattle.uefi_path.specs.declared.fault.NodeFault.{NodeFault};
 ghost use Rattle.uefi_path.specs.Parts.{vendor_parts, vendor_bytes, vendor_of, IsVendor};
 ghost use Rattle.uefi_path.specs.Writing.{Extends};
 
 use crate::fault::NodeFault;
-use crate::fields::{NodeBytes, bytes_at, field, octets};
+use crate::fields::{NodeBytes, bytes_at, each_octet, field, octets};
 use crate::generic::{BODY_MAX, HEADER_LEN};
 use crate::guid::Guid;
 use std::alloc::{AllocError, Global};
 use std::marker::Model;
 
 /// The bytes of the identifier in front of a vendor's data.
-const GUID_LEN: usize = 16;
+pub(crate) const GUID_LEN: usize = 16;
 
 /// The most bytes of data that a vendor's node can have behind its identifier.
 pub const VENDOR_BODY_MAX: usize = BODY_MAX - GUID_LEN;
@@ -81,6 +81,26 @@ impl Vendor {
         Ok(Vendor::from_parts(alloc, guid, body)?)
     }
 
+    /// What a vendor's node of this identifier and this data holds (UEFI 2.10, 10.3.2.4, 10.3.4.17
+    /// and 10.3.5.3). This takes no memory.
+    ///
+    /// # Errors
+    ///
+    /// The data itself, where there are more than [`VENDOR_BODY_MAX`] bytes of it.
+    pub fn from_vec(guid: Guid, body: Vec<u8>) -> Result<Vendor, Vec<u8>>
+        ensures made { IfOk result (λ node. node ≡ vendor_parts guid.0 body.items) }
+        ensures valid { IfOk result (λ node. IsVendor node) }
+        ensures refused { (result ≡ Err body) ↔ (VENDOR_BODY_MAX < length body.items) }
+        ensures handed_back { IfErr result (λ refused. refused ≡ body) }
+    {
+        if body.len() > VENDOR_BODY_MAX {
+            return Err(body);
+        }
+        let guid = Guid(octets(guid.0));
+        let _ = each_octet(&body);
+        Ok(Vendor { guid, body })
+    }
+
     fn from_parts(alloc: Global, guid: Guid, body: &[u8]) -> Result<Vendor, AllocError>
         requires { length body.now ≤ VENDOR_BODY_MAX }
         ensures made { IfOk result (λ node. node ≡ vendor_parts guid.0 body.now) }
@@ -118,6 +138,16 @@ impl Vendor {
         ensures valid { IsVendor self.now }
     {
         &self.body
+    }
+
+    /// The identifier and the data, given away. This takes no memory.
+    pub fn into_parts(self) -> (Guid, Vec<u8>)
+        ensures guid { result.0.0 ≡ self.guid }
+        ensures body { result.1.items ≡ self.body }
+        ensures valid { IsVendor self }
+    {
+        let Vendor { guid, body } = self;
+        (guid, body)
     }
 
     /// An equal value. The one refusal is for want of memory.
