@@ -1,15 +1,18 @@
 -- The names of entries.
-use Rattle.std.proofs.Common.{◌≡◌, ◌≢◌, ℕ, ◌+◌, ◌*◌, ◌/◌, ◌%◌, ◌<◌, ◌≤◌, ◌^◌, List, [], ◌∷◌, Some, None, ◌↔◌, sym, ap, ◌∙◌, ⊎_elim, arith, false}
+use Rattle.std.proofs.Common.{◌≡◌, ◌≢◌, ℕ, zero, suc, ◌+◌, ◌*◌, ◌/◌, ◌%◌, ◌<◌, ◌≤◌, ◌^◌, List, [], ◌∷◌, Some, None, ◌↔◌, sym, ap, ◌∙◌, ⊎_elim, arith, false}
 use Rattle.std.specs.Ordering.{nat_cmp, ordering_then, eq_by_cmp}
 use Rattle.std.specs.declared.cmp.Ordering.{Ordering}
 use Rattle.std.specs.declared.cmp.Ordering.TheVariants.{Less}
 use Rattle.std.specs.FinMap.{get, insert, remove, get-insert, get-remove}
+use Rattle.std.specs.List.{AllByRecursion}
+use Rattle.std.specs.Str.{IsAscii, IsUtf8}
 use Rattle.std.proofs.lemmas.Bool.{cases_lt, cond-true, cond-false, false_from_ne_true}
 use Rattle.std.proofs.lemmas.Cmp.{eq_by_cmp_equiv, nat_list_cmp_total}
 use Rattle.std.proofs.lemmas.Map.Lookups.{exact_bytes}
 use Rattle.std.proofs.lemmas.Map.Views.{tells_apart}
 use Rattle.std.proofs.lemmas.Bool.Decides.{nat_tests}
-use Rattle.uefi_vars.specs.Name.{upper_digit, four_digits, entry_text}
+use Rattle.std.proofs.lemmas.Str.{IsUtf8-from_ascii}
+use Rattle.uefi_vars.specs.Name.{IsNameByte, IsName, upper_digit, four_digits, entry_text}
 use Rattle.uefi_vars.specs.Vars.{Variables, name_cmp}
 
 -- ---- digits
@@ -60,6 +63,16 @@ four_digits-of_digits a b c d p q r s =
 pub number_of_name : (name : List ℕ) (m : ℕ) → m < 2 ^ 16 → name ≡ entry_text m → (number : ℕ) → (Some m ≡ Some number) ↔ ((number < 2 ^ 16) × (name ≡ entry_text number))
 number_of_name name m fits is number =
     (λ e. let same : m ≡ number = cc in (omega arith, is ∙ ap entry_text same), λ h. ap (λ (n : ℕ). Some n) (names_apart m number fits h.0 (sym is ∙ h.1)))
+
+-- ---- names as text
+
+printing_is_ascii : (bytes : List ℕ) → AllByRecursion IsNameByte bytes → IsAscii bytes
+printing_is_ascii [] h i = omega arith
+printing_is_ascii (byte ∷ bytes) h zero = omega (arith, h.0.1)
+printing_is_ascii (byte ∷ bytes) h (suc i) = printing_is_ascii bytes h.1 i
+
+pub IsUtf8-name : (name : List ℕ) → IsName name → IsUtf8 name
+IsUtf8-name name is = IsUtf8-from_ascii name (printing_is_ascii name is.printing)
 
 -- ---- what is stored under names
 

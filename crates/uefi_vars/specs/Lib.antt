@@ -1,6 +1,7 @@
 -- what public contracts and the laws cite
 pub mod Name
 pub mod Vars
+pub mod Iter
 pub mod Set
 pub mod Fault
 pub mod Order

@@ -26,6 +26,14 @@ set_fault_words (set.BadData place) = codes "BadData " ++ decimal place
 set_fault_words (set.NotRising place) = codes "NotRising " ++ decimal place
 set_fault_words set.OutOfMemory = codes "OutOfMemory"
 
+abbrev pub set_fault_place : SetFault → Option ℕ
+set_fault_place (set.BadMagic place) = Some place
+set_fault_place (set.Truncated place) = Some place
+set_fault_place (set.BadName place) = Some place
+set_fault_place (set.BadData place) = Some place
+set_fault_place (set.NotRising place) = Some place
+set_fault_place set.OutOfMemory = None
+
 abbrev pub var_fault_words : VarFault → List ℕ
 var_fault_words var.BadOrder = codes "BadOrder"
 var_fault_words var.BadNext = codes "BadNext"

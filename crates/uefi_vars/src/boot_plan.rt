@@ -20,6 +20,18 @@ pub struct Choice {
     pub option: LoadOption,
 }
 
+impl Choice {
+    /// An equal choice. The one refusal is for want of memory.
+    pub fn copy(&self, alloc: Global) -> Result<Choice, AllocError>
+        ensures { IfOk result (λ copy. copy ≡ self.now) }
+    {
+        Ok(Choice {
+            number: self.number,
+            option: self.option.copy(alloc)?,
+        })
+    }
+}
+
 /// What a boot would try (UEFI 2.10, 3.3): first one option, if BootNext names one, and then others in their order.
 #[derive(Debug, Drop)]
 pub struct BootPlan {
@@ -64,8 +76,8 @@ impl Eq for BootPlan {
 }
 
 impl BootPlan {
-    /// The plan of these choices.
-    pub(crate) fn from_choices(next: Option<Choice>, normal: Vec<Choice>) -> BootPlan
+    /// The plan that tries this option first, if there is one, and then these.
+    pub fn new(next: Option<Choice>, normal: Vec<Choice>) -> BootPlan
         ensures { result ≡ plan_parts next normal.items }
     {
         BootPlan { next, normal }
@@ -86,12 +98,20 @@ impl BootPlan {
         &self.normal
     }
 
+    /// The option that is tried first, if there is one, and the others in their order, given away. This takes no memory.
+    pub fn into_parts(self) -> (Option<Choice>, Vec<Choice>)
+        ensures { plan_parts result.0 result.1.items ≡ self }
+    {
+        let BootPlan { next, normal } = self;
+        (next, normal)
+    }
+
     /// An equal plan. The one refusal is for want of memory.
     pub fn copy(&self, alloc: Global) -> Result<BootPlan, AllocError>
         ensures { IfOk result (λ plan. plan ≡ self.now) }
     {
         let next = match &self.next {
-            Some(choice) => Some(copy_choice(alloc, choice)?),
+            Some(choice) => Some(choice.copy(alloc)?),
             None => None,
         };
         let normal = copy_choices(alloc, &self.normal)?;
@@ -115,23 +135,13 @@ impl BootPlan {
     }
 }
 
-/// An equal choice, if there is memory for it.
-fn copy_choice(alloc: Global, choice: &Choice) -> Result<Choice, AllocError>
-    ensures { IfOk result (λ copy. copy ≡ choice.now) }
-{
-    Ok(Choice {
-        number: choice.number,
-        option: choice.option.copy(alloc)?,
-    })
-}
-
 /// Equal choices, if there is memory for them.
 fn copy_choices(alloc: Global, choices: &[Choice]) -> Result<Vec<Choice>, AllocError>
     ensures { IfOk result (λ copies. copies.items ≡ choices.now) }
 {
     let mut copies = Vec::with_capacity(alloc, choices.len())?;
     for choice in choices {
-        copies.push(copy_choice(alloc, choice)?)?;
+        copies.push(choice.copy(alloc)?)?;
     }
     Ok(copies)
 }

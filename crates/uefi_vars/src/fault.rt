@@ -81,7 +81,22 @@ impl PutFault {
 }
 
 impl SetFault {
-    ghost use Rattle.uefi_vars.specs.Words.{set_fault_words};
+    ghost use Rattle.uefi_vars.specs.Words.{set_fault_words, set_fault_place};
+
+    /// The offset of the record with the fault, in bytes from the first byte of the file, or `None` where memory was
+    /// refused.
+    pub fn place(&self) -> Option<usize>
+        ensures { result ≡ set_fault_place self.now }
+    {
+        match self {
+            SetFault::BadMagic(place)
+            | SetFault::Truncated(place)
+            | SetFault::BadName(place)
+            | SetFault::BadData(place)
+            | SetFault::NotRising(place) => Some(*place),
+            SetFault::OutOfMemory => None,
+        }
+    }
 
     /// The fault's name and, after a blank, its offset in decimal. The one refusal is for want of memory.
     pub fn words(&self, alloc: Global) -> Result<String, AllocError>

@@ -18,6 +18,7 @@ ghost use Rattle.uefi_vars.specs.Plan.{PlanParts, IsNormalChoice, IsPlan, HasPla
 
 use crate::boot_plan::{BootPlan, Choice};
 use crate::fault::{PutFault, SetFault, VarFault};
+use crate::name::{BOOT_NEXT, BOOT_ORDER};
 use crate::vars::Vars;
 use uefi_option::laws as option_laws;
 
@@ -145,6 +146,12 @@ pub fn entry_names_are_distinct()
 /// The names of entries rise with their numbers.
 pub fn entry_names_rise()
     ensures { (m n : ℕ) → m < n → n < 2 ^ 16 → name_cmp (entry_text m) (entry_text n) ≡ Less }
+{}
+
+/// The bytes of the names of BootOrder and BootNext.
+pub fn order_and_next_are_named_so()
+    ensures order { BOOT_ORDER.now ≡ order_text }
+    ensures next { BOOT_NEXT.now ≡ next_text }
 {}
 
 /// The names of entries, BootOrder and BootNext are names that a variable may have.

@@ -19,11 +19,11 @@ mod writing;
 
 pub use boot_plan::{BootPlan, Choice};
 pub use fault::{PutFault, SetFault, VarFault};
-pub use name::{NAME_MAX, entry_name, entry_number};
+pub use name::{BOOT_NEXT, BOOT_ORDER, NAME_MAX, entry_name, entry_number};
 pub use order::{ORDER_MAX, boot_next, boot_order};
 pub use planning::{entry_option, plan};
 pub use reading::read_set;
-pub use vars::{DATA_MAX, Vars};
+pub use vars::{DATA_MAX, Iter, Vars};
 pub use writing::write_set;
 
 #[cfg(test)]

@@ -7,17 +7,28 @@ ghost use Rattle.uefi_vars.specs.Name.{IsNameByte, IsName, upper_digit, four_dig
 /// The most characters that a name has.
 pub const NAME_MAX: usize = 64;
 
-/// The name of the order in which entries are tried.
-pub(crate) const BOOT_ORDER: &str = "BootOrder";
+/// The name of the variable that says in which order entries are tried (UEFI 2.10, 3.3).
+pub const BOOT_ORDER: &str = "BootOrder";
 
-/// The name of the entry that the next boot tries first.
-pub(crate) const BOOT_NEXT: &str = "BootNext";
+/// The name of the variable that says which entry the next boot tries first (UEFI 2.10, 3.3).
+pub const BOOT_NEXT: &str = "BootNext";
 
 /// Whether these bytes are the characters of a name: one to [`NAME_MAX`] of them, each from 0x21 to 0x7E.
 pub(crate) fn is_name(name: &[u8]) -> bool
     ensures { IsTrue result ↔ IsName name.now }
 {
     !name.is_empty() && name.len() <= NAME_MAX && name.iter().all(|byte| byte.is_ascii_graphic())
+}
+
+/// These bytes as text, which are the characters of a name.
+pub(crate) fn name_text(name: &[u8]) -> &str
+    requires { IsName name.now }
+    ensures { result.now ≡ name.now }
+{
+    match str::from_utf8(name) {
+        Ok(text) => text,
+        Err(_) => unreachable!(),
+    }
 }
 
 /// The hexadecimal digit for a number below 16, in upper case.

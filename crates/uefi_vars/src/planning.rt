@@ -108,5 +108,5 @@ pub fn plan(alloc: Global, vars: &Vars) -> Result<BootPlan, VarFault>
     let next = read_next_choice(alloc, vars, boot_next(vars)?)?;
     let numbers = read_numbers(alloc, order)?;
     let normal = read_normal_choices(alloc, vars, &numbers)?;
-    Ok(BootPlan::from_choices(next, normal))
+    Ok(BootPlan::new(next, normal))
 }

@@ -179,6 +179,46 @@ fn keeps_variables_by_name(rt: HostRuntime) -> Result<(), Fail> {
 }
 
 #[test]
+fn keeps_entries_by_number(rt: HostRuntime) -> Result<(), Fail> {
+    let most = vec![in rt.alloc(); 0u8; DATA_MAX]?;
+    let too_many = vec![in rt.alloc(); 0u8; DATA_MAX + 1]?;
+    let mut vars = set_variables(rt.alloc())?;
+    assert_eq!(rt; vars.put_entry(1, &[]).err(), Some(PutFault::EmptyData));
+    assert_eq!(rt;
+        vars.put_entry(1, too_many.as_slice()).err(),
+        Some(PutFault::DataTooLong)
+    );
+    assert!(rt; vars == set_variables(rt.alloc())?);
+    vars.put_entry(0x00ab, &[0x01])?;
+    vars.put_entry(0xffff, most.as_slice())?;
+    vars.put_entry(1, &[0x02])?;
+    assert_eq!(rt; vars.len(), 5);
+    assert!(rt; vars.get("Boot00AB") == Some([0x01].as_slice()));
+    assert!(rt; vars.entry(0xffff) == Some(most.as_slice()));
+    assert!(rt; vars.get("Boot0001") == Some([0x02].as_slice()));
+    assert!(rt; vars.remove_entry(0xffff) && vars.remove_entry(0x00ab));
+    assert!(rt; !vars.remove_entry(0xffff) && vars.get("BootFFFF").is_none());
+    vars.put_entry(1, &DISK)?;
+    assert!(rt; vars == set_variables(rt.alloc())?);
+    assert!(rt; vars.get(BOOT_ORDER).is_some() && vars.get(BOOT_NEXT).is_none());
+    Ok(())
+}
+
+#[test]
+fn goes_over_variables_by_name(rt: HostRuntime) -> Result<(), Fail> {
+    let vars = set_variables(rt.alloc())?;
+    let mut items = vars.iter();
+    assert_eq!(rt; items.len(), 3);
+    assert!(rt; items.next() == Some(("Boot0001", DISK.as_slice())));
+    let state = [0x01, 0x01, 0x00, 0x00, 0x00, 0x01, 0x00];
+    assert!(rt; items.next() == Some(("BootKeepState", state.as_slice())));
+    assert!(rt; items.next() == Some(("BootOrder", [0x01, 0x00].as_slice())));
+    assert!(rt; items.next().is_none() && items.len() == 0);
+    assert!(rt; Vars::new(rt.alloc()).iter().next().is_none());
+    Ok(())
+}
+
+#[test]
 fn puts_what_may_stand_in_a_set(rt: HostRuntime) -> Result<(), Fail> {
     let longest = "0123456789abcdef0123456789abcdef0123456789abcdef0123456789abcdef";
     let too_long = "0123456789abcdef0123456789abcdef0123456789abcdef0123456789abcdef0";
@@ -327,6 +367,12 @@ fn plans_the_normal_options_behind_the_next(rt: HostRuntime) -> Result<(), Fail>
     assert_eq!(rt; choice.normal().len(), 2);
     let copy = choice.copy(rt.alloc())?;
     assert!(rt; copy == choice);
+    let (next, normal) = copy.into_parts();
+    assert!(rt; next.as_ref() == choice.next() && normal.as_slice() == choice.normal());
+    for held in &normal {
+        assert!(rt; held.copy(rt.alloc())? == *held);
+    }
+    assert!(rt; BootPlan::new(next, normal) == choice);
     assert!(rt; vars.remove("BootNext"));
     let other = plan(rt.alloc(), &vars)?;
     assert!(rt; other != choice);
@@ -378,14 +424,15 @@ fn tells_faults_in_words(rt: HostRuntime) -> Result<(), Fail> {
         assert_eq!(rt; fault.to_string(rt.alloc())?.as_str(), words);
     }
     let set = [
-        (SetFault::BadMagic(0), "BadMagic 0"),
-        (SetFault::Truncated(84), "Truncated 84"),
-        (SetFault::BadName(4), "BadName 4"),
-        (SetFault::BadData(11), "BadData 11"),
-        (SetFault::NotRising(11), "NotRising 11"),
-        (SetFault::OutOfMemory, "OutOfMemory"),
+        (SetFault::BadMagic(0), "BadMagic 0", Some(0)),
+        (SetFault::Truncated(84), "Truncated 84", Some(84)),
+        (SetFault::BadName(4), "BadName 4", Some(4)),
+        (SetFault::BadData(11), "BadData 11", Some(11)),
+        (SetFault::NotRising(11), "NotRising 11", Some(11)),
+        (SetFault::OutOfMemory, "OutOfMemory", None),
     ];
-    for (fault, words) in set {
+    for (fault, words, place) in set {
+        assert_eq!(rt; fault.place(), place);
         assert_eq!(rt; fault.words(rt.alloc())?.as_str(), words);
         assert_eq!(rt; fault.to_string(rt.alloc())?.as_str(), words);
     }
@@ -406,10 +453,7 @@ fn keeps_many_variables(rt: HostRuntime) -> Result<(), Fail> {
     let mut vars = Vars::new(rt.alloc());
     let mut order = Vec::new(rt.alloc());
     for number in 0..10_000u16 {
-        let name = entry_name(number);
-        if let Ok(name) = str::from_utf8(&name) {
-            vars.put(name, &DISK)?;
-        }
+        vars.put_entry(number, &DISK)?;
         order.extend_from_slice(&number.to_le_bytes())?;
     }
     vars.put("BootOrder", order.as_slice())?;

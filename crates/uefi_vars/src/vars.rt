@@ -4,12 +4,12 @@ ghost use Rattle.std.specs.Prelude.{◌≡◌, ◌≢◌, ◌⊎◌, ◌↔◌, 
 ghost use Rattle.std.specs.Option.{option_map};
 ghost use Rattle.std.specs.FinMap as map;
 ghost use Rattle.uefi_vars.specs.declared.fault.PutFault.{PutFault};
-ghost use Rattle.uefi_vars.specs.Name.{IsName};
+ghost use Rattle.uefi_vars.specs.Name.{IsName, entry_text};
 ghost use Rattle.uefi_vars.specs.Vars.{name_cmp, IsVariable, IsVars, entry_of};
 ghost use Rattle.uefi_vars.specs.Records.{pair_of, pairs_of, AreVariables, vars_of, without, IsAt, IsGap};
 
 use crate::fault::PutFault;
-use crate::name::{entry_name, is_name};
+use crate::name::{entry_name, is_name, name_text};
 use std::alloc::{AllocError, Global};
 use std::marker::Model;
 
@@ -73,7 +73,39 @@ impl Eq for Vars {
     ghost laws = { Prim.search (comparing, rules) };
 }
 
+/// The variables of a machine in the rising order of the names' bytes, each as its name and its data, as [`Vars::iter`]
+/// gives them.
+#[derive(Clone, Copy, Debug)]
+pub struct Iter<'a> {
+    variables: &'a [Variable],
+}
+
+impl<'a> Iterator for Iter<'a> {
+    type Item = (&'a str, &'a [u8]);
+
+    ghost use Rattle.std.specs.Iterator.{YieldsFirstBy, item_count};
+    ghost use Rattle.uefi_vars.specs.Iter.{variables_left};
+
+    ghost next_gives = { YieldsFirstBy (λ item. (item.0.now, item.1.now)) variables_left };
+
+    ghost remaining = { item_count variables_left };
+
+    fn next(&mut self) -> Option<(&'a str, &'a [u8])> {
+        let (variable, others) = self.variables.split_first()?;
+        self.variables = others;
+        Some((variable.name.as_str(), variable.data.as_slice()))
+    }
+}
+
+impl<'a> ExactSizeIterator for Iter<'a> {
+    fn len(&self) -> usize {
+        self.variables.len()
+    }
+}
+
 impl Vars {
+    ghost use Rattle.uefi_vars.specs.Iter.{variables_left};
+
     /// No variables.
     pub fn new(alloc: Global) -> Vars
         ensures { result ≡ map.empty }
@@ -114,7 +146,7 @@ impl Vars {
         ensures len { result ≡ map.len self.now }
         ensures valid { IsVars self.now }
     {
-        self.variables.len()
+        self.iter().len()
     }
 
     /// Whether there is no variable.
@@ -151,6 +183,16 @@ impl Vars {
         Some((variable.name.as_str(), variable.data.as_slice()))
     }
 
+    /// The variables in the rising order of the names' bytes, each as its name and its data.
+    pub fn iter(&self) -> Iter<'_>
+        ensures items { variables_left result ≡ map.entries self.now }
+        ensures valid { IsVars self.now }
+    {
+        Iter {
+            variables: &self.variables,
+        }
+    }
+
     /// Sets the variable of this name to this data, which is copied: one more variable where there was none of the name,
     /// and else its new data. A refusal changes nothing.
     ///
@@ -183,6 +225,27 @@ impl Vars {
         Ok(())
     }
 
+    /// Sets the entry of this number, the variable `Boot####` (UEFI 2.10, 3.1.1), to this data, which is copied: one more
+    /// variable where there was no such entry, and else its new data. A refusal changes nothing.
+    ///
+    /// # Errors
+    ///
+    /// [`PutFault::EmptyData`] where there is no data; else [`PutFault::DataTooLong`] where it has more than [`DATA_MAX`]
+    /// bytes; else [`PutFault::OutOfMemory`] where memory for it was refused. [`PutFault::BadName`] never comes, since each
+    /// number has a name.
+    pub fn put_entry(&mut self, number: u16, value: &[u8]) -> Result<(), PutFault>
+        ensures put { OnOk result (self.new ≡ map.insert self.old (entry_text number) value.now) }
+        ensures unchanged { OnErr result (self.new ≡ self.old) }
+
+        ensures named { result ≢ Err PutFault.BadName }
+        ensures empty_data { (result ≡ Err PutFault.EmptyData) ↔ (value.now ≡ []) }
+        ensures data_too_long { (result ≡ Err PutFault.DataTooLong) ↔ (DATA_MAX < length value.now) }
+        ensures valid { IsVars self.new }
+    {
+        let name = entry_name(number);
+        self.put(name_text(&name), value)
+    }
+
     /// Takes out the variable of this name. Whether there was one.
     pub fn remove(&mut self, name: &str) -> bool
         ensures was { result ≡ map.contains_key self.old name.now }
@@ -190,6 +253,15 @@ impl Vars {
         ensures valid { IsVars self.new }
     {
         erase(&mut self.variables, name.as_bytes())
+    }
+
+    /// Takes out the entry of this number, the variable `Boot####` (UEFI 2.10, 3.1.1). Whether there was one.
+    pub fn remove_entry(&mut self, number: u16) -> bool
+        ensures was { result ≡ map.contains_key self.old (entry_text number) }
+        ensures removed { self.new ≡ map.remove self.old (entry_text number) }
+        ensures valid { IsVars self.new }
+    {
+        erase(&mut self.variables, &entry_name(number))
     }
 }
 

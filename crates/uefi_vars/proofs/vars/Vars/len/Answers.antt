@@ -1,13 +1,6 @@
-use Rattle.std.proofs.Common.{ap, sym, subst, ◌∙◌}
-use Rattle.std.specs.FinMap.{len}
-use Rattle.uefi_vars.specs.Vars.{IsVars}
-use Rattle.uefi_vars.proofs.Maps.{len-vars_of, IsVars-vars_of}
+use Rattle.std.proofs.Common.{length, ap, sym, ◌∙◌}
+use Rattle.std.specs.FinMap.{len-entries}
 use Rattle.uefi_vars.proofs.vars.Vars.len.Goals as goal
 
-pub returns : goal.returns
-returns c =
-    let variables = c.self.inside.variables in
-    record {
-      len = c.len.ensures ∙ variables.ok.0 ∙ sym (len-vars_of variables.items c.self.invariant) ∙ ap len c.self.view_is;
-      valid = subst IsVars c.self.view_is (IsVars-vars_of variables.items c.self.invariant);
-    }
+pub returns-clause-len : goal.returns-clause-len
+returns-clause-len c = c.len.ensures.value ∙ ap length c.iter.ensures.items ∙ sym (len-entries c.args.self.now)
