@@ -11,10 +11,8 @@ use Rattle.uefi_path.specs.Row.{IsByte}
 use Rattle.uefi_vars.proofs.Bytes.{bytes_from_recursion, AllByRecursion-first, AllByRecursion-behind}
 use Rattle.uefi_vars.specs.declared.fault.SetFault.{SetFault}
 use Rattle.uefi_vars.specs.declared.fault.SetFault.TheVariants as fault
-use Rattle.uefi_vars.specs.declared.name.TheConstants.{NAME_MAX}
-use Rattle.uefi_vars.specs.declared.vars.TheConstants.{DATA_MAX}
-use Rattle.uefi_vars.specs.Name.{IsNameByte, IsName}
-use Rattle.uefi_vars.specs.Vars.{name_cmp, IsData, IsVariable}
+use Rattle.uefi_vars.specs.Name.{IsNameByte, name_max, IsName}
+use Rattle.uefi_vars.specs.Vars.{name_cmp, data_max, IsData, IsVariable}
 use Rattle.uefi_vars.specs.Set.{name_bytes, data_bytes, record_bytes}
 use Rattle.uefi_vars.specs.Fault.{IsAbove, HasBadNameLength, HasCutName, HasBadCharacter, HasLowName, HasName}
 use Rattle.uefi_vars.specs.Reading.{SplitsName, IsNameFault, SplitsData, StatesLength, IsCutData, StatesBadLength, IsDataFault, IsRecordFault}
@@ -185,7 +183,7 @@ is_below before name =
     elim (name_cmp before name) as (λ (o : Ordering). (o ≡ Less) ⊎ (¬ (o ≡ Less))) [ Less ↦ inl refl | Equal ↦ inr (λ e. cc) | Greater ↦ inr (λ e. cc) ]
 
 -- the name of this length, which isn't 0 nor too large, at the front of what stands behind it
-cut_name_ends : (len : ℕ) (rest : List ℕ) (place : ℕ) → (0 < len) × (len ≤ NAME_MAX) → len ≤ length rest → ((name : List ℕ) × (behind : List ℕ) × SplitsName (len ∷ rest) name behind) ⊎ ((f : SetFault) × IsNameFault (len ∷ rest) place f)
+cut_name_ends : (len : ℕ) (rest : List ℕ) (place : ℕ) → (0 < len) × (len ≤ name_max) → len ≤ length rest → ((name : List ℕ) × (behind : List ℕ) × SplitsName (len ∷ rest) name behind) ⊎ ((f : SetFault) × IsNameFault (len ∷ rest) place f)
 cut_name_ends len rest place good within =
     let name = take len rest in
     let size : length name ≡ len = length-take-le len rest within in
@@ -199,7 +197,7 @@ name_ends : (len : ℕ) (rest : List ℕ) (place : ℕ) → ((name : List ℕ) �
 name_ends len rest place =
     elim (cases_eq len 0) [
       | inl zero ↦ inr (fault.BadName place, inr (refl, inl (record { len = len; behind = rest; bad = inl zero; parts = refl })))
-      | inr some ↦ elim (cases_lt NAME_MAX len) [
+      | inr some ↦ elim (cases_lt name_max len) [
         | inl long ↦ inr (fault.BadName place, inr (refl, inl (record { len = len; behind = rest; bad = inr long; parts = refl })))
         | inr short ↦ elim (cases_lt (length rest) len) [
           | inl cut ↦ inr (fault.Truncated place, inl (refl, record { len = len; behind = rest; good = (omega (arith, some), short); parts = refl; cut = cut }))
@@ -218,7 +216,7 @@ four_state a b c d rest fits =
     }
 
 -- data of a stated length that is good
-pub data_split : (bytes : List ℕ) (len : ℕ) (rest : List ℕ) → AllByRecursion IsByte bytes → StatesLength bytes len rest → (0 < len) × (len ≤ DATA_MAX) → len ≤ length rest → SplitsData bytes (take len rest) (drop len rest)
+pub data_split : (bytes : List ℕ) (len : ℕ) (rest : List ℕ) → AllByRecursion IsByte bytes → StatesLength bytes len rest → (0 < len) × (len ≤ data_max) → len ≤ length rest → SplitsData bytes (take len rest) (drop len rest)
 data_split bytes len rest fits stated good within =
     let value = take len rest in
     let size : length value ≡ len = length-take-le len rest within in
@@ -240,7 +238,7 @@ stated_ends : (bytes : List ℕ) (len : ℕ) (rest : List ℕ) (place : ℕ) →
 stated_ends bytes len rest place fits stated =
     elim (cases_eq len 0) [
       | inl zero ↦ inr (fault.BadData place, inr (refl, record { len = len; rest = rest; stated = stated; bad = inl zero }))
-      | inr some ↦ elim (cases_lt DATA_MAX len) [
+      | inr some ↦ elim (cases_lt data_max len) [
         | inl long ↦ inr (fault.BadData place, inr (refl, record { len = len; rest = rest; stated = stated; bad = inr long }))
         | inr short ↦ elim (cases_lt (length rest) len) [
           | inl cut ↦ inr (fault.Truncated place, inl (refl, inr (record { len = len; rest = rest; stated = stated; good = (omega (arith, some), short); cut = cut })))

@@ -8,11 +8,11 @@ use Rattle.std.proofs.lemmas.Nat.{from_le_bytes-to_le_bytes_2}
 use Rattle.uefi_path.specs.Row.{IsByte}
 use Rattle.uefi_vars.specs.Name.{next_text}
 use Rattle.uefi_vars.specs.Vars.{Variables, IsVariable, IsVars}
-use Rattle.uefi_vars.specs.Order.{IsNumber, stored_next, HasNext, HasBadNext}
+use Rattle.uefi_vars.specs.Order.{IsEntryNumber, stored_next, HasNext, HasBadNext}
 use Rattle.uefi_vars.proofs.Numbers.{two_bytes}
 
 -- what is stored tells what the number is, if there is one
-same_next : (a b : Option ℕ) → IfSome a IsNumber → IfSome b IsNumber → stored_next a ≡ stored_next b → a ≡ b
+same_next : (a b : Option ℕ) → IfSome a IsEntryNumber → IfSome b IsEntryNumber → stored_next a ≡ stored_next b → a ≡ b
 same_next None None p q e = refl
 same_next None (Some n) p q e = cc
 same_next (Some m) None p q e = cc
@@ -32,14 +32,14 @@ pub next_is_not_bad : (vars : Variables) (next : Option ℕ) → HasNext vars ne
 next_is_not_bad vars next h bad = not_bad next (rw h.stored at bad)
 
 -- two bytes are a number, and others are bad
-number_or_bad : (bytes : List ℕ) → AllByRecursion IsByte bytes → ((number : ℕ) × IsNumber number × (to_le_bytes w16 number ≡ bytes)) ⊎ (length bytes ≢ 2)
+number_or_bad : (bytes : List ℕ) → AllByRecursion IsByte bytes → ((number : ℕ) × IsEntryNumber number × (to_le_bytes w16 number ≡ bytes)) ⊎ (length bytes ≢ 2)
 number_or_bad [] valid = inr (λ e. omega arith)
 number_or_bad (low ∷ []) valid = inr (λ e. omega arith)
 number_or_bad (low ∷ high ∷ []) valid = inl (from_le_bytes w16 (low ∷ high ∷ []), omega (arith, valid.0, valid.1.0), two_bytes low high valid.0 valid.1.0)
 number_or_bad (low ∷ high ∷ other ∷ rest) valid = inr (λ e. omega arith)
 
 -- what is stored is of a number, or of none, or is bad
-stored_or_bad : (stored : Option (List ℕ)) → IfSome stored (λ value. IsVariable (next_text, value)) → ((next : Option ℕ) × IfSome next IsNumber × (stored ≡ stored_next next)) ⊎ IsSomeAnd stored (λ bytes. length bytes ≢ 2)
+stored_or_bad : (stored : Option (List ℕ)) → IfSome stored (λ value. IsVariable (next_text, value)) → ((next : Option ℕ) × IfSome next IsEntryNumber × (stored ≡ stored_next next)) ⊎ IsSomeAnd stored (λ bytes. length bytes ≢ 2)
 stored_or_bad None valid = inl (None, tt, refl)
 stored_or_bad (Some bytes) valid =
     ⊎_elim (λ good. inl (Some good.0, good.1, ap (λ (t : List ℕ). Some t) (sym good.2))) (λ bad. inr bad) (number_or_bad bytes valid.1.bytes)

@@ -7,15 +7,14 @@ use Rattle.std.specs.FinMap.{get}
 use Rattle.std.proofs.lemmas.Bool.{cases_eq, cases_lt}
 use Rattle.std.proofs.lemmas.Nat.{from_le_bytes-to_le_bytes_2}
 use Rattle.uefi_path.specs.Row.{IsByte}
-use Rattle.uefi_vars.specs.declared.order.TheConstants.{ORDER_MAX}
 use Rattle.uefi_vars.specs.Name.{order_text}
 use Rattle.uefi_vars.specs.Vars.{Variables, IsData, IsVariable, IsVars}
-use Rattle.uefi_vars.specs.Order.{IsNumber, numbers_bytes, stored_order, HasOrder, HasBadOrder}
+use Rattle.uefi_vars.specs.Order.{order_max, IsEntryNumber, numbers_bytes, stored_order, HasOrder, HasBadOrder}
 use Rattle.uefi_vars.specs.Numbers.{numbers_of, HasStoredOrder}
 
 -- ---- numbers that are read again
 
-numbers_again : (numbers : List ℕ) → AllByRecursion IsNumber numbers → numbers_of (numbers_bytes numbers) ≡ numbers
+numbers_again : (numbers : List ℕ) → AllByRecursion IsEntryNumber numbers → numbers_of (numbers_bytes numbers) ≡ numbers
 numbers_again [] valid = refl
 numbers_again (n ∷ numbers) valid =
     let here : from_le_bytes w16 (to_le_bytes w16 n) ≡ n = from_le_bytes-to_le_bytes_2 n valid.0 in
@@ -41,7 +40,7 @@ bytes_again (low ∷ high ∷ rest) valid even =
     ap (λ (t : List ℕ). t ++ numbers_bytes (numbers_of rest)) (two_bytes low high valid.0 valid.1.0)
     ∙ ap (λ (t : List ℕ). low ∷ high ∷ t) (bytes_again rest valid.1.1 (omega arith))
 
-are_numbers : (bytes : List ℕ) → AllByRecursion IsByte bytes → AllByRecursion IsNumber (numbers_of bytes)
+are_numbers : (bytes : List ℕ) → AllByRecursion IsByte bytes → AllByRecursion IsEntryNumber (numbers_of bytes)
 are_numbers [] valid = tt
 are_numbers (low ∷ []) valid = tt
 are_numbers (low ∷ high ∷ rest) valid = (omega (arith, valid.0, valid.1.0), are_numbers rest valid.1.1)
@@ -66,7 +65,7 @@ order_found vars bytes h =
       stored = ⊎_elim (λ none. none.0 ∙ ap (λ (t : List ℕ). stored_order (numbers_of t)) (sym none.1)) (λ some. some.0 ∙ sym (stored_again bytes some.1 h.even)) h.stored;
     }
 
-same_order : (a b : List ℕ) → AllByRecursion IsNumber a → AllByRecursion IsNumber b → stored_order a ≡ stored_order b → a ≡ b
+same_order : (a b : List ℕ) → AllByRecursion IsEntryNumber a → AllByRecursion IsEntryNumber b → stored_order a ≡ stored_order b → a ≡ b
 same_order [] [] p q e = refl
 same_order [] (n ∷ b) p q e = cc
 same_order (m ∷ a) [] p q e = cc
@@ -78,7 +77,7 @@ pub one_order : (vars : Variables) (a b : List ℕ) → HasOrder vars a → HasO
 one_order vars a b h k = same_order a b h.is.numbers k.is.numbers (sym h.stored ∙ k.stored)
 
 -- what is stored of an order is no bad order
-not_bad : (order : List ℕ) → length order ≤ ORDER_MAX → IsSomeAnd (stored_order order) (λ bytes. (length bytes % 2 ≢ 0) ⊎ (2 * ORDER_MAX < length bytes)) → ⊥
+not_bad : (order : List ℕ) → length order ≤ order_max → IsSomeAnd (stored_order order) (λ bytes. (length bytes % 2 ≢ 0) ⊎ (2 * order_max < length bytes)) → ⊥
 not_bad [] len bad = bad
 not_bad (n ∷ order) len bad =
     let twice = length-numbers_bytes (n ∷ order) in
@@ -91,11 +90,11 @@ order_is_not_bad vars order h bad = not_bad order h.is.len (rw h.stored at bad)
 
 -- such bytes are no order
 abbrev AreBad : List ℕ → Type 0
-AreBad bytes = (length bytes % 2 ≢ 0) ⊎ (2 * ORDER_MAX < length bytes)
+AreBad bytes = (length bytes % 2 ≢ 0) ⊎ (2 * order_max < length bytes)
 
-good_or_bad : (bytes : List ℕ) → ((length bytes % 2 ≡ 0) × (length bytes ≤ 2 * ORDER_MAX)) ⊎ AreBad bytes
+good_or_bad : (bytes : List ℕ) → ((length bytes % 2 ≡ 0) × (length bytes ≤ 2 * order_max)) ⊎ AreBad bytes
 good_or_bad bytes =
-    ⊎_elim (λ even. ⊎_elim (λ long. inr (inr long)) (λ short. inl (even, short)) (cases_lt (2 * ORDER_MAX) (length bytes)))
+    ⊎_elim (λ even. ⊎_elim (λ long. inr (inr long)) (λ short. inl (even, short)) (cases_lt (2 * order_max) (length bytes)))
     (λ odd. inr (inl odd)) (cases_eq (length bytes % 2) 0)
 
 stored_or_bad : (vars : Variables) (stored : Option (List ℕ)) → get vars order_text ≡ stored → IfSome stored (λ value. IsVariable (order_text, value)) → ((bytes : List ℕ) × HasStoredOrder vars bytes) ⊎ IsSomeAnd stored AreBad

@@ -9,7 +9,7 @@ use Rattle.uefi_option.specs.LoadOption.{OptionParts, SpellsOption}
 use Rattle.uefi_option.specs.Attributes.{active_bit, category_boot, category_of, IsNormal}
 use Rattle.uefi_vars.specs.declared.boot_plan.Choice.{Choice}
 use Rattle.uefi_vars.specs.Vars.{Variables, entry_of}
-use Rattle.uefi_vars.specs.Order.{IsNumber, HasNext}
+use Rattle.uefi_vars.specs.Order.{IsEntryNumber, HasNext}
 use Rattle.uefi_vars.specs.Numbers.{numbers_of, HasStoredOrder}
 use Rattle.uefi_vars.specs.Plan.{PlanParts, plan_parts, HasOption, IsChoice, IsNormalChoice, IsNextChoice, AreNormalChoices, IsPlan, HasPlan}
 use Rattle.uefi_vars.proofs.Numbers.{order_found}
@@ -143,19 +143,19 @@ has_normal one entries (n ∷ order) choices number choice (suc place) within at
 other_choice : (entries others : ℕ → Option (List ℕ)) (number : ℕ) (choice : Choice) → entries number ≡ others number → IsChoice entries number choice → IsChoice others number choice
 other_choice entries others number choice e is = (is.0, record { bytes = is.1.bytes; stored = sym e ∙ is.1.stored; spelled = is.1.spelled })
 
-module _ (entries others : ℕ → Option (List ℕ)) (same : (number : ℕ) → IsNumber number → entries number ≡ others number) where
-  other_next : (next : Option ℕ) (choice : Option Choice) → IfSome next IsNumber → IsNextChoice entries next choice → IsNextChoice others next choice
+module _ (entries others : ℕ → Option (List ℕ)) (same : (number : ℕ) → IsEntryNumber number → entries number ≡ others number) where
+  other_next : (next : Option ℕ) (choice : Option Choice) → IfSome next IsEntryNumber → IsNextChoice entries next choice → IsNextChoice others next choice
   other_next None choice valid f = f
   other_next (Some number) (Some choice) valid f = other_choice entries others number choice (same number valid) f
   other_next (Some number) None valid f = λ choice is. f choice (other_choice others entries number choice (sym (same number valid)) is)
 
-  other_normal : (order : List ℕ) (choices : List Choice) → AllByRecursion IsNumber order → AreNormalChoices entries order choices → AreNormalChoices others order choices
+  other_normal : (order : List ℕ) (choices : List Choice) → AllByRecursion IsEntryNumber order → AreNormalChoices entries order choices → AreNormalChoices others order choices
   other_normal [] choices valid f = f
   other_normal (number ∷ order) choices valid (inl f) = inl (f.0, f.1, f.2, (other_choice entries others number f.0 (same number valid.0) f.3.0, f.3.1), other_normal order f.1 valid.1 f.4)
   other_normal (number ∷ order) choices valid (inr f) =
       inr (λ choice is. f.0 choice (other_choice others entries number choice (sym (same number valid.0)) is.0, is.1), other_normal order choices valid.1 f.1)
 
-  pub other_plan : (order : List ℕ) (next : Option ℕ) (plan : PlanParts) → AllByRecursion IsNumber order → IfSome next IsNumber → IsPlan entries order next plan → IsPlan others order next plan
+  pub other_plan : (order : List ℕ) (next : Option ℕ) (plan : PlanParts) → AllByRecursion IsEntryNumber order → IfSome next IsEntryNumber → IsPlan entries order next plan → IsPlan others order next plan
   other_plan order next plan numbers number is = record { first = other_next next plan.next number is.first; others = other_normal order plan.normal numbers is.others }
 
 -- ---- of variables

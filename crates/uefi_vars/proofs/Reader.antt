@@ -14,11 +14,9 @@ use Rattle.std.proofs.lemmas.Str.{IsUtf8-from_ascii}
 use Rattle.uefi_vars.proofs.Bytes.{IsBytes, recursion_from_bytes, AllByRecursion-behind}
 use Rattle.uefi_vars.specs.declared.fault.SetFault.{SetFault}
 use Rattle.uefi_vars.specs.declared.fault.SetFault.TheVariants as fault
-use Rattle.uefi_vars.specs.declared.name.TheConstants.{NAME_MAX}
-use Rattle.uefi_vars.specs.declared.vars.TheConstants.{DATA_MAX}
 use Rattle.uefi_vars.specs.declared.vars.Variable.{Variable}
-use Rattle.uefi_vars.specs.Name.{IsNameByte, IsName}
-use Rattle.uefi_vars.specs.Vars.{name_cmp}
+use Rattle.uefi_vars.specs.Name.{IsNameByte, name_max, IsName}
+use Rattle.uefi_vars.specs.Vars.{name_cmp, data_max}
 use Rattle.uefi_vars.specs.Set.{magic, records_bytes}
 use Rattle.uefi_vars.specs.Fault.{IsAbove}
 use Rattle.uefi_vars.specs.Records.{pair_of, pairs_of, AreVariables}
@@ -35,7 +33,7 @@ name_is_ascii (byte ∷ name) printing zero = let here = printing.0 in omega (ar
 name_is_ascii (byte ∷ name) printing (suc i) = name_is_ascii name printing.1 i
 
 -- what is no name, or no text, has a bad character
-pub bad_character : (bytes : List ℕ) (len : ℕ) (rest name behind : List ℕ) (place : ℕ) → bytes ≡ len ∷ rest → rest ≡ name ++ behind → length name ≡ len → len ≢ 0 → len ≤ NAME_MAX → (¬ IsName name) ⊎ (¬ IsUtf8 name) → IsNameFault bytes place (fault.BadName place)
+pub bad_character : (bytes : List ℕ) (len : ℕ) (rest name behind : List ℕ) (place : ℕ) → bytes ≡ len ∷ rest → rest ≡ name ++ behind → length name ≡ len → len ≢ 0 → len ≤ name_max → (¬ IsName name) ⊎ (¬ IsUtf8 name) → IsNameFault bytes place (fault.BadName place)
 bad_character bytes len rest name behind place front parts size some short bad =
     let none : ¬ AllByRecursion IsNameByte name = λ printing. elim bad [
       | inl h ↦ h (record { some = λ empty. some (sym size ∙ ap length empty); len = omega (arith, size, short); printing = printing })
@@ -62,11 +60,11 @@ front_states (a ∷ b ∷ c ∷ []) len fits enough is = absurd (omega (arith, e
 front_states (a ∷ b ∷ c ∷ d ∷ rest) len fits enough is =
     subst (λ (n : ℕ). StatesLength (a ∷ b ∷ c ∷ d ∷ rest) n rest) (sym is) (four_state a b c d rest (recursion_from_bytes (a ∷ b ∷ c ∷ d ∷ rest) fits))
 
-pub bad_length : (bytes : List ℕ) (len : ℕ) (rest : List ℕ) (place : ℕ) → StatesLength bytes len rest → (len ≡ 0) ⊎ ((len ≢ 0) × (DATA_MAX < len)) → IsDataFault bytes place (fault.BadData place)
+pub bad_length : (bytes : List ℕ) (len : ℕ) (rest : List ℕ) (place : ℕ) → StatesLength bytes len rest → (len ≡ 0) ⊎ ((len ≢ 0) × (data_max < len)) → IsDataFault bytes place (fault.BadData place)
 bad_length bytes len rest place stated (inl none) = inr (refl, record { len = len; rest = rest; stated = stated; bad = inl none })
 bad_length bytes len rest place stated (inr long) = inr (refl, record { len = len; rest = rest; stated = stated; bad = inr long.1 })
 
-pub data_read : (bytes : List ℕ) (len : ℕ) (rest value behind : List ℕ) → IsBytes bytes → StatesLength bytes len rest → len ≢ 0 → len ≤ DATA_MAX → len ≤ length rest → value ≡ take len rest → behind ≡ drop len rest → SplitsData bytes value behind
+pub data_read : (bytes : List ℕ) (len : ℕ) (rest value behind : List ℕ) → IsBytes bytes → StatesLength bytes len rest → len ≢ 0 → len ≤ data_max → len ≤ length rest → value ≡ take len rest → behind ≡ drop len rest → SplitsData bytes value behind
 data_read bytes len rest value behind fits stated some short within front back =
     rw (front, back) (data_split bytes len rest (recursion_from_bytes bytes fits) stated (omega (arith, some), short) within)
 

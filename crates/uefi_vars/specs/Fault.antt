@@ -6,10 +6,8 @@ use Rattle.std.specs.Int.{w32, to_le_bytes}
 use Rattle.std.specs.declared.cmp.Ordering.TheVariants.{Less}
 use Rattle.uefi_vars.specs.declared.fault.SetFault.{SetFault}
 use Rattle.uefi_vars.specs.declared.fault.SetFault.TheVariants as fault
-use Rattle.uefi_vars.specs.declared.name.TheConstants.{NAME_MAX}
-use Rattle.uefi_vars.specs.declared.vars.TheConstants.{DATA_MAX}
-use Rattle.uefi_vars.specs.Name.{IsNameByte, IsName}
-use Rattle.uefi_vars.specs.Vars.{name_cmp, IsVariable}
+use Rattle.uefi_vars.specs.Name.{IsNameByte, name_max, IsName}
+use Rattle.uefi_vars.specs.Vars.{name_cmp, data_max, IsVariable}
 use Rattle.uefi_vars.specs.Set.{magic, name_bytes, records_bytes}
 
 -- the magic doesn't stand at the front
@@ -35,14 +33,14 @@ IsAbove names name = AllByRecursion (λ before. name_cmp before name ≡ Less) n
 pub record HasBadNameLength (rest : List ℕ) : Type 0 where
   pub len : ℕ
   pub behind : List ℕ
-  pub bad : (len ≡ 0) ⊎ (NAME_MAX < len)
+  pub bad : (len ≡ 0) ⊎ (name_max < len)
   pub parts : rest ≡ len ∷ behind
 
 -- fewer characters than the name is to have
 pub record HasCutName (rest : List ℕ) : Type 0 where
   pub len : ℕ
   pub behind : List ℕ
-  pub good : (0 < len) × (len ≤ NAME_MAX)
+  pub good : (0 < len) × (len ≤ name_max)
   pub parts : rest ≡ len ∷ behind
   pub cut : length behind < len
 
@@ -50,7 +48,7 @@ pub record HasCutName (rest : List ℕ) : Type 0 where
 pub record HasBadCharacter (rest : List ℕ) : Type 0 where
   pub name : List ℕ
   pub behind : List ℕ
-  pub good : (0 < length name) × (length name ≤ NAME_MAX)
+  pub good : (0 < length name) × (length name ≤ name_max)
   pub bad : ¬ AllByRecursion IsNameByte name
   pub parts : rest ≡ name_bytes name ++ behind
 
@@ -81,14 +79,14 @@ pub record HasBadLength (names : List (List ℕ)) (rest : List ℕ) : Type 0 whe
   pub behind : List ℕ
   pub name : HasName names rest (to_le_bytes w32 len ++ behind)
   pub four_bytes : len < 2 ^ 32
-  pub bad : (len ≡ 0) ⊎ (DATA_MAX < len)
+  pub bad : (len ≡ 0) ⊎ (data_max < len)
 
 -- such a name, a length, and fewer bytes than the data is to have
 pub record HasCutData (names : List (List ℕ)) (rest : List ℕ) : Type 0 where
   pub len : ℕ
   pub behind : List ℕ
   pub name : HasName names rest (to_le_bytes w32 len ++ behind)
-  pub good : (0 < len) × (len ≤ DATA_MAX)
+  pub good : (0 < len) × (len ≤ data_max)
   pub cut : length behind < len
 
 -- one of these at the rest

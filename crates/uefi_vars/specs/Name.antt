@@ -2,16 +2,19 @@
 -- BootNext.
 use Rattle.std.specs.Prelude.{◌≢◌, ℕ, ◌+◌, ◌/◌, ◌%◌, ◌≤◌, nat_lt, if◌then◌else◌, List, [], ◌∷◌, ◌++◌, length, codes}
 use Rattle.std.specs.List.{AllByRecursion}
-use Rattle.uefi_vars.specs.declared.name.TheConstants.{NAME_MAX}
 
 -- a character of a name: ASCII that prints, and no blank
 abbrev pub IsNameByte : ℕ → Type 0
 IsNameByte byte = (0x21 ≤ byte) × (byte ≤ 0x7E)
 
--- 1 to NAME_MAX characters
+-- the most characters that a name has
+abbrev pub name_max : ℕ
+name_max = 64
+
+-- 1 to 64 characters
 pub record IsName (name : List ℕ) : Type 0 where
   pub some : name ≢ []
-  pub len : length name ≤ NAME_MAX
+  pub len : length name ≤ name_max
   pub printing : AllByRecursion IsNameByte name
 
 -- the hexadecimal digit for a number below 16, 0 to 9 and A to F

@@ -2,9 +2,9 @@
 use Rattle.std.specs.Prelude.{◌≡◌, ◌⊎◌, ℕ, ◌*◌, ◌%◌, ◌≤◌, List, [], ◌∷◌, length, Some, None}
 use Rattle.std.specs.Int.{w16, from_le_bytes}
 use Rattle.std.specs.FinMap.{get}
-use Rattle.uefi_vars.specs.declared.order.TheConstants.{ORDER_MAX}
 use Rattle.uefi_vars.specs.Name.{order_text}
 use Rattle.uefi_vars.specs.Vars.{Variables, IsData}
+use Rattle.uefi_vars.specs.Order.{order_max}
 
 -- each two bytes as a number
 abbrev pub numbers_of : List ℕ → List ℕ
@@ -15,4 +15,4 @@ numbers_of _ = []
 pub record HasStoredOrder (vars : Variables) (bytes : List ℕ) : Type 0 where
   pub stored : ((get vars order_text ≡ None) × (bytes ≡ [])) ⊎ ((get vars order_text ≡ Some bytes) × IsData bytes)
   pub even : length bytes % 2 ≡ 0
-  pub len : length bytes ≤ 2 * ORDER_MAX
+  pub len : length bytes ≤ 2 * order_max

@@ -4,13 +4,16 @@ use Rattle.std.specs.Option.{IsSomeAnd}
 use Rattle.std.specs.List.{AllByRecursion, flat_map}
 use Rattle.std.specs.Int.{w16, to_le_bytes}
 use Rattle.std.specs.FinMap.{get}
-use Rattle.uefi_vars.specs.declared.order.TheConstants.{ORDER_MAX}
 use Rattle.uefi_vars.specs.Name.{order_text, next_text}
 use Rattle.uefi_vars.specs.Vars.{Variables}
 
+-- the most numbers that BootOrder has: as many as there are names of entries
+abbrev pub order_max : ℕ
+order_max = 65536
+
 -- the number of an entry
-abbrev pub IsNumber : ℕ → Type 0
-IsNumber number = number < 2 ^ 16
+abbrev pub IsEntryNumber : ℕ → Type 0
+IsEntryNumber number = number < 2 ^ 16
 
 -- the numbers, two bytes each
 abbrev pub numbers_bytes : List ℕ → List ℕ
@@ -26,10 +29,10 @@ abbrev pub stored_next : Option ℕ → Option (List ℕ)
 stored_next None = None
 stored_next (Some number) = Some (to_le_bytes w16 number)
 
--- at most ORDER_MAX numbers
+-- at most 65,536 numbers
 pub record IsOrder (order : List ℕ) : Type 0 where
-  pub numbers : AllByRecursion IsNumber order
-  pub len : length order ≤ ORDER_MAX
+  pub numbers : AllByRecursion IsEntryNumber order
+  pub len : length order ≤ order_max
 
 -- the variables have this BootOrder
 pub record HasOrder (vars : Variables) (order : List ℕ) : Type 0 where
@@ -38,12 +41,12 @@ pub record HasOrder (vars : Variables) (order : List ℕ) : Type 0 where
 
 -- the variables have this BootNext
 pub record HasNext (vars : Variables) (next : Option ℕ) : Type 0 where
-  pub is : IfSome next IsNumber
+  pub is : IfSome next IsEntryNumber
   pub stored : get vars next_text ≡ stored_next next
 
 -- the bytes of BootOrder are no numbers of two bytes each, or are too many
 abbrev pub HasBadOrder : Variables → Type 0
-HasBadOrder vars = IsSomeAnd (get vars order_text) (λ bytes. (length bytes % 2 ≢ 0) ⊎ (2 * ORDER_MAX < length bytes))
+HasBadOrder vars = IsSomeAnd (get vars order_text) (λ bytes. (length bytes % 2 ≢ 0) ⊎ (2 * order_max < length bytes))
 
 -- the bytes of BootNext are no number of two bytes
 abbrev pub HasBadNext : Variables → Type 0

@@ -5,9 +5,8 @@ use Rattle.std.specs.List.{AllByRecursion}
 use Rattle.std.specs.List.Sorted.{IsStrictlySortedBy}
 use Rattle.uefi_vars.specs.declared.fault.SetFault.{SetFault}
 use Rattle.uefi_vars.specs.declared.fault.SetFault.TheVariants as fault
-use Rattle.uefi_vars.specs.declared.vars.TheConstants.{DATA_MAX}
 use Rattle.uefi_vars.specs.Name.{IsName}
-use Rattle.uefi_vars.specs.Vars.{name_cmp, IsData, IsVariable}
+use Rattle.uefi_vars.specs.Vars.{name_cmp, data_max, IsData, IsVariable}
 use Rattle.uefi_vars.specs.Set.{name_bytes, data_bytes, records_bytes}
 use Rattle.uefi_vars.specs.Fault.{HasBadNameLength, HasCutName, HasBadCharacter, HasLowName, HasName}
 
@@ -45,7 +44,7 @@ pub record IsCutData (bytes : List ℕ) : Type 0 where
   pub len : ℕ
   pub rest : List ℕ
   pub stated : StatesLength bytes len rest
-  pub good : (0 < len) × (len ≤ DATA_MAX)
+  pub good : (0 < len) × (len ≤ data_max)
   pub cut : length rest < len
 
 -- they state a length that no data has
@@ -53,7 +52,7 @@ pub record StatesBadLength (bytes : List ℕ) : Type 0 where
   pub len : ℕ
   pub rest : List ℕ
   pub stated : StatesLength bytes len rest
-  pub bad : (len ≡ 0) ⊎ (DATA_MAX < len)
+  pub bad : (len ≡ 0) ⊎ (data_max < len)
 
 -- the fault of data, in a record at this place
 abbrev pub IsDataFault : List ℕ → ℕ → SetFault → Type 0

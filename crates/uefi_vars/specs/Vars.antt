@@ -6,7 +6,6 @@ use Rattle.std.specs.Ordering.{nat_cmp}
 use Rattle.std.specs.Cmp.Lexicographic.{slice_cmp}
 use Rattle.std.specs.FinMap.{FinMap, get}
 use Rattle.uefi_path.specs.Row.{IsByte}
-use Rattle.uefi_vars.specs.declared.vars.TheConstants.{DATA_MAX}
 use Rattle.uefi_vars.specs.Name.{IsName, entry_text}
 
 -- names are in the order of their bytes
@@ -17,10 +16,14 @@ name_cmp = slice_cmp nat_cmp
 abbrev pub Variables : Type 0
 Variables = FinMap name_cmp (List ℕ)
 
--- 1 to DATA_MAX bytes: a variable without data is deleted, and not stored
+-- the most bytes that data has
+abbrev pub data_max : ℕ
+data_max = 1048576
+
+-- 1 to 1,048,576 bytes: a variable without data is deleted, and not stored
 pub record IsData (value : List ℕ) : Type 0 where
   pub some : value ≢ []
-  pub len : length value ≤ DATA_MAX
+  pub len : length value ≤ data_max
   pub bytes : AllByRecursion IsByte value
 
 -- a name with its data

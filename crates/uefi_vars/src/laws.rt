@@ -9,17 +9,18 @@ ghost use Rattle.uefi_vars.specs.declared.boot_plan.Choice.{Choice};
 ghost use Rattle.uefi_vars.specs.declared.fault.PutFault.{PutFault};
 ghost use Rattle.uefi_vars.specs.declared.fault.SetFault.{SetFault};
 ghost use Rattle.uefi_vars.specs.declared.fault.VarFault.{VarFault};
-ghost use Rattle.uefi_vars.specs.Name.{IsName, entry_text, order_text, next_text};
-ghost use Rattle.uefi_vars.specs.Vars.{Variables, name_cmp, IsVars, entry_of};
+ghost use Rattle.uefi_vars.specs.Name.{name_max, IsName, entry_text, order_text, next_text};
+ghost use Rattle.uefi_vars.specs.Vars.{Variables, name_cmp, data_max, IsVars, entry_of};
 ghost use Rattle.uefi_vars.specs.Set.{SpellsSet};
 ghost use Rattle.uefi_vars.specs.Fault.{IsFirstFault};
-ghost use Rattle.uefi_vars.specs.Order.{IsNumber, HasOrder, HasNext, HasBadOrder, HasBadNext};
+ghost use Rattle.uefi_vars.specs.Order.{order_max, IsEntryNumber, HasOrder, HasNext, HasBadOrder, HasBadNext};
 ghost use Rattle.uefi_vars.specs.Plan.{PlanParts, IsNormalChoice, IsPlan, HasPlan};
 
 use crate::boot_plan::{BootPlan, Choice};
 use crate::fault::{PutFault, SetFault, VarFault};
-use crate::name::{BOOT_NEXT, BOOT_ORDER};
-use crate::vars::Vars;
+use crate::name::{BOOT_NEXT, BOOT_ORDER, NAME_MAX};
+use crate::order::ORDER_MAX;
+use crate::vars::{DATA_MAX, Vars};
 use uefi_option::laws as option_laws;
 
 /// Variables that may stand in a set have a spelling, of bytes.
@@ -148,10 +149,13 @@ pub fn entry_names_rise()
     ensures { (m n : ℕ) → m < n → n < 2 ^ 16 → name_cmp (entry_text m) (entry_text n) ≡ Less }
 {}
 
-/// The bytes of the names of BootOrder and BootNext.
-pub fn order_and_next_are_named_so()
-    ensures order { BOOT_ORDER.now ≡ order_text }
-    ensures next { BOOT_NEXT.now ≡ next_text }
+/// The public constants are the limits and the names that the definitions state.
+pub fn constants_are_those_of_the_definitions()
+    ensures name_max { NAME_MAX ≡ name_max }
+    ensures data_max { DATA_MAX ≡ data_max }
+    ensures order_max { ORDER_MAX ≡ order_max }
+    ensures boot_order { BOOT_ORDER.now ≡ order_text }
+    ensures boot_next { BOOT_NEXT.now ≡ next_text }
 {}
 
 /// The names of entries, BootOrder and BootNext are names that a variable may have.
@@ -196,8 +200,8 @@ pub fn other_names_leave_the_entries()
 /// A plan depends on what is stored under the numbers of entries, and on nothing else.
 pub fn a_plan_reads_entries_alone()
     ensures { (entries others : ℕ → Option (List ℕ)) (order : List ℕ) (next : Option ℕ)
-        (plan : PlanParts) → AllByRecursion IsNumber order → IfSome next IsNumber →
-        ((number : ℕ) → IsNumber number → entries number ≡ others number) →
+        (plan : PlanParts) → AllByRecursion IsEntryNumber order → IfSome next IsEntryNumber →
+        ((number : ℕ) → IsEntryNumber number → entries number ≡ others number) →
         IsPlan entries order next plan → IsPlan others order next plan }
 {}
 

@@ -5,7 +5,7 @@ ghost use Rattle.std.specs.Option.{option_map};
 ghost use Rattle.std.specs.FinMap as map;
 ghost use Rattle.uefi_vars.specs.declared.fault.PutFault.{PutFault};
 ghost use Rattle.uefi_vars.specs.Name.{IsName, entry_text};
-ghost use Rattle.uefi_vars.specs.Vars.{name_cmp, IsVariable, IsVars, entry_of};
+ghost use Rattle.uefi_vars.specs.Vars.{name_cmp, data_max, IsVariable, IsVars, entry_of};
 ghost use Rattle.uefi_vars.specs.Records.{pair_of, pairs_of, AreVariables, vars_of, without, IsAt, IsGap};
 
 use crate::fault::PutFault;
@@ -208,7 +208,7 @@ impl Vars {
         ensures bad_name { (result ≡ Err PutFault.BadName) ↔ (¬ IsName name.now) }
         ensures empty_data { (result ≡ Err PutFault.EmptyData) ↔ (IsName name.now × (value.now ≡ [])) }
         ensures data_too_long { (result ≡ Err PutFault.DataTooLong)
-            ↔ (IsName name.now × (DATA_MAX < length value.now)) }
+            ↔ (IsName name.now × (data_max < length value.now)) }
         ensures valid { IsVars self.new }
     {
         let variables = &mut self.variables;
@@ -239,7 +239,7 @@ impl Vars {
 
         ensures named { result ≢ Err PutFault.BadName }
         ensures empty_data { (result ≡ Err PutFault.EmptyData) ↔ (value.now ≡ []) }
-        ensures data_too_long { (result ≡ Err PutFault.DataTooLong) ↔ (DATA_MAX < length value.now) }
+        ensures data_too_long { (result ≡ Err PutFault.DataTooLong) ↔ (data_max < length value.now) }
         ensures valid { IsVars self.new }
     {
         let name = entry_name(number);
