@@ -4,8 +4,8 @@ use Rattle.bootkeep.specs.declared.failure.Failure.{Failure}
 use Rattle.bootkeep.specs.declared.failure.Failure.TheVariants as failure
 use Rattle.bootkeep.specs.declared.input.InputFault.{InputFault}
 use Rattle.bootkeep.specs.declared.input.InputFault.TheVariants as input
-use Rattle.bootkeep.specs.declared.report.Refusal.{Refusal}
-use Rattle.bootkeep.specs.declared.report.Refusal.TheVariants as refusal
+use Rattle.bootkeep.specs.declared.refusal.Refusal.{Refusal}
+use Rattle.bootkeep.specs.declared.refusal.Refusal.TheVariants as refusal
 
 -- the status that the program ends with
 abbrev pub status_of : Failure → ℕ

@@ -18,8 +18,8 @@ use Rattle.uefi_vars.specs.Order.{HasBadOrder, HasBadNext}
 use Rattle.uefi_vars.specs.Set.{SpellsSet}
 use Rattle.uefi_vars.specs.Vars.{Variables}
 use Rattle.uefi_vars.specs.Words.{set_fault_words, var_fault_words}
-use Rattle.bootkeep.specs.declared.report.Refusal.{Refusal}
-use Rattle.bootkeep.specs.declared.report.Refusal.TheVariants as refusal
+use Rattle.bootkeep.specs.declared.refusal.Refusal.{Refusal}
+use Rattle.bootkeep.specs.declared.refusal.Refusal.TheVariants as refusal
 
 -- P of the words, if the input is at fault
 abbrev pub IfInput : Refusal → (List ℕ → Type 0) → Type 0

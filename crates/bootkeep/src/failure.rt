@@ -6,7 +6,7 @@ ghost use Rattle.bootkeep.specs.declared.failure.Failure.TheVariants as failure;
 
 use crate::command_line::USAGE;
 use crate::input::InputFault;
-use crate::report::Refusal;
+use crate::refusal::Refusal;
 use std::alloc::{AllocError, AllocFailed};
 use thiserror::Error;
 

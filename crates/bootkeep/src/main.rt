@@ -13,6 +13,7 @@ mod command_line;
 mod failure;
 mod input;
 mod program;
+mod refusal;
 mod report;
 #[cfg(test)]
 mod tests;

@@ -1,41 +1,17 @@
 //! What the showing subcommands answer: the whole of standard output, as text.
 
-ghost use Rattle.std.specs.Prelude.{◌≡◌, IfOk, IfErr, MatchResult};
+ghost use Rattle.std.specs.Prelude.{◌≡◌, IfOk, IfErr};
 ghost use Rattle.hex.specs.Hex.{decode_of};
-ghost use Rattle.uefi_option.specs.Words.{option_fault_words};
-ghost use Rattle.uefi_path.specs.Words.{path_fault_words};
-ghost use Rattle.uefi_text.specs.Words.{text_fault_words};
 ghost use Rattle.uefi_vars.specs.Order.{HasBadOrder};
-ghost use Rattle.uefi_vars.specs.Words.{set_fault_words, var_fault_words};
 ghost use Rattle.bootkeep.specs.Report.{IfInput, TellsBadHex, TellsPathFault, TellsTextFault, TellsOptionFault, TellsVarFault, TellsSetFault};
-ghost use Rattle.bootkeep.specs.declared.report.Refusal.TheVariants as refusal;
 
+use crate::refusal::{Refusal, refuse};
 use hex::FromHexError;
 use std::alloc::{AllocError, Global};
 use uefi_option::{OptionFault, category, description_text, is_active, is_normal, read_option};
-use uefi_path::{PathFault, read_path, write_path};
-use uefi_text::{PathText, TextFault, read_text};
-use uefi_vars::{
-    BootPlan, SetFault, VarFault, Vars, boot_next, boot_order, entry_number, entry_option, plan,
-    read_set,
-};
-
-/// Why a report is refused.
-#[derive(Debug, Drop)]
-pub enum Refusal {
-    /// The input is at fault. The words name the fault and its place, as `BadLength 0`.
-    Input(String),
-    /// Memory was refused.
-    Memory,
-}
-
-impl From<AllocError> for Refusal {
-    ghost from_gives = { λ _ made. made ≡ refusal.Memory };
-
-    fn from(_refusal: AllocError) -> Refusal {
-        Refusal::Memory
-    }
-}
+use uefi_path::{read_path, write_path};
+use uefi_text::{PathText, read_text};
+use uefi_vars::{BootPlan, Vars, boot_next, boot_order, entry_number, plan, read_set};
 
 /// Shows the device path (UEFI 2.10, 10.3) at the front of the bytes that `hex` writes out, two
 /// digits of either case for each. The report has the lines `instances N`, `nodes N`, over all
@@ -51,7 +27,7 @@ pub fn path_report(alloc: Global, hex: &str) -> Result<String, Refusal>
     ensures { IfErr result (λ refusal. IfInput refusal (TellsPathFault hex.now)) }
 {
     let bytes = read_hex(alloc, hex)?;
-    let (path, len) = read_path(alloc, &bytes).map_err(|fault| path_refusal(alloc, fault))?;
+    let (path, len) = read_path(alloc, &bytes).map_err(|fault| refuse(alloc, fault))?;
     let instances = path.instances().len();
     // Each node takes bytes of the input, so the sum is never cut short.
     let nodes = path
@@ -73,7 +49,7 @@ pub fn path_report(alloc: Global, hex: &str) -> Result<String, Refusal>
 pub fn text_report(alloc: Global, text: &str) -> Result<String, Refusal>
     ensures { IfErr result (λ refusal. IfInput refusal (TellsTextFault text.now)) }
 {
-    let path = read_text(alloc, text).map_err(|fault| text_refusal(alloc, fault))?;
+    let path = read_text(alloc, text).map_err(|fault| refuse(alloc, fault))?;
     let mut bytes = Vec::new(alloc);
     write_path(&path, &mut bytes)?;
     let mut report = hex::encode(alloc, bytes.as_slice())?;
@@ -92,7 +68,7 @@ pub fn text_report(alloc: Global, text: &str) -> Result<String, Refusal>
 pub fn option_report(alloc: Global, bytes: &[u8]) -> Result<String, Refusal>
     ensures { IfErr result (λ refusal. IfInput refusal (TellsOptionFault bytes.now)) }
 {
-    let option = read_option(alloc, bytes).map_err(|fault| option_refusal(alloc, fault))?;
+    let option = read_option(alloc, bytes).map_err(|fault| refuse(alloc, fault))?;
     let attributes = option.attributes();
     let active = yes_or_no(is_active(attributes));
     let category = category(attributes);
@@ -124,7 +100,7 @@ pub fn option_report(alloc: Global, bytes: &[u8]) -> Result<String, Refusal>
 pub fn set_report(alloc: Global, bytes: &[u8]) -> Result<String, Refusal>
     ensures { IfErr result (λ refusal. IfInput refusal (TellsSetFault bytes.now)) }
 {
-    let vars = read_set(alloc, bytes).map_err(|fault| set_refusal(alloc, fault))?;
+    let vars = read_set(alloc, bytes).map_err(|fault| refuse(alloc, fault))?;
     variables_report(alloc, &vars)
 }
 
@@ -148,7 +124,7 @@ fn read_order(alloc: Global, vars: &Vars) -> Result<Vec<u16>, Refusal>
     ensures good { IfOk result (λ _. HasBadOrder vars.now → ⊥) }
     ensures refused { IfErr result (λ refusal. IfInput refusal (TellsVarFault vars.now)) }
 {
-    boot_order(alloc, vars).map_err(|fault| variable_refusal(alloc, fault))
+    boot_order(alloc, vars).map_err(|fault| refuse(alloc, fault))
 }
 
 /// The number of BootNext, where BootOrder isn't bad.
@@ -156,43 +132,43 @@ fn read_next(alloc: Global, vars: &Vars) -> Result<Option<u16>, Refusal>
     requires { HasBadOrder vars.now → ⊥ }
     ensures refused { IfErr result (λ refusal. IfInput refusal (TellsVarFault vars.now)) }
 {
-    boot_next(vars).map_err(|fault| variable_refusal(alloc, fault))
+    boot_next(vars).map_err(|fault| refuse(alloc, fault))
 }
 
 /// The plan of what a boot would try.
 fn read_plan(alloc: Global, vars: &Vars) -> Result<BootPlan, Refusal>
     ensures refused { IfErr result (λ refusal. IfInput refusal (TellsVarFault vars.now)) }
 {
-    plan(alloc, vars).map_err(|fault| variable_refusal(alloc, fault))
+    plan(alloc, vars).map_err(|fault| refuse(alloc, fault))
 }
 
 /// Appends the line of each entry.
 fn append_entries(alloc: Global, vars: &Vars, report: &mut String) -> Result<(), AllocError> {
     for index in 0..vars.len() {
-        if let Some((name, _)) = vars.item(index)
-            && let Some(number) = entry_number(name)
+        if let Some((name, data)) = vars.item(index)
+            && entry_number(name).is_some()
         {
-            append_entry(alloc, vars, name, number, report)?;
+            append_entry(alloc, name, data, report)?;
         }
     }
     Ok(())
 }
 
-/// Appends the line of the entry of this name and number.
+/// Appends the line of the entry of this name, whose variable has these bytes.
 fn append_entry(
     alloc: Global,
-    vars: &Vars,
     name: &str,
-    number: u16,
+    data: &[u8],
     report: &mut String,
 ) -> Result<(), AllocError> {
-    match entry_option(alloc, vars, number)? {
-        Some(option) => {
+    match read_option(alloc, data) {
+        Ok(option) => {
             let kind = normal_or_other(option.attributes());
             let description = description_text(alloc, option.description())?;
             writeln!(report, "{name} {kind} {description}")
         }
-        None => writeln!(report, "{name} undecodable"),
+        Err(OptionFault::OutOfMemory) => Err(AllocError),
+        Err(_) => writeln!(report, "{name} undecodable"),
     }
 }
 
@@ -237,66 +213,5 @@ fn read_hex(alloc: Global, hex: &str) -> Result<Vec<u8>, Refusal>
         Ok(bytes) => Ok(bytes),
         Err(FromHexError::OutOfMemory) => Err(Refusal::Memory),
         Err(_) => Err(Refusal::Input(String::from_str(alloc, "BadHex")?)),
-    }
-}
-
-fn path_refusal(alloc: Global, fault: PathFault) -> Refusal
-    ensures memory { fault ≡ PathFault.OutOfMemory → result ≡ Refusal.Memory }
-    ensures words { IfInput result (λ words. words ≡ path_fault_words fault) }
-{
-    match fault {
-        PathFault::OutOfMemory => Refusal::Memory,
-        fault => refused(fault.words(alloc)),
-    }
-}
-
-fn text_refusal(alloc: Global, fault: TextFault) -> Refusal
-    ensures memory { fault ≡ TextFault.OutOfMemory → result ≡ Refusal.Memory }
-    ensures words { IfInput result (λ words. words ≡ text_fault_words fault) }
-{
-    match fault {
-        TextFault::OutOfMemory => Refusal::Memory,
-        fault => refused(fault.words(alloc)),
-    }
-}
-
-fn option_refusal(alloc: Global, fault: OptionFault) -> Refusal
-    ensures memory { fault ≡ OptionFault.OutOfMemory → result ≡ Refusal.Memory }
-    ensures words { IfInput result (λ words. words ≡ option_fault_words fault) }
-{
-    match fault {
-        OptionFault::OutOfMemory => Refusal::Memory,
-        fault => refused(fault.words(alloc)),
-    }
-}
-
-fn set_refusal(alloc: Global, fault: SetFault) -> Refusal
-    ensures memory { fault ≡ SetFault.OutOfMemory → result ≡ Refusal.Memory }
-    ensures words { IfInput result (λ words. words ≡ set_fault_words fault) }
-{
-    match fault {
-        SetFault::OutOfMemory => Refusal::Memory,
-        fault => refused(fault.words(alloc)),
-    }
-}
-
-fn variable_refusal(alloc: Global, fault: VarFault) -> Refusal
-    ensures memory { fault ≡ VarFault.OutOfMemory → result ≡ Refusal.Memory }
-    ensures words { IfInput result (λ words. words ≡ var_fault_words fault) }
-{
-    match fault {
-        VarFault::OutOfMemory => Refusal::Memory,
-        fault => refused(fault.words(alloc)),
-    }
-}
-
-/// The refusal that these words tell, if there was memory for them.
-fn refused(words: Result<String, AllocError>) -> Refusal
-    ensures { MatchResult words
-        (λ text. result ≡ Refusal.Input text) (λ _. result ≡ Refusal.Memory) }
-{
-    match words {
-        Ok(text) => Refusal::Input(text),
-        Err(AllocError) => Refusal::Memory,
     }
 }

@@ -4,8 +4,8 @@ mod files;
 
 use crate::failure::Failure;
 use crate::input::{self, InputFault};
-use crate::program;
-use crate::report::{self, Refusal};
+use crate::refusal::Refusal;
+use crate::{program, report};
 use files::{Contents, Fed, NamedFile};
 use std::alloc::Global;
 use std::cell::{Cell, RefCell};

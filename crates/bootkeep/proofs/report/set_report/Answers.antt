@@ -1,8 +1,8 @@
 use Rattle.std.proofs.Common.{rules, ℕ, List, Result, Ok, Err, IfErr, inr}
 use Rattle.uefi_vars.specs.Set.{SpellsSet}
 use Rattle.uefi_vars.specs.Vars.{Variables}
-use Rattle.bootkeep.specs.declared.report.Refusal.{Refusal}
-use Rattle.bootkeep.specs.declared.report.Refusal.TheVariants as refusal
+use Rattle.bootkeep.specs.declared.refusal.Refusal.{Refusal}
+use Rattle.bootkeep.specs.declared.refusal.Refusal.TheVariants as refusal
 use Rattle.bootkeep.specs.Report.{IfInput, TellsVarFault, TellsSetFault}
 use Rattle.bootkeep.proofs.report.set_report.Goals as goal
 
