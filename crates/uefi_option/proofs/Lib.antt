@@ -5,3 +5,4 @@ pub mod Comparison
 pub mod Fronts
 pub mod Options
 pub mod Reader
+pub mod Lengths

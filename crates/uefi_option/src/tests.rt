@@ -73,6 +73,15 @@ fn reads_writes_makes_and_copies_options(rt: HostRuntime) -> Result<(), Fail> {
             optional,
         )?;
         assert!(rt; made == option, "of {bytes:?}");
+        let (bits, units, list, data) = made.into_parts();
+        assert_eq!(rt; bits, attributes, "of {bytes:?}");
+        assert_eq!(rt; units.as_slice(), description, "of {bytes:?}");
+        assert_eq!(rt; list.len(), paths, "of {bytes:?}");
+        assert_eq!(rt; data.as_slice(), optional, "of {bytes:?}");
+        match LoadOption::from_parts(bits, units, list, data) {
+            Ok(again) => assert!(rt; again == option, "of {bytes:?}"),
+            Err(refused) => assert!(rt; false, "{refused:?}"),
+        }
     }
     Ok(())
 }
@@ -188,6 +197,19 @@ fn refuses_parts_in_order(rt: HostRuntime) -> Result<(), Fail> {
             Ok(_) => assert!(rt; false, "{fault:?} is no fault"),
             Err(found) => assert_eq!(rt; found, fault),
         }
+        // parts that are given away come back
+        let units = Vec::from_slice(rt.alloc(), description)?;
+        let list = empty_paths(rt.alloc(), paths.len())?;
+        let data = Vec::from_slice(rt.alloc(), &[0x5a])?;
+        match LoadOption::from_parts(1, units, list, data) {
+            Ok(_) => assert!(rt; false, "{fault:?} is no fault"),
+            Err(refused) => {
+                assert_eq!(rt; refused.fault, fault);
+                assert_eq!(rt; refused.description.as_slice(), description);
+                assert_eq!(rt; refused.paths.len(), paths.len());
+                assert_eq!(rt; refused.optional.as_slice(), [0x5a].as_slice());
+            }
+        }
     }
     Ok(())
 }
@@ -214,7 +236,8 @@ fn refuses_a_list_of_one_long_path(rt: HostRuntime) -> Result<(), Fail> {
 }
 
 #[test]
-fn tells_what_attributes_mean(rt: HostRuntime) {
+fn tells_what_attributes_mean(rt: HostRuntime) -> Result<(), Fail> {
+    let paths = empty_paths(rt.alloc(), 1)?;
     assert_eq!(rt; (ACTIVE, FORCE_RECONNECT, HIDDEN), (0x1, 0x2, 0x8));
     assert_eq!(rt;
         (CATEGORY, CATEGORY_BOOT, CATEGORY_APP),
@@ -235,7 +258,12 @@ fn tells_what_attributes_mean(rt: HostRuntime) {
         assert_eq!(rt; is_active(attributes), active, "of {attributes:x}");
         assert_eq!(rt; category(attributes), bits, "of {attributes:x}");
         assert_eq!(rt; is_normal(attributes), normal, "of {attributes:x}");
+        let option = make_option(rt.alloc(), attributes, &[], paths.as_slice(), &[])?;
+        assert_eq!(rt; option.is_active(), active, "of {attributes:x}");
+        assert_eq!(rt; option.category(), bits, "of {attributes:x}");
+        assert_eq!(rt; option.is_normal(), normal, "of {attributes:x}");
     }
+    Ok(())
 }
 
 #[test]
@@ -257,22 +285,28 @@ fn shows_descriptions(rt: HostRuntime) -> Result<(), Fail> {
 }
 
 #[test]
-fn words_are_the_display(rt: HostRuntime) -> Result<(), Fail> {
+fn tells_the_place_and_the_words_of_each_fault(rt: HostRuntime) -> Result<(), Fail> {
     let table = [
-        (OptionFault::Short, "Short"),
-        (OptionFault::NoTerminator, "NoTerminator"),
-        (OptionFault::ListPastEnd, "ListPastEnd"),
-        (OptionFault::EmptyList, "EmptyList"),
+        (OptionFault::Short, None, "Short"),
+        (OptionFault::NoTerminator, None, "NoTerminator"),
+        (OptionFault::ListPastEnd, None, "ListPastEnd"),
+        (OptionFault::EmptyList, None, "EmptyList"),
         (
             OptionFault::Path(10, PathFault::ShortHeader(28)),
+            Some(10),
             "Path 10 ShortHeader 28",
         ),
-        (OptionFault::Path(0, PathFault::NoEnd(7)), "Path 0 NoEnd 7"),
-        (OptionFault::ZeroUnit, "ZeroUnit"),
-        (OptionFault::ListTooLong, "ListTooLong"),
-        (OptionFault::OutOfMemory, "OutOfMemory"),
+        (
+            OptionFault::Path(0, PathFault::NoEnd(7)),
+            Some(0),
+            "Path 0 NoEnd 7",
+        ),
+        (OptionFault::ZeroUnit, None, "ZeroUnit"),
+        (OptionFault::ListTooLong, None, "ListTooLong"),
+        (OptionFault::OutOfMemory, None, "OutOfMemory"),
     ];
-    for (fault, text) in table {
+    for (fault, place, text) in table {
+        assert_eq!(rt; fault.place(), place, "of {fault}");
         assert_eq!(rt; fault.words(rt.alloc())?.as_str(), text);
         assert_eq!(rt; format!(in rt.alloc(); "{fault}")?.as_str(), text);
     }

@@ -1,6 +1,6 @@
 //! Load options to bytes.
 
-ghost use Rattle.std.specs.Prelude.{◌≡◌, ◌≤◌, ◌++◌, length, IfOk, OnOk, OnSome};
+ghost use Rattle.std.specs.Prelude.{◌≡◌, ◌<◌, ◌≤◌, ◌^◌, ◌++◌, length, IfOk, OnOk, OnSome};
 ghost use Rattle.std.specs.List.{AllByRecursion};
 ghost use Rattle.std.specs.Option.{SomeIff};
 ghost use Rattle.uefi_path.specs.Path.{IsPath};
@@ -9,6 +9,12 @@ ghost use Rattle.uefi_option.specs.LoadOption.{list_max, units_bytes, list_bytes
 use crate::load_option::LoadOption;
 use std::alloc::{AllocError, Global};
 use uefi_path::{Path, path_len, write_path};
+
+/// The bytes of the attributes and of the length of the list.
+const HEADER_LEN: usize = 6;
+
+/// The bytes of a unit.
+const UNIT_LEN: usize = 2;
 
 /// How many bytes the list of these paths has: `None` where two bytes can't state it.
 pub(crate) fn list_len(paths: &[Path]) -> Option<u16>
@@ -20,6 +26,19 @@ pub(crate) fn list_len(paths: &[Path]) -> Option<u16>
         len = len.checked_add(u16::try_from(path_len(path)?).ok()?)?;
     }
     Some(len)
+}
+
+/// How many bytes the spelling of an option has, of which its list has `list`: `None` where `usize` can't hold it.
+fn option_len(option: &LoadOption, list: u16) -> Option<usize>
+    requires { list ≡ length (list_bytes option.now.paths) }
+    ensures { let len = length (option_bytes option.now) in SomeIff result (len < 2 ^ 64) len }
+{
+    let units = option.description().len().checked_add(1)?;
+    units
+        .checked_mul(UNIT_LEN)?
+        .checked_add(HEADER_LEN)?
+        .checked_add(usize::from(list))?
+        .checked_add(option.optional().len())
 }
 
 /// Appends units, each as two bytes, little-endian.
@@ -51,7 +70,7 @@ pub fn write_option(alloc: Global, option: &LoadOption) -> Result<Vec<u8>, Alloc
 {
     // The paths of an option are never more than two bytes can state.
     let len = list_len(option.paths()).unwrap();
-    let mut out = Vec::new(alloc);
+    let mut out = Vec::with_capacity(alloc, option_len(option, len).unwrap_or(0))?;
     out.extend_from_slice(&option.attributes().to_le_bytes())?;
     out.extend_from_slice(&len.to_le_bytes())?;
     append_units(option.description(), &mut out)?;
