@@ -1,31 +1,17 @@
 //! Descriptions as text.
 
-ghost use Rattle.std.specs.Prelude.{◌≡◌, ◌<◌, ◌++◌, IfOk, OnOk, IsTrue, ◌↔◌};
-ghost use Rattle.std.specs.Char.{digit_char};
+ghost use Rattle.std.specs.Prelude.{◌≡◌, ◌++◌, IfOk, OnOk};
 ghost use Rattle.std.specs.String.{string_bytes};
-ghost use Rattle.uefi_option.specs.Text.{is_plain, unit_text, units_text, hex_text};
+ghost use Rattle.uefi_option.specs.Text.{is_plain, unit_text, units_text};
 
 use std::alloc::{AllocError, Global};
+use std::fmt::Write;
 
 /// Whether a unit prints as itself: a printing ASCII character other than the backslash.
 fn is_plain_unit(unit: u16) -> bool
     ensures { result ≡ is_plain unit }
 {
     unit != 0x5c && (0x20..=0x7e).contains(&unit)
-}
-
-/// The hexadecimal digit for a number below 16, in lower case.
-fn hex_digit(number: u16) -> char
-    requires { number < 16 }
-    ensures digit { result ≡ digit_char number }
-    ensures ascii { result < 128 }
-{
-    let digit = number as u8;
-    char::from(if digit < 10 {
-        b'0' + digit
-    } else {
-        b'a' + (digit - 10)
-    })
 }
 
 /// Appends the text of one unit.
@@ -35,11 +21,8 @@ fn append_unit(unit: u16, text: &mut String) -> Result<(), AllocError>
     if is_plain_unit(unit) {
         return text.push(char::from(unit as u8));
     }
-    text.push('\\')?;
-    text.push(hex_digit(unit / 0x1000))?;
-    text.push(hex_digit(unit / 0x100 % 0x10))?;
-    text.push(hex_digit(unit / 0x10 % 0x10))?;
-    text.push(hex_digit(unit % 0x10))
+    let [high, low] = unit.to_be_bytes();
+    write!(text, "\\{high:02x}{low:02x}")
 }
 
 /// The units of a description (UEFI 2.10, 3.1.3) as one line of ASCII text: a unit from 0x20 to 0x7E other than the
