@@ -8,7 +8,7 @@ ghost use Rattle.bootkeep.specs.Report.{IfInput, TellsBadHex, TellsPathFault, Te
 use crate::refusal::{Refusal, refuse};
 use hex::FromHexError;
 use std::alloc::{AllocError, Global};
-use uefi_option::{OptionFault, category, description_text, is_active, is_normal, read_option};
+use uefi_option::{OptionFault, description_text, read_option};
 use uefi_path::{read_path, write_path};
 use uefi_text::{PathText, read_text};
 use uefi_vars::{BootPlan, Vars, boot_next, boot_order, entry_number, plan, read_set};
@@ -70,9 +70,9 @@ pub fn option_report(alloc: Global, bytes: &[u8]) -> Result<String, Refusal>
 {
     let option = read_option(alloc, bytes).map_err(|fault| refuse(alloc, fault))?;
     let attributes = option.attributes();
-    let active = yes_or_no(is_active(attributes));
-    let category = category(attributes);
-    let normal = yes_or_no(is_normal(attributes));
+    let active = yes_or_no(option.is_active());
+    let category = option.category();
+    let normal = yes_or_no(option.is_normal());
     let description = description_text(alloc, option.description())?;
     let mut report = format!(in alloc;
         "attributes 0x{attributes:08x}\nactive {active}\ncategory 0x{category:04x}\nnormal {normal}\n"
@@ -90,7 +90,7 @@ pub fn option_report(alloc: Global, bytes: &[u8]) -> Result<String, Refusal>
 /// `variables N`, one for each entry, a variable named `Boot` and four hexadecimal digits in upper case, by rising
 /// number, `order` with the numbers of BootOrder or `-` where there is none, `next` with that of BootNext or `-`, and
 /// the words of the [`plan`] of what a boot would try (3.1). The line of an entry has its name, `normal` or `other`, as
-/// [`is_normal`] says, and its description, or its name and `undecodable` where its bytes are no load option.
+/// `LoadOption::is_normal` says, and its description, or its name and `undecodable` where its bytes are no load option.
 ///
 /// # Errors
 ///
@@ -144,10 +144,8 @@ fn read_plan(alloc: Global, vars: &Vars) -> Result<BootPlan, Refusal>
 
 /// Appends the line of each entry.
 fn append_entries(alloc: Global, vars: &Vars, report: &mut String) -> Result<(), AllocError> {
-    for index in 0..vars.len() {
-        if let Some((name, data)) = vars.item(index)
-            && entry_number(name).is_some()
-        {
+    for (name, data) in vars.iter() {
+        if entry_number(name).is_some() {
             append_entry(alloc, name, data, report)?;
         }
     }
@@ -163,20 +161,12 @@ fn append_entry(
 ) -> Result<(), AllocError> {
     match read_option(alloc, data) {
         Ok(option) => {
-            let kind = normal_or_other(option.attributes());
+            let kind = if option.is_normal() { "normal" } else { "other" };
             let description = description_text(alloc, option.description())?;
             writeln!(report, "{name} {kind} {description}")
         }
         Err(OptionFault::OutOfMemory) => Err(AllocError),
         Err(_) => writeln!(report, "{name} undecodable"),
-    }
-}
-
-fn normal_or_other(attributes: u32) -> &'static str {
-    if is_normal(attributes) {
-        "normal"
-    } else {
-        "other"
     }
 }
 
