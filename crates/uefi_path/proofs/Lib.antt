@@ -1,6 +1,7 @@
 pub mod Bytes
 pub mod Split
 pub mod Numbers
+pub mod TwoBytes
 pub mod Names
 pub mod Inverse
 pub mod Rows

@@ -1,14 +1,13 @@
 -- The units of a name, and the bytes of one.
-use Rattle.std.proofs.Common.{◌≡◌, ◌≢◌, ℕ, suc, ◌+◌, ◌-◌, ◌*◌, ◌^◌, ◌<◌, ◌≤◌, List, [], ◌∷◌, ◌++◌, length, take, drop, get_or, eqb, Option, Some, None, Result, Ok, Err, refl, sym, ap, subst, ◌∙◌, arith, append_assoc, inl, inr, replicate}
+use Rattle.std.proofs.Common.{◌≡◌, ◌≢◌, ℕ, suc, ◌+◌, ◌-◌, ◌*◌, ◌^◌, ◌<◌, ◌≤◌, List, [], ◌∷◌, ◌++◌, length, take, drop, get_or, eqb, Option, Some, None, Result, Ok, Err, refl, sym, ap, subst, ◌∙◌, arith, append_assoc, inl, inr}
 use Rattle.std.specs.Prelude.{◌==◌, is_some, IsSome, IfSome}
 use Rattle.std.specs.Option.{option_map}
 use Rattle.std.specs.Int.{w16, to_le_bytes, from_le_bytes}
-use Rattle.std.specs.List.{flat_map, position, position_or_len, AllByRecursion}
+use Rattle.std.specs.List.{position, position_or_len, AllByRecursion}
 use Rattle.std.proofs.lemmas.List.Elements.{recursion_from_All, All-from_get_or}
 use Rattle.std.proofs.lemmas.List.Sums.{fails_before_first}
 use Rattle.std.proofs.lemmas.Option.{none-some}
-use Rattle.std.proofs.lemmas.Grind.{flat_map-append}
-use Rattle.std.proofs.lemmas.List.{nil_from_length, take_all, length-append, take_at, drop_at, drop-replicate}
+use Rattle.std.proofs.lemmas.List.{nil_from_length, take_all, length-append}
 use Rattle.std.proofs.lemmas.Bool.{cases_lt, lt-ltb, ne_eqb, eqb-true, eqb-false, cond_both}
 use Rattle.uefi_path.specs.Parts.{IsUnit, name_bytes}
 use Rattle.uefi_path.specs.Row.{IsByte, AreBytes, IsClosed, last_zero, another_unit}
@@ -148,66 +147,3 @@ name_closed [] valid = last_zero
 name_closed (n ∷ units) valid =
     let here : from_le_bytes w16 (to_le_bytes w16 n) ≡ n = wide_16.again n valid.0.1 in
     another_unit (rw here valid.0.0) (name_closed units valid.1)
-
--- ---- four units at a time
-
--- some of the units are written behind what was there, and the rest is not
-pub record HasWritten (old out units rest : List ℕ) : Type 0 where
-  pub done : List ℕ
-  pub parts : units ≡ done ++ rest
-  pub is : out ≡ old ++ flat_map (to_le_bytes w16) done
-
--- these are the bytes of the first four units of the rest
-pub record AreFour (rest bytes : List ℕ) : Type 0 where
-  pub enough : 4 ≤ length rest
-  pub is : bytes ≡ to_le_bytes w16 (get_or rest 0 0) ++ (to_le_bytes w16 (get_or rest 1 0) ++ (to_le_bytes w16 (get_or rest 2 0) ++ to_le_bytes w16 (get_or rest 3 0)))
-
-pub four_more : (old out units rest bytes : List ℕ) → HasWritten old out units rest → AreFour rest bytes → HasWritten old (out ++ bytes) units (take (length rest - 4) (drop 4 rest))
-four_more old out units [] bytes h four = absurd (omega (arith, four.enough))
-four_more old out units (a ∷ []) bytes h four = absurd (omega (arith, four.enough))
-four_more old out units (a ∷ b ∷ []) bytes h four = absurd (omega (arith, four.enough))
-four_more old out units (a ∷ b ∷ c ∷ []) bytes h four = absurd (omega (arith, four.enough))
-four_more old out units (a ∷ b ∷ c ∷ d ∷ others) bytes h four =
-    let first = a ∷ b ∷ c ∷ d ∷ [] in
-    let behind : others ≡ take (length (a ∷ b ∷ c ∷ d ∷ others) - 4) (drop 4 (a ∷ b ∷ c ∷ d ∷ others)) = sym (take_all (length (a ∷ b ∷ c ∷ d ∷ others) - 4) others (omega arith)) in
-    subst (λ (t : List ℕ). HasWritten old (out ++ bytes) units t) behind (record {
-      done = h.done ++ first;
-      parts = h.parts ∙ sym (append_assoc h.done first others);
-      is = rw (h.is, four.is, flat_map-append) (append_assoc old (flat_map (to_le_bytes w16) h.done) (flat_map (to_le_bytes w16) first));
-    })
-
--- ---- a name over the zeros that were made for it
-
--- so many bytes written behind what was there, over zeros, with two zeros behind them
-pub record IsOver (old bytes room : List ℕ) (start count : ℕ) : Type 0 where
-  pub zeros : ℕ
-  pub zeros-is : zeros ≡ count + 2
-  pub start-is : start ≡ length old
-  pub room-is : room ≡ take (start + count + 2) old ++ replicate zeros 0
-  pub len : length bytes ≡ count
-
-pub units_length : (units : List ℕ) → length (flat_map (to_le_bytes w16) units) ≡ 2 * length units
-units_length [] = refl
-units_length (n ∷ units) = omega (arith, units_length units)
-
--- what the whole is once these bytes stand there
-abbrev written_over : List ℕ → List ℕ → ℕ → ℕ → List ℕ
-written_over bytes room start count = take start room ++ (bytes ++ drop count (drop start room))
-
-over_zeros : (old bytes room : List ℕ) (start count : ℕ) → IsOver old bytes room start count → written_over bytes room start count ≡ old ++ (bytes ++ (0 ∷ 0 ∷ []))
-over_zeros old bytes room start count over =
-    let zeros = replicate {A = ℕ} (count + 2) 0 in
-    let whole : room ≡ old ++ zeros = over.room-is ∙ ap (λ (n : ℕ). take (start + count + 2) old ++ replicate n 0) over.zeros-is ∙ ap (λ (t : List ℕ). t ++ zeros) (take_all (start + count + 2) old (omega (arith, over.start-is))) in
-    let front : take start room ≡ old = ap (take start) whole ∙ take_at old zeros start (sym over.start-is) in
-    let two : count + 2 - count ≡ 2 = omega arith in
-    let back : drop count (drop start room) ≡ 0 ∷ 0 ∷ [] = ap (λ (t : List ℕ). drop count (drop start t)) whole ∙ ap (drop count) (drop_at old zeros start (sym over.start-is)) ∙ drop-replicate count (count + 2) 0 ∙ ap (λ (n : ℕ). replicate {A = ℕ} n 0) two in
-    rw (front, back) refl
-
--- the same, where a list of that length is cut out of it and what stands behind
-pub over_zeros_whole : (old bytes room : List ℕ) (start count len : ℕ) → IsOver old bytes room start count → len ≡ start + count + 2
-    → take len (written_over bytes room start count ++ drop (length (written_over bytes room start count)) room) ≡ old ++ (bytes ++ (0 ∷ 0 ∷ []))
-over_zeros_whole old bytes room start count len over long =
-    let is = over_zeros old bytes room start count over in
-    let here = old ++ (bytes ++ (0 ∷ 0 ∷ [])) in
-    let size : length here ≡ len = omega (arith, long, over.len, over.start-is, length-append old (bytes ++ (0 ∷ 0 ∷ [])), length-append bytes (0 ∷ 0 ∷ [])) in
-    rw is (ap (λ (n : ℕ). take n (here ++ drop (length here) room)) (sym size) ∙ take_at here (drop (length here) room) (length here) refl)

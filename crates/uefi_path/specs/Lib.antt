@@ -1,5 +1,7 @@
 -- what public contracts and the laws cite
 pub mod Answer
+pub mod Standard
+pub mod Units
 pub mod Row
 pub mod Parts
 pub mod Node

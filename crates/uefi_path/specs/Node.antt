@@ -6,7 +6,7 @@ use Rattle.uefi_path.specs.declared.node.Node.{Node}
 use Rattle.uefi_path.specs.declared.node.Node.TheVariants.{Pci, Acpi, Usb, Mac, Ipv4, Sata, Nvme, HardDrive}
 use Rattle.uefi_path.specs.declared.node.Node.TheVariants.{VendorHw, VendorMsg, Uri, VendorMedia, FilePath, Other}
 use Rattle.uefi_path.specs.Parts.{ipv4_fields, AreIpv4Parts, hard_drive_fields, AreHardDriveParts}
-use Rattle.uefi_path.specs.Parts.{vendor_bytes, IsVendor, IsUri, name_bytes, IsName}
+use Rattle.uefi_path.specs.Parts.{vendor_bytes, IsVendor, IsUri, name_bytes, IsPathName}
 use Rattle.uefi_path.specs.Row.{Row, row, row_bytes, AreBytes, IsOther}
 
 -- type, sub-type, and the fields in their order
@@ -43,7 +43,7 @@ IsNode (Nvme namespace eui) = (namespace < 2 ^ 32) × AreBytes 8 eui
 IsNode (Uri bytes) = IsUri bytes
 IsNode (HardDrive parts) = AreHardDriveParts parts
 IsNode (VendorMedia vendor) = IsVendor vendor
-IsNode (FilePath units) = IsName units
+IsNode (FilePath units) = IsPathName units
 IsNode (Other other) = IsOther other
 
 -- the spelling of a node

@@ -1,11 +1,10 @@
 -- What contracts see of the nodes that keep their fields to themselves.
 use Rattle.std.specs.Prelude.{◌≢◌, ℕ, ◌<◌, ◌≤◌, ◌^◌, List, [], ◌∷◌, ◌++◌, length, take, drop}
 use Rattle.std.specs.Prelude.{leb, Option, Some, None, if◌then◌else◌}
-use Rattle.std.specs.List.{AllByRecursion, flat_map}
+use Rattle.std.specs.List.{AllByRecursion}
 use Rattle.std.specs.Int.{w8, w16, w32, w64, to_le_bytes}
-use Rattle.uefi_path.specs.declared.generic.TheConstants.{BODY_MAX}
-use Rattle.uefi_path.specs.declared.vendor.TheConstants.{VENDOR_BODY_MAX}
-use Rattle.uefi_path.specs.declared.file.TheConstants.{NAME_MAX}
+use Rattle.uefi_path.specs.Standard.{body_max, vendor_body_max, path_name_max}
+use Rattle.uefi_path.specs.Units.{units_bytes}
 use Rattle.uefi_path.specs.Row.{IsByte, AreBytes}
 
 -- what a vendor defines (UEFI 2.10, 10.3.2.4, 10.3.4.17, 10.3.5.3): an identifier, and data whose meaning it tells
@@ -27,7 +26,7 @@ vendor_of bytes =
 pub record IsVendor (p : VendorParts) : Type 0 where
   pub guid : AreBytes 16 p.guid
   pub body : AllByRecursion IsByte p.body
-  pub len : length p.body ≤ VENDOR_BODY_MAX
+  pub len : length p.body ≤ vendor_body_max
 
 -- an IPv4 node (UEFI 2.10, 10.3.4.12)
 pub record Ipv4Parts : Type 0 where
@@ -70,7 +69,7 @@ pub record AreIpv4Parts (p : Ipv4Parts) : Type 0 where
 
 -- the bytes of a URI node (UEFI 2.10, 10.3.4)
 abbrev pub IsUri : List ℕ → Type 0
-IsUri bytes = AllByRecursion IsByte bytes × (length bytes ≤ BODY_MAX)
+IsUri bytes = AllByRecursion IsByte bytes × (length bytes ≤ body_max)
 
 -- a partition of a hard drive (UEFI 2.10, 10.3.5.1)
 pub record HardDriveParts : Type 0 where
@@ -110,9 +109,9 @@ abbrev pub IsUnit : ℕ → Type 0
 IsUnit n = (n ≢ 0) × (n < 2 ^ 16)
 
 -- the units of a file's path name (UEFI 2.10, 10.3.5.4), without the zero behind them
-abbrev pub IsName : List ℕ → Type 0
-IsName units = AllByRecursion IsUnit units × (length units ≤ NAME_MAX)
+abbrev pub IsPathName : List ℕ → Type 0
+IsPathName units = AllByRecursion IsUnit units × (length units ≤ path_name_max)
 
 -- a path name as it is written: its units, and a zero
 abbrev pub name_bytes : List ℕ → List ℕ
-name_bytes units = flat_map (to_le_bytes w16) units ++ to_le_bytes w16 0
+name_bytes units = units_bytes units ++ to_le_bytes w16 0

@@ -2,7 +2,7 @@
 use Rattle.std.specs.Prelude.{◌≡◌, ◌≢◌, ℕ, ◌+◌, ◌^◌, ◌<◌, ◌≤◌, List, [], ◌∷◌, ◌++◌, length}
 use Rattle.std.specs.List.{AllByRecursion}
 use Rattle.std.specs.Int.{w16, from_le_bytes, to_le_bytes}
-use Rattle.uefi_path.specs.declared.generic.TheConstants.{BODY_MAX}
+use Rattle.uefi_path.specs.Standard.{body_max}
 
 -- a node as its type, its sub-type and its data, whatever these mean
 pub record Row : Type 0 where
@@ -40,7 +40,7 @@ pub record IsRow (r : Row) : Type 0 where
   pub kind : IsByte r.kind
   pub sub : IsByte r.sub
   pub body : AllByRecursion IsByte r.body
-  pub len : length r.body ≤ BODY_MAX
+  pub len : length r.body ≤ body_max
 
 -- data of 16-bit units, the last of which is zero and no earlier one
 pub data IsClosed : List ℕ → Type 0 where

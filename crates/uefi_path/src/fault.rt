@@ -55,7 +55,8 @@ pub enum NameFault {
     /// A unit is zero. The number is the index of the first such unit.
     #[error("ZeroUnit {0}")]
     ZeroUnit(usize),
-    /// There are more than [`NAME_MAX`](crate::NAME_MAX) units: two bytes cannot state the length of the node.
+    /// There are more than [`PATH_NAME_MAX`](crate::PATH_NAME_MAX) units: two bytes cannot state the
+    /// length of the node.
     #[error("TooLong")]
     TooLong,
     /// Memory was refused.

@@ -57,8 +57,9 @@ pub(crate) fn octets<const N: usize>(bytes: [u8; N]) -> [u8; N]
     bytes
 }
 
-/// The bytes of an array. A contract learns here what the type says: that these are so many bytes.
-pub(crate) fn field<const N: usize>(bytes: &[u8; N]) -> &[u8]
+/// The bytes of an array, as many as its type says. A contract sees an array as a list alone, and learns here what the
+/// type says: that these are so many bytes. So the call is made for that too, where its answer is let go.
+pub fn field<const N: usize>(bytes: &[u8; N]) -> &[u8]
     ensures same { result.now ≡ bytes.now }
     ensures valid { AreBytes N bytes.now }
 {

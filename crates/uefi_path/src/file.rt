@@ -4,20 +4,19 @@ ghost use Rattle.std.specs.Prelude.{◌≡◌, ◌↔◌, ◌*◌, ◌<◌, ◌�
 ghost use Rattle.std.specs.List.{flat_map, position};
 ghost use Rattle.std.specs.Int.{w16, to_le_bytes};
 ghost use Rattle.uefi_path.specs.declared.fault.NameFault.{NameFault};
-ghost use Rattle.uefi_path.specs.Parts.{name_bytes, IsName};
+ghost use Rattle.uefi_path.specs.Standard.{body_max, path_name_max};
+ghost use Rattle.uefi_path.specs.Parts.{name_bytes, IsPathName};
 ghost use Rattle.uefi_path.specs.Reading.{name_of};
 ghost use Rattle.uefi_path.specs.Writing.{Extends};
 
 use crate::fault::NameFault;
 use crate::generic::{BODY_MAX, HEADER_LEN};
+use crate::units::{UNIT_LEN, append_units};
 use std::alloc::{AllocError, Global};
 use std::marker::Model;
 
-/// The bytes of a unit.
-const UNIT_LEN: usize = 2;
-
 /// The most units that a name can have, without the zero that closes it.
-pub const NAME_MAX: usize = BODY_MAX / UNIT_LEN - 1;
+pub const PATH_NAME_MAX: usize = BODY_MAX / UNIT_LEN - 1;
 
 /// Units that are no path name of a file, handed back, and why they are none.
 #[derive(Debug, Drop)]
@@ -29,7 +28,7 @@ pub struct NameRefused {
 }
 
 /// The path name of a file (UEFI 2.10, 10.3.5.4) as CHAR16 units. None of them is zero, and there
-/// are at most [`NAME_MAX`]; the zero that closes the name in the bytes is not held.
+/// are at most [`PATH_NAME_MAX`]; the zero that closes the name in the bytes is not held.
 #[derive(Debug, Drop)]
 pub struct FileNode {
     units: Vec<u16>,
@@ -37,13 +36,13 @@ pub struct FileNode {
 
 impl Model for FileNode {
     ghost use Rattle.std.specs.Prelude.{ℕ, List};
-    ghost use Rattle.uefi_path.specs.Parts.{IsName};
+    ghost use Rattle.uefi_path.specs.Parts.{IsPathName};
 
     ghost Value = { List ℕ };
 
     ghost view = { λ node. node.units.items };
 
-    ghost invariant = { λ node. IsName node.units.items };
+    ghost invariant = { λ node. IsPathName node.units.items };
 }
 
 impl PartialEq for FileNode {
@@ -78,14 +77,14 @@ impl FileNode {
     /// # Errors
     ///
     /// [`NameFault::ZeroUnit`] where a unit is zero; else [`NameFault::TooLong`] where there are
-    /// more than [`NAME_MAX`] units; else [`NameFault::OutOfMemory`] where memory for them was refused.
+    /// more than [`PATH_NAME_MAX`] units; else [`NameFault::OutOfMemory`] where memory for them was refused.
     pub fn new(alloc: Global, units: &[u16]) -> Result<FileNode, NameFault>
         ensures made { IfOk result (λ node. node ≡ units.now) }
-        ensures valid { IfOk result (λ node. IsName node) }
+        ensures valid { IfOk result (λ node. IsPathName node) }
         ensures zero_unit { (at : ℕ) → (result ≡ Err (NameFault.ZeroUnit at))
             ↔ (position (λ unit. unit == 0) units.now ≡ Some at) }
         ensures too_long { (result ≡ Err NameFault.TooLong)
-            ↔ ((position (λ unit. unit == 0) units.now ≡ None) × (NAME_MAX < length units.now)) }
+            ↔ ((position (λ unit. unit == 0) units.now ≡ None) × (path_name_max < length units.now)) }
     {
         if let Err(fault) = check_name(units) {
             return Err(fault);
@@ -100,15 +99,15 @@ impl FileNode {
     /// # Errors
     ///
     /// The units themselves, with the fault: [`NameFault::ZeroUnit`] where a unit is zero; else
-    /// [`NameFault::TooLong`] where there are more than [`NAME_MAX`] units.
+    /// [`NameFault::TooLong`] where there are more than [`PATH_NAME_MAX`] units.
     pub fn from_vec(units: Vec<u16>) -> Result<FileNode, NameRefused>
         ensures made { IfOk result (λ node. node ≡ units.items) }
-        ensures valid { IfOk result (λ node. IsName node) }
+        ensures valid { IfOk result (λ node. IsPathName node) }
         ensures zero_unit { (at : ℕ) →
             (result ≡ Err (record { fault = NameFault.ZeroUnit at; units = units }))
             ↔ (position (λ unit. unit == 0) units.items ≡ Some at) }
         ensures too_long { (result ≡ Err (record { fault = NameFault.TooLong; units = units }))
-            ↔ ((position (λ unit. unit == 0) units.items ≡ None) × (NAME_MAX < length units.items)) }
+            ↔ ((position (λ unit. unit == 0) units.items ≡ None) × (path_name_max < length units.items)) }
         ensures named { IfErr result (λ refused. refused.fault ≢ NameFault.OutOfMemory) }
         ensures handed_back { IfErr result (λ refused. refused.units ≡ units) }
     {
@@ -121,7 +120,7 @@ impl FileNode {
     /// The node that has these bytes: `None` where their units are no name with a zero behind it.
     /// The one refusal is for want of memory.
     pub(crate) fn from_bytes(alloc: Global, bytes: &[u8]) -> Result<Option<FileNode>, AllocError>
-        requires { length bytes.now ≤ BODY_MAX }
+        requires { length bytes.now ≤ body_max }
         ensures { IfOk result (λ found. found ≡ name_of bytes.now) }
     {
         let mut units = Vec::with_capacity(alloc, bytes.len() / UNIT_LEN)?;
@@ -144,7 +143,7 @@ impl FileNode {
     /// The units of the name, without the zero that closes it.
     pub fn units(&self) -> &[u16]
         ensures units { result.now ≡ self.now }
-        ensures valid { IsName self.now }
+        ensures valid { IsPathName self.now }
     {
         &self.units
     }
@@ -152,7 +151,7 @@ impl FileNode {
     /// The units of the name, given away. This takes no memory.
     pub fn into_units(self) -> Vec<u16>
         ensures units { result.items ≡ self }
-        ensures valid { IsName self }
+        ensures valid { IsPathName self }
     {
         let FileNode { units } = self;
         units
@@ -161,7 +160,7 @@ impl FileNode {
     /// An equal node. The one refusal is for want of memory.
     pub fn copy(&self, alloc: Global) -> Result<FileNode, AllocError>
         ensures equal { IfOk result (λ node. node ≡ self.now) }
-        ensures valid { OnOk result (IsName self.now) }
+        ensures valid { OnOk result (IsPathName self.now) }
     {
         let units = Vec::from_slice(alloc, &self.units)?;
         Ok(FileNode { units })
@@ -170,7 +169,7 @@ impl FileNode {
     /// How many bytes the name and its zero take.
     pub(crate) fn data_len(&self) -> usize
         ensures len { result ≡ length (name_bytes self.now) }
-        ensures bound { result ≤ BODY_MAX }
+        ensures bound { result ≤ body_max }
     {
         UNIT_LEN * self.units.len() + UNIT_LEN
     }
@@ -181,12 +180,13 @@ impl FileNode {
         header: [u8; HEADER_LEN],
         out: &mut Vec<u8>,
     ) -> Result<(), AllocError>
-        ensures valid { OnOk result (IsName self.now) }
+        ensures valid { OnOk result (IsPathName self.now) }
         ensures ok { OnOk result (out.new.items ≡ out.old.items ++ (header ++ name_bytes self.now)) }
         ensures err { OnErr result (Extends out.old.items out.new.items) }
     {
         out.extend_from_slice(&header)?;
-        append_closed(&self.units, out)
+        append_units(&self.units, out)?;
+        out.extend_from_slice(&0u16.to_le_bytes())
     }
 }
 
@@ -206,18 +206,18 @@ pub(crate) fn is_name(bytes: &[u8]) -> bool
 
 /// Tests whether units are a path name.
 fn check_name(units: &[u16]) -> Result<(), NameFault>
-    ensures ok { OnOk result (IsName units.now) }
+    ensures ok { OnOk result (IsPathName units.now) }
     ensures no_zero { OnOk result (position (λ unit. unit == 0) units.now ≡ None) }
     ensures zero_unit { (at : ℕ) → (result ≡ Err (NameFault.ZeroUnit at))
         ↔ (position (λ unit. unit == 0) units.now ≡ Some at) }
     ensures too_long { (result ≡ Err NameFault.TooLong)
-        ↔ ((position (λ unit. unit == 0) units.now ≡ None) × (NAME_MAX < length units.now)) }
+        ↔ ((position (λ unit. unit == 0) units.now ≡ None) × (path_name_max < length units.now)) }
     ensures named { result ≢ Err NameFault.OutOfMemory }
 {
     if let Some(at) = first_zero(units) {
         return Err(NameFault::ZeroUnit(at));
     }
-    if units.len() > NAME_MAX {
+    if units.len() > PATH_NAME_MAX {
         return Err(NameFault::TooLong);
     }
     Ok(())
@@ -228,30 +228,4 @@ fn first_zero(units: &[u16]) -> Option<usize>
     ensures { result ≡ position (λ unit. unit == 0) units.now }
 {
     units.iter().position(|unit| *unit == 0)
-}
-
-/// Appends units, each as two bytes, little-endian, and a zero unit. An `Err` leaves the output as
-/// it was.
-fn append_closed(units: &[u16], out: &mut Vec<u8>) -> Result<(), AllocError>
-    requires { length units.now ≤ NAME_MAX }
-    ensures ok { OnOk result (out.new.items ≡ out.old.items ++ name_bytes units.now) }
-    ensures err { OnErr result (out.new.items ≡ out.old.items) }
-{
-    let start = out.len();
-    let end = start + UNIT_LEN * units.len();
-    out.resize(end + UNIT_LEN, 0)?;
-    write_units(units, &mut out[start..end]);
-    Ok(())
-}
-
-/// Writes units, each as two bytes, little-endian, over as many bytes as they take.
-fn write_units(units: &[u16], bytes: &mut [u8])
-    requires { length bytes.old ≡ 2 * length units.now }
-    ensures { bytes.new ≡ flat_map (to_le_bytes w16) units.now }
-{
-    for (i, unit) in units.iter().enumerate() {
-        let [low, high] = unit.to_le_bytes();
-        bytes[UNIT_LEN * i] = low;
-        bytes[UNIT_LEN * i + 1] = high;
-    }
 }

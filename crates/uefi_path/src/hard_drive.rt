@@ -2,6 +2,7 @@
 
 ghost use Rattle.std.specs.Prelude.{◌≡◌, ◌≤◌, ◌++◌, length, OnOk, OnErr};
 ghost use Rattle.std.specs.List.{concat};
+ghost use Rattle.uefi_path.specs.Standard.{body_max};
 ghost use Rattle.uefi_path.specs.Reading.{hard_drive_at};
 ghost use Rattle.uefi_path.specs.Writing.{Extends};
 ghost use Rattle.uefi_path.specs.Parts.{AreHardDriveParts, hard_drive_parts, hard_drive_fields};
@@ -164,7 +165,7 @@ impl HardDriveNode {
     /// How many bytes the fields take.
     pub(crate) fn data_len(&self) -> usize
         ensures len { result ≡ length (concat (hard_drive_fields self.now)) }
-        ensures bound { result ≤ BODY_MAX }
+        ensures bound { result ≤ body_max }
     {
         20 + field(&self.signature).len() + 2
     }

@@ -2,6 +2,7 @@
 
 ghost use Rattle.std.specs.Prelude.{◌≡◌, ◌≤◌, ◌++◌, length, OnOk, OnErr};
 ghost use Rattle.std.specs.List.{concat};
+ghost use Rattle.uefi_path.specs.Standard.{body_max};
 ghost use Rattle.uefi_path.specs.Reading.{ipv4_at};
 ghost use Rattle.uefi_path.specs.Writing.{Extends};
 ghost use Rattle.uefi_path.specs.Parts.{AreIpv4Parts, ipv4_parts, ipv4_fields};
@@ -182,7 +183,7 @@ impl Ipv4Node {
     /// How many bytes the fields take.
     pub(crate) fn data_len(&self) -> usize
         ensures len { result ≡ length (concat (ipv4_fields self.now)) }
-        ensures bound { result ≤ BODY_MAX }
+        ensures bound { result ≤ body_max }
     {
         field(&self.local).len()
             + field(&self.remote).len()

@@ -1,12 +1,14 @@
 //! Laws of the definitions. Each function's contract is one law; calling it does nothing.
 
-ghost use Rattle.std.specs.Prelude.{◌≡◌, ◌≢◌, ◌⊎◌, ◌↔◌, ℕ, ◌^◌, ◌<◌, List, [], ◌++◌, length, IsTrue};
+ghost use Rattle.std.specs.Prelude.{◌≡◌, ◌≢◌, ◌⊎◌, ◌↔◌, ℕ, ◌*◌, ◌/◌, ◌%◌, ◌^◌, ◌<◌, List, [], ◌++◌, length, IsTrue};
 ghost use Rattle.std.specs.List.{AllByRecursion, flat_map};
 ghost use Rattle.uefi_path.specs.declared.node.Node.{Node};
 ghost use Rattle.uefi_path.specs.declared.fault.NameFault.{NameFault};
 ghost use Rattle.uefi_path.specs.declared.fault.NodeFault.{NodeFault};
 ghost use Rattle.uefi_path.specs.declared.fault.PathFault.{PathFault};
 ghost use Rattle.uefi_path.specs.declared.guid.Guid.{Guid};
+ghost use Rattle.uefi_path.specs.Standard.{body_max, vendor_body_max, path_name_max, pci_root_hid, pcie_root_hid};
+ghost use Rattle.uefi_path.specs.Units.{IsTwoByte, units_bytes, units_of};
 ghost use Rattle.uefi_path.specs.Parts.{VendorParts, Ipv4Parts, HardDriveParts};
 ghost use Rattle.uefi_path.specs.Row.{Row, IsByte, IsRow, IsListed, row_bytes, end_entire};
 ghost use Rattle.uefi_path.specs.Node.{row_of, IsNode, SpellsNode, HasTypedNode};
@@ -14,15 +16,16 @@ ghost use Rattle.uefi_path.specs.Path.{IsPath, SpellsPath, IsPathFront, path_byt
 ghost use Rattle.uefi_path.specs.Fault.{IsFirstFault};
 
 use crate::fault::{NameFault, NodeFault, PathFault};
-use crate::file::FileNode;
+use crate::file::{FileNode, PATH_NAME_MAX};
+use crate::generic::BODY_MAX;
 use crate::guid::Guid;
 use crate::hard_drive::HardDriveNode;
 use crate::ipv4::Ipv4Node;
-use crate::node::Node;
+use crate::node::{Node, PCI_ROOT_HID, PCIE_ROOT_HID};
 use crate::other::OtherNode;
 use crate::path::Path;
 use crate::uri::UriNode;
-use crate::vendor::Vendor;
+use crate::vendor::{VENDOR_BODY_MAX, Vendor};
 
 /// Each node whose numbers are in their ranges has a spelling, of bytes, and two bytes state its
 /// length.
@@ -100,6 +103,47 @@ pub fn a_fault_leaves_no_path()
 pub fn bytes_have_one_first_fault()
     ensures { (bytes : List ℕ) (f g : PathFault) →
         IsFirstFault bytes f → IsFirstFault bytes g → f ≡ g }
+{}
+
+/// Numbers of two bytes are read off their bytes again.
+pub fn units_are_read_again()
+    ensures { (units : List ℕ) → AllByRecursion IsTwoByte units → units_of (units_bytes units) ≡ units }
+{}
+
+/// Bytes, even in number, are those of the numbers that are read off them.
+pub fn bytes_are_written_again()
+    ensures { (bytes : List ℕ) → AllByRecursion IsByte bytes → length bytes % 2 ≡ 0 →
+        units_bytes (units_of bytes) ≡ bytes }
+{}
+
+/// Numbers have two bytes each.
+pub fn units_have_two_bytes_each()
+    ensures { (units : List ℕ) → AllByRecursion IsByte (units_bytes units)
+        × (length (units_bytes units) ≡ 2 * length units) }
+{}
+
+/// Two bytes are a number each, and such numbers have two bytes.
+pub fn two_bytes_are_a_unit()
+    ensures { (bytes : List ℕ) → AllByRecursion IsByte bytes → AllByRecursion IsTwoByte (units_of bytes)
+        × (length (units_of bytes) ≡ length bytes / 2) }
+{}
+
+/// The public constants are the standard's numbers (UEFI 2.10, 10.3).
+pub fn constants_are_the_standards_numbers()
+    ensures body_max { BODY_MAX ≡ body_max }
+    ensures vendor_body_max { VENDOR_BODY_MAX ≡ vendor_body_max }
+    ensures path_name_max { PATH_NAME_MAX ≡ path_name_max }
+    ensures pci_root { PCI_ROOT_HID ≡ pci_root_hid }
+    ensures pcie_root { PCIE_ROOT_HID ≡ pcie_root_hid }
+    // how the local address was set (10.3.4.12)
+    ensures dhcp_flag { Ipv4Node.DHCP ≡ 0 }
+    ensures static_flag { Ipv4Node.STATIC ≡ 1 }
+    // the partition table and the signature (10.3.5.1)
+    ensures format_mbr { HardDriveNode.FORMAT_MBR ≡ 1 }
+    ensures format_gpt { HardDriveNode.FORMAT_GPT ≡ 2 }
+    ensures signature_none { HardDriveNode.SIGNATURE_NONE ≡ 0 }
+    ensures signature_mbr { HardDriveNode.SIGNATURE_MBR ≡ 1 }
+    ensures signature_guid { HardDriveNode.SIGNATURE_GUID ≡ 2 }
 {}
 
 /// `==` on nodes tells whether they are equal.

@@ -53,6 +53,7 @@ impl Eq for OtherNode {
 }
 
 impl OtherNode {
+    ghost use Rattle.uefi_path.specs.Standard.{body_max};
     ghost use Rattle.uefi_path.specs.Row.{row, IsListed, IsOther};
 
     /// A node of this type, this sub-type and this data (UEFI 2.10, 10.3.1), which no other case of
@@ -67,7 +68,7 @@ impl OtherNode {
         ensures made { IfOk result (λ node. node ≡ row kind sub body.items) }
         ensures valid { IfOk result (λ node. IsOther node) }
         ensures refused { (result ≡ Err body) ↔ ((kind ≡ 0x7F)
-            ⊎ ((BODY_MAX < length body.items) ⊎ IsListed (row kind sub body.items))) }
+            ⊎ ((body_max < length body.items) ⊎ IsListed (row kind sub body.items))) }
         ensures handed_back { IfErr result (λ refused. refused ≡ body) }
     {
         if kind == END || body.len() > BODY_MAX || Node::is_listed(kind, sub, &body) {

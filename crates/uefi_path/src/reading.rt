@@ -4,6 +4,7 @@ ghost use Rattle.std.specs.Prelude.{◌≡◌, ◌≢◌, ◌↔◌, ◌+◌, �
 ghost use Rattle.uefi_path.specs.declared.node.Node.{Node};
 ghost use Rattle.uefi_path.specs.declared.fault.PathFault.{PathFault};
 ghost use Rattle.uefi_path.specs.Answer.{IsUnless};
+ghost use Rattle.uefi_path.specs.Standard.{body_max};
 ghost use Rattle.uefi_path.specs.Row.{row};
 ghost use Rattle.uefi_path.specs.Node.{row_of, IsNode};
 ghost use Rattle.uefi_path.specs.Path.{IsPathFront};
@@ -139,7 +140,7 @@ pub fn node_from_parts(alloc: Global, kind: u8, sub: u8, body: &[u8]) -> Result<
 
     ensures bad_end { (result ≡ Err NodeFault.BadEnd) ↔ (kind ≡ 0x7F) }
     ensures too_long { (result ≡ Err NodeFault.TooLong)
-        ↔ ((kind ≢ 0x7F) × (BODY_MAX < length body.now)) }
+        ↔ ((kind ≢ 0x7F) × (body_max < length body.now)) }
 {
     if kind == END {
         return Err(NodeFault::BadEnd);

@@ -1,6 +1,7 @@
 //! The table of nodes (UEFI 2.10, 10.3): how each case of `Node` stands in the bytes.
 
 ghost use Rattle.std.specs.Prelude.{◌≡◌, ◌≢◌, ◌↔◌, ◌≤◌, ◌++◌, length, is_some, IsTrue, IfOk, OnOk, OnErr};
+ghost use Rattle.uefi_path.specs.Standard.{body_max};
 ghost use Rattle.uefi_path.specs.Row.{row, IsListed};
 ghost use Rattle.uefi_path.specs.Node.{row_of, IsNode};
 ghost use Rattle.uefi_path.specs.Reading.{fixed_node_of, list_node_of, node_of};
@@ -43,7 +44,7 @@ impl Node {
         ensures kind { result.kind ≡ (row_of self.now).kind }
         ensures sub { result.sub ≡ (row_of self.now).sub }
         ensures data_len { result.data_len ≡ length (row_of self.now).body }
-        ensures bound { result.data_len ≤ BODY_MAX }
+        ensures bound { result.data_len ≤ body_max }
     {
         match self {
             Node::Pci { .. } => Shape::new(1, 1, 2),
@@ -102,7 +103,7 @@ impl Node {
     /// The node of these parts, where the table has a row for them that holds a list, if there is
     /// memory for it.
     fn of_a_list(alloc: Global, kind: u8, sub: u8, body: &[u8]) -> Result<Option<Node>, AllocError>
-        requires { length body.now ≤ BODY_MAX }
+        requires { length body.now ≤ body_max }
         ensures { IfOk result (λ found. found ≡ list_node_of (row kind sub body.now)) }
     {
         Ok(match (kind, sub) {
@@ -129,7 +130,7 @@ impl Node {
 
     /// Whether the table has a row for these parts. This takes no memory.
     pub(crate) fn is_listed(kind: u8, sub: u8, body: &[u8]) -> bool
-        requires { length body.now ≤ BODY_MAX }
+        requires { length body.now ≤ body_max }
         ensures { IsTrue result ↔ IsListed (row kind sub body.now) }
     {
         Node::of_one_length(kind, sub, body).is_some() || Node::is_of_a_list(kind, sub, body)
@@ -143,7 +144,7 @@ impl Node {
         body: &[u8],
     ) -> Result<Node, AllocError>
         requires no_end { kind ≢ 0x7F }
-        requires len { length body.now ≤ BODY_MAX }
+        requires len { length body.now ≤ body_max }
         ensures { IfOk result (λ node. node ≡ node_of (row kind sub body.now)) }
     {
         if let Some(node) = Node::of_one_length(kind, sub, body) {

@@ -771,7 +771,7 @@ fn refuses_data_that_no_node_holds(rt: HostRuntime) -> Result<(), Fail> {
 #[test]
 fn refuses_what_is_no_name(rt: HostRuntime) -> Result<(), Fail> {
     let alloc = rt.alloc();
-    let most = vec![in alloc; 0x41u16; NAME_MAX]?;
+    let most = vec![in alloc; 0x41u16; PATH_NAME_MAX]?;
     let mut more = vec![in alloc; 0x41u16; 32_765]?;
     assert!(rt; FileNode::new(alloc, &most).is_ok());
     assert!(rt; FileNode::new(alloc, &more) == Err(NameFault::TooLong));

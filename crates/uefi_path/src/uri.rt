@@ -2,6 +2,7 @@
 
 ghost use Rattle.std.specs.Prelude.{◌≡◌, ◌≢◌, ◌↔◌, ◌<◌, ◌≤◌, length, Err, IfOk, IfErr, OnOk};
 ghost use Rattle.uefi_path.specs.declared.fault.NodeFault.{NodeFault};
+ghost use Rattle.uefi_path.specs.Standard.{body_max};
 ghost use Rattle.uefi_path.specs.Parts.{IsUri};
 
 use crate::fault::NodeFault;
@@ -62,7 +63,7 @@ impl UriNode {
     pub fn new(alloc: Global, bytes: &[u8]) -> Result<UriNode, NodeFault>
         ensures made { IfOk result (λ node. node ≡ bytes.now) }
         ensures valid { IfOk result (λ node. IsUri node) }
-        ensures too_long { (result ≡ Err NodeFault.TooLong) ↔ (BODY_MAX < length bytes.now) }
+        ensures too_long { (result ≡ Err NodeFault.TooLong) ↔ (body_max < length bytes.now) }
         ensures no_bad_end { result ≢ Err NodeFault.BadEnd }
     {
         if bytes.len() > BODY_MAX {
@@ -79,7 +80,7 @@ impl UriNode {
     pub fn from_vec(bytes: Vec<u8>) -> Result<UriNode, Vec<u8>>
         ensures made { IfOk result (λ node. node ≡ bytes.items) }
         ensures valid { IfOk result (λ node. IsUri node) }
-        ensures refused { (result ≡ Err bytes) ↔ (BODY_MAX < length bytes.items) }
+        ensures refused { (result ≡ Err bytes) ↔ (body_max < length bytes.items) }
         ensures handed_back { IfErr result (λ refused. refused ≡ bytes) }
     {
         if bytes.len() > BODY_MAX {
@@ -91,7 +92,7 @@ impl UriNode {
 
     /// A node of these bytes, if there is memory for them.
     pub(crate) fn from_bytes(alloc: Global, bytes: &[u8]) -> Result<UriNode, AllocError>
-        requires { length bytes.now ≤ BODY_MAX }
+        requires { length bytes.now ≤ body_max }
         ensures { IfOk result (λ node. node ≡ bytes.now) }
     {
         let bytes = Vec::from_slice(alloc, bytes)?;

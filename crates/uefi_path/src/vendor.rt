@@ -2,6 +2,7 @@
 
 ghost use Rattle.std.specs.Prelude.{◌≡◌, ◌≢◌, ◌↔◌, ◌<◌, ◌≤◌, ◌++◌, length, Err, IfOk, IfErr, OnOk, OnErr};
 ghost use Rattle.uefi_path.specs.declared.fault.NodeFault.{NodeFault};
+ghost use Rattle.uefi_path.specs.Standard.{body_max, vendor_body_max};
 ghost use Rattle.uefi_path.specs.Parts.{vendor_parts, vendor_bytes, vendor_of, IsVendor};
 ghost use Rattle.uefi_path.specs.Writing.{Extends};
 
@@ -72,7 +73,7 @@ impl Vendor {
     pub fn new(alloc: Global, guid: Guid, body: &[u8]) -> Result<Vendor, NodeFault>
         ensures made { IfOk result (λ node. node ≡ vendor_parts guid.0 body.now) }
         ensures valid { IfOk result (λ node. IsVendor node) }
-        ensures too_long { (result ≡ Err NodeFault.TooLong) ↔ (VENDOR_BODY_MAX < length body.now) }
+        ensures too_long { (result ≡ Err NodeFault.TooLong) ↔ (vendor_body_max < length body.now) }
         ensures no_bad_end { result ≢ Err NodeFault.BadEnd }
     {
         if body.len() > VENDOR_BODY_MAX {
@@ -90,7 +91,7 @@ impl Vendor {
     pub fn from_vec(guid: Guid, body: Vec<u8>) -> Result<Vendor, Vec<u8>>
         ensures made { IfOk result (λ node. node ≡ vendor_parts guid.0 body.items) }
         ensures valid { IfOk result (λ node. IsVendor node) }
-        ensures refused { (result ≡ Err body) ↔ (VENDOR_BODY_MAX < length body.items) }
+        ensures refused { (result ≡ Err body) ↔ (vendor_body_max < length body.items) }
         ensures handed_back { IfErr result (λ refused. refused ≡ body) }
     {
         if body.len() > VENDOR_BODY_MAX {
@@ -102,7 +103,7 @@ impl Vendor {
     }
 
     fn from_parts(alloc: Global, guid: Guid, body: &[u8]) -> Result<Vendor, AllocError>
-        requires { length body.now ≤ VENDOR_BODY_MAX }
+        requires { length body.now ≤ vendor_body_max }
         ensures made { IfOk result (λ node. node ≡ vendor_parts guid.0 body.now) }
         ensures valid { IfOk result (λ node. IsVendor node) }
     {
@@ -114,7 +115,7 @@ impl Vendor {
     /// The node that has these bytes, the identifier first: `None` where they are too few for one.
     /// The one refusal is for want of memory.
     pub(crate) fn from_bytes(alloc: Global, bytes: &[u8]) -> Result<Option<Vendor>, AllocError>
-        requires { length bytes.now ≤ BODY_MAX }
+        requires { length bytes.now ≤ body_max }
         ensures { IfOk result (λ found. found ≡ vendor_of bytes.now) }
     {
         if bytes.len() < GUID_LEN {
@@ -165,7 +166,7 @@ impl Vendor {
     /// How many bytes the identifier and the data take.
     pub(crate) fn data_len(&self) -> usize
         ensures len { result ≡ length (vendor_bytes self.now) }
-        ensures bound { result ≤ BODY_MAX }
+        ensures bound { result ≤ body_max }
     {
         field(&self.guid.0).len() + self.body.len()
     }

@@ -3,7 +3,7 @@ use Rattle.std.proofs.Common.{◌≡◌, ◌<◌, ◌≤◌, ◌^◌, ℕ, List,
 use Rattle.std.specs.List.{AllByRecursion}
 use Rattle.uefi_path.specs.declared.node.Node.{Node}
 use Rattle.uefi_path.specs.declared.node.Node.TheVariants.{Pci, VendorHw, Acpi, Usb, VendorMsg, Mac, Ipv4, Sata, Nvme, Uri, HardDrive, VendorMedia, FilePath, Other}
-use Rattle.uefi_path.specs.Parts.{VendorParts, IsVendor, ipv4_parts, IsUri, IsName, hard_drive_parts}
+use Rattle.uefi_path.specs.Parts.{VendorParts, IsVendor, ipv4_parts, IsUri, IsPathName, hard_drive_parts}
 use Rattle.uefi_path.specs.Row.{AreBytes, Row, row, row_bytes, IsByte, IsRow}
 use Rattle.uefi_path.specs.Node.{IsNode, row_of, SpellsNode}
 use Rattle.uefi_text.specs.Number.{IsNumber}
@@ -151,7 +151,7 @@ uri_argument bytes node means =
     let is : node ≡ Uri bytes = subst (λ (x : List ℕ). node ≡ Uri x) (sym same) p.is in
     (subst (λ x. AllByRecursion IsUriByte x) (sym same) p.plain, subst IsNode is means.valid, is)
 
-pub file_argument : (units : List ℕ) (node : Node) → IsNodeText (named (codes "File") (units ∷ [])) node → AllByRecursion IsNameUnit units × IsName units × (node ≡ FilePath units)
+pub file_argument : (units : List ℕ) (node : Node) → IsNodeText (named (codes "File") (units ∷ [])) node → AllByRecursion IsNameUnit units × IsPathName units × (node ≡ FilePath units)
 file_argument units node means =
     let p : ReadsFile (units ∷ []) node = reads_named (codes "File") (units ∷ []) node file_form refl means in
     let same : units ≡ p.units = same_argument 0 _ _ p.are in

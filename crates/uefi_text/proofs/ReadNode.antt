@@ -6,7 +6,7 @@ use Rattle.std.proofs.lemmas.Bool.{le-leb}
 use Rattle.uefi_path.specs.declared.node.Node.{Node}
 use Rattle.uefi_path.specs.declared.node.Node.TheVariants.{FilePath}
 use Rattle.uefi_path.specs.Node.{IsNode}
-use Rattle.uefi_path.specs.Parts.{IsName}
+use Rattle.uefi_path.specs.Parts.{IsPathName}
 use Rattle.uefi_text.specs.declared.fault.TextFault.{TextFault}
 use Rattle.uefi_text.specs.declared.fault.TextFault.TheVariants.{BadSegment, BadNumber, OutOfRange, BadEnd, OutOfMemory}
 use Rattle.uefi_text.specs.declared.segment.Segment.TheVariants.{Named, Bare}
@@ -69,7 +69,7 @@ bare_inverse _ _ (generic x0 x1 x2 x3) text e = cc
 bare_again : (text : List ℕ) (node : Node) → IsNodeText (bare text) node → file_of text ≡ Some node
 bare_again text node is =
     let p = bare_inverse (bare text) node is.means text refl in
-    let valid : IsName text = subst IsNode p.1 is.valid in
+    let valid : IsPathName text = subst IsNode p.1 is.valid in
     rw (units_plain text (bare_units text p.0), le-leb (length text) 32764 valid.1) (ap (λ (n : Node). Some n) (sym p.1))
 
 pub bare_ok : (text : Bor (List ℕ)) (result : Result Node TextFault) (segment end : ℕ) → IsBareName text.now → Reads result (file_of text.now) segment end

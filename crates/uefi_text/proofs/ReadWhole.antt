@@ -6,7 +6,7 @@ use Rattle.std.proofs.lemmas.Bool.{and_parts, leb-true, le-leb}
 use Rattle.std.proofs.lemmas.Bool.Decides.{nat_tests}
 use Rattle.uefi_path.specs.declared.node.Node.{Node}
 use Rattle.uefi_path.specs.declared.node.Node.TheVariants.{Uri, FilePath}
-use Rattle.uefi_path.specs.Parts.{IsUnit, IsName}
+use Rattle.uefi_path.specs.Parts.{IsUnit, IsPathName}
 use Rattle.uefi_path.specs.Row.{IsByte}
 use Rattle.uefi_text.specs.Segment.{named}
 use Rattle.uefi_text.specs.Node.{uri, file, IsUriByte, IsNameUnit}
@@ -69,7 +69,7 @@ units_plain (c ∷ cs) h =
     rw (plain, units_plain cs h.1) refl
 
 -- the node of a name that is read, and that the name is one
-pub file_read : (text : List ℕ) (node : Node) → file_of text ≡ Some node → (AllByRecursion IsNameUnit text × IsName text) × (FilePath text ≡ node)
+pub file_read : (text : List ℕ) (node : Node) → file_of text ≡ Some node → (AllByRecursion IsNameUnit text × IsPathName text) × (FilePath text ≡ node)
 file_read text node e =
     let read = chosen_some (list_all (is_plain_from 0x20) text && leb (length text) 32764) (Some (FilePath text)) node e in
     let both = and_parts (list_all (is_plain_from 0x20) text) (leb (length text) 32764) read.0 in

@@ -1,7 +1,7 @@
-use Rattle.uefi_path.specs.declared.generic.TheConstants.{BODY_MAX}
 use Rattle.std.proofs.Common.{◌≡◌, ◌≤◌, length, ap, sym, ◌∙◌, inl, arith, Result, Ok}
 use Rattle.uefi_path.specs.declared.node.Node.{Node}
 use Rattle.uefi_path.specs.declared.fault.NodeFault.{NodeFault}
+use Rattle.uefi_path.specs.Standard.{body_max}
 use Rattle.uefi_path.specs.Row.{Row, IsRow, row}
 use Rattle.uefi_path.specs.Node.{row_of}
 use Rattle.uefi_path.specs.Reading.{node_of}
@@ -21,7 +21,7 @@ returns-clause-made c =
 
 pub returns-then-body-gt-BODY_MAX-clause-only : goal.returns-then-body-gt-BODY_MAX-clause-only
 returns-then-body-gt-BODY_MAX-clause-only c = λ node valid same.
-    let short : length (row_of node).body ≤ BODY_MAX = (row_of_is_row node valid).0.len in
+    let short : length (row_of node).body ≤ body_max = (row_of_is_row node valid).0.len in
     let here : length (row_of node).body ≡ length c.args.body.now = ap (λ (r : Row). length r.body) same in
     absurd (omega (arith, c.if-body-gt-BODY_MAX.true, short, here))
 
