@@ -4,9 +4,10 @@ use Rattle.std.specs.Int.{w16, w32, from_le_bytes, to_le_bytes}
 use Rattle.std.specs.List.{AllByRecursion}
 use Rattle.std.proofs.lemmas.Bool.{cases_eq}
 use Rattle.std.proofs.lemmas.Nat.{le_bytes_2, le_bytes_4, from_le_bytes-to_le_bytes_2, from_le_bytes-to_le_bytes_4}
+use Rattle.uefi_path.specs.Units.{units_bytes}
 use Rattle.uefi_path.specs.Row.{IsByte}
 use Rattle.uefi_path.specs.Parts.{IsUnit}
-use Rattle.uefi_option.specs.LoadOption.{header_bytes, units_bytes, description_bytes}
+use Rattle.uefi_option.specs.LoadOption.{header_bytes, description_bytes}
 use Rattle.uefi_option.specs.Reading.{HasNoZero}
 use Rattle.uefi_option.proofs.Bytes.{bytes_from_recursion}
 

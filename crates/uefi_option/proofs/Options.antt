@@ -4,15 +4,17 @@ use Rattle.std.specs.Int.{w16, to_le_bytes}
 use Rattle.std.specs.List.{AllByRecursion}
 use Rattle.std.proofs.lemmas.List.{length-append, append-nil, take_at, drop_at, nil_from_length}
 use Rattle.uefi_path.specs.declared.fault.PathFault.{PathFault}
+use Rattle.uefi_path.specs.Units.{units_bytes}
 use Rattle.uefi_path.specs.Row.{IsByte}
 use Rattle.uefi_path.specs.Path.{IsPath, SpellsPath, path_bytes}
 use Rattle.uefi_path.specs.Fault.{IsFirstFault as IsFirstPathFault}
 use Rattle.uefi_option.specs.declared.fault.OptionFault.{OptionFault}
 use Rattle.uefi_option.specs.declared.fault.OptionFault.TheVariants as fault
-use Rattle.uefi_option.specs.LoadOption.{OptionParts, option_parts, header_bytes, units_bytes, description_bytes, list_bytes, option_bytes, IsOption, SpellsOption}
+use Rattle.uefi_option.specs.LoadOption.{OptionParts, option_parts, header_bytes, description_bytes, list_bytes, option_bytes, IsOption, SpellsOption}
 use Rattle.uefi_option.specs.Fault.{IsFront, IsFirstFault}
 use Rattle.uefi_option.proofs.Bytes.{AllByRecursion-append}
 use Rattle.uefi_option.proofs.Fronts.{AreFront, SameFront, same_front, unclosed}
+use Rattle.uefi_option.proofs.Units.{TwoBytesEach}
 use Rattle.uefi_option.proofs.Lists.{Path, OnePath, NoneBegins, NoFault, HasFault, same_paths, list_some, end_stops, fault_stops}
 
 abbrev pub OneFault : Type 0
@@ -60,10 +62,6 @@ same_option one none bytes o p first second =
 
 -- ---- each option is spelled by bytes
 
-units_are_bytes : (units : List ℕ) → AllByRecursion IsByte (units_bytes units)
-units_are_bytes [] = tt
-units_are_bytes (n ∷ units) = (omega arith, (omega arith, units_are_bytes units))
-
 list_is_bytes : EachSpelled → (paths : List Path) → AllByRecursion IsPath paths → AllByRecursion IsByte (list_bytes paths)
 list_is_bytes each [] are = tt
 list_is_bytes each (path ∷ paths) are =
@@ -73,11 +71,11 @@ list_is_bytes each (path ∷ paths) are =
 header_is_bytes : (attributes len : ℕ) → AllByRecursion IsByte (header_bytes attributes len)
 header_is_bytes attributes len = (omega arith, (omega arith, (omega arith, (omega arith, (omega arith, (omega arith, tt))))))
 
-pub option_is_bytes : EachSpelled → (o : OptionParts) → IsOption o → AllByRecursion IsByte (option_bytes o)
-option_is_bytes each o is =
+pub option_is_bytes : EachSpelled → TwoBytesEach → (o : OptionParts) → IsOption o → AllByRecursion IsByte (option_bytes o)
+option_is_bytes each two o is =
     let zero : AllByRecursion IsByte (to_le_bytes w16 0) = (omega arith, (omega arith, tt)) in
     AllByRecursion-append IsByte (header_bytes o.attributes (length (list_bytes o.paths))) (description_bytes o.description ++ (list_bytes o.paths ++ o.optional)) (header_is_bytes o.attributes (length (list_bytes o.paths)))
-    (AllByRecursion-append IsByte (description_bytes o.description) (list_bytes o.paths ++ o.optional) (AllByRecursion-append IsByte (units_bytes o.description) (to_le_bytes w16 0) (units_are_bytes o.description) zero)
+    (AllByRecursion-append IsByte (description_bytes o.description) (list_bytes o.paths ++ o.optional) (AllByRecursion-append IsByte (units_bytes o.description) (to_le_bytes w16 0) (two o.description).0 zero)
     (AllByRecursion-append IsByte (list_bytes o.paths) o.optional (list_is_bytes each o.paths is.paths) is.optional))
 
 -- ---- the first fault

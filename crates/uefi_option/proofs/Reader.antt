@@ -4,6 +4,7 @@ use Rattle.std.specs.Int.{w16, to_le_bytes}
 use Rattle.std.specs.List.{AllByRecursion}
 use Rattle.std.proofs.lemmas.Bool.{cases_lt, cases_eq}
 use Rattle.std.proofs.lemmas.List.{length-append, append-nil, take-append-drop, length-take-le}
+use Rattle.uefi_path.specs.Units.{units_of}
 use Rattle.uefi_path.specs.Row.{IsByte}
 use Rattle.uefi_path.specs.Parts.{IsUnit}
 use Rattle.uefi_path.specs.Path.{IsPath}
@@ -11,7 +12,7 @@ use Rattle.uefi_option.specs.declared.fault.OptionFault.{OptionFault}
 use Rattle.uefi_option.specs.declared.fault.OptionFault.TheVariants as fault
 use Rattle.uefi_option.specs.LoadOption.{OptionParts, option_parts, header_bytes, description_bytes, list_bytes, SpellsOption}
 use Rattle.uefi_option.specs.Fault.{IsFront, IsCutList, IsEmptyList, IsFirstFault}
-use Rattle.uefi_option.specs.Reading.{units_of, SplitsUnits, SplitsOption, IsListFault}
+use Rattle.uefi_option.specs.Reading.{SplitsUnits, SplitsOption, IsListFault}
 use Rattle.uefi_option.proofs.Bytes.{AllByRecursion-behind, AllByRecursion-first}
 use Rattle.uefi_option.proofs.Fronts.{HasHeader, heads, closes}
 use Rattle.uefi_option.proofs.Lists.{Path, Begins, list_reads}

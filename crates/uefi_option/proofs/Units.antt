@@ -1,14 +1,23 @@
 -- Units as bytes, two for each.
-use Rattle.std.proofs.Common.{◌≡◌, ◌≢◌, ℕ, ◌+◌, ◌-◌, ◌<◌, ◌≤◌, ◌^◌, List, [], ◌∷◌, ◌++◌, length, take, drop, get_or, refl, sym, ap, subst, ◌∙◌, arith, append_assoc}
+use Rattle.std.proofs.Common.{◌≡◌, ◌≢◌, ℕ, ◌+◌, ◌-◌, ◌*◌, ◌<◌, ◌≤◌, ◌^◌, List, [], ◌∷◌, ◌++◌, length, take, drop, get_or, refl, sym, ap, subst, ◌∙◌, arith, append_assoc}
 use Rattle.std.specs.Int.{w16, from_le_bytes, to_le_bytes}
 use Rattle.std.specs.List.{AllByRecursion}
 use Rattle.std.proofs.lemmas.Grind.{flat_map-append}
 use Rattle.std.proofs.lemmas.List.{take_all, take_at, length-append, append-nil}
-use Rattle.std.proofs.lemmas.Nat.{le_bytes_2, from_le_bytes-to_le_bytes_2}
+use Rattle.std.proofs.lemmas.Nat.{le_bytes_2}
+use Rattle.uefi_path.specs.Units.{IsTwoByte, units_bytes, units_of}
+use Rattle.uefi_path.specs.Row.{IsByte}
 use Rattle.uefi_path.specs.Parts.{IsUnit}
-use Rattle.uefi_option.specs.LoadOption.{units_bytes}
-use Rattle.uefi_option.specs.Reading.{units_of, AreUnits, SplitsUnits}
+use Rattle.uefi_option.specs.Reading.{AreUnits, SplitsUnits}
 use Rattle.uefi_option.proofs.Bytes.{IsBytes, IsBytes-behind, bytes_from_recursion, AllByRecursion-append}
+
+-- ---- the laws of units that lemmas take, each as its function states it
+
+abbrev pub ReadAgain : Type 0
+ReadAgain = (units : List ℕ) → AllByRecursion IsTwoByte units → units_of (units_bytes units) ≡ units
+
+abbrev pub TwoBytesEach : Type 0
+TwoBytesEach = (units : List ℕ) → AllByRecursion IsByte (units_bytes units) × (length (units_bytes units) ≡ 2 * length units)
 
 -- ---- one unit
 
@@ -25,16 +34,14 @@ unit_fits low high rest unit fits is = omega (arith, fits 0, fits 1, is)
 
 -- ---- units that are read again
 
-pub units_again : (units : List ℕ) → AllByRecursion IsUnit units → units_of (units_bytes units) ≡ units
-units_again [] valid = refl
-units_again (n ∷ units) valid =
-    let here : from_le_bytes w16 (to_le_bytes w16 n) ≡ n = from_le_bytes-to_le_bytes_2 n valid.0.1 in
-    ap (λ (m : ℕ). m ∷ units_of (units_bytes units)) here ∙ ap (λ (t : List ℕ). n ∷ t) (units_again units valid.1)
+two_bytes : (units : List ℕ) → AllByRecursion IsUnit units → AllByRecursion IsTwoByte units
+two_bytes [] valid = tt
+two_bytes (n ∷ units) valid = (valid.0.1, two_bytes units valid.1)
 
-pub are_units : (units : List ℕ) → AllByRecursion IsUnit units → AreUnits (units_bytes units)
-are_units units valid =
-    let again = units_again units valid in
-    record { nonzero = rw again valid; is = ap units_bytes (sym again) }
+are_units : ReadAgain → (units : List ℕ) → AllByRecursion IsUnit units → AreUnits (units_bytes units)
+are_units again units valid =
+    let same = again units (two_bytes units valid) in
+    record { nonzero = rw same valid; is = ap units_bytes (sym same) }
 
 -- ---- how far units were looked at
 
@@ -65,16 +72,16 @@ one_unit bytes (low ∷ high ∷ behind) unit h fits first nonzero =
       parts = h.parts ∙ sym (append_assoc (units_bytes h.units) (low ∷ high ∷ []) behind) ∙ ap (λ (t : List ℕ). t ++ behind) (sym more);
     })
 
-pub zero_unit : (bytes rest : List ℕ) (unit : ℕ) (description : List ℕ) → HasUnits bytes rest → IsBytes bytes → IsFirstUnit rest unit → unit ≡ 0 → description ≡ take (length bytes - length rest) bytes
+pub zero_unit : ReadAgain → (bytes rest : List ℕ) (unit : ℕ) (description : List ℕ) → HasUnits bytes rest → IsBytes bytes → IsFirstUnit rest unit → unit ≡ 0 → description ≡ take (length bytes - length rest) bytes
     → SplitsUnits bytes description (take (length rest - 2) (drop 2 rest))
-zero_unit bytes [] unit description h fits first zero is = absurd (omega (arith, first.enough))
-zero_unit bytes (low ∷ []) unit description h fits first zero is = absurd (omega (arith, first.enough))
-zero_unit bytes (low ∷ high ∷ behind) unit description h fits first zero is =
+zero_unit again bytes [] unit description h fits first zero is = absurd (omega (arith, first.enough))
+zero_unit again bytes (low ∷ []) unit description h fits first zero is = absurd (omega (arith, first.enough))
+zero_unit again bytes (low ∷ high ∷ behind) unit description h fits first zero is =
     let here = rest_fits bytes (low ∷ high ∷ behind) h fits in
     let spelled : to_le_bytes w16 0 ≡ low ∷ high ∷ [] = ap (to_le_bytes w16) (sym zero) ∙ first_unit low high behind unit here first.is in
     let size : length bytes ≡ length (units_bytes h.units) + length (low ∷ high ∷ behind) = ap length h.parts ∙ length-append (units_bytes h.units) (low ∷ high ∷ behind) in
     let front : description ≡ units_bytes h.units = is ∙ ap (take (length bytes - length (low ∷ high ∷ behind))) h.parts ∙ take_at (units_bytes h.units) (low ∷ high ∷ behind) (length bytes - length (low ∷ high ∷ behind)) (omega arith) in
     rw (behind_two low high behind, front) (record {
-      units = are_units h.units h.nonzero;
+      units = are_units again h.units h.nonzero;
       parts = h.parts ∙ sym (append_assoc (units_bytes h.units) (low ∷ high ∷ []) behind) ∙ ap (λ (t : List ℕ). (units_bytes h.units ++ t) ++ behind) (sym spelled);
     })

@@ -3,12 +3,13 @@ use Rattle.std.specs.Prelude.{◌≡◌, ◌≢◌, ℕ, ◌^◌, ◌<◌, List,
 use Rattle.std.specs.List.{AllByRecursion}
 use Rattle.uefi_path.specs.declared.node.Node.{Node}
 use Rattle.uefi_path.specs.declared.fault.PathFault.{PathFault}
+use Rattle.uefi_path.specs.Units.{units_bytes}
 use Rattle.uefi_path.specs.Parts.{IsUnit}
 use Rattle.uefi_path.specs.Path.{IsPath}
 use Rattle.uefi_path.specs.Fault.{IsFirstFault as IsFirstPathFault}
 use Rattle.uefi_option.specs.declared.fault.OptionFault.{OptionFault}
 use Rattle.uefi_option.specs.declared.fault.OptionFault.TheVariants as fault
-use Rattle.uefi_option.specs.LoadOption.{header_bytes, units_bytes, description_bytes, list_bytes}
+use Rattle.uefi_option.specs.LoadOption.{header_bytes, description_bytes, list_bytes}
 
 -- Attributes and FilePathListLength, and behind them units that no zero unit closes: the input ends after them, or
 -- after half a unit more.

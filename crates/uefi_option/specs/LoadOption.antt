@@ -4,6 +4,7 @@ use Rattle.std.specs.Prelude.{◌≡◌, ◌≢◌, ℕ, ◌^◌, ◌<◌, ◌�
 use Rattle.std.specs.List.{AllByRecursion, flat_map}
 use Rattle.std.specs.Int.{w16, w32, to_le_bytes}
 use Rattle.uefi_path.specs.declared.node.Node.{Node}
+use Rattle.uefi_path.specs.Units.{units_bytes}
 use Rattle.uefi_path.specs.Row.{IsByte}
 use Rattle.uefi_path.specs.Parts.{IsUnit}
 use Rattle.uefi_path.specs.Path.{IsPath, path_bytes}
@@ -27,10 +28,6 @@ list_max = 65535
 -- FilePathList: the spellings of the paths, one after the other
 abbrev pub list_bytes : List (List (List Node)) → List ℕ
 list_bytes paths = flat_map path_bytes paths
-
--- CHAR16 units, without a zero behind them
-abbrev pub units_bytes : List ℕ → List ℕ
-units_bytes units = flat_map (to_le_bytes w16) units
 
 -- Description: its units, and one zero unit
 abbrev pub description_bytes : List ℕ → List ℕ

@@ -1,20 +1,16 @@
--- For private functions of the reader: what stands at the front of some bytes, and units read off bytes.
-use Rattle.std.specs.Prelude.{◌≡◌, ◌≢◌, ℕ, ◌+◌, ◌^◌, ◌<◌, ◌≤◌, List, [], ◌∷◌, ◌++◌, length}
+-- For private functions of the reader: what stands at the front of some bytes.
+use Rattle.std.specs.Prelude.{◌≡◌, ◌≢◌, ℕ, ◌+◌, ◌^◌, ◌<◌, ◌≤◌, List, [], ◌++◌, length}
 use Rattle.std.specs.List.{AllByRecursion}
-use Rattle.std.specs.Int.{w16, from_le_bytes, to_le_bytes}
+use Rattle.std.specs.Int.{w16, to_le_bytes}
 use Rattle.uefi_path.specs.declared.node.Node.{Node}
 use Rattle.uefi_path.specs.declared.fault.PathFault.{PathFault}
+use Rattle.uefi_path.specs.Units.{units_bytes, units_of}
 use Rattle.uefi_path.specs.Parts.{IsUnit}
 use Rattle.uefi_path.specs.Path.{IsPath}
 use Rattle.uefi_path.specs.Fault.{IsFirstFault as IsFirstPathFault}
 use Rattle.uefi_option.specs.declared.fault.OptionFault.{OptionFault}
 use Rattle.uefi_option.specs.declared.fault.OptionFault.TheVariants as fault
-use Rattle.uefi_option.specs.LoadOption.{list_max, header_bytes, units_bytes, list_bytes}
-
--- each two bytes as a unit
-abbrev pub units_of : List ℕ → List ℕ
-units_of (low ∷ high ∷ rest) = from_le_bytes w16 (low ∷ high ∷ []) ∷ units_of rest
-units_of _ = []
+use Rattle.uefi_option.specs.LoadOption.{list_max, header_bytes, list_bytes}
 
 -- the bytes are those of units, none of which is zero
 pub record AreUnits (bytes : List ℕ) : Type 0 where

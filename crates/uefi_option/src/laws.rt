@@ -19,6 +19,7 @@ pub fn each_option_is_spelled()
         (bytes : List ℕ) × SpellsOption bytes option × AllByRecursion IsByte bytes }
 {
     path_laws::each_path_is_spelled();
+    path_laws::units_have_two_bytes_each();
 }
 
 /// A load option has at most one spelling.

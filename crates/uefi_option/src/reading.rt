@@ -8,16 +8,13 @@ ghost use Rattle.uefi_path.specs.Path.{IsPath};
 ghost use Rattle.uefi_option.specs.declared.fault.OptionFault.{OptionFault};
 ghost use Rattle.uefi_option.specs.LoadOption.{OptionParts, SpellsOption, header_bytes, list_bytes};
 ghost use Rattle.uefi_option.specs.Fault.{IsFirstFault};
-ghost use Rattle.uefi_option.specs.Reading.{units_of, AreUnits, SplitsUnits, HasNoZero, SplitsOption, IsListFault};
+ghost use Rattle.uefi_option.specs.Reading.{AreUnits, SplitsUnits, HasNoZero, SplitsOption, IsListFault};
 
 use crate::fault::OptionFault;
 use crate::laws;
 use crate::load_option::LoadOption;
-use std::alloc::{AllocError, Global};
-use uefi_path::{Path, PathFault, read_path};
-
-/// The bytes of a unit.
-const UNIT_LEN: usize = 2;
+use std::alloc::Global;
+use uefi_path::{Path, PathFault, laws as path_laws, read_path, read_units};
 
 /// The parts of a load option as they stand in the bytes; the description is without its zero unit.
 #[derive(Clone, Copy)]
@@ -49,6 +46,7 @@ fn split_units(bytes: &[u8]) -> Option<(&[u8], &[u8])>
     ensures found { IfSome result (λ split. SplitsUnits bytes.now split.0.now split.1.now) }
     ensures none { IfNone result (HasNoZero bytes.now) }
 {
+    path_laws::units_are_read_again();
     let mut rest = bytes;
     while let [low, high, behind @ ..] = rest {
         let unit = u16::from_le_bytes([*low, *high]);
@@ -86,19 +84,6 @@ fn split_option(bytes: &[u8]) -> Result<RawOption<'_>, OptionFault>
         list,
         optional,
     })
-}
-
-/// The units that the bytes spell, two bytes each, if there is memory for them.
-fn read_units(alloc: Global, bytes: &[u8]) -> Result<Vec<u16>, AllocError>
-    ensures { IfOk result (λ units. units.items ≡ units_of bytes.now) }
-{
-    let mut units = Vec::with_capacity(alloc, bytes.len() / UNIT_LEN)?;
-    let mut rest = bytes;
-    while let [low, high, others @ ..] = rest {
-        units.push(u16::from_le_bytes([*low, *high]))?;
-        rest = others;
-    }
-    Ok(units)
 }
 
 /// The fault of a list in which no path begins at this place.

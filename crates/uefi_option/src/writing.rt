@@ -4,11 +4,11 @@ ghost use Rattle.std.specs.Prelude.{◌≡◌, ◌<◌, ◌≤◌, ◌^◌, ◌+
 ghost use Rattle.std.specs.List.{AllByRecursion};
 ghost use Rattle.std.specs.Option.{SomeIff};
 ghost use Rattle.uefi_path.specs.Path.{IsPath};
-ghost use Rattle.uefi_option.specs.LoadOption.{list_max, units_bytes, list_bytes, option_bytes, IsOption};
+ghost use Rattle.uefi_option.specs.LoadOption.{list_max, list_bytes, option_bytes, IsOption};
 
 use crate::load_option::LoadOption;
 use std::alloc::{AllocError, Global};
-use uefi_path::{Path, path_len, write_path};
+use uefi_path::{Path, append_units, laws, path_len, write_path};
 
 /// The bytes of the attributes and of the length of the list.
 const HEADER_LEN: usize = 6;
@@ -33,22 +33,13 @@ fn option_len(option: &LoadOption, list: u16) -> Option<usize>
     requires { list ≡ length (list_bytes option.now.paths) }
     ensures { let len = length (option_bytes option.now) in SomeIff result (len < 2 ^ 64) len }
 {
+    laws::units_have_two_bytes_each();
     let units = option.description().len().checked_add(1)?;
     units
         .checked_mul(UNIT_LEN)?
         .checked_add(HEADER_LEN)?
         .checked_add(usize::from(list))?
         .checked_add(option.optional().len())
-}
-
-/// Appends units, each as two bytes, little-endian.
-fn append_units(units: &[u16], out: &mut Vec<u8>) -> Result<(), AllocError>
-    ensures { OnOk result (out.new.items ≡ out.old.items ++ units_bytes units.now) }
-{
-    for unit in units {
-        out.extend_from_slice(&unit.to_le_bytes())?;
-    }
-    Ok(())
 }
 
 /// Appends the spellings of paths one after the other.

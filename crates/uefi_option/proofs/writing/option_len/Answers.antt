@@ -4,4 +4,4 @@ use Rattle.uefi_option.proofs.Lengths.{length-option_bytes}
 use Rattle.uefi_option.proofs.writing.option_len.Goals as goal
 
 pub returns : goal.returns
-returns c = grind (arith, common_steps, length-option_bytes c.args.option.now)
+returns c = grind (arith, common_steps, length-option_bytes c.units_have_two_bytes_each.ensures c.args.option.now)
