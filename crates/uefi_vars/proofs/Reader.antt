@@ -4,13 +4,11 @@ use Rattle.std.specs.Int.{w32, from_le_bytes}
 use Rattle.std.specs.List.{AllByRecursion, slice_get, starts_with}
 use Rattle.std.specs.List.Sorted.{IsStrictlySortedBy}
 use Rattle.std.specs.Ordering.{is_lt}
-use Rattle.std.specs.Str.{IsUtf8, IsAscii}
 use Rattle.std.specs.declared.cmp.Ordering.{Ordering}
 use Rattle.std.specs.declared.cmp.Ordering.TheVariants.{Less, Equal, Greater}
 use Rattle.std.proofs.lemmas.Bool.Decides.{Decides-eqb}
 use Rattle.std.proofs.lemmas.List.{length-append, length-drop, map-append}
 use Rattle.std.proofs.lemmas.Slice.Eq.{starts_is}
-use Rattle.std.proofs.lemmas.Str.{IsUtf8-from_ascii}
 use Rattle.uefi_vars.proofs.Bytes.{IsBytes, recursion_from_bytes, AllByRecursion-behind}
 use Rattle.uefi_vars.specs.declared.fault.SetFault.{SetFault}
 use Rattle.uefi_vars.specs.declared.fault.SetFault.TheVariants as fault
@@ -27,18 +25,10 @@ use Rattle.uefi_vars.proofs.Sets.{one_record}
 
 -- ---- a name
 
-name_is_ascii : (name : List ℕ) → AllByRecursion IsNameByte name → IsAscii name
-name_is_ascii [] printing i = omega arith
-name_is_ascii (byte ∷ name) printing zero = let here = printing.0 in omega (arith, here)
-name_is_ascii (byte ∷ name) printing (suc i) = name_is_ascii name printing.1 i
-
--- what is no name, or no text, has a bad character
-pub bad_character : (bytes : List ℕ) (len : ℕ) (rest name behind : List ℕ) (place : ℕ) → bytes ≡ len ∷ rest → rest ≡ name ++ behind → length name ≡ len → len ≢ 0 → len ≤ name_max → (¬ IsName name) ⊎ (¬ IsUtf8 name) → IsNameFault bytes place (fault.BadName place)
+-- what has the length of a name and is none has a bad character
+pub bad_character : (bytes : List ℕ) (len : ℕ) (rest name behind : List ℕ) (place : ℕ) → bytes ≡ len ∷ rest → rest ≡ name ++ behind → length name ≡ len → len ≢ 0 → len ≤ name_max → ¬ IsName name → IsNameFault bytes place (fault.BadName place)
 bad_character bytes len rest name behind place front parts size some short bad =
-    let none : ¬ AllByRecursion IsNameByte name = λ printing. elim bad [
-      | inl h ↦ h (record { some = λ empty. some (sym size ∙ ap length empty); len = omega (arith, size, short); printing = printing })
-      | inr h ↦ h (IsUtf8-from_ascii name (name_is_ascii name printing))
-    ] in
+    let none : ¬ AllByRecursion IsNameByte name = λ printing. bad (record { some = λ empty. some (sym size ∙ ap length empty); len = omega (arith, size, short); printing = printing }) in
     inr (
       refl,
       inr (record {

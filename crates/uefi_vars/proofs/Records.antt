@@ -1,5 +1,5 @@
 -- The records of a set: each is read in one way, and in what order their names are.
-use Rattle.std.proofs.Common.{◌≡◌, ℕ, ◌<◌, ◌^◌, T, List, [], ◌∷◌, ◌++◌, length, take, drop, sym, ap, subst, ◌∙◌, arith, append_assoc}
+use Rattle.std.proofs.Common.{◌≡◌, ℕ, zero, suc, ◌+◌, ◌<◌, ◌≤◌, ◌^◌, T, List, [], ◌∷◌, ◌++◌, length, get_or, take, drop, sym, ap, subst, ◌∙◌, arith, append_assoc}
 use Rattle.std.specs.Int.{w32, from_le_bytes, to_le_bytes}
 use Rattle.std.specs.List.{AllByRecursion}
 use Rattle.std.specs.List.Sorted.{IsStrictlySortedBy}
@@ -9,10 +9,13 @@ use Rattle.std.specs.Ordering.{is_lt}
 use Rattle.std.specs.Cmp.Lexicographic.{nat_list_cmp_total}
 use Rattle.std.specs.FinMap.{is_sorted}
 use Rattle.std.specs.FinMap.Entries.{below_all}
+use Rattle.std.proofs.lemmas.List.{length-append}
 use Rattle.std.proofs.lemmas.Nat.{from_le_bytes-to_le_bytes_4}
+use Rattle.uefi_vars.specs.declared.vars.Variable.{Variable}
 use Rattle.uefi_vars.specs.Vars.{name_cmp, IsData, IsVariable}
-use Rattle.uefi_vars.specs.Set.{name_bytes, data_bytes, record_bytes}
+use Rattle.uefi_vars.specs.Set.{name_bytes, data_bytes, record_bytes, records_bytes}
 use Rattle.uefi_vars.specs.Fault.{IsAbove}
+use Rattle.uefi_vars.specs.Records.{pair_of, pairs_of}
 use Rattle.uefi_vars.specs.Reading.{names_of}
 use Rattle.uefi_vars.proofs.Bytes.{AllByRecursion-append, AllByRecursion-behind}
 use Rattle.uefi_vars.proofs.Maps.{sorted_parts, T_from_parts}
@@ -46,6 +49,20 @@ same_record v w x y is-v is-w e =
     let names = same_name v.0 w.0 (data_bytes v.1 ++ x) (data_bytes w.1 ++ y) (sym (append_assoc (name_bytes v.0) (data_bytes v.1) x) ∙ e ∙ append_assoc (name_bytes w.0) (data_bytes w.1) y) in
     let values = same_data v.1 w.1 x y is-v.1 is-w.1 names.1 in
     (ap (λ (name : List ℕ). (name, v.1)) names.0 ∙ ap (λ (value : List ℕ). (w.0, value)) values.0, values.1)
+
+-- the records before one variable and its own have no more bytes than all
+pub length-records_bytes-take : (variables : List Variable) (i : ℕ) (variable : Variable) → i < length variables → variable ≡ get_or variables i variable → length (records_bytes (pairs_of (take i variables))) + length (record_bytes (pair_of variable)) ≤ length (records_bytes (pairs_of variables))
+length-records_bytes-take [] i variable within is = absurd (omega (arith, within))
+length-records_bytes-take (v ∷ variables) zero variable within is =
+    let same = ap (λ (w : Variable). length (record_bytes (pair_of w))) is in
+    omega (arith, same, length-append (record_bytes (pair_of v)) (records_bytes (pairs_of variables)))
+length-records_bytes-take (v ∷ variables) (suc i) variable within is =
+    omega (
+      arith,
+      length-records_bytes-take variables i variable (omega (arith, within)) is,
+      length-append (record_bytes (pair_of v)) (records_bytes (pairs_of variables)),
+      length-append (record_bytes (pair_of v)) (records_bytes (pairs_of (take i variables))),
+    )
 
 -- ---- names that rise
 

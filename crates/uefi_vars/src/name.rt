@@ -25,10 +25,8 @@ pub(crate) fn name_text(name: &[u8]) -> &str
     requires { IsName name.now }
     ensures { result.now ≡ name.now }
 {
-    match str::from_utf8(name) {
-        Ok(text) => text,
-        Err(_) => unreachable!(),
-    }
+    // Each of them is ASCII.
+    unsafe { str::from_utf8_unchecked(name) }
 }
 
 /// The hexadecimal digit for a number below 16, in upper case.

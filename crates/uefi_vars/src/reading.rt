@@ -12,7 +12,7 @@ ghost use Rattle.uefi_vars.specs.Reading.{names_of, SplitsName, IsNameFault, Spl
 
 use crate::fault::SetFault;
 use crate::laws;
-use crate::name::{NAME_MAX, is_name};
+use crate::name::{NAME_MAX, is_name, name_text};
 use crate::vars::{DATA_MAX, Variable, Vars, copy_variable};
 use crate::writing::MAGIC;
 use std::alloc::Global;
@@ -34,10 +34,10 @@ fn split_name(bytes: &[u8], place: usize) -> Result<(&str, &[u8]), SetFault>
         return Err(SetFault::Truncated(place));
     }
     let (name, behind) = behind.split_at(len);
-    match str::from_utf8(name) {
-        Ok(text) if is_name(name) => Ok((text, behind)),
-        _ => Err(SetFault::BadName(place)),
+    if !is_name(name) {
+        return Err(SetFault::BadName(place));
     }
+    Ok((name_text(name), behind))
 }
 
 /// The data at the front of what stands behind a name, and the bytes behind it. The record stands at this place.

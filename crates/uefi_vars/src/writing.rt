@@ -1,9 +1,10 @@
 //! Variables to bytes.
 
-ghost use Rattle.std.specs.Prelude.{◌≡◌, ◌++◌, IfOk, OnOk};
+ghost use Rattle.std.specs.Prelude.{◌≡◌, ◌<◌, ◌^◌, ◌++◌, length, IfOk, OnOk};
 ghost use Rattle.std.specs.List.{AllByRecursion};
+ghost use Rattle.std.specs.Option.{SomeIff};
 ghost use Rattle.uefi_vars.specs.Vars.{IsVariable, IsVars};
-ghost use Rattle.uefi_vars.specs.Set.{record_bytes, records_bytes, set_bytes};
+ghost use Rattle.uefi_vars.specs.Set.{magic, record_bytes, records_bytes, set_bytes};
 ghost use Rattle.uefi_vars.specs.Records.{pair_of, pairs_of};
 
 use crate::vars::{Variable, Vars};
@@ -11,6 +12,31 @@ use std::alloc::{AllocError, Global};
 
 /// What a set file begins with: `BVS1`.
 pub(crate) const MAGIC: [u8; 4] = [0x42, 0x56, 0x53, 0x31];
+
+/// How many bytes of a record state the lengths of its name and of its data.
+const LENGTHS_LEN: usize = 5;
+
+/// How many bytes the record of a variable has.
+fn record_len(variable: &Variable) -> usize
+    requires { IsVariable (pair_of variable.now) }
+    ensures { result ≡ length (record_bytes (pair_of variable.now)) }
+{
+    // A name has at most NAME_MAX characters, and data at most DATA_MAX bytes.
+    LENGTHS_LEN + variable.name.len() + variable.data.len()
+}
+
+/// How many bytes the set file of variables has: `None` where `usize` can't hold it.
+fn set_len(variables: &[Variable]) -> Option<usize>
+    requires { AllByRecursion IsVariable (pairs_of variables.now) }
+    ensures { let len = length (magic ++ records_bytes (pairs_of variables.now)) in
+        SomeIff result (len < 2 ^ 64) len }
+{
+    let mut len = MAGIC.len();
+    for variable in variables {
+        len = len.checked_add(record_len(variable))?;
+    }
+    Some(len)
+}
 
 /// Appends the record of a variable.
 fn append_variable(variable: &Variable, out: &mut Vec<u8>) -> Result<(), AllocError>
@@ -45,7 +71,10 @@ pub fn write_set(alloc: Global, vars: &Vars) -> Result<Vec<u8>, AllocError>
     ensures valid { IsVars vars.now }
 {
     let variables = vars.variables();
-    let mut out = Vec::new(alloc);
+    let Some(len) = set_len(variables) else {
+        return Err(AllocError);
+    };
+    let mut out = Vec::with_capacity(alloc, len)?;
     out.extend_from_slice(&MAGIC)?;
     append_variables(variables, &mut out)?;
     Ok(out)
