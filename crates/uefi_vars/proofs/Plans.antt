@@ -9,10 +9,8 @@ use Rattle.uefi_option.specs.LoadOption.{OptionParts, SpellsOption}
 use Rattle.uefi_option.specs.Attributes.{active_bit, category_boot, category_of, IsNormal}
 use Rattle.uefi_vars.specs.declared.boot_plan.Choice.{Choice}
 use Rattle.uefi_vars.specs.Vars.{Variables, entry_of}
-use Rattle.uefi_vars.specs.Order.{IsEntryNumber, HasNext}
-use Rattle.uefi_vars.specs.Numbers.{numbers_of, HasStoredOrder}
+use Rattle.uefi_vars.specs.Order.{IsEntryNumber, HasOrder, HasNext}
 use Rattle.uefi_vars.specs.Plan.{PlanParts, plan_parts, HasOption, IsChoice, IsNormalChoice, IsNextChoice, AreNormalChoices, IsPlan, HasPlan}
-use Rattle.uefi_vars.proofs.Numbers.{order_found}
 
 -- ---- what is equal where its parts are
 
@@ -160,12 +158,7 @@ module _ (entries others : ℕ → Option (List ℕ)) (same : (number : ℕ) →
 
 -- ---- of variables
 
-pub plan_found : (vars : Variables) (bytes : List ℕ) (number : Option ℕ) (next : Option Choice) (normal : List Choice) → HasStoredOrder vars bytes → HasNext vars number → IsNextChoice (entry_of vars) number next
-    → AreNormalChoices (entry_of vars) (numbers_of bytes) normal → HasPlan vars (plan_parts next normal)
-plan_found vars bytes number next normal order has first others = record {
-  order = numbers_of bytes;
-  next = number;
-  has_order = order_found vars bytes order;
-  has_next = has;
-  is = record { first = first; others = others };
-}
+pub plan_found : (vars : Variables) (order : List ℕ) (number : Option ℕ) (next : Option Choice) (normal : List Choice) → HasOrder vars order → HasNext vars number → IsNextChoice (entry_of vars) number next
+    → AreNormalChoices (entry_of vars) order normal → HasPlan vars (plan_parts next normal)
+plan_found vars order number next normal has_order has_next first others =
+    record { order = order; next = number; has_order = has_order; has_next = has_next; is = record { first = first; others = others } }

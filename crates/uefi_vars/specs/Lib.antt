@@ -13,4 +13,3 @@ pub mod PlanEquality
 -- what private contracts cite
 pub mod Records
 pub mod Reading
-pub mod Numbers

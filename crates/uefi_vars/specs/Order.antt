@@ -1,9 +1,10 @@
 -- BootOrder and BootNext (UEFI 2.10, 3.3): which numbers are stored there.
 use Rattle.std.specs.Prelude.{◌≡◌, ◌≢◌, ◌⊎◌, ℕ, ◌*◌, ◌%◌, ◌^◌, ◌<◌, ◌≤◌, List, [], ◌∷◌, length, Option, Some, None, IfSome}
 use Rattle.std.specs.Option.{IsSomeAnd}
-use Rattle.std.specs.List.{AllByRecursion, flat_map}
+use Rattle.std.specs.List.{AllByRecursion}
 use Rattle.std.specs.Int.{w16, to_le_bytes}
 use Rattle.std.specs.FinMap.{get}
+use Rattle.uefi_path.specs.Units.{units_bytes}
 use Rattle.uefi_vars.specs.Name.{order_text, next_text}
 use Rattle.uefi_vars.specs.Vars.{Variables}
 
@@ -15,14 +16,10 @@ order_max = 65536
 abbrev pub IsEntryNumber : ℕ → Type 0
 IsEntryNumber number = number < 2 ^ 16
 
--- the numbers, two bytes each
-abbrev pub numbers_bytes : List ℕ → List ℕ
-numbers_bytes numbers = flat_map (to_le_bytes w16) numbers
-
--- what is stored of an order: nothing where it is empty
+-- what is stored of an order: its numbers, two bytes each, and nothing where it is empty
 abbrev pub stored_order : List ℕ → Option (List ℕ)
 stored_order [] = None
-stored_order (number ∷ numbers) = Some (numbers_bytes (number ∷ numbers))
+stored_order (number ∷ numbers) = Some (units_bytes (number ∷ numbers))
 
 -- what is stored of the entry that the next boot tries first, if there is one
 abbrev pub stored_next : Option ℕ → Option (List ℕ)

@@ -22,6 +22,7 @@ use crate::name::{BOOT_NEXT, BOOT_ORDER, NAME_MAX};
 use crate::order::ORDER_MAX;
 use crate::vars::{DATA_MAX, Vars};
 use uefi_option::laws as option_laws;
+use uefi_path::laws as path_laws;
 
 /// Variables that may stand in a set have a spelling, of bytes.
 pub fn each_set_is_spelled()
@@ -61,18 +62,25 @@ pub fn bytes_have_one_first_fault()
 /// Variables have at most one BootOrder.
 pub fn variables_have_one_order()
     ensures { (vars : Variables) (a b : List ℕ) → HasOrder vars a → HasOrder vars b → a ≡ b }
-{}
+{
+    path_laws::units_are_read_again();
+}
 
 /// Where BootOrder is bad, it gives no order.
 pub fn a_bad_order_gives_no_order()
     ensures { (vars : Variables) (order : List ℕ) → HasBadOrder vars → HasOrder vars order → ⊥ }
-{}
+{
+    path_laws::units_have_two_bytes_each();
+}
 
 /// Where variables may stand in a set, BootOrder gives an order, or is bad.
 pub fn variables_have_an_order_or_a_bad_one()
     ensures { (vars : Variables) → IsVars vars →
         ((order : List ℕ) × HasOrder vars order) ⊎ HasBadOrder vars }
-{}
+{
+    path_laws::bytes_are_written_again();
+    path_laws::two_bytes_are_a_unit();
+}
 
 /// Variables have at most one BootNext: a number, or none.
 pub fn variables_have_one_next()
@@ -88,7 +96,9 @@ pub fn a_bad_next_gives_no_next()
 pub fn variables_have_a_next_or_a_bad_one()
     ensures { (vars : Variables) → IsVars vars →
         ((next : Option ℕ) × HasNext vars next) ⊎ HasBadNext vars }
-{}
+{
+    path_laws::bytes_are_written_again();
+}
 
 /// `==` on variables tells whether they are equal.
 pub fn variables_compare_as_values()

@@ -1,15 +1,17 @@
 //! BootOrder and BootNext (UEFI 2.10, 3.3).
 
 ghost use Rattle.std.specs.Prelude.{◌≡◌, ◌≢◌, ◌↔◌, ℕ, List, Option, Some, Ok, Err, IfOk, IfErr, MatchResult};
+ghost use Rattle.uefi_path.specs.Units.{units_of};
 ghost use Rattle.uefi_vars.specs.declared.fault.VarFault.{VarFault};
 ghost use Rattle.uefi_vars.specs.Vars.{IsVars};
 ghost use Rattle.uefi_vars.specs.Order.{HasOrder, HasNext, HasBadOrder, HasBadNext};
-ghost use Rattle.uefi_vars.specs.Numbers.{numbers_of, HasStoredOrder};
 
 use crate::fault::VarFault;
+use crate::laws;
 use crate::name::{BOOT_NEXT, BOOT_ORDER};
 use crate::vars::Vars;
-use std::alloc::{AllocError, Global};
+use std::alloc::Global;
+use uefi_path::{laws as path_laws, read_units};
 
 /// The most numbers that BootOrder has: as many as there are names of entries.
 pub const ORDER_MAX: usize = 65_536;
@@ -17,13 +19,15 @@ pub const ORDER_MAX: usize = 65_536;
 /// The bytes of a number.
 const NUMBER_LEN: usize = 2;
 
-/// The bytes of BootOrder, two for each number. There are none where it isn't stored.
+/// The bytes of BootOrder, two for each number, little-endian. There are none where it isn't stored.
 pub(crate) fn order_bytes(vars: &Vars) -> Result<&[u8], VarFault>
-    ensures found { IfOk result (λ bytes. HasStoredOrder vars.now bytes.now) }
+    ensures found { IfOk result (λ bytes. HasOrder vars.now (units_of bytes.now)) }
     ensures bad_order { (result ≡ Err VarFault.BadOrder) ↔ HasBadOrder vars.now }
     ensures named { IfErr result (λ fault. fault ≡ VarFault.BadOrder) }
     ensures valid { IsVars vars.now }
 {
+    path_laws::bytes_are_written_again();
+    path_laws::two_bytes_are_a_unit();
     let Some(bytes) = vars.get(BOOT_ORDER) else {
         return Ok(&[]);
     };
@@ -31,19 +35,6 @@ pub(crate) fn order_bytes(vars: &Vars) -> Result<&[u8], VarFault>
         return Err(VarFault::BadOrder);
     }
     Ok(bytes)
-}
-
-/// The numbers that the bytes spell, two bytes each, if there is memory for them.
-pub(crate) fn read_numbers(alloc: Global, bytes: &[u8]) -> Result<Vec<u16>, AllocError>
-    ensures { IfOk result (λ numbers. numbers.items ≡ numbers_of bytes.now) }
-{
-    let mut numbers = Vec::with_capacity(alloc, bytes.len() / NUMBER_LEN)?;
-    let mut rest = bytes;
-    while let [low, high, others @ ..] = rest {
-        numbers.push(u16::from_le_bytes([*low, *high]))?;
-        rest = others;
-    }
-    Ok(numbers)
 }
 
 /// The numbers of BootOrder (UEFI 2.10, 3.3), two bytes each, little-endian, in their order; a number may stand there
@@ -63,8 +54,10 @@ pub fn boot_order(alloc: Global, vars: &Vars) -> Result<Vec<u16>, VarFault>
     ensures named { IfErr result (λ fault. fault ≢ VarFault.BadNext) }
     ensures valid { IsVars vars.now }
 {
+    laws::variables_have_one_order();
+    laws::a_bad_order_gives_no_order();
     let bytes = order_bytes(vars)?;
-    Ok(read_numbers(alloc, bytes)?)
+    Ok(read_units(alloc, bytes)?)
 }
 
 /// The number in BootNext (UEFI 2.10, 3.3), two bytes, little-endian, or `None` where BootNext isn't stored.

@@ -10,10 +10,11 @@ ghost use Rattle.uefi_vars.specs.Plan.{PlanParts, IsEntryOption, IsNextChoice, A
 use crate::boot_plan::{BootPlan, Choice};
 use crate::fault::VarFault;
 use crate::laws;
-use crate::order::{boot_next, order_bytes, read_numbers};
+use crate::order::{boot_next, order_bytes};
 use crate::vars::Vars;
 use std::alloc::{AllocError, Global};
 use uefi_option::{LoadOption, OptionFault, is_normal, laws as option_laws, read_option};
+use uefi_path::read_units;
 
 /// The load option of the entry of this number, Boot#### (UEFI 2.10, 3.1.3), whatever its attributes are: `None` where
 /// nothing is stored there, or what is stored is no load option. [`read_option`] tells of the bytes of
@@ -104,9 +105,10 @@ pub fn plan(alloc: Global, vars: &Vars) -> Result<BootPlan, VarFault>
     ensures valid { IsVars vars.now }
 {
     laws::variables_have_one_plan();
+    laws::a_bad_order_gives_no_order();
     let order = order_bytes(vars)?;
     let next = read_next_choice(alloc, vars, boot_next(vars)?)?;
-    let numbers = read_numbers(alloc, order)?;
+    let numbers = read_units(alloc, order)?;
     let normal = read_normal_choices(alloc, vars, &numbers)?;
     Ok(BootPlan::new(next, normal))
 }
