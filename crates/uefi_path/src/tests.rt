@@ -754,6 +754,123 @@ fn tells_the_fields_of_nodes(rt: HostRuntime) -> Result<(), Fail> {
 }
 
 #[test]
+fn makes_nodes_of_lists_and_gives_them_back(rt: HostRuntime) -> Result<(), Fail> {
+    let alloc = rt.alloc();
+    match Vendor::from_vec(Guid(GUID), Vec::from_slice(alloc, &[0xaa, 0xbb])?) {
+        Ok(vendor) => {
+            let (guid, body) = vendor.into_parts();
+            assert_eq!(rt; guid, Guid(GUID));
+            assert_eq!(rt; body.as_slice(), [0xaa, 0xbb].as_slice());
+        }
+        Err(_) => assert!(rt; false, "two bytes are few enough"),
+    }
+    match UriNode::from_vec(Vec::from_slice(alloc, b"tftp:")?) {
+        Ok(node) => assert_eq!(rt; node.into_bytes().as_slice(), b"tftp:".as_slice()),
+        Err(_) => assert!(rt; false, "five bytes are few enough"),
+    }
+    match FileNode::from_vec(Vec::from_slice(alloc, &[0x5c, 0xe9])?) {
+        Ok(node) => assert_eq!(rt; node.into_units().as_slice(), [0x5c, 0xe9].as_slice()),
+        Err(_) => assert!(rt; false, "no unit is zero"),
+    }
+    Ok(())
+}
+
+#[test]
+fn hands_refused_lists_back(rt: HostRuntime) -> Result<(), Fail> {
+    let alloc = rt.alloc();
+    for (len, refused) in [(65_515usize, false), (65_516, true)] {
+        match Vendor::from_vec(Guid(GUID), vec![in alloc; 7u8; len]?) {
+            Ok(vendor) => assert!(rt; !refused && vendor.body().len() == len),
+            Err(body) => assert!(rt; refused && body == vec![in alloc; 7u8; len]?),
+        }
+    }
+    for (len, refused) in [(65_531usize, false), (65_532, true)] {
+        match UriNode::from_vec(vec![in alloc; 7u8; len]?) {
+            Ok(node) => assert!(rt; !refused && node.bytes().len() == len),
+            Err(bytes) => assert!(rt; refused && bytes == vec![in alloc; 7u8; len]?),
+        }
+    }
+    let most = vec![in alloc; 0x41u16; 32_764]?;
+    assert!(rt; FileNode::from_vec(most).is_ok());
+    let mut more = vec![in alloc; 0x41u16; 32_765]?;
+    for fault in [NameFault::TooLong, NameFault::ZeroUnit(32_765)] {
+        more = match FileNode::from_vec(more) {
+            Ok(node) => {
+                assert!(rt; false, "{fault} is due");
+                node.into_units()
+            }
+            Err(refused) => {
+                assert_eq!(rt; refused.fault, fault);
+                refused.units
+            }
+        };
+        more.push(0)?;
+    }
+    assert_eq!(rt; more.len(), 32_767);
+    Ok(())
+}
+
+#[test]
+fn keeps_as_bytes_what_is_no_other_node(rt: HostRuntime) -> Result<(), Fail> {
+    let alloc = rt.alloc();
+    // the type, the sub-type, the data, and whether they are kept
+    let table: [(u8, u8, &[u8], bool); 14] = [
+        (1, 1, &[2, 31], false),
+        (1, 1, &[2, 31, 0], true),
+        (1, 4, &GUID, false),
+        (1, 4, &GUID[1..], true),
+        (2, 1, &[0; 8], false),
+        (3, 24, &[], false),
+        (3, 25, &[], true),
+        (4, 1, &[0; 38], false),
+        (4, 1, &[0; 37], true),
+        (4, 4, &[0x5c, 0, 0, 0], false),
+        (4, 4, &[0x5c, 0, 0, 0, 0], true),
+        (4, 4, &[0, 0, 0, 0], true),
+        (4, 4, &[0x5c, 0], true),
+        (0x7f, 0xff, &[], false),
+    ];
+    for (kind, sub, body, kept) in table {
+        match OtherNode::from_vec(kind, sub, Vec::from_slice(alloc, body)?) {
+            Ok(node) => {
+                assert!(rt; kept, "{kind}, {sub} and {body:?} are kept");
+                let (held_kind, held_sub, held) = node.into_parts();
+                assert_eq!(rt; (held_kind, held_sub), (kind, sub));
+                assert_eq!(rt; held.as_slice(), body);
+            }
+            Err(handed_back) => {
+                assert!(rt; !kept, "{kind}, {sub} and {body:?} are refused");
+                assert_eq!(rt; handed_back.as_slice(), body);
+            }
+        }
+    }
+    assert!(rt; OtherNode::from_vec(5, 1, vec![in alloc; 0u8; 65_531]?).is_ok());
+    assert!(rt; OtherNode::from_vec(5, 1, vec![in alloc; 0u8; 65_532]?).is_err());
+    Ok(())
+}
+
+#[test]
+fn reads_and_writes_units(rt: HostRuntime) -> Result<(), Fail> {
+    let alloc = rt.alloc();
+    let units = read_units(alloc, &[0x42, 0x00, 0x3d, 0xd8, 0x30])?;
+    assert_eq!(rt; units.as_slice(), [0x0042, 0xd83d].as_slice());
+    let mut out = vec![in alloc; 0x5a]?;
+    append_units(&units, &mut out)?;
+    assert_eq!(rt; out.as_slice(), [0x5a, 0x42, 0x00, 0x3d, 0xd8].as_slice());
+
+    let mut all = Vec::new(alloc);
+    for number in 0..=u16::MAX {
+        all.push(number)?;
+    }
+    let mut bytes = Vec::new(alloc);
+    append_units(&all, &mut bytes)?;
+    assert_eq!(rt; bytes.len(), 131_072);
+    assert!(rt; read_units(alloc, &bytes)? == all);
+    assert_eq!(rt; field(&GUID), GUID.as_slice());
+    Ok(())
+}
+
+#[test]
 fn refuses_data_that_no_node_holds(rt: HostRuntime) -> Result<(), Fail> {
     let alloc = rt.alloc();
     let most = vec![in alloc; 0u8; 65_515]?;
