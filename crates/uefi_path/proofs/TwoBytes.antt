@@ -2,7 +2,7 @@
 use Rattle.std.proofs.Common.{◌≡◌, ℕ, ◌+◌, ◌-◌, ◌*◌, ◌/◌, ◌%◌, List, [], ◌∷◌, ◌++◌, length, take, drop, refl, sym, ap, ◌∙◌, arith, replicate}
 use Rattle.std.specs.Int.{w16, to_le_bytes, from_le_bytes}
 use Rattle.std.specs.List.{AllByRecursion}
-use Rattle.std.proofs.lemmas.List.{take_all, take_at, drop_all, length-append, length-drop, append-nil}
+use Rattle.std.proofs.lemmas.List.{take_all, take_at, drop_at, drop-replicate, length-append, length-replicate}
 use Rattle.uefi_path.specs.Row.{IsByte, AreBytes}
 use Rattle.uefi_path.specs.Units.{IsTwoByte, units_bytes, units_of}
 use Rattle.uefi_path.proofs.Numbers.{wide_16}
@@ -41,30 +41,32 @@ half_as_long (low ∷ high ∷ rest) = omega (arith, half_as_long rest)
 
 -- ---- numbers over the zeros that were made for them
 
--- bytes are written behind what was there, over as many zeros
-pub record IsOver (old bytes room : List ℕ) (start : ℕ) : Type 0 where
+-- so many bytes written behind what was there, over zeros, with so many zeros behind them
+pub record IsOver (old bytes room : List ℕ) (start count behind : ℕ) : Type 0 where
   pub zeros : ℕ
-  pub zeros-is : zeros ≡ length bytes
+  pub zeros-is : zeros ≡ count + behind
   pub start-is : start ≡ length old
-  pub room-is : room ≡ take (start + length bytes) old ++ replicate zeros 0
+  pub room-is : room ≡ take (start + count + behind) old ++ replicate zeros 0
+  pub len : length bytes ≡ count
 
 -- what the whole is once these bytes stand there
-abbrev written_over : List ℕ → List ℕ → ℕ → List ℕ
-written_over bytes room start = take start room ++ (bytes ++ drop (length room - start) (drop start room))
+abbrev written_over : List ℕ → List ℕ → ℕ → ℕ → List ℕ
+written_over bytes room start count = take start room ++ (bytes ++ drop count (drop start room))
 
-over_zeros : (old bytes room : List ℕ) (start : ℕ) → IsOver old bytes room start → written_over bytes room start ≡ old ++ bytes
-over_zeros old bytes room start over =
-    let zeros = replicate {A = ℕ} over.zeros 0 in
-    let whole : room ≡ old ++ zeros = over.room-is ∙ ap (λ (t : List ℕ). t ++ zeros) (take_all (start + length bytes) old (omega (arith, over.start-is))) in
+over_zeros : (old bytes room : List ℕ) (start count behind : ℕ) → IsOver old bytes room start count behind → written_over bytes room start count ≡ old ++ (bytes ++ replicate behind 0)
+over_zeros old bytes room start count behind over =
+    let zeros = replicate {A = ℕ} (count + behind) 0 in
+    let whole : room ≡ old ++ zeros = over.room-is ∙ ap (λ (n : ℕ). take (start + count + behind) old ++ replicate n 0) over.zeros-is ∙ ap (λ (t : List ℕ). t ++ zeros) (take_all (start + count + behind) old (omega (arith, over.start-is))) in
     let front : take start room ≡ old = ap (take start) whole ∙ take_at old zeros start (sym over.start-is) in
-    let back : drop (length room - start) (drop start room) ≡ [] = drop_all (length room - start) (drop start room) (omega (arith, length-drop start room)) in
-    rw (front, back) (ap (λ (t : List ℕ). old ++ t) (append-nil bytes))
+    let left : count + behind - count ≡ behind = omega arith in
+    let back : drop count (drop start room) ≡ replicate behind 0 = ap (λ (t : List ℕ). drop count (drop start t)) whole ∙ ap (drop count) (drop_at old zeros start (sym over.start-is)) ∙ drop-replicate count (count + behind) 0 ∙ ap (λ (n : ℕ). replicate {A = ℕ} n 0) left in
+    rw (front, back) refl
 
 -- the same, where a list of that length is cut out of it and what stands behind
-pub over_zeros_whole : (old bytes room : List ℕ) (start len : ℕ) → IsOver old bytes room start → len ≡ start + length bytes
-    → take len (written_over bytes room start ++ drop (length (written_over bytes room start)) room) ≡ old ++ bytes
-over_zeros_whole old bytes room start len over long =
-    let is = over_zeros old bytes room start over in
-    let here = old ++ bytes in
-    let size : length here ≡ len = omega (arith, long, over.start-is, length-append old bytes) in
+pub over_zeros_whole : (old bytes room : List ℕ) (start count behind len : ℕ) → IsOver old bytes room start count behind → len ≡ start + count + behind
+    → take len (written_over bytes room start count ++ drop (length (written_over bytes room start count)) room) ≡ old ++ (bytes ++ replicate behind 0)
+over_zeros_whole old bytes room start count behind len over long =
+    let is = over_zeros old bytes room start count behind over in
+    let here = old ++ (bytes ++ replicate {A = ℕ} behind 0) in
+    let size : length here ≡ len = omega (arith, long, over.len, over.start-is, length-append old (bytes ++ replicate {A = ℕ} behind 0), length-append bytes (replicate {A = ℕ} behind 0), length-replicate {A = ℕ} behind 0) in
     rw is (ap (λ (n : ℕ). take n (here ++ drop (length here) room)) (sym size) ∙ take_at here (drop (length here) room) (length here) refl)

@@ -11,7 +11,7 @@ ghost use Rattle.uefi_path.specs.Writing.{Extends};
 
 use crate::fault::NameFault;
 use crate::generic::{BODY_MAX, HEADER_LEN};
-use crate::units::{UNIT_LEN, append_units};
+use crate::units::{UNIT_LEN, append_before_zeros};
 use std::alloc::{AllocError, Global};
 use std::marker::Model;
 
@@ -185,8 +185,7 @@ impl FileNode {
         ensures err { OnErr result (Extends out.old.items out.new.items) }
     {
         out.extend_from_slice(&header)?;
-        append_units(&self.units, out)?;
-        out.extend_from_slice(&0u16.to_le_bytes())
+        append_before_zeros(&self.units, UNIT_LEN, out)
     }
 }
 

@@ -1,7 +1,7 @@
 //! Numbers of two bytes, one after the other, little-endian: the units of names and of descriptions, and the numbers
 //! of entries.
 
-ghost use Rattle.std.specs.Prelude.{◌≡◌, ◌*◌, ◌++◌, length, IfOk, OnOk, OnErr};
+ghost use Rattle.std.specs.Prelude.{◌≡◌, ◌+◌, ◌*◌, ◌^◌, ◌<◌, ◌++◌, length, replicate, IfOk, OnOk, OnErr};
 ghost use Rattle.uefi_path.specs.Units.{units_bytes, units_of};
 
 use std::alloc::{AllocError, Global};
@@ -37,9 +37,23 @@ pub fn append_units(units: &[u16], out: &mut Vec<u8>) -> Result<(), AllocError>
     ensures ok { OnOk result (out.new.items ≡ out.old.items ++ units_bytes units.now) }
     ensures err { OnErr result (out.new.items ≡ out.old.items) }
 {
+    append_before_zeros(units, 0, out)
+}
+
+/// Appends numbers, each as two bytes, little-endian, and so many zeros. An `Err` leaves the output as it was.
+pub(crate) fn append_before_zeros(
+    units: &[u16],
+    zeros: usize,
+    out: &mut Vec<u8>,
+) -> Result<(), AllocError>
+    requires { 2 * length units.now + zeros < 2 ^ 63 }
+    ensures ok { OnOk result (out.new.items ≡ out.old.items ++ (units_bytes units.now ++ replicate zeros 0)) }
+    ensures err { OnErr result (out.new.items ≡ out.old.items) }
+{
     let start = out.len();
-    out.resize(start + UNIT_LEN * units.len(), 0)?;
-    write_units(units, &mut out[start..]);
+    let end = start + UNIT_LEN * units.len();
+    out.resize(end + zeros, 0)?;
+    write_units(units, &mut out[start..end]);
     Ok(())
 }
 
