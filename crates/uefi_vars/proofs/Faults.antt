@@ -14,8 +14,8 @@ use Rattle.uefi_vars.specs.declared.fault.SetFault.TheVariants as fault
 use Rattle.uefi_vars.specs.Name.{IsNameByte, name_max, IsName}
 use Rattle.uefi_vars.specs.Vars.{name_cmp, data_max, IsData, IsVariable}
 use Rattle.uefi_vars.specs.Set.{name_bytes, data_bytes, record_bytes}
-use Rattle.uefi_vars.specs.Fault.{IsAbove, HasBadNameLength, HasCutName, HasBadCharacter, HasLowName, HasName}
-use Rattle.uefi_vars.specs.Reading.{SplitsName, IsNameFault, SplitsData, StatesLength, IsCutData, StatesBadLength, IsDataFault, IsRecordFault}
+use Rattle.uefi_vars.specs.Fault.{IsAbove, HasBadNameLength, HasCutName, HasBadCharacter, HasLowName, HasName, StatesLength, IsCutData, StatesBadLength}
+use Rattle.uefi_vars.specs.Reading.{SplitsName, IsNameFault, SplitsData, IsDataFault, IsRecordFault}
 use Rattle.uefi_vars.proofs.Bytes.{all_or_not}
 use Rattle.uefi_vars.proofs.Records.{Pair, same_len, same_name, data_len}
 

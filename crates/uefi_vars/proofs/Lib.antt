@@ -1,5 +1,6 @@
 pub mod Bytes
 pub mod Faults
+pub mod MapChanges
 pub mod Maps
 pub mod Names
 pub mod Next

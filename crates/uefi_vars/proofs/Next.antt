@@ -1,5 +1,5 @@
 -- The number in BootNext as two bytes.
-use Rattle.std.proofs.Common.{◌≡◌, ◌≢◌, ◌⊎◌, ℕ, List, [], ◌∷◌, length, Option, Some, None, IfSome, inl, inr, refl, sym, ap, ◌∙◌, ⊎_elim, arith}
+use Rattle.std.proofs.Common.{◌≡◌, ◌≢◌, ◌⊎◌, ℕ, List, [], ◌∷◌, length, Option, Some, None, IfSome, ◌↔◌, inl, inr, refl, sym, ap, ◌∙◌, ⊎_elim, arith}
 use Rattle.std.specs.Int.{w16, from_le_bytes, to_le_bytes}
 use Rattle.std.specs.List.{AllByRecursion}
 use Rattle.std.specs.Option.{IsSomeAnd}
@@ -22,6 +22,10 @@ same_next (Some m) (Some n) p q e =
 
 pub one_next : (vars : Variables) (a b : Option ℕ) → HasNext vars a → HasNext vars b → a ≡ b
 one_next vars a b h k = same_next a b h.is k.is (sym h.stored ∙ k.stored)
+
+-- variables with the same under the name have the same next
+pub HasNext-along : (vars others : Variables) → get vars next_text ≡ get others next_text → (next : Option ℕ) → HasNext vars next ↔ HasNext others next
+HasNext-along vars others e next = (λ h. record { is = h.is; stored = sym e ∙ h.stored }, λ h. record { is = h.is; stored = e ∙ h.stored })
 
 -- what is stored of a number, or of none, isn't bad
 not_bad : (next : Option ℕ) → IsSomeAnd (stored_next next) (λ bytes. length bytes ≢ 2) → ⊥

@@ -1,5 +1,5 @@
 -- The numbers of BootOrder as bytes, two for each.
-use Rattle.std.proofs.Common.{◌≡◌, ◌≢◌, ◌⊎◌, ℕ, ◌*◌, ◌/◌, ◌%◌, ◌<◌, ◌≤◌, List, [], ◌∷◌, length, Option, Some, None, IfSome, inl, inr, refl, sym, ap, ◌∙◌, ⊎_elim, arith}
+use Rattle.std.proofs.Common.{◌≡◌, ◌≢◌, ◌⊎◌, ℕ, ◌*◌, ◌/◌, ◌%◌, ◌<◌, ◌≤◌, List, [], ◌∷◌, length, Option, Some, None, IfSome, ◌↔◌, inl, inr, refl, sym, ap, ◌∙◌, ⊎_elim, arith}
 use Rattle.std.specs.List.{AllByRecursion}
 use Rattle.std.specs.Option.{IsSomeAnd}
 use Rattle.std.specs.FinMap.{get}
@@ -37,6 +37,10 @@ module _ (again : AreReadAgain) where
 
   pub one_order : (vars : Variables) (a b : List ℕ) → HasOrder vars a → HasOrder vars b → a ≡ b
   one_order vars a b h k = same_order a b h.is.numbers k.is.numbers (sym h.stored ∙ k.stored)
+
+-- variables with the same under the name have the same order
+pub HasOrder-along : (vars others : Variables) → get vars order_text ≡ get others order_text → (order : List ℕ) → HasOrder vars order ↔ HasOrder others order
+HasOrder-along vars others e order = (λ h. record { is = h.is; stored = sym e ∙ h.stored }, λ h. record { is = h.is; stored = e ∙ h.stored })
 
 -- ---- an order or a bad one
 

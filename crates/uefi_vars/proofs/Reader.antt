@@ -16,9 +16,9 @@ use Rattle.uefi_vars.specs.declared.vars.Variable.{Variable}
 use Rattle.uefi_vars.specs.Name.{IsNameByte, name_max, IsName}
 use Rattle.uefi_vars.specs.Vars.{name_cmp, data_max}
 use Rattle.uefi_vars.specs.Set.{magic, records_bytes}
-use Rattle.uefi_vars.specs.Fault.{IsAbove}
+use Rattle.uefi_vars.specs.Fault.{IsAbove, StatesLength}
 use Rattle.uefi_vars.specs.Records.{pair_of, pairs_of, AreVariables}
-use Rattle.uefi_vars.specs.Reading.{names_of, SplitsName, IsNameFault, SplitsData, StatesLength, IsDataFault, HasRecords, HasRecordsFault}
+use Rattle.uefi_vars.specs.Reading.{names_of, SplitsName, IsNameFault, SplitsData, IsDataFault, HasRecords, HasRecordsFault}
 use Rattle.uefi_vars.proofs.Records.{Pair, above_last, none_rise, pairs_rise}
 use Rattle.uefi_vars.proofs.Faults.{four_state, data_split, record_of}
 use Rattle.uefi_vars.proofs.Sets.{one_record}

@@ -18,7 +18,7 @@ use Rattle.uefi_vars.specs.declared.fault.SetFault.TheVariants as fault
 use Rattle.uefi_vars.specs.Name.{IsNameByte}
 use Rattle.uefi_vars.specs.Vars.{Variables, name_cmp, IsVariable, IsVars}
 use Rattle.uefi_vars.specs.Set.{magic, name_bytes, data_bytes, record_bytes, records_bytes, set_bytes, SpellsSet}
-use Rattle.uefi_vars.specs.Fault.{HasNoMagic, HasRestWith, IsAbove, HasName, HasCutName, HasCutLength, HasBadLength, HasCutData, IsFirstFault}
+use Rattle.uefi_vars.specs.Fault.{HasNoMagic, HasRestWith, IsAbove, HasName, HasCutName, HasNameWith, IsCutData, StatesBadLength, IsFirstFault}
 use Rattle.uefi_vars.specs.Reading.{names_of, HasRecords, IsRecordFault, HasRecordsFault}
 use Rattle.uefi_vars.proofs.Maps.{entries-AllByRecursion, IsVars-from_sorted}
 use Rattle.uefi_vars.proofs.Records.{Pair, same_record, above_front, one_above, none_rise, names_rise, pairs_rise}
@@ -97,15 +97,12 @@ rest_fault input place P f h turn =
       };
     }
 
-truncated : (place : ℕ) (names : List (List ℕ)) (rest : List ℕ) → HasCutName rest ⊎ (HasCutLength names rest ⊎ HasCutData names rest) → IsRecordFault names rest place (fault.Truncated place)
+truncated : (place : ℕ) (names : List (List ℕ)) (rest : List ℕ) → HasCutName rest ⊎ HasNameWith names rest (λ bytes. (length bytes < 4) ⊎ IsCutData bytes) → IsRecordFault names rest place (fault.Truncated place)
 truncated place names rest (inl h) = inl (inl (refl, h))
-truncated place names rest (inr (inl h)) = inr (inr (h.behind, h.name, inl (refl, inl h.cut)))
-truncated place names rest (inr (inr h)) =
-    inr (inr (to_le_bytes w32 h.len ++ h.behind, h.name, inl (refl, inr (record { len = h.len; rest = h.behind; stated = record { four_bytes = let good = h.good in omega (arith, good); parts = refl }; good = h.good; cut = h.cut }))))
+truncated place names rest (inr h) = inr (inr (h.behind, h.name, inl (refl, h.here)))
 
-bad_data : (place : ℕ) (names : List (List ℕ)) (rest : List ℕ) → HasBadLength names rest → IsRecordFault names rest place (fault.BadData place)
-bad_data place names rest h =
-    inr (inr (to_le_bytes w32 h.len ++ h.behind, h.name, inr (refl, record { len = h.len; rest = h.behind; stated = record { four_bytes = h.four_bytes; parts = refl }; bad = h.bad })))
+bad_data : (place : ℕ) (names : List (List ℕ)) (rest : List ℕ) → HasNameWith names rest StatesBadLength → IsRecordFault names rest place (fault.BadData place)
+bad_data place names rest h = inr (inr (h.behind, h.name, inr (refl, h.here)))
 
 kind_of : (input : List ℕ) (f : SetFault) → IsFirstFault input f → Kinds input f
 kind_of input (fault.BadMagic place) h = inl (h.0, ap fault.BadMagic h.1)
@@ -177,14 +174,10 @@ record_fault_is input behind f pairs rest parts before (inl (inr (e, h))) =
     subst (IsFirstFault input) (sym e) (rest_with input behind _ _ pairs rest parts before refl h)
 record_fault_is input behind f pairs rest parts before (inr (inl (e, h))) =
     subst (IsFirstFault input) (sym e) (rest_with input behind _ _ pairs rest parts before refl h)
-record_fault_is input behind f pairs rest parts before (inr (inr (after, name, inl (e, inl short)))) =
-    subst (IsFirstFault input) (sym e) (rest_with input behind _ _ pairs rest parts before refl (inr (inl (record { behind = after; name = name; cut = short }))))
-record_fault_is input behind f pairs rest parts before (inr (inr (after, name, inl (e, inr h)))) =
-    subst (IsFirstFault input) (sym e) (rest_with input behind _ _ pairs rest parts before refl
-    (inr (inr (record { len = h.len; behind = h.rest; name = subst (HasName (names_of pairs) rest) h.stated.parts name; good = h.good; cut = h.cut }))))
+record_fault_is input behind f pairs rest parts before (inr (inr (after, name, inl (e, h)))) =
+    subst (IsFirstFault input) (sym e) (rest_with input behind _ _ pairs rest parts before refl (inr (record { behind = after; name = name; here = h })))
 record_fault_is input behind f pairs rest parts before (inr (inr (after, name, inr (e, h)))) =
-    subst (IsFirstFault input) (sym e) (rest_with input behind _ _ pairs rest parts before refl
-    (record { len = h.len; behind = h.rest; name = subst (HasName (names_of pairs) rest) h.stated.parts name; four_bytes = h.stated.four_bytes; bad = h.bad }))
+    subst (IsFirstFault input) (sym e) (rest_with input behind _ _ pairs rest parts before refl (record { behind = after; name = name; here = h }))
 
 pub records_fault_is : (input behind : List ℕ) (f : SetFault) → input ≡ magic ++ behind → HasRecordsFault behind 4 f → IsFirstFault input f
 records_fault_is input behind f parts h = record_fault_is input behind f h.pairs h.rest parts h.before h.here

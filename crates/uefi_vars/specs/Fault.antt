@@ -67,27 +67,35 @@ pub record HasName (names : List (List ℕ)) (rest behind : List ℕ) : Type 0 w
   pub above : IsAbove names name
   pub parts : rest ≡ name_bytes name ++ behind
 
--- such a name, and fewer than the four bytes of the length of its data
-pub record HasCutLength (names : List (List ℕ)) (rest : List ℕ) : Type 0 where
-  pub behind : List ℕ
-  pub name : HasName names rest behind
-  pub cut : length behind < 4
+-- ---- what may be at fault in data, behind such a name
 
--- such a name, and a length that no data has
-pub record HasBadLength (names : List (List ℕ)) (rest : List ℕ) : Type 0 where
-  pub len : ℕ
-  pub behind : List ℕ
-  pub name : HasName names rest (to_le_bytes w32 len ++ behind)
+-- the bytes state this length, and go on with the rest
+pub record StatesLength (bytes : List ℕ) (len : ℕ) (rest : List ℕ) : Type 0 where
   pub four_bytes : len < 2 ^ 32
+  pub parts : bytes ≡ to_le_bytes w32 len ++ rest
+
+-- fewer bytes follow than they state
+pub record IsCutData (bytes : List ℕ) : Type 0 where
+  pub len : ℕ
+  pub rest : List ℕ
+  pub stated : StatesLength bytes len rest
+  pub good : (0 < len) × (len ≤ data_max)
+  pub cut : length rest < len
+
+-- they state a length that no data has
+pub record StatesBadLength (bytes : List ℕ) : Type 0 where
+  pub len : ℕ
+  pub rest : List ℕ
+  pub stated : StatesLength bytes len rest
   pub bad : (len ≡ 0) ⊎ (data_max < len)
 
--- such a name, a length, and fewer bytes than the data is to have
-pub record HasCutData (names : List (List ℕ)) (rest : List ℕ) : Type 0 where
-  pub len : ℕ
+-- such a name, and one of these behind it
+pub record HasNameWith (names : List (List ℕ)) (rest : List ℕ) (P : List ℕ → Type 0) : Type 0 where
   pub behind : List ℕ
-  pub name : HasName names rest (to_le_bytes w32 len ++ behind)
-  pub good : (0 < len) × (len ≤ data_max)
-  pub cut : length behind < len
+  pub name : HasName names rest behind
+  pub here : P behind
+
+-- ---- the first fault
 
 -- one of these at the rest
 pub record HasRestWith (input : List ℕ) (place : ℕ) (P : List (List ℕ) → List ℕ → Type 0) : Type 0 where
@@ -100,9 +108,10 @@ pub record HasRestWith (input : List ℕ) (place : ℕ) (P : List (List ℕ) →
 abbrev pub IsFirstFault : List ℕ → SetFault → Type 0
 IsFirstFault input (fault.BadMagic place) = HasNoMagic input × (place ≡ 0)
 IsFirstFault input (fault.Truncated place) =
-    HasRestWith input place (λ names rest. HasCutName rest ⊎ (HasCutLength names rest ⊎ HasCutData names rest))
+    HasRestWith input place (λ names rest. HasCutName rest ⊎ HasNameWith names rest (λ bytes. (length bytes < 4) ⊎ IsCutData bytes))
 IsFirstFault input (fault.BadName place) =
     HasRestWith input place (λ names rest. HasBadNameLength rest ⊎ HasBadCharacter rest)
-IsFirstFault input (fault.BadData place) = HasRestWith input place HasBadLength
+IsFirstFault input (fault.BadData place) =
+    HasRestWith input place (λ names rest. HasNameWith names rest StatesBadLength)
 IsFirstFault input (fault.NotRising place) = HasRestWith input place HasLowName
 IsFirstFault input fault.OutOfMemory = ⊥

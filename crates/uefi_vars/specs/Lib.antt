@@ -7,7 +7,6 @@ pub mod Fault
 pub mod Order
 pub mod Plan
 pub mod Words
-pub mod Maps
 pub mod Equality
 pub mod PlanEquality
 -- what private contracts cite

@@ -1,14 +1,13 @@
 -- For private functions of the reader of sets: what stands at the front of some bytes, and what is at fault there.
-use Rattle.std.specs.Prelude.{◌≡◌, ◌⊎◌, ℕ, ◌+◌, ◌^◌, ◌<◌, ◌≤◌, List, ◌++◌, map, length}
-use Rattle.std.specs.Int.{w32, to_le_bytes}
+use Rattle.std.specs.Prelude.{◌≡◌, ◌⊎◌, ℕ, ◌+◌, ◌<◌, List, ◌++◌, map, length}
 use Rattle.std.specs.List.{AllByRecursion}
 use Rattle.std.specs.List.Sorted.{IsStrictlySortedBy}
 use Rattle.uefi_vars.specs.declared.fault.SetFault.{SetFault}
 use Rattle.uefi_vars.specs.declared.fault.SetFault.TheVariants as fault
 use Rattle.uefi_vars.specs.Name.{IsName}
-use Rattle.uefi_vars.specs.Vars.{name_cmp, data_max, IsData, IsVariable}
+use Rattle.uefi_vars.specs.Vars.{name_cmp, IsData, IsVariable}
 use Rattle.uefi_vars.specs.Set.{name_bytes, data_bytes, records_bytes}
-use Rattle.uefi_vars.specs.Fault.{HasBadNameLength, HasCutName, HasBadCharacter, HasLowName, HasName}
+use Rattle.uefi_vars.specs.Fault.{HasBadNameLength, HasCutName, HasBadCharacter, HasLowName, HasName, IsCutData, StatesBadLength}
 
 -- the names of variables
 abbrev pub names_of : List (List ℕ × List ℕ) → List (List ℕ)
@@ -33,26 +32,6 @@ IsNameFault bytes place f =
 pub record SplitsData (bytes value rest : List ℕ) : Type 0 where
   pub is : IsData value
   pub parts : bytes ≡ data_bytes value ++ rest
-
--- the bytes state this length, and go on with the rest
-pub record StatesLength (bytes : List ℕ) (len : ℕ) (rest : List ℕ) : Type 0 where
-  pub four_bytes : len < 2 ^ 32
-  pub parts : bytes ≡ to_le_bytes w32 len ++ rest
-
--- fewer bytes follow than they state
-pub record IsCutData (bytes : List ℕ) : Type 0 where
-  pub len : ℕ
-  pub rest : List ℕ
-  pub stated : StatesLength bytes len rest
-  pub good : (0 < len) × (len ≤ data_max)
-  pub cut : length rest < len
-
--- they state a length that no data has
-pub record StatesBadLength (bytes : List ℕ) : Type 0 where
-  pub len : ℕ
-  pub rest : List ℕ
-  pub stated : StatesLength bytes len rest
-  pub bad : (len ≡ 0) ⊎ (data_max < len)
 
 -- the fault of data, in a record at this place
 abbrev pub IsDataFault : List ℕ → ℕ → SetFault → Type 0

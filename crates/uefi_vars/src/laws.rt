@@ -199,13 +199,27 @@ pub fn a_remove_takes_one_entry()
         entry_of (map.remove vars (entry_text k)) n ≡ entry_of vars n }
 {}
 
-/// What is put or removed under another name leaves an entry as it is.
-pub fn other_names_leave_the_entries()
-    ensures put { (vars : Variables) (name value : List ℕ) (n : ℕ) → name ≢ entry_text n →
-        entry_of (map.insert vars name value) n ≡ entry_of vars n }
-    ensures removed { (vars : Variables) (name : List ℕ) (n : ℕ) → name ≢ entry_text n →
-        entry_of (map.remove vars name) n ≡ entry_of vars n }
+/// What is put or removed under one name leaves what is stored under the others, entries or not, as it is.
+pub fn changes_leave_the_other_names()
+    ensures put { (vars : Variables) (name value other : List ℕ) → name ≢ other →
+        map.get (map.insert vars name value) other ≡ map.get vars other }
+    ensures removed { (vars : Variables) (name other : List ℕ) → name ≢ other →
+        map.get (map.remove vars name) other ≡ map.get vars other }
 {}
+
+/// To put or to remove an entry leaves BootOrder and BootNext as they are.
+pub fn changes_of_entries_leave_order_and_next()
+    ensures put_order { (vars : Variables) (k : ℕ) (value order : List ℕ) →
+        HasOrder (map.insert vars (entry_text k) value) order ↔ HasOrder vars order }
+    ensures put_next { (vars : Variables) (k : ℕ) (value : List ℕ) (next : Option ℕ) →
+        HasNext (map.insert vars (entry_text k) value) next ↔ HasNext vars next }
+    ensures removed_order { (vars : Variables) (k : ℕ) (order : List ℕ) →
+        HasOrder (map.remove vars (entry_text k)) order ↔ HasOrder vars order }
+    ensures removed_next { (vars : Variables) (k : ℕ) (next : Option ℕ) →
+        HasNext (map.remove vars (entry_text k)) next ↔ HasNext vars next }
+{
+    order_and_next_are_no_entries();
+}
 
 /// A plan depends on what is stored under the numbers of entries, and on nothing else.
 pub fn a_plan_reads_entries_alone()

@@ -6,7 +6,7 @@ ghost use Rattle.uefi_path.specs.Answer.{IsUnless};
 ghost use Rattle.uefi_vars.specs.declared.fault.SetFault.{SetFault};
 ghost use Rattle.uefi_vars.specs.Vars.{Variables, name_cmp};
 ghost use Rattle.uefi_vars.specs.Set.{SpellsSet};
-ghost use Rattle.uefi_vars.specs.Fault.{IsAbove, IsFirstFault};
+ghost use Rattle.uefi_vars.specs.Fault.{HasNoMagic, IsAbove, IsFirstFault};
 ghost use Rattle.uefi_vars.specs.Records.{pairs_of};
 ghost use Rattle.uefi_vars.specs.Reading.{names_of, SplitsName, IsNameFault, SplitsData, IsDataFault, HasRecords, HasRecordsFault};
 
@@ -96,6 +96,7 @@ fn read_variables(alloc: Global, bytes: &[u8], start: usize) -> Result<Vec<Varia
 fn read_magic_and_variables(alloc: Global, bytes: &[u8]) -> Result<Vars, SetFault>
     ensures found { IfOk result (λ vars. SpellsSet bytes.now vars) }
     ensures fault { IfErr result (λ fault. fault ≢ SetFault.OutOfMemory → IsFirstFault bytes.now fault) }
+    ensures bad_magic { HasNoMagic bytes.now → result ≡ Err (SetFault.BadMagic 0) }
 {
     if !bytes.starts_with(&MAGIC) {
         return Err(SetFault::BadMagic(0));
@@ -116,7 +117,7 @@ fn read_magic_and_variables(alloc: Global, bytes: &[u8]) -> Result<Vars, SetFaul
 /// [`SetFault::NotRising`] where the name isn't above the one before; [`SetFault::Truncated`] where the file ends in the
 /// length of the data; [`SetFault::BadData`] where the data is to have no byte or more than [`DATA_MAX`];
 /// [`SetFault::Truncated`] where the file ends in it. [`SetFault::OutOfMemory`] comes where memory was refused, also
-/// before a fault of a later record.
+/// before a fault of a later record, and never where the file doesn't begin with `BVS1`.
 pub fn read_set(alloc: Global, bytes: &[u8]) -> Result<Vars, SetFault>
     // What is read is spelled so.
     ensures found { IfOk result (λ vars. SpellsSet bytes.now vars) }
@@ -128,6 +129,8 @@ pub fn read_set(alloc: Global, bytes: &[u8]) -> Result<Vars, SetFault>
         fault ≢ SetFault.OutOfMemory → IsFirstFault bytes.now fault) }
     ensures only_fault { (fault : SetFault) → IsFirstFault bytes.now fault →
         IsUnless result (Err fault) SetFault.OutOfMemory }
+    // The magic is looked at before any memory is taken.
+    ensures bad_magic { HasNoMagic bytes.now → result ≡ Err (SetFault.BadMagic 0) }
 {
     laws::bytes_spell_one_set();
     laws::a_fault_leaves_no_set();

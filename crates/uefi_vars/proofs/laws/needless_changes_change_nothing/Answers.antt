@@ -1,6 +1,6 @@
 use Rattle.std.proofs.lemmas.Cmp.{nat_list_cmp_total}
 use Rattle.uefi_vars.proofs.Maps.{name_cmp-IsAntisymmetric}
-use Rattle.uefi_vars.specs.Maps.{insert_same, remove_absent}
+use Rattle.uefi_vars.proofs.MapChanges.{insert_same, remove_absent}
 use Rattle.uefi_vars.proofs.laws.needless_changes_change_nothing.Goals as goal
 
 pub returns : goal.returns

@@ -1,6 +1,6 @@
 use Rattle.std.proofs.lemmas.Cmp.{nat_list_cmp_total}
 use Rattle.uefi_vars.proofs.Maps.{name_cmp-IsAntisymmetric}
-use Rattle.uefi_vars.specs.Maps.{insert-swap}
+use Rattle.uefi_vars.proofs.MapChanges.{insert-swap}
 use Rattle.uefi_vars.proofs.laws.puts_under_two_names_commute.Goals as goal
 
 pub returns : goal.returns

@@ -1,6 +1,6 @@
 use Rattle.std.proofs.lemmas.Cmp.{nat_list_cmp_total}
 use Rattle.uefi_vars.proofs.Maps.{name_cmp-IsAntisymmetric}
-use Rattle.uefi_vars.specs.Maps.{insert-insert, remove-insert, insert-remove}
+use Rattle.uefi_vars.proofs.MapChanges.{insert-insert, remove-insert, insert-remove}
 use Rattle.uefi_vars.proofs.laws.the_last_change_of_a_name_counts.Goals as goal
 
 pub returns : goal.returns

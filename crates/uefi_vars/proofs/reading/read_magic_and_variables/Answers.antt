@@ -5,6 +5,12 @@ use Rattle.uefi_vars.proofs.Reader.{begins, are_variables}
 use Rattle.uefi_vars.proofs.Sets.{records_fault_is, records_spell}
 use Rattle.uefi_vars.proofs.reading.read_magic_and_variables.Goals as goal
 
+pub returns-in_err-variables-clause-bad_magic : goal.returns-in_err-variables-clause-bad_magic
+returns-in_err-variables-clause-bad_magic c = λ none. absurd (none _ (begins c.args.bytes.now c.starts_with.result c.starts_with.ensures.value c.if-not-starts_with.false))
+
+pub returns-clause-bad_magic : goal.returns-clause-bad_magic
+returns-clause-bad_magic c = λ none. absurd (none _ (begins c.args.bytes.now c.starts_with.result c.starts_with.ensures.value c.if-not-starts_with.false))
+
 pub returns-in_err-variables-clause-fault : goal.returns-in_err-variables-clause-fault
 returns-in_err-variables-clause-fault c =
     let bytes = c.args.bytes.now in
