@@ -13,5 +13,6 @@ pub mod Printing
 pub mod Within
 pub mod Reading
 pub mod Answering
+pub mod Placing
 pub mod Cutting
 pub mod Instances

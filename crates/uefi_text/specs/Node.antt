@@ -4,7 +4,7 @@ use Rattle.std.specs.List.{AllByRecursion}
 use Rattle.std.specs.Int.{w32, to_le_bytes}
 use Rattle.std.specs.Str.Parse.{AllDigits, digits_value}
 use Rattle.uefi_path.specs.declared.node.Node.{Node}
-use Rattle.uefi_path.specs.declared.node.TheConstants.{PCI_ROOT_HID, PCIE_ROOT_HID}
+use Rattle.uefi_path.specs.Standard.{pci_root_hid, pcie_root_hid}
 use Rattle.uefi_path.specs.declared.node.Node.TheVariants.{Pci, VendorHw, Acpi, Usb, VendorMsg, Mac, Ipv4, Sata, Nvme}
 use Rattle.uefi_path.specs.declared.node.Node.TheVariants.{Uri, HardDrive, VendorMedia, FilePath}
 use Rattle.uefi_path.specs.Parts.{VendorParts, ipv4_parts, hard_drive_parts}
@@ -14,13 +14,6 @@ use Rattle.uefi_text.specs.Number.{IsNumber}
 use Rattle.uefi_text.specs.Bytes.{IsHexData, IsAddress, IsEui}
 use Rattle.uefi_text.specs.Guid.{IsGuid}
 use Rattle.uefi_text.specs.Segment.{Segment, named, bare}
-
--- the hardware identifiers of PCI and PCI Express roots: PNP0A03 and PNP0A08, compressed
-abbrev pub pci_root_hid : ℕ
-pci_root_hid = PCI_ROOT_HID
-
-abbrev pub pcie_root_hid : ℕ
-pcie_root_hid = PCIE_ROOT_HID
 
 -- the low half of each identifier that begins with PNP, and the identifier with this high half
 abbrev pub pnp : ℕ

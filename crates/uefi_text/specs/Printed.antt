@@ -13,7 +13,8 @@ use Rattle.uefi_text.specs.Number.{number_text}
 use Rattle.uefi_text.specs.Bytes.{hex_text, upper_hex_text, address_text, eui_text}
 use Rattle.uefi_text.specs.Guid.{guid_text}
 use Rattle.uefi_text.specs.Segment.{Segment, named, segment_text, cut_text}
-use Rattle.uefi_text.specs.Node.{pci_root_hid, pcie_root_hid, pnp}
+use Rattle.uefi_path.specs.Standard.{pci_root_hid, pcie_root_hid}
+use Rattle.uefi_text.specs.Node.{pnp}
 
 -- no argument where there is no data, else its digits
 abbrev pub data_arguments : List ℕ → List (List ℕ)

@@ -1,5 +1,5 @@
 -- For private functions of the reader: what a text is read as, as functions of its arguments.
-use Rattle.std.specs.Prelude.{◌≡◌, ◌≤◌, ◌^◌, ℕ, ◌+◌, ◌*◌, Bool, ◌==◌, ◌&&◌, nat_lt, nat_le, List, [], ◌∷◌, ◌++◌}
+use Rattle.std.specs.Prelude.{◌≡◌, ◌≤◌, ◌^◌, ℕ, ◌+◌, ◌*◌, ◌%◌, Bool, ◌==◌, ◌&&◌, nat_lt, nat_le, List, [], ◌∷◌, ◌++◌}
 use Rattle.std.specs.Prelude.{length, drop, slice_index, replicate, codes, Option, Some, None, Result, Ok, Err}
 use Rattle.std.specs.Prelude.{if◌then◌else◌}
 use Rattle.std.specs.Char.{digit_value}
@@ -7,7 +7,7 @@ use Rattle.std.specs.List.{list_all, slice_split}
 use Rattle.std.specs.Cmp.Lexicographic.{pointwise}
 use Rattle.std.specs.Option.{option_map}
 use Rattle.std.specs.Result.{result_ok}
-use Rattle.hex.specs.Hex.{decode_of, decode_sized}
+use Rattle.hex.specs.Hex.{decode_sized}
 use Rattle.uuid.specs.Text.{parsed}
 use Rattle.uuid.specs.Parts.{swap_fields}
 use Rattle.std.specs.Str.Parse.{digits_value}
@@ -15,10 +15,11 @@ use Rattle.std.specs.Int.{w32, to_le_bytes}
 use Rattle.uefi_path.specs.declared.node.Node.{Node}
 use Rattle.uefi_path.specs.declared.node.Node.TheVariants.{Pci, Acpi, Usb, Mac, Ipv4, Sata, Nvme, HardDrive}
 use Rattle.uefi_path.specs.declared.node.Node.TheVariants.{Uri, FilePath, VendorHw, VendorMsg, VendorMedia}
-use Rattle.uefi_text.specs.declared.fault.TextFault.{TextFault}
-use Rattle.uefi_text.specs.declared.fault.TextFault.TheVariants.{BadSegment, BadNumber, OutOfRange, BadEnd, OutOfMemory}
+use Rattle.uefi_text.specs.declared.fault.SegmentFault.{SegmentFault}
+use Rattle.uefi_text.specs.declared.fault.SegmentFault.TheVariants.{BadSegment, BadNumber, OutOfRange, BadEnd, OutOfMemory}
 use Rattle.uefi_path.specs.Parts.{ipv4_parts, hard_drive_parts, VendorParts, vendor_parts}
 use Rattle.uefi_path.specs.Row.{Row, row}
+use Rattle.uefi_path.specs.Standard.{body_max, vendor_body_max, path_name_max}
 use Rattle.uefi_path.specs.Node.{row_of, IsNode}
 use Rattle.uefi_text.specs.Printed.{is_plain_from}
 use Rattle.uefi_text.specs.Bytes.{dot, hyphen}
@@ -31,22 +32,26 @@ abbrev pub ◌>>=◌ : {A B : Type 0} → Option A → (A → Option B) → Opti
 Some x >>= f = f x
 None >>= f = None
 
--- where nothing is read, the fault is of the segment at this place, in a text of so many bytes; want of memory says
--- nothing
-abbrev pub IsRefusal : {A : Type 0} → TextFault → Option A → ℕ → ℕ → Type 0
-IsRefusal (BadSegment at) read segment end = (read ≡ None) × (at ≡ segment)
-IsRefusal (BadNumber at) read segment end = (read ≡ None) × (segment ≤ at) × (at ≤ end)
-IsRefusal (OutOfRange at) read segment end = (read ≡ None) × (segment ≤ at) × (at ≤ end)
-IsRefusal (BadEnd at) read segment end = (read ≡ None) × (at ≡ segment)
-IsRefusal OutOfMemory read segment end = Unit {0}
+-- what the fault says: that there is nothing, or for want of memory the other
+abbrev pub Tells : SegmentFault → Type 0 → Type 0 → Type 0
+Tells BadSegment nothing wanted = nothing
+Tells (BadNumber _) nothing wanted = nothing
+Tells (OutOfRange _) nothing wanted = nothing
+Tells BadEnd nothing wanted = nothing
+Tells OutOfMemory nothing wanted = wanted
 
--- the answer, seen by view, is what is read
-abbrev pub ReadsAs : {X Y : Type 0} → (X → Y) → Result X TextFault → Option Y → ℕ → ℕ → Type 0
-ReadsAs view (Ok x) read segment end = read ≡ Some (view x)
-ReadsAs view (Err fault) read segment end = IsRefusal fault read segment end
+-- the answer, seen by view, is what is read, and a fault comes where nothing is; memory isn't taken
+abbrev pub ReadsAs : {X Y : Type 0} → (X → Y) → Result X SegmentFault → Option Y → Type 0
+ReadsAs view (Ok x) read = read ≡ Some (view x)
+ReadsAs view (Err fault) read = Tells fault (read ≡ None) ⊥
 
-abbrev pub Reads : {X : Type 0} → Result X TextFault → Option X → ℕ → ℕ → Type 0
+abbrev pub Reads : {X : Type 0} → Result X SegmentFault → Option X → Type 0
 Reads = ReadsAs (λ x. x)
+
+-- the same, where memory is taken, but wanted only where something is read
+abbrev pub Makes : {X : Type 0} → Result X SegmentFault → Option X → Type 0
+Makes (Ok x) read = read ≡ Some x
+Makes {X} (Err fault) read = Tells fault (read ≡ None) ((x : X) × (read ≡ Some x))
 
 -- the parts that a text is cut into at each mark, and its arguments
 abbrev pub parts_of : ℕ → List ℕ → List (List ℕ)
@@ -156,13 +161,20 @@ eui_of parts = do
   d ← two_bytes_of last.0 last.1
   Some (a.0 ∷ a.1 ∷ b.0 ∷ b.1 ∷ c.0 ∷ c.1 ∷ d.0 ∷ d.1 ∷ [])
 
--- the stored bytes of a GUID, the bytes of data, and an address of six bytes
+-- the stored bytes of a GUID
 abbrev pub guid_read : List ℕ → Option (List ℕ)
 guid_read text = if length text == 36 then option_map swap_fields (parsed text) else None
 
-abbrev pub data_of : List ℕ → Option (List ℕ)
-data_of text = result_ok (decode_of text)
+-- pairs of digits, and the bytes that they write
+abbrev pub is_data : List ℕ → Bool
+is_data text = (length text % 2 == 0) && list_all (λ digit. nat_lt (digit_value digit) 16) text
 
+abbrev pub data_bytes : List ℕ → List ℕ
+data_bytes [] = []
+data_bytes (_ ∷ []) = []
+data_bytes (high ∷ low ∷ text) = (digit_value high * 16 + digit_value low) ∷ data_bytes text
+
+-- an address of six bytes
 abbrev pub mac_of : List ℕ → Option (List ℕ)
 mac_of text = option_map (λ six. six ++ replicate 26 0) (result_ok (decode_sized text 6))
 
@@ -266,10 +278,10 @@ hard_drive_of arguments = do
   Some (HardDrive (hard_drive_parts partition start size signature.0 signature.1 signature.1))
 
 abbrev pub uri_of : List ℕ → Option Node
-uri_of text = if list_all (is_plain_from 0x21) text && nat_le (length text) 65531 then Some (Uri text) else None
+uri_of text = if list_all (is_plain_from 0x21) text && nat_le (length text) body_max then Some (Uri text) else None
 
 abbrev pub file_of : List ℕ → Option Node
-file_of text = if list_all (is_plain_from 0x20) text && nat_le (length text) 32764 then Some (FilePath text) else None
+file_of text = if list_all (is_plain_from 0x20) text && nat_le (length text) path_name_max then Some (FilePath text) else None
 
 -- a part, and perhaps one behind it
 abbrev pub second_of : List (List ℕ) → Option (Option (List ℕ))
@@ -280,16 +292,20 @@ abbrev pub one_or_two_of : List (List ℕ) → Option (List ℕ × Option (List 
 one_or_two_of [] = None
 one_or_two_of (a ∷ others) = second_of others >>= λ second. Some (a, second)
 
-abbrev pub optional_data_of : Option (List ℕ) → Option (List ℕ)
-optional_data_of None = Some []
-optional_data_of (Some text) = data_of text
+-- the bytes of data that may be there, where they are at most so many
+abbrev pub data_of : ℕ → List ℕ → Option (List ℕ)
+data_of most text = if is_data text && nat_le (length (data_bytes text)) most then Some (data_bytes text) else None
+
+abbrev pub data_up_to : ℕ → Option (List ℕ) → Option (List ℕ)
+data_up_to most None = Some []
+data_up_to most (Some text) = data_of most text
 
 unfoldable pub vendor_of : List (List ℕ) → Option VendorParts
 vendor_of arguments = do
   parts ← one_or_two_of arguments
   guid ← guid_read parts.0
-  body ← optional_data_of parts.1
-  if nat_le (length body) 65515 then Some (vendor_parts guid body) else None
+  body ← data_up_to vendor_body_max parts.1
+  Some (vendor_parts guid body)
 
 unfoldable pub generic_of : List (List ℕ) → Option Row
 generic_of arguments = do
@@ -297,21 +313,13 @@ generic_of arguments = do
   parts ← one_or_two_of first.1
   kind ← number_up_to 0xFF first.0
   sub ← number_up_to 0xFF parts.0
-  body ← optional_data_of parts.1
-  if nat_le (length body) 65531 then Some (row kind sub body) else None
+  body ← data_up_to body_max parts.1
+  Some (row kind sub body)
 
 -- the node has the row, if there is one
 abbrev pub IsOfRow : Node → Option Row → Type 0
 IsOfRow node None = ⊥
 IsOfRow node (Some r) = IsNode node × (row_of node ≡ r)
-
--- the place of the fault; want of memory has none
-abbrev pub IsFaultWithin : TextFault → ℕ → ℕ → Type 0
-IsFaultWithin (BadSegment at) segment end = at ≡ segment
-IsFaultWithin (BadNumber at) segment end = (segment ≤ at) × (at ≤ end)
-IsFaultWithin (OutOfRange at) segment end = (segment ≤ at) × (at ≤ end)
-IsFaultWithin (BadEnd at) segment end = at ≡ segment
-IsFaultWithin OutOfMemory segment end = Unit {0}
 
 unfoldable pub vendor_hw_of : List (List ℕ) → Option Node
 vendor_hw_of arguments = vendor_of arguments >>= λ vendor. Some (VendorHw vendor)

@@ -1,12 +1,6 @@
--- For private functions of the reader: where a part of a text lies.
+-- For private functions of the reader: where a text is cut.
 use Rattle.std.specs.Prelude.{◌≡◌, ◌≢◌, ◌≤◌, ℕ, ◌+◌, List, ◌∷◌, ◌++◌, length}
 use Rattle.std.specs.List.{AllByRecursion}
-use Rattle.uefi_text.specs.declared.piece.Span.{Span}
-
--- the part lies between the place of the segment and the end of the text
-pub record IsWithin (text : List ℕ) (place : ℕ) (span : Span) : Type 0 where
-  pub behind : span.segment ≤ place
-  pub before : place + length text ≤ span.end
 
 -- the mark does not stand in the text
 abbrev pub Lacks : ℕ → List ℕ → Type 0

@@ -1,9 +1,13 @@
 //! Why a text stands for no path.
 
-ghost use Rattle.std.specs.Prelude.{◌≡◌, IfOk};
+ghost use Rattle.std.specs.Prelude.{◌≡◌, ◌+◌, ◌<◌, ◌^◌, Some, None, IfOk, length};
 ghost use Rattle.std.specs.String.{string_bytes};
 ghost use Rattle.uefi_text.specs.declared.fault.TextFault.TheVariants as text;
+ghost use Rattle.uefi_text.specs.declared.fault.SegmentFault.TheVariants as segment;
+ghost use Rattle.uefi_text.specs.Cutting.{text_of};
+ghost use Rattle.uefi_text.specs.Placing.{IsFaultIn};
 
+use crate::segment::Segment;
 use std::alloc::{AllocError, AllocFailed, Global};
 use thiserror::Error;
 
@@ -34,7 +38,21 @@ pub enum TextFault {
 }
 
 impl TextFault {
-    ghost use Rattle.uefi_text.specs.Words.{text_fault_words};
+    ghost use Rattle.uefi_text.specs.Words.{text_fault_words, text_fault_place};
+
+    /// The place of the fault in the text, in bytes from its first one, where the fault has one: all
+    /// but want of memory have.
+    pub fn place(&self) -> Option<usize>
+        ensures { result ≡ text_fault_place self.now }
+    {
+        match self {
+            TextFault::BadSegment(place)
+            | TextFault::BadNumber(place)
+            | TextFault::OutOfRange(place)
+            | TextFault::BadEnd(place) => Some(*place),
+            TextFault::OutOfMemory => None,
+        }
+    }
 
     /// The fault's name and, where it has one, its place in decimal after a blank. The one refusal
     /// is for want of memory.
@@ -64,5 +82,44 @@ impl<T: Drop> From<AllocFailed<T>> for TextFault {
 
     fn from(_refusal: AllocFailed<T>) -> TextFault {
         TextFault::OutOfMemory
+    }
+}
+
+/// Why a segment stands for no node, by the tests of [`TextFault`]. An argument is told by how many
+/// stand before it.
+#[derive(Clone, Copy, Debug)]
+pub(crate) enum SegmentFault {
+    BadSegment,
+    BadNumber(usize),
+    OutOfRange(usize),
+    BadEnd,
+    OutOfMemory,
+}
+
+impl SegmentFault {
+    /// The fault of a text in which the segment begins at this place.
+    pub(crate) fn in_text(self, segment: Segment<'_>, place: usize) -> TextFault
+        requires { place + length (text_of segment) < 2 ^ 64 }
+        ensures { IsFaultIn self result place (place + length (text_of segment.entry)) }
+    {
+        match self {
+            SegmentFault::BadSegment => TextFault::BadSegment(place),
+            SegmentFault::BadNumber(index) => {
+                TextFault::BadNumber(place + segment.place_of(index))
+            }
+            SegmentFault::OutOfRange(index) => {
+                TextFault::OutOfRange(place + segment.place_of(index))
+            }
+            SegmentFault::BadEnd => TextFault::BadEnd(place),
+            SegmentFault::OutOfMemory => TextFault::OutOfMemory,
+        }
+    }
+}
+
+impl From<AllocError> for SegmentFault {
+    ghost from_gives = { λ _ fault. fault ≡ segment.OutOfMemory };
+
+    fn from(_refusal: AllocError) -> SegmentFault {
+        SegmentFault::OutOfMemory
     }
 }

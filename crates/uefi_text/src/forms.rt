@@ -1,103 +1,82 @@
 //! The forms of a node's text: each reads its arguments and makes the node.
 
-ghost use Rattle.std.specs.Prelude.{◌==◌, ◌&&◌, not, ◌≡◌, ◌≢◌, ◌≤◌, ◌++◌, replicate, length, ◌+◌, ◌↔◌, IsTrue, IfOk, IfErr, MatchOption};
-ghost use Rattle.std.specs.Option.{option_map, ForSome};
+ghost use Rattle.std.specs.Prelude.{◌==◌, ◌&&◌, not, ◌≡◌, ◌≢◌, ◌≤◌, ◌++◌, Some, replicate, length, ◌+◌, ◌↔◌, IsTrue, IfOk, IfErr};
 ghost use Rattle.std.specs.List.{list_all};
-ghost use Rattle.uefi_path.specs.declared.node.Node.{Node};
+ghost use Rattle.uefi_path.specs.Parts.{vendor_parts};
 ghost use Rattle.uefi_path.specs.Row.{row};
-ghost use Rattle.uefi_text.specs.declared.fault.TextFault.{TextFault};
-ghost use Rattle.uefi_text.specs.Within.{IsWithin};
-ghost use Rattle.uefi_text.specs.Answering.{AnswersNamed};
-ghost use Rattle.uefi_text.specs.Segment.{Segment as TextSegment};
-ghost use Rattle.uefi_text.specs.Path.{IsNodeText};
-ghost use Rattle.uefi_text.specs.Fault.{IsPlaceOf};
-ghost use Rattle.uefi_text.specs.Cutting.{IsCutOf, text_of, HasBareName};
-ghost use Rattle.uefi_text.specs.Reading.{Reads, arguments_of, pci_of, usb_of, sata_of, root_of, nvme_of, acpi_of, mac_node_of, ipv4_of, hard_drive_of, signature_of, ReadsAs, uri_of, file_of, vendor_of, vendor_hw_of, vendor_msg_of, vendor_media_of, optional_data_of, generic_of, IsOfRow, IsFaultWithin};
+ghost use Rattle.uefi_path.specs.Standard.{body_max, vendor_body_max};
+ghost use Rattle.uefi_text.specs.Answering.{AnswersNamed, AnswersSegment, AnswersRow};
+ghost use Rattle.uefi_text.specs.Cutting.{HasBareName};
+ghost use Rattle.uefi_text.specs.Reading.{Reads, arguments_of, pci_of, usb_of, sata_of, root_of, nvme_of, acpi_of, mac_node_of, ipv4_of, hard_drive_of, signature_of, ReadsAs, Makes, uri_of, file_of, vendor_of, vendor_hw_of, vendor_msg_of, vendor_media_of, is_data, data_bytes, generic_of};
 ghost use Rattle.std.specs.Int.{w32, to_le_bytes};
 
-use crate::fault::TextFault;
-use crate::node_text::{is_plain_name, is_plain_uri};
-use crate::piece::{Piece, Span};
+use crate::argument::{
+    address_of, bytes_of, data_up_to, eui_of, first, first_two, guid_argument, hid_of, mac_of,
+    number_up_to, one, one_or_two, origin_of, three, two, u8_of, u16_of, u32_of, u64_of,
+};
+use crate::fault::SegmentFault;
+use crate::print_node::{is_plain_name_text, is_plain_uri};
 use crate::segment::Segment;
 use std::alloc::{AllocError, Global};
-use uefi_path::laws::each_node_is_spelled;
+use uefi_path::laws::{each_node_is_spelled, each_row_is_a_nodes};
 use uefi_path::{
-    BODY_MAX, FileNode, HardDriveNode, Ipv4Node, NameFault, Node, NodeFault, PCI_ROOT_HID,
-    PCIE_ROOT_HID, UriNode, Vendor, node_from_parts,
+    BODY_MAX, FileNode, Guid, HardDriveNode, Ipv4Node, PATH_NAME_MAX, Node, NodeFault, OtherNode,
+    PCI_ROOT_HID, PCIE_ROOT_HID, UriNode, VENDOR_BODY_MAX, Vendor, node_from_parts,
 };
 
 /// The node that a segment stands for.
 ///
-/// The faults are those of the segment, in the order of [`TextFault`].
-pub(crate) fn node_of(alloc: Global, segment: Segment<'_>, span: Span) -> Result<Node, TextFault>
-    requires within { span.segment + length (text_of segment) ≤ span.end }
-    requires bare { HasBareName segment }
-    ensures found { IfOk result (λ node. (s : TextSegment) × IsCutOf segment.entry s × IsNodeText s node) }
-    ensures fault { IfErr result (λ fault. fault ≢ TextFault.OutOfMemory →
-        ((s : TextSegment) (node : Node) → IsCutOf segment.entry s → IsNodeText s node → ⊥)
-        × IsPlaceOf fault span.segment span.end) }
+/// The faults are those of the segment, in the order of [`TextFault`](crate::TextFault).
+pub(crate) fn node_of(alloc: Global, segment: Segment<'_>) -> Result<Node, SegmentFault>
+    requires { HasBareName segment }
+    ensures { AnswersSegment segment.entry result }
 {
     match segment {
-        Segment::Bare(name) => {
-            let place = span.segment;
-            file(alloc, Piece { text: name, place }, span)
-        }
-        Segment::Named { name, inside } => {
-            let place = span.segment + name.len() + 1;
-            named_node(
-                alloc,
-                name,
-                Piece {
-                    text: inside,
-                    place,
-                },
-                span,
-            )
-        }
+        Segment::Bare(name) => file(alloc, name),
+        Segment::Named { name, inside } => named_node(alloc, name, inside),
     }
 }
 
 /// The node of a segment of this name, with this text between its parentheses.
-fn named_node(alloc: Global, name: &[u8], inside: Piece<'_>, span: Span) -> Result<Node, TextFault>
-    requires { IsWithin inside.text.now inside.place span }
-    ensures { AnswersNamed name.now inside.entry.text.now result span.segment span.end }
+fn named_node(alloc: Global, name: &[u8], inside: &[u8]) -> Result<Node, SegmentFault>
+    ensures { AnswersNamed name.now inside.now result }
 {
     if is_name(name, b"Pci") {
-        pci(inside, span)
+        pci(inside)
     } else if is_name(name, b"USB") {
-        usb(inside, span)
+        usb(inside)
     } else if is_name(name, b"Sata") {
-        sata(inside, span)
+        sata(inside)
     } else if is_name(name, b"NVMe") {
-        nvme(inside, span)
+        nvme(inside)
     } else if is_name(name, b"PciRoot") {
-        root(inside, PCI_ROOT_HID, span)
+        root(inside, PCI_ROOT_HID)
     } else if is_name(name, b"PcieRoot") {
-        root(inside, PCIE_ROOT_HID, span)
+        root(inside, PCIE_ROOT_HID)
     } else if is_name(name, b"Acpi") {
-        acpi(inside, span)
+        acpi(inside)
     } else if is_name(name, b"MAC") {
-        mac_node(inside, span)
+        mac_node(inside)
     } else if is_name(name, b"IPv4") {
-        ipv4(inside, span)
+        ipv4(inside)
     } else if is_name(name, b"Uri") {
-        uri(alloc, inside, span)
+        uri(alloc, inside)
     } else if is_name(name, b"File") {
-        file(alloc, inside, span)
+        file(alloc, inside)
     } else if is_name(name, b"HD") {
-        hard_drive(inside, span)
+        hard_drive(inside)
     } else if is_name(name, b"VenHw") {
-        vendor_hw(alloc, inside, span)
+        vendor_hw(alloc, inside)
     } else if is_name(name, b"VenMsg") {
-        vendor_msg(alloc, inside, span)
+        vendor_msg(alloc, inside)
     } else if is_name(name, b"VenMedia") {
-        vendor_media(alloc, inside, span)
+        vendor_media(alloc, inside)
     } else if is_name(name, b"Path") {
         // for its contract: two bytes state the length of a node
         each_node_is_spelled();
-        generic(alloc, inside, span)
+        generic(alloc, inside)
     } else {
-        Err(TextFault::BadSegment(span.segment))
+        Err(SegmentFault::BadSegment)
     }
 }
 
@@ -107,64 +86,64 @@ fn is_name(name: &[u8], expected: &[u8]) -> bool
     name == expected
 }
 
+#[inline(never)]
 #[tactic(auto, unfolding(crate::specs::Reading::vendor_hw_of))]
-fn vendor_hw(alloc: Global, inside: Piece<'_>, span: Span) -> Result<Node, TextFault>
-    requires { IsWithin inside.text.now inside.place span }
-    ensures { Reads result (vendor_hw_of (arguments_of inside.entry.text.now)) span.segment span.end }
+fn vendor_hw(alloc: Global, inside: &[u8]) -> Result<Node, SegmentFault>
+    ensures { Makes result (vendor_hw_of (arguments_of inside.now)) }
 {
-    let vendor = vendor(alloc, inside, span)?;
+    let vendor = vendor(alloc, inside)?;
     Ok(Node::VendorHw(vendor))
 }
 
+#[inline(never)]
 #[tactic(auto, unfolding(crate::specs::Reading::vendor_msg_of))]
-fn vendor_msg(alloc: Global, inside: Piece<'_>, span: Span) -> Result<Node, TextFault>
-    requires { IsWithin inside.text.now inside.place span }
-    ensures { Reads result (vendor_msg_of (arguments_of inside.entry.text.now)) span.segment span.end }
+fn vendor_msg(alloc: Global, inside: &[u8]) -> Result<Node, SegmentFault>
+    ensures { Makes result (vendor_msg_of (arguments_of inside.now)) }
 {
-    let vendor = vendor(alloc, inside, span)?;
+    let vendor = vendor(alloc, inside)?;
     Ok(Node::VendorMsg(vendor))
 }
 
+#[inline(never)]
 #[tactic(auto, unfolding(crate::specs::Reading::vendor_media_of))]
-fn vendor_media(alloc: Global, inside: Piece<'_>, span: Span) -> Result<Node, TextFault>
-    requires { IsWithin inside.text.now inside.place span }
-    ensures { Reads result (vendor_media_of (arguments_of inside.entry.text.now)) span.segment span.end }
+fn vendor_media(alloc: Global, inside: &[u8]) -> Result<Node, SegmentFault>
+    ensures { Makes result (vendor_media_of (arguments_of inside.now)) }
 {
-    let vendor = vendor(alloc, inside, span)?;
+    let vendor = vendor(alloc, inside)?;
     Ok(Node::VendorMedia(vendor))
 }
 
+#[inline(never)]
 #[tactic(auto, unfolding(crate::specs::Reading::pci_of))]
-fn pci(inside: Piece<'_>, span: Span) -> Result<Node, TextFault>
-    requires { IsWithin inside.text.now inside.place span }
-    ensures { Reads result (pci_of (arguments_of inside.entry.text.now)) span.segment span.end }
+fn pci(inside: &[u8]) -> Result<Node, SegmentFault>
+    ensures { Reads result (pci_of (arguments_of inside.now)) }
 {
-    let (device, function) = inside.two(b',', span)?;
-    let device = device.u8(span)?;
-    let function = function.u8(span)?;
+    let (device, function) = two(inside, b',')?;
+    let device = u8_of(device, 0)?;
+    let function = u8_of(function, 1)?;
     Ok(Node::Pci { function, device })
 }
 
+#[inline(never)]
 #[tactic(auto, unfolding(crate::specs::Reading::usb_of))]
-fn usb(inside: Piece<'_>, span: Span) -> Result<Node, TextFault>
-    requires { IsWithin inside.text.now inside.place span }
-    ensures { Reads result (usb_of (arguments_of inside.entry.text.now)) span.segment span.end }
+fn usb(inside: &[u8]) -> Result<Node, SegmentFault>
+    ensures { Reads result (usb_of (arguments_of inside.now)) }
 {
-    let (port, interface) = inside.two(b',', span)?;
-    let port = port.u8(span)?;
-    let interface = interface.u8(span)?;
+    let (port, interface) = two(inside, b',')?;
+    let port = u8_of(port, 0)?;
+    let interface = u8_of(interface, 1)?;
     Ok(Node::Usb { port, interface })
 }
 
+#[inline(never)]
 #[tactic(auto, unfolding(crate::specs::Reading::sata_of))]
-fn sata(inside: Piece<'_>, span: Span) -> Result<Node, TextFault>
-    requires { IsWithin inside.text.now inside.place span }
-    ensures { Reads result (sata_of (arguments_of inside.entry.text.now)) span.segment span.end }
+fn sata(inside: &[u8]) -> Result<Node, SegmentFault>
+    ensures { Reads result (sata_of (arguments_of inside.now)) }
 {
-    let (hba, multiplier, lun) = inside.three(b',', span)?;
-    let hba = hba.u16(span)?;
-    let multiplier = multiplier.u16(span)?;
-    let lun = lun.u16(span)?;
+    let (hba, multiplier, lun) = three(inside, b',')?;
+    let hba = u16_of(hba, 0)?;
+    let multiplier = u16_of(multiplier, 1)?;
+    let lun = u16_of(lun, 2)?;
     Ok(Node::Sata {
         hba,
         multiplier,
@@ -172,105 +151,98 @@ fn sata(inside: Piece<'_>, span: Span) -> Result<Node, TextFault>
     })
 }
 
+#[inline(never)]
 #[tactic(auto, unfolding(crate::specs::Reading::root_of))]
-fn root(inside: Piece<'_>, hid: u32, span: Span) -> Result<Node, TextFault>
-    requires { IsWithin inside.text.now inside.place span }
-    ensures { Reads result (root_of hid (arguments_of inside.entry.text.now)) span.segment span.end }
+fn root(inside: &[u8], hid: u32) -> Result<Node, SegmentFault>
+    ensures { Reads result (root_of hid (arguments_of inside.now)) }
 {
-    let uid = inside.one(b',', span)?;
-    let uid = uid.u32(span)?;
+    let uid = one(inside, b',')?;
+    let uid = u32_of(uid, 0)?;
     Ok(Node::Acpi { hid, uid })
 }
 
+#[inline(never)]
 #[tactic(auto, unfolding(crate::specs::Reading::nvme_of))]
-fn nvme(inside: Piece<'_>, span: Span) -> Result<Node, TextFault>
-    requires { IsWithin inside.text.now inside.place span }
-    ensures { Reads result (nvme_of (arguments_of inside.entry.text.now)) span.segment span.end }
+fn nvme(inside: &[u8]) -> Result<Node, SegmentFault>
+    ensures { Reads result (nvme_of (arguments_of inside.now)) }
 {
-    let (namespace, eui) = inside.two(b',', span)?;
-    let namespace = namespace.u32(span)?;
-    let eui = eui.eui(span)?;
+    let (namespace, eui) = two(inside, b',')?;
+    let namespace = u32_of(namespace, 0)?;
+    let eui = eui_of(eui)?;
     Ok(Node::Nvme { namespace, eui })
 }
 
+#[inline(never)]
 #[tactic(auto, unfolding(crate::specs::Reading::acpi_of))]
-fn acpi(inside: Piece<'_>, span: Span) -> Result<Node, TextFault>
-    requires { IsWithin inside.text.now inside.place span }
-    ensures { Reads result (acpi_of (arguments_of inside.entry.text.now)) span.segment span.end }
+fn acpi(inside: &[u8]) -> Result<Node, SegmentFault>
+    ensures { Reads result (acpi_of (arguments_of inside.now)) }
 {
-    let (hid, uid) = inside.two(b',', span)?;
-    let hid = hid.hid(span)?;
-    let uid = uid.u32(span)?;
+    let (hid, uid) = two(inside, b',')?;
+    let hid = hid_of(hid, 0)?;
+    let uid = u32_of(uid, 1)?;
     Ok(Node::Acpi { hid, uid })
 }
 
+#[inline(never)]
 #[tactic(auto, unfolding(crate::specs::Reading::mac_node_of))]
-fn mac_node(inside: Piece<'_>, span: Span) -> Result<Node, TextFault>
-    requires { IsWithin inside.text.now inside.place span }
-    ensures { Reads result (mac_node_of (arguments_of inside.entry.text.now)) span.segment span.end }
+fn mac_node(inside: &[u8]) -> Result<Node, SegmentFault>
+    ensures { Reads result (mac_node_of (arguments_of inside.now)) }
 {
-    let (address, if_kind) = inside.two(b',', span)?;
-    let address = address.mac(span)?;
-    let if_kind = if_kind.number(1, span)?;
+    let (address, if_kind) = two(inside, b',')?;
+    let address = mac_of(address)?;
+    let if_kind = number_up_to(1, if_kind, 1)?;
     Ok(Node::Mac {
         address,
         if_kind: if_kind as u8,
     })
 }
 
+#[inline(never)]
 #[tactic(auto, unfolding(crate::specs::Reading::ipv4_of))]
-fn ipv4(inside: Piece<'_>, span: Span) -> Result<Node, TextFault>
-    requires { IsWithin inside.text.now inside.place span }
-    ensures { Reads result (ipv4_of (arguments_of inside.entry.text.now)) span.segment span.end }
+fn ipv4(inside: &[u8]) -> Result<Node, SegmentFault>
+    ensures { Reads result (ipv4_of (arguments_of inside.now)) }
 {
-    let (remote, protocol, others) = inside.first_two(b',', span)?;
-    let (origin, local, others) = others.first_two(b',', span)?;
-    let (gateway, mask) = others.two(b',', span)?;
-    let remote = remote.address(span)?;
-    let protocol = protocol.u16(span)?;
-    let fixed = origin.origin(span)?;
-    let local = local.address(span)?;
-    let gateway = gateway.address(span)?;
-    let mask = mask.address(span)?;
+    let (remote, protocol, others) = first_two(inside, b',')?;
+    let (origin, local, others) = first_two(others, b',')?;
+    let (gateway, mask) = two(others, b',')?;
+    let remote = address_of(remote)?;
+    let protocol = u16_of(protocol, 1)?;
+    let fixed = origin_of(origin)?;
+    let local = address_of(local)?;
+    let gateway = address_of(gateway)?;
+    let mask = address_of(mask)?;
     Ok(Node::Ipv4(Ipv4Node::new(local, remote, 0, 0, protocol, fixed, gateway, mask)))
 }
 
+#[inline(never)]
 #[tactic(auto, unfolding(crate::specs::Reading::hard_drive_of))]
-fn hard_drive(inside: Piece<'_>, span: Span) -> Result<Node, TextFault>
-    requires { IsWithin inside.text.now inside.place span }
-    ensures { Reads result (hard_drive_of (arguments_of inside.entry.text.now)) span.segment span.end }
+fn hard_drive(inside: &[u8]) -> Result<Node, SegmentFault>
+    ensures { Reads result (hard_drive_of (arguments_of inside.now)) }
 {
-    let (partition, format, others) = inside.first_two(b',', span)?;
-    let (signature, start, size) = others.three(b',', span)?;
-    let partition = partition.u32(span)?;
-    let (signature, kind) = signature_of(format, signature, span)?;
-    let start = start.u64(span)?;
-    let size = size.u64(span)?;
+    let (partition, format, others) = first_two(inside, b',')?;
+    let (signature, start, size) = three(others, b',')?;
+    let partition = u32_of(partition, 0)?;
+    let (signature, kind) = signature_of(format, signature)?;
+    let start = u64_of(start, 3)?;
+    let size = u64_of(size, 4)?;
     Ok(Node::HardDrive(HardDriveNode::new(partition, start, size, signature, kind, kind)))
 }
 
 /// The signature of a partition, and its type, which is also the format.
 #[tactic(auto, unfolding(crate::specs::Reading::signature_of))]
-fn signature_of(
-    format: Piece<'_>,
-    signature: Piece<'_>,
-    span: Span,
-) -> Result<([u8; 16], u8), TextFault>
-    requires format { IsWithin format.text.now format.place span }
-    requires signature { IsWithin signature.text.now signature.place span }
-    ensures { ReadsAs (λ parts. (parts.0, parts.1)) result
-        (signature_of format.entry.text.now signature.entry.text.now) span.segment span.end }
+fn signature_of(format: &[u8], signature: &[u8]) -> Result<([u8; 16], u8), SegmentFault>
+    ensures { ReadsAs (λ parts. (parts.0, parts.1)) result (signature_of format.now signature.now) }
 {
-    if format.text == b"GPT".as_slice() {
-        let guid = signature.guid(span)?;
+    if format == b"GPT".as_slice() {
+        let guid = guid_argument(signature)?;
         let bytes = guid.0;
         Ok((bytes, HardDriveNode::FORMAT_GPT))
-    } else if format.text == b"MBR".as_slice() {
-        let number = signature.u32(span)?;
+    } else if format == b"MBR".as_slice() {
+        let number = u32_of(signature, 2)?;
         let bytes = mbr_signature(number);
         Ok((bytes, HardDriveNode::FORMAT_MBR))
     } else {
-        Err(TextFault::BadSegment(span.segment))
+        Err(SegmentFault::BadSegment)
     }
 }
 
@@ -282,39 +254,43 @@ fn mbr_signature(number: u32) -> [u8; 16]
     [a, b, c, d, 0, 0, 0, 0, 0, 0, 0, 0, 0, 0, 0, 0]
 }
 
-fn uri(alloc: Global, inside: Piece<'_>, span: Span) -> Result<Node, TextFault>
-    requires { IsWithin inside.text.now inside.place span }
-    ensures { Reads result (uri_of inside.entry.text.now) span.segment span.end }
+#[inline(never)]
+fn uri(alloc: Global, inside: &[u8]) -> Result<Node, SegmentFault>
+    ensures { Makes result (uri_of inside.now) }
 {
-    if !is_plain_uri(inside.text) {
-        return Err(TextFault::BadSegment(span.segment));
+    if !is_plain_uri(inside) {
+        return Err(SegmentFault::BadSegment);
     }
-    match UriNode::new(alloc, inside.text) {
+    if inside.len() > BODY_MAX {
+        return Err(SegmentFault::OutOfRange(0));
+    }
+    let bytes = Vec::from_slice(alloc, inside)?;
+    match UriNode::from_vec(bytes) {
         Ok(node) => Ok(Node::Uri(node)),
-        Err(NodeFault::OutOfMemory) => Err(TextFault::OutOfMemory),
-        Err(_) => Err(TextFault::OutOfRange(inside.place)),
+        Err(_) => unreachable!(),
     }
 }
 
 /// A file path, whose name stands in the parentheses of `File` or by itself.
-fn file(alloc: Global, name: Piece<'_>, span: Span) -> Result<Node, TextFault>
-    requires { IsWithin name.text.now name.place span }
-    ensures { Reads result (file_of name.entry.text.now) span.segment span.end }
+#[inline(never)]
+fn file(alloc: Global, name: &[u8]) -> Result<Node, SegmentFault>
+    ensures { Makes result (file_of name.now) }
 {
-    let units = units_of(alloc, name.text)?;
-    if !is_plain_name(&units) {
-        return Err(TextFault::BadSegment(span.segment));
+    if !is_plain_name_text(name) {
+        return Err(SegmentFault::BadSegment);
     }
-    match FileNode::new(alloc, &units) {
+    if name.len() > PATH_NAME_MAX {
+        return Err(SegmentFault::OutOfRange(0));
+    }
+    let units = wide(alloc, name)?;
+    match FileNode::from_vec(units) {
         Ok(node) => Ok(Node::FilePath(node)),
-        Err(NameFault::OutOfMemory) => Err(TextFault::OutOfMemory),
-        Err(NameFault::TooLong) => Err(TextFault::OutOfRange(name.place)),
-        Err(NameFault::ZeroUnit(_)) => Err(TextFault::BadSegment(span.segment)),
+        Err(_) => unreachable!(),
     }
 }
 
-/// The bytes as units of 16 bits.
-fn units_of(alloc: Global, bytes: &[u8]) -> Result<Vec<u16>, AllocError>
+/// The bytes, each as a unit of 16 bits.
+fn wide(alloc: Global, bytes: &[u8]) -> Result<Vec<u16>, AllocError>
     ensures { IfOk result (λ units. units.items ≡ bytes.now) }
 {
     let mut units = Vec::with_capacity(alloc, bytes.len())?;
@@ -324,74 +300,72 @@ fn units_of(alloc: Global, bytes: &[u8]) -> Result<Vec<u16>, AllocError>
     Ok(units)
 }
 
-#[tactic(auto, unfolding(crate::specs::Reading::vendor_of))]
-fn vendor(alloc: Global, inside: Piece<'_>, span: Span) -> Result<Vendor, TextFault>
-    requires { IsWithin inside.text.now inside.place span }
-    ensures { Reads result (vendor_of (arguments_of inside.entry.text.now)) span.segment span.end }
+fn vendor(alloc: Global, inside: &[u8]) -> Result<Vendor, SegmentFault>
+    ensures { Makes result (vendor_of (arguments_of inside.now)) }
 {
-    let (guid, data) = inside.one_or_two(b',', span)?;
-    let guid = guid.guid(span)?;
-    let body = optional_bytes(alloc, data, span)?;
-    match Vendor::new(alloc, guid, &body) {
+    let (guid, digits) = vendor_texts(inside)?;
+    let body = bytes_of(alloc, digits)?;
+    match Vendor::from_vec(guid, body) {
         Ok(vendor) => Ok(vendor),
-        Err(NodeFault::OutOfMemory) => Err(TextFault::OutOfMemory),
-        Err(_) => Err(TextFault::OutOfRange(place_of(data, inside.place))),
+        Err(_) => unreachable!(),
     }
 }
 
-/// The bytes of data that may be there.
-fn optional_bytes(alloc: Global, more: Option<Piece<'_>>, span: Span) -> Result<Vec<u8>, TextFault>
-    requires { ForSome more (λ text. IsWithin text.text.now text.place span) }
-    ensures { ReadsAs (λ bytes. bytes.items) result
-        (optional_data_of (option_map (λ text. text.text.now) more.entry)) span.segment span.end }
+/// The identifier of a vendor's node, and the digits of its data.
+#[tactic(auto, unfolding(crate::specs::Reading::vendor_of))]
+fn vendor_texts(inside: &[u8]) -> Result<(Guid, &[u8]), SegmentFault>
+    ensures data { IfOk result (λ parts. IsTrue (is_data parts.1.now)) }
+    ensures len { IfOk result (λ parts. length (data_bytes parts.1.now) ≤ vendor_body_max) }
+    ensures value { ReadsAs (λ parts. vendor_parts parts.0.0 (data_bytes parts.1.now)) result
+        (vendor_of (arguments_of inside.now)) }
 {
-    match more {
-        None => Ok(Vec::new(alloc)),
-        Some(text) => text.bytes(alloc, span),
-    }
+    let (guid, data) = one_or_two(inside, b',')?;
+    let guid = guid_argument(guid)?;
+    let digits = data_up_to(VENDOR_BODY_MAX, data, 1)?;
+    Ok((guid, digits))
 }
 
-/// The place of data that may be there.
-fn place_of(more: Option<Piece<'_>>, otherwise: usize) -> usize
-    ensures { MatchOption more.entry (result ≡ otherwise) (λ text. result ≡ text.place) }
+#[inline(never)]
+fn generic(alloc: Global, inside: &[u8]) -> Result<Node, SegmentFault>
+    ensures { AnswersRow result (generic_of (arguments_of inside.now)) }
 {
-    match more {
-        None => otherwise,
-        Some(text) => text.place,
-    }
+    let (kind, sub, digits) = row_texts(inside)?;
+    node_of_row(alloc, kind, sub, digits)
 }
 
-fn generic(alloc: Global, inside: Piece<'_>, span: Span) -> Result<Node, TextFault>
-    requires { IsWithin inside.text.now inside.place span }
-    ensures found { IfOk result (λ node.
-        IsOfRow node (generic_of (arguments_of inside.entry.text.now))) }
-    ensures refused { IfErr result (λ fault. fault ≢ TextFault.OutOfMemory → (node : Node) →
-        IsOfRow node (generic_of (arguments_of inside.entry.text.now)) → ⊥) }
-    ensures place { IfErr result (λ fault. IsFaultWithin fault span.segment span.end) }
-{
-    let (kind, sub, body) = row_parts(alloc, inside, span)?;
-    match node_from_parts(alloc, kind, sub, &body) {
-        Ok(node) => Ok(node),
-        Err(NodeFault::OutOfMemory) => Err(TextFault::OutOfMemory),
-        Err(_) => Err(TextFault::BadEnd(span.segment)),
-    }
-}
-
-/// The type, the sub-type and the data of any node.
+/// The type and the sub-type of any node, and the digits of its data.
 #[tactic(auto, unfolding(crate::specs::Reading::generic_of))]
-fn row_parts(alloc: Global, inside: Piece<'_>, span: Span) -> Result<(u8, u8, Vec<u8>), TextFault>
-    requires { IsWithin inside.text.now inside.place span }
-    ensures len { IfOk result (λ parts. length parts.2.items ≤ 65531) }
-    ensures value { ReadsAs (λ parts. row parts.0 parts.1 parts.2.items) result
-        (generic_of (arguments_of inside.entry.text.now)) span.segment span.end }
+fn row_texts(inside: &[u8]) -> Result<(u8, u8, &[u8]), SegmentFault>
+    ensures data { IfOk result (λ parts. IsTrue (is_data parts.2.now)) }
+    ensures len { IfOk result (λ parts. length (data_bytes parts.2.now) ≤ body_max) }
+    ensures value { ReadsAs (λ parts. row parts.0 parts.1 (data_bytes parts.2.now)) result
+        (generic_of (arguments_of inside.now)) }
 {
-    let (kind, others) = inside.first(b',', span)?;
-    let (sub, data) = others.one_or_two(b',', span)?;
-    let kind = kind.u8(span)?;
-    let sub = sub.u8(span)?;
-    let body = optional_bytes(alloc, data, span)?;
-    if body.len() > BODY_MAX {
-        return Err(TextFault::OutOfRange(place_of(data, others.place)));
+    let (kind, others) = first(inside, b',')?;
+    let (sub, data) = one_or_two(others, b',')?;
+    let kind = u8_of(kind, 0)?;
+    let sub = u8_of(sub, 1)?;
+    let digits = data_up_to(BODY_MAX, data, 2)?;
+    Ok((kind, sub, digits))
+}
+
+/// The node of a type, a sub-type and the digits of data.
+fn node_of_row(alloc: Global, kind: u8, sub: u8, digits: &[u8]) -> Result<Node, SegmentFault>
+    requires data { IsTrue (is_data digits.now) }
+    requires len { length (data_bytes digits.now) ≤ body_max }
+    ensures { AnswersRow result (Some (row kind sub (data_bytes digits.now))) }
+{
+    // for its contract, that there is a node
+    each_row_is_a_nodes();
+    if kind == 0x7f {
+        return Err(SegmentFault::BadEnd);
     }
-    Ok((kind, sub, body))
+    match OtherNode::from_vec(kind, sub, bytes_of(alloc, digits)?) {
+        Ok(node) => Ok(Node::Other(node)),
+        Err(body) => match node_from_parts(alloc, kind, sub, &body) {
+            Ok(node) => Ok(node),
+            Err(NodeFault::OutOfMemory) => Err(SegmentFault::OutOfMemory),
+            Err(_) => unreachable!(),
+        },
+    }
 }

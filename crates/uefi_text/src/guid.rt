@@ -7,10 +7,9 @@ ghost use Rattle.std.specs.Option.{option_map};
 ghost use Rattle.uefi_text.specs.Reading.{guid_read};
 ghost use Rattle.uefi_text.specs.Guid.{IsGuid, guid_text as printed_guid};
 
-use crate::field::field;
 use std::alloc::{AllocError, Global};
 use std::fmt;
-use uefi_path::Guid;
+use uefi_path::{Guid, field};
 use uuid::Uuid;
 
 /// The bytes of a GUID's text.

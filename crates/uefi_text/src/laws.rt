@@ -1,6 +1,6 @@
 //! Laws of the definitions. Each function's contract is one law; calling it does nothing.
 
-ghost use Rattle.std.specs.Prelude.{◌≡◌, ◌<◌, ◌^◌, ℕ, List};
+ghost use Rattle.std.specs.Prelude.{◌≡◌, ◌↔◌, ◌<◌, ◌^◌, ℕ, List, IsTrue};
 ghost use Rattle.uefi_path.specs.declared.node.Node.{Node};
 ghost use Rattle.uefi_path.specs.Row.{AreBytes};
 ghost use Rattle.uefi_path.specs.Node.{IsNode};
@@ -72,4 +72,9 @@ pub fn a_text_is_stuck_at_one_place()
 pub fn a_text_with_a_fault_stands_for_no_path()
     ensures { (text : List ℕ) (fault : TextFault) (path : List (List Node)) →
         IsTextFault text fault → IsPathText text path → ⊥ }
+{}
+
+/// `==` on the faults of texts tells whether they are equal.
+pub fn text_faults_compare_as_values()
+    ensures { (a b : TextFault) → IsTrue (⟦<TextFault as PartialEq>⟧.eq a b) ↔ (a ≡ b) }
 {}

@@ -6,21 +6,20 @@
 //! alone. [`PathText`] and [`GuidText`] are the printed texts as values that `{}` writes.
 #![tactic(auto)]
 
+mod argument;
 mod fault;
-mod field;
 mod forms;
 mod guid;
 pub mod laws;
-mod node_text;
-mod piece;
-mod printed;
-mod printing;
+mod print_node;
+mod print_parts;
+mod print_path;
 mod reading;
 mod segment;
 
 pub use fault::TextFault;
 pub use guid::{GuidText, guid_text, read_guid};
-pub use printing::{PathText, path_text};
+pub use print_path::{PathText, path_text};
 pub use reading::read_text;
 
 #[cfg(test)]

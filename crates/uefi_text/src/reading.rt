@@ -1,16 +1,15 @@
 //! Paths from text.
 
-ghost use Rattle.std.specs.Prelude.{◌≡◌, ◌≢◌, ◌≤◌, List, length, map, IfOk, IfErr};
+ghost use Rattle.std.specs.Prelude.{◌≡◌, ◌≢◌, ◌≤◌, List, length, map, Err, IfOk, IfErr};
 ghost use Rattle.uefi_path.specs.declared.node.Node.{Node};
 ghost use Rattle.uefi_path.specs.Answer.{IsUnless};
 ghost use Rattle.uefi_text.specs.Path.{IsPathText};
-ghost use Rattle.uefi_text.specs.Fault.{IsTextFault};
+ghost use Rattle.uefi_text.specs.Fault.{IsTextFault, BeginsWithNode};
 ghost use Rattle.uefi_text.specs.Instances.{IsReadNode, IsRefusedNode, IsReadInstance, IsRefusedInstance, IsReadPath};
 
 use crate::fault::TextFault;
 use crate::forms::node_of;
 use crate::laws;
-use crate::piece::Span;
 use crate::segment::{cut_segment, ends_instance};
 use std::alloc::Global;
 use uefi_path::{Node, Path, make_path};
@@ -91,13 +90,14 @@ fn read_segment(alloc: Global, text: &[u8], len: usize) -> Result<(Node, &[u8]),
     requires { length text.now ≤ len }
     ensures found { IfOk result (λ read. IsReadNode text.now read.0 read.1.now) }
     ensures fault { IfErr result (λ fault. fault ≢ TextFault.OutOfMemory → IsRefusedNode text.now fault len) }
+    ensures memory { result ≡ Err TextFault.OutOfMemory → BeginsWithNode text.now }
 {
-    let span = Span {
-        segment: len - text.len(),
-        end: len,
-    };
+    let place = len - text.len();
     let Some((segment, rest)) = cut_segment(text) else {
-        return Err(TextFault::BadSegment(span.segment));
+        return Err(TextFault::BadSegment(place));
     };
-    Ok((node_of(alloc, segment, span)?, rest))
+    match node_of(alloc, segment) {
+        Ok(node) => Ok((node, rest)),
+        Err(fault) => Err(fault.in_text(segment, place)),
+    }
 }

@@ -1,13 +1,13 @@
 //! How a text is cut into segments.
 
-ghost use Rattle.std.specs.Prelude.{◌≡◌, ◌↔◌, ℕ, List, IsTrue, IfSome, MatchOption};
+ghost use Rattle.std.specs.Prelude.{◌≡◌, ◌≤◌, ◌<◌, ◌^◌, ◌↔◌, ℕ, List, length, IsTrue, IfSome, MatchOption};
 ghost use Rattle.uefi_text.specs.Segment.{comma};
 ghost use Rattle.uefi_text.specs.Node.{IsBareUnit};
 ghost use Rattle.uefi_text.specs.Fault.{BeginsWithNode, ClosesSegment, EndsOr};
-ghost use Rattle.uefi_text.specs.Cutting.{BeginsBare, IsBareCut, IsFront, IsNamedFront, IsBareFront, IsNamed, IsBare, IsCutOf};
+ghost use Rattle.uefi_text.specs.Cutting.{BeginsBare, IsBareCut, IsFront, IsNamedFront, IsBareFront, IsNamed, IsBare, IsCutOf, text_of};
 
-use crate::node_text::{NAME_LOW, is_plain};
-use crate::piece::around_mark;
+use crate::print_node::{NAME_LOW, is_plain};
+use crate::argument::around_mark;
 
 /// A segment of a text.
 #[derive(Clone, Copy, Debug)]
@@ -16,6 +16,34 @@ pub(crate) enum Segment<'a> {
     Named { name: &'a [u8], inside: &'a [u8] },
     /// A path name that begins with a backslash.
     Bare(&'a [u8]),
+}
+
+impl Segment<'_> {
+    /// The place in the segment of the argument before which so many stand. A bare path name is the
+    /// one argument of its segment.
+    pub(crate) fn place_of(self, index: usize) -> usize
+        requires { length (text_of self) < 2 ^ 64 }
+        ensures { result ≤ length (text_of self.entry) }
+    {
+        match self {
+            Segment::Bare(_) => 0,
+            Segment::Named { name, inside } => name.len() + 1 + place_in(inside, index),
+        }
+    }
+}
+
+/// The place of the argument before which so many stand, in the text between the parentheses.
+fn place_in(inside: &[u8], index: usize) -> usize
+    ensures { result ≤ length inside.now }
+{
+    let mut rest = inside;
+    'passed: for _ in 0..index {
+        match around_mark(rest, b',') {
+            Some((_, others)) => rest = others,
+            None => break,
+        }
+    }
+    inside.len() - rest.len()
 }
 
 /// The segment at the front of a text, and what follows it: a slash, a comma or nothing. `None`

@@ -326,15 +326,17 @@ fn prints_and_reads_guids(rt: HostRuntime) -> Result<(), Fail> {
 }
 
 #[test]
-fn tells_the_words_of_a_fault(rt: HostRuntime) -> Result<(), Fail> {
-    let table: [(TextFault, &str); 5] = [
-        (TextFault::BadSegment(0), "BadSegment 0"),
-        (TextFault::BadNumber(17), "BadNumber 17"),
-        (TextFault::OutOfRange(4), "OutOfRange 4"),
-        (TextFault::BadEnd(9), "BadEnd 9"),
-        (TextFault::OutOfMemory, "OutOfMemory"),
+fn tells_the_place_and_the_words_of_a_fault(rt: HostRuntime) -> Result<(), Fail> {
+    // a fault, its place, and its words
+    let table: [(TextFault, Option<usize>, &str); 5] = [
+        (TextFault::BadSegment(0), Some(0), "BadSegment 0"),
+        (TextFault::BadNumber(17), Some(17), "BadNumber 17"),
+        (TextFault::OutOfRange(4), Some(4), "OutOfRange 4"),
+        (TextFault::BadEnd(9), Some(9), "BadEnd 9"),
+        (TextFault::OutOfMemory, None, "OutOfMemory"),
     ];
-    for (fault, words) in table {
+    for (fault, place, words) in table {
+        assert_eq!(rt; fault.place(), place);
         assert_eq!(rt; fault.words(rt.alloc())?.as_str(), words);
         assert_eq!(rt; format!(in rt.alloc(); "{fault}")?.as_str(), words);
     }

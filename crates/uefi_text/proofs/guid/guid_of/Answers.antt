@@ -2,7 +2,7 @@ use Rattle.std.proofs.Common.{◌∙◌, ℕ, List, ap, sym, subst, true≢false
 use Rattle.uuid.specs.Parts.{swap_fields}
 use Rattle.uefi_path.specs.declared.guid.Guid.{Guid}
 use Rattle.uefi_text.specs.Guid.{IsGuid}
-use Rattle.uefi_text.proofs.Guids.{guid_found, guid_again, guid_length, guid_only, guid_none}
+use Rattle.uefi_text.proofs.Bytes.Guids.{guid_found, guid_again, guid_length, guid_only, guid_none}
 use Rattle.uefi_text.proofs.guid.guid_of.Goals as goal
 
 of_bytes : List ℕ → Guid

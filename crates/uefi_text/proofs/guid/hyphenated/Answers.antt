@@ -1,6 +1,6 @@
 use Rattle.std.proofs.Common.{ap, ◌∙◌}
 use Rattle.uuid.specs.Text.{hyphenated_text, lower}
-use Rattle.uefi_text.proofs.Guids.{guid_printed}
+use Rattle.uefi_text.proofs.Bytes.Guids.{guid_printed}
 use Rattle.uefi_text.proofs.guid.hyphenated.Goals as goal
 
 pub returns : goal.returns

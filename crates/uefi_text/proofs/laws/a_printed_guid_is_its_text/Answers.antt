@@ -1,4 +1,4 @@
-use Rattle.uefi_text.proofs.MeansPrinted.{guid_printed_is}
+use Rattle.uefi_text.proofs.Means.Printed.{guid_printed_is}
 use Rattle.uefi_text.proofs.laws.a_printed_guid_is_its_text.Goals as goal
 
 pub returns : goal.returns

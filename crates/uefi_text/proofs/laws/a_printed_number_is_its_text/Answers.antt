@@ -1,4 +1,4 @@
-use Rattle.uefi_text.proofs.MeansPrinted.{number_printed}
+use Rattle.uefi_text.proofs.Means.Printed.{number_printed}
 use Rattle.uefi_text.proofs.laws.a_printed_number_is_its_text.Goals as goal
 
 pub returns : goal.returns

@@ -1,4 +1,4 @@
-use Rattle.uefi_text.proofs.MeansPrintedPaths.{path_printed}
+use Rattle.uefi_text.proofs.Means.PrintedPaths.{path_printed}
 use Rattle.uefi_text.proofs.laws.a_printed_path_stands_for_the_path.Goals as goal
 
 pub returns : goal.returns

@@ -1,4 +1,4 @@
-use Rattle.uefi_text.proofs.MeansPrintedNodes.{segment_stands}
+use Rattle.uefi_text.proofs.Means.PrintedNodes.{segment_stands}
 use Rattle.uefi_text.proofs.laws.a_printed_segment_stands_for_the_node.Goals as goal
 
 pub returns : goal.returns

@@ -1,4 +1,4 @@
-use Rattle.uefi_text.proofs.MeansPaths.{stuck_is_no_path}
+use Rattle.uefi_text.proofs.Means.Paths.{stuck_is_no_path}
 use Rattle.uefi_text.proofs.laws.a_stuck_text_stands_for_no_path.Goals as goal
 
 pub returns : goal.returns

@@ -1,5 +1,5 @@
 use Rattle.std.proofs.Common.{refl}
-use Rattle.uefi_text.proofs.MeansTexts.{guid_one}
+use Rattle.uefi_text.proofs.Means.Texts.{guid_one}
 use Rattle.uefi_text.proofs.laws.a_text_is_one_guid.Goals as goal
 
 pub returns : goal.returns

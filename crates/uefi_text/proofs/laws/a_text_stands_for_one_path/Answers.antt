@@ -1,4 +1,4 @@
-use Rattle.uefi_text.proofs.MeansPaths.{path_text_one}
+use Rattle.uefi_text.proofs.Means.Paths.{path_text_one}
 use Rattle.uefi_text.proofs.laws.a_text_stands_for_one_path.Goals as goal
 
 pub returns : goal.returns

@@ -1,4 +1,4 @@
-use Rattle.uefi_text.proofs.MeansPaths.{fault_is_no_path}
+use Rattle.uefi_text.proofs.Means.Paths.{fault_is_no_path}
 use Rattle.uefi_text.proofs.laws.a_text_with_a_fault_stands_for_no_path.Goals as goal
 
 pub returns : goal.returns

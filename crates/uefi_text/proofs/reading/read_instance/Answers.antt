@@ -1,5 +1,5 @@
 use Rattle.std.proofs.Common.{length, length-append, length-take, length-drop, ap, sym, true≢false, ◌∙◌, arith, ℕ}
-use Rattle.uefi_text.proofs.Instances.{reading_more, reading_done}
+use Rattle.uefi_text.proofs.Read.Instances.{reading_more, reading_done}
 use Rattle.uefi_text.proofs.reading.read_instance.Goals as goal
 
 pub returns-then-ends_instance-2-clause-found : goal.returns-then-ends_instance-2-clause-found

@@ -1,5 +1,5 @@
 use Rattle.std.proofs.Common.{◌≤◌, length}
-use Rattle.uefi_text.proofs.Instances.{IsReading}
+use Rattle.uefi_text.proofs.Read.Instances.{IsReading}
 use Rattle.uefi_text.proofs.reading.read_instance.Given as goal
 
 abbrev pub invariant-loop-nodes : goal.invariant-loop-nodes

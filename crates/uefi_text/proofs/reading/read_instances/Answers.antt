@@ -1,5 +1,5 @@
 use Rattle.std.proofs.lemmas.Result.{err_from_is_err_and}
-use Rattle.uefi_text.proofs.Instances.{path_more, path_done, path_refused, map_more, none_left, comma_first}
+use Rattle.uefi_text.proofs.Read.Instances.{path_more, path_done, path_refused, map_more, none_left, comma_first}
 use Rattle.uefi_text.proofs.reading.read_instances.Goals as goal
 
 pub returns-in_err-nodes-clause-fault : goal.returns-in_err-nodes-clause-fault

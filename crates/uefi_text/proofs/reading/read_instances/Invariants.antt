@@ -1,5 +1,5 @@
 use Rattle.std.proofs.Common.{length, map}
-use Rattle.uefi_text.proofs.Instances.{IsReadingPath}
+use Rattle.uefi_text.proofs.Read.Instances.{IsReadingPath}
 use Rattle.uefi_text.proofs.reading.read_instances.Given as goal
 
 abbrev pub invariant-loop-instances : goal.invariant-loop-instances

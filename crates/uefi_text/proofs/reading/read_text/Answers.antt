@@ -1,6 +1,6 @@
 use Rattle.uefi_text.specs.Path.{IsPathText}
 use Rattle.uefi_text.specs.Fault.{IsTextFault}
-use Rattle.uefi_text.proofs.Only.{only_answer}
+use Rattle.uefi_text.proofs.Read.Only.{only_answer}
 use Rattle.uefi_text.proofs.reading.read_text.Goals as goal
 
 pub returns-clause-only : goal.returns-clause-only

@@ -1,6 +1,6 @@
 use Rattle.std.proofs.Common.{sym, subst, true≢false, ◌∙◌}
 use Rattle.uefi_text.specs.Fault.{ClosesSegment}
-use Rattle.uefi_text.proofs.Cuts.{same_bare_parts}
+use Rattle.uefi_text.proofs.Read.Cuts.{same_bare_parts}
 use Rattle.uefi_text.proofs.segment.cut_bare.Goals as goal
 
 pub returns-then-ends_segment-clause-only : goal.returns-then-ends_segment-clause-only

@@ -2,7 +2,7 @@ use Rattle.std.proofs.Common.{sym, subst, true≢false, ◌∙◌}
 use Rattle.uefi_text.specs.Fault.{ClosesSegment}
 use Rattle.uefi_text.specs.Cutting.{open_mark}
 use Rattle.uefi_text.specs.Within.{Lacks}
-use Rattle.uefi_text.proofs.Cuts.{same_parts, has_open, has_close, has_some}
+use Rattle.uefi_text.proofs.Read.Cuts.{same_parts, has_open, has_close, has_some}
 use Rattle.uefi_text.proofs.segment.cut_named.Goals as goal
 use Rattle.uefi_text.proofs.segment.cut_named.Goals.{then-contains-via-then-contains, then-contains-via-else-contains+then-not-ends_segment}
 

@@ -1,6 +1,6 @@
 use Rattle.std.proofs.Common.{◌∙◌, sym, true≢false}
-use Rattle.uefi_text.proofs.MeansPlain.{plain_of_text}
-use Rattle.uefi_text.proofs.Cuts.{bare_answer, named_answer}
+use Rattle.uefi_text.proofs.Means.Plain.{plain_of_text}
+use Rattle.uefi_text.proofs.Read.Cuts.{bare_answer, named_answer}
 use Rattle.uefi_text.proofs.segment.cut_segment.Goals as goal
 
 pub returns-then-begins_bare-clause-only : goal.returns-then-begins_bare-clause-only

@@ -1,7 +1,7 @@
 use Rattle.std.proofs.Common.{rules, tests}
 use Rattle.std.proofs.lemmas.Iterator.{IsFirst-from_position, YieldsList-from_slice}
 use Rattle.uefi_text.specs.Node.{IsBareUnit}
-use Rattle.uefi_text.proofs.Cuts.{bare_cut}
+use Rattle.uefi_text.proofs.Read.Cuts.{bare_cut}
 use Rattle.uefi_text.proofs.segment.split_bare.Goals as goal
 
 pub returns : goal.returns

@@ -1,0 +1,5 @@
+-- Bytes, digits and GUIDs, and the text that the printer writes of them.
+pub mod Octets
+pub mod Hexadecimal
+pub mod Guids
+pub mod Printer

@@ -1,0 +1,4 @@
+-- How a text is cut.
+pub mod Marks
+pub mod Segments
+pub mod Paths
