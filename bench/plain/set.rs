@@ -99,7 +99,8 @@ fn split_data(bytes: &[u8], offset: usize) -> Result<(&[u8], &[u8]), Fault> {
 
 /// The bytes of a set.
 pub fn write_set(vars: &Vars) -> Vec<u8> {
-    let mut out = Vec::new();
+    let records = vars.0.iter().map(|(name, data)| name.len() + data.len() + 5);
+    let mut out = Vec::with_capacity(MAGIC.len() + records.sum::<usize>());
     out.extend_from_slice(MAGIC);
     for (name, data) in &vars.0 {
         out.push(name.len() as u8);

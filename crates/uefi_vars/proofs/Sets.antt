@@ -1,6 +1,5 @@
 -- One set for each spelling, and one first fault where there is none.
 use Rattle.std.proofs.Common.{◌≡◌, ◌⊎◌, ℕ, zero, suc, ◌+◌, ◌<◌, Bool, true, false, eqb, List, [], ◌∷◌, ◌++◌, length, take, drop, refl, sym, ap, subst, ◌∙◌, inl, inr, arith, append_assoc}
-use Rattle.std.specs.Int.{w32, to_le_bytes}
 use Rattle.std.specs.List.{AllByRecursion}
 use Rattle.std.specs.List.Sorted.{IsStrictlySortedBy}
 use Rattle.std.specs.declared.cmp.Ordering.TheVariants.{Less}
@@ -18,7 +17,7 @@ use Rattle.uefi_vars.specs.declared.fault.SetFault.TheVariants as fault
 use Rattle.uefi_vars.specs.Name.{IsNameByte}
 use Rattle.uefi_vars.specs.Vars.{Variables, name_cmp, IsVariable, IsVars}
 use Rattle.uefi_vars.specs.Set.{magic, name_bytes, data_bytes, record_bytes, records_bytes, set_bytes, SpellsSet}
-use Rattle.uefi_vars.specs.Fault.{HasNoMagic, HasRestWith, IsAbove, HasName, HasCutName, HasNameWith, IsCutData, StatesBadLength, IsFirstFault}
+use Rattle.uefi_vars.specs.Fault.{HasNoMagic, HasRestWith, IsAbove, HasCutName, HasNameWith, IsCutData, StatesBadLength, IsFirstFault}
 use Rattle.uefi_vars.specs.Reading.{names_of, HasRecords, IsRecordFault, HasRecordsFault}
 use Rattle.uefi_vars.proofs.Maps.{entries-AllByRecursion, IsVars-from_sorted}
 use Rattle.uefi_vars.proofs.Records.{Pair, same_record, above_front, one_above, none_rise, names_rise, pairs_rise}

@@ -107,7 +107,8 @@ pub fn plan(alloc: Global, vars: &Vars) -> Result<BootPlan, VarFault>
     laws::variables_have_one_plan();
     laws::a_bad_order_gives_no_order();
     let order = order_bytes(vars)?;
-    let next = read_next_choice(alloc, vars, boot_next(vars)?)?;
+    let number = boot_next(vars)?;
+    let next = read_next_choice(alloc, vars, number)?;
     let numbers = read_units(alloc, order)?;
     let normal = read_normal_choices(alloc, vars, &numbers)?;
     Ok(BootPlan::new(next, normal))
