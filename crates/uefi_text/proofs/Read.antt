@@ -3,6 +3,7 @@ pub mod Marks
 pub mod Cuts
 pub mod Instances
 pub mod Only
+pub mod Digits
 pub mod Numbers
 pub mod Hex
 pub mod Arguments

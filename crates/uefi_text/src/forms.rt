@@ -20,7 +20,7 @@ use crate::segment::Segment;
 use std::alloc::{AllocError, Global};
 use uefi_path::laws::{each_node_is_spelled, each_row_is_a_nodes};
 use uefi_path::{
-    BODY_MAX, FileNode, Guid, HardDriveNode, Ipv4Node, PATH_NAME_MAX, Node, NodeFault, OtherNode,
+    BODY_MAX, FileNode, Guid, HardDriveNode, Ipv4Node, Node, NodeFault, OtherNode, PATH_NAME_MAX,
     PCI_ROOT_HID, PCIE_ROOT_HID, UriNode, VENDOR_BODY_MAX, Vendor, node_from_parts,
 };
 

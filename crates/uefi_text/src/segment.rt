@@ -6,8 +6,8 @@ ghost use Rattle.uefi_text.specs.Node.{IsBareUnit};
 ghost use Rattle.uefi_text.specs.Fault.{BeginsWithNode, ClosesSegment, EndsOr};
 ghost use Rattle.uefi_text.specs.Cutting.{BeginsBare, IsBareCut, IsFront, IsNamedFront, IsBareFront, IsNamed, IsBare, IsCutOf, text_of};
 
-use crate::print_node::{NAME_LOW, is_plain};
 use crate::argument::around_mark;
+use crate::print_node::{NAME_LOW, is_plain};
 
 /// A segment of a text.
 #[derive(Clone, Copy, Debug)]

@@ -72,8 +72,8 @@ pub generic_answers : EachNodeIsShort → (inside : List ℕ) (result : Result N
 generic_answers law inside (Ok node) found = generic_node inside node found
 generic_answers law inside (Err fault) told =
     told_from fault (λ refused. λ (node : Node) (m : MeansNamed (codes "Path") inside node).
-      let cut = cut_args (codes "Path") inside m.0 node refl m.1 m.2 in
-      refused node (row_again node (generic_of (arguments_of inside)) cut.valid (forms.generic_again law (arguments_of inside) node cut)))
+    let cut = cut_args (codes "Path") inside m.0 node refl m.1 m.2 in
+    refused node (row_again node (generic_of (arguments_of inside)) cut.valid (forms.generic_again law (arguments_of inside) node cut)))
     (λ wanted. (wanted.0, generic_node inside wanted.0 wanted.1)) told
 
 -- there is a node of each type but that of the end nodes, with each data that digits write

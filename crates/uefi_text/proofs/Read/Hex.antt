@@ -125,8 +125,7 @@ data_is (_ ∷ []) bytes h = absurd h
 data_is (_ ∷ _ ∷ _) [] h = absurd h
 data_is (high ∷ low ∷ text) (byte ∷ bytes) h =
     let rest = data_is text bytes h.1 in
-    let both = and_parts (length text % 2 == 0) (list_all (λ d. ltb (digit_value d) 16) text) rest.0 in
-    (
+    let both = and_parts (length text % 2 == 0) (list_all (λ d. ltb (digit_value d) 16) text) rest.0 in (
       rw (even_down (length text) both.0, lt-ltb (digit_value high) 16 h.0.high_digit, lt-ltb (digit_value low) 16 h.0.low_digit, both.1) refl,
       rw (sym h.0.value, rest.1) refl,
     )

@@ -92,21 +92,21 @@ returns-then-is_name-16 c =
 
 pub returns-else-is_name-16 : goal.returns-else-is_name-16
 returns-else-is_name-16 c =
-  (λ node m. no_form c.args.name.now c.args.inside.now node (record {
-    pci_name = λ e. true≢false (sym (c.is_name.ensures.1 (sym e)) ∙ c.if-is_name.false);
-    usb_name = λ e. true≢false (sym (c.is_name-else-is_name.ensures.1 (sym e)) ∙ c.if-is_name-2.false);
-    sata_name = λ e. true≢false (sym (c.is_name-else-is_name-2.ensures.1 (sym e)) ∙ c.if-is_name-3.false);
-    nvme_name = λ e. true≢false (sym (c.is_name-else-is_name-3.ensures.1 (sym e)) ∙ c.if-is_name-4.false);
-    pci_root_name = λ e. true≢false (sym (c.is_name-else-is_name-4.ensures.1 (sym e)) ∙ c.if-is_name-5.false);
-    pcie_root_name = λ e. true≢false (sym (c.is_name-else-is_name-5.ensures.1 (sym e)) ∙ c.if-is_name-6.false);
-    acpi_name = λ e. true≢false (sym (c.is_name-else-is_name-6.ensures.1 (sym e)) ∙ c.if-is_name-7.false);
-    mac_name = λ e. true≢false (sym (c.is_name-else-is_name-7.ensures.1 (sym e)) ∙ c.if-is_name-8.false);
-    ipv4_name = λ e. true≢false (sym (c.is_name-else-is_name-8.ensures.1 (sym e)) ∙ c.if-is_name-9.false);
-    uri_name = λ e. true≢false (sym (c.is_name-else-is_name-9.ensures.1 (sym e)) ∙ c.if-is_name-10.false);
-    file_name = λ e. true≢false (sym (c.is_name-else-is_name-10.ensures.1 (sym e)) ∙ c.if-is_name-11.false);
-    hd_name = λ e. true≢false (sym (c.is_name-else-is_name-11.ensures.1 (sym e)) ∙ c.if-is_name-12.false);
-    vendor_hw_name = λ e. true≢false (sym (c.is_name-else-is_name-12.ensures.1 (sym e)) ∙ c.if-is_name-13.false);
-    vendor_msg_name = λ e. true≢false (sym (c.is_name-else-is_name-13.ensures.1 (sym e)) ∙ c.if-is_name-14.false);
-    vendor_media_name = λ e. true≢false (sym (c.is_name-else-is_name-14.ensures.1 (sym e)) ∙ c.if-is_name-15.false);
-    generic_name = λ e. true≢false (sym (c.is_name-else-is_name-15.ensures.1 (sym e)) ∙ c.if-is_name-16.false);
-  }) m)
+    (λ node m. no_form c.args.name.now c.args.inside.now node (record {
+      pci_name = λ e. true≢false (sym (c.is_name.ensures.1 (sym e)) ∙ c.if-is_name.false);
+      usb_name = λ e. true≢false (sym (c.is_name-else-is_name.ensures.1 (sym e)) ∙ c.if-is_name-2.false);
+      sata_name = λ e. true≢false (sym (c.is_name-else-is_name-2.ensures.1 (sym e)) ∙ c.if-is_name-3.false);
+      nvme_name = λ e. true≢false (sym (c.is_name-else-is_name-3.ensures.1 (sym e)) ∙ c.if-is_name-4.false);
+      pci_root_name = λ e. true≢false (sym (c.is_name-else-is_name-4.ensures.1 (sym e)) ∙ c.if-is_name-5.false);
+      pcie_root_name = λ e. true≢false (sym (c.is_name-else-is_name-5.ensures.1 (sym e)) ∙ c.if-is_name-6.false);
+      acpi_name = λ e. true≢false (sym (c.is_name-else-is_name-6.ensures.1 (sym e)) ∙ c.if-is_name-7.false);
+      mac_name = λ e. true≢false (sym (c.is_name-else-is_name-7.ensures.1 (sym e)) ∙ c.if-is_name-8.false);
+      ipv4_name = λ e. true≢false (sym (c.is_name-else-is_name-8.ensures.1 (sym e)) ∙ c.if-is_name-9.false);
+      uri_name = λ e. true≢false (sym (c.is_name-else-is_name-9.ensures.1 (sym e)) ∙ c.if-is_name-10.false);
+      file_name = λ e. true≢false (sym (c.is_name-else-is_name-10.ensures.1 (sym e)) ∙ c.if-is_name-11.false);
+      hd_name = λ e. true≢false (sym (c.is_name-else-is_name-11.ensures.1 (sym e)) ∙ c.if-is_name-12.false);
+      vendor_hw_name = λ e. true≢false (sym (c.is_name-else-is_name-12.ensures.1 (sym e)) ∙ c.if-is_name-13.false);
+      vendor_msg_name = λ e. true≢false (sym (c.is_name-else-is_name-13.ensures.1 (sym e)) ∙ c.if-is_name-14.false);
+      vendor_media_name = λ e. true≢false (sym (c.is_name-else-is_name-14.ensures.1 (sym e)) ∙ c.if-is_name-15.false);
+      generic_name = λ e. true≢false (sym (c.is_name-else-is_name-15.ensures.1 (sym e)) ∙ c.if-is_name-16.false);
+    }) m)
