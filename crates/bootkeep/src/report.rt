@@ -161,7 +161,11 @@ fn append_entry(
 ) -> Result<(), AllocError> {
     match read_option(alloc, data) {
         Ok(option) => {
-            let kind = if option.is_normal() { "normal" } else { "other" };
+            let kind = if option.is_normal() {
+                "normal"
+            } else {
+                "other"
+            };
             let description = description_text(alloc, option.description())?;
             writeln!(report, "{name} {kind} {description}")
         }
