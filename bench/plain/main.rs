@@ -1,14 +1,18 @@
-//! The plain side of the benchmark: what reads and writes paths, load options and sets of variables,
-//! prints and reads the text of paths, and plans a boot, without proofs, in the Rust of `rustc` and
-//! its standard library alone. It also makes the values that both sides are timed on.
+//! The plain side of the benchmark: what reads and writes paths, load options, sets of variables and
+//! frames, prints and reads the text of paths, plans a boot, and changes variables by numbered
+//! requests, without proofs, in the Rust of `rustc` and its standard library alone. It also makes the
+//! values that both sides are timed on.
 //!
 //! `plain make KIND COUNT FILE` writes a value to a file: a `path` of so many nodes, an `option` of
-//! so many paths, or a `set` of so many entries. `plain time KIND FILE` times the value in a file and
-//! prints one line: what the value has, and, behind a colon, the shortest time of each call in
-//! nanoseconds. The file `KIND_tasks` says what these are. The times have the growth of what is made
-//! in them, and not its drop. Each answer is compared outside of them, and a wrong one ends the
-//! program.
+//! so many paths, a `set` of so many entries, the same for a `step`, or a `frame` with a payload of so
+//! many bytes. `plain time KIND FILE` times the value in a file and prints one line: what the value
+//! has, and, behind a colon, the shortest time of each call in nanoseconds. The file `KIND_tasks` says
+//! what these are. The times have the growth of what is made in them, and not its drop. Each answer is
+//! compared outside of them, and a wrong one ends the program.
 
+mod frame;
+mod frame_tasks;
+mod keeper;
 mod mixed;
 mod node;
 mod option;
@@ -20,6 +24,7 @@ mod printing;
 mod reading;
 mod set;
 mod set_tasks;
+mod step_tasks;
 mod writing;
 
 use std::error::Error;
@@ -47,7 +52,9 @@ fn time_value(kind: &str, bytes: &[u8]) -> Result<(), Box<dyn Error>> {
         }
         "option" => print_times(&option_tasks::held(bytes)?, || option_tasks::times(bytes)),
         "set" => print_times(&set_tasks::held(bytes)?, || set_tasks::times(bytes)),
-        _ => Err("the kinds are path, option and set".into()),
+        "frame" => print_times(&frame_tasks::held(bytes)?, || frame_tasks::times(bytes)),
+        "step" => print_times(&step_tasks::held(bytes)?, || step_tasks::times(bytes)),
+        _ => Err("the kinds are path, option, set, frame and step".into()),
     }
 }
 

@@ -44,8 +44,9 @@ pub fn value_of(kind: &str, count: usize) -> Result<Vec<u8>, Box<dyn Error>> {
     match kind {
         "path" => Ok(path_of(count)),
         "option" => option_of(count),
-        "set" => set_of(count),
-        _ => Err("the kinds are path, option and set".into()),
+        "set" | "step" => set_of(count),
+        "frame" => frame_of(count),
+        _ => Err("the kinds are path, option, set, frame and step".into()),
     }
 }
 
@@ -74,6 +75,17 @@ fn set_of(entries: usize) -> Result<Vec<u8>, Box<dyn Error>> {
     }
     append_variable(b"BootOrder", &order, &mut set)?;
     Ok(set)
+}
+
+/// The frame of request 0, to add entry 0: an active option of one path to a disk, with as much optional data as makes
+/// a payload of so many bytes.
+fn frame_of(payload: usize) -> Result<Vec<u8>, Box<dyn Error>> {
+    let mut frame = vec![0x42, 0x51, 1, 1, 0, 0, 0, 0];
+    frame.extend(u32::try_from(payload)?.to_le_bytes());
+    frame.extend([0, 0]);
+    frame.extend(option_of(1)?);
+    frame.resize(12 + payload, 0x5a);
+    Ok(frame)
 }
 
 fn append_variable(name: &[u8], data: &[u8], set: &mut Vec<u8>) -> Result<(), Box<dyn Error>> {

@@ -91,6 +91,13 @@ fn read_paths(list: &[u8], start: usize) -> Result<Vec<Path>, Fault> {
 /// The bytes of a load option.
 pub fn write_option(option: &LoadOption) -> Result<Vec<u8>, Fault> {
     let mut out = Vec::new();
+    append_option(option, &mut out)?;
+    Ok(out)
+}
+
+/// Appends the bytes of a load option.
+pub fn append_option(option: &LoadOption, out: &mut Vec<u8>) -> Result<(), Fault> {
+    let first = out.len();
     out.extend_from_slice(&option.attributes.to_le_bytes());
     out.extend_from_slice(&[0, 0]);
     out.extend(
@@ -102,10 +109,10 @@ pub fn write_option(option: &LoadOption) -> Result<Vec<u8>, Fault> {
     out.extend_from_slice(&[0, 0]);
     let start = out.len();
     for path in &option.paths {
-        write_path(path, &mut out);
+        write_path(path, out);
     }
     let len = u16::try_from(out.len() - start).map_err(|_| Fault::ListTooLong)?;
-    out[4..6].copy_from_slice(&len.to_le_bytes());
+    out[first + 4..first + 6].copy_from_slice(&len.to_le_bytes());
     out.extend_from_slice(&option.optional);
-    Ok(out)
+    Ok(())
 }

@@ -5,7 +5,7 @@ use crate::set::Vars;
 use std::error::Error;
 use std::fmt;
 
-const ORDER_MAX: usize = 65_536;
+pub const ORDER_MAX: usize = 65_536;
 
 pub struct BootPlan {
     pub next: Option<Choice>,

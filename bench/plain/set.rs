@@ -10,6 +10,7 @@ const NAME_MAX: usize = 64;
 const DATA_MAX: usize = 1_048_576;
 
 /// Names and data, in the order of the names.
+#[derive(Clone)]
 pub struct Vars(Vec<(String, Vec<u8>)>);
 
 /// Why bytes are no set, and the offset of the record with the fault.
@@ -43,11 +44,29 @@ impl Vars {
 
     /// The data of the variable of this name.
     pub fn get(&self, name: &str) -> Option<&[u8]> {
-        let place = self
-            .0
+        Some(&self.0[self.place(name).ok()?].1)
+    }
+
+    /// Sets the variable of this name to this data.
+    pub fn put(&mut self, name: &str, data: Vec<u8>) {
+        match self.place(name) {
+            Ok(place) => self.0[place].1 = data,
+            Err(place) => self.0.insert(place, (name.to_owned(), data)),
+        }
+    }
+
+    /// Takes out the variable of this name. Whether there was one.
+    pub fn remove(&mut self, name: &str) -> bool {
+        let found = self.place(name);
+        found.is_ok_and(|place| {
+            self.0.remove(place);
+            true
+        })
+    }
+
+    fn place(&self, name: &str) -> Result<usize, usize> {
+        self.0
             .binary_search_by(|(other, _)| other.as_str().cmp(name))
-            .ok()?;
-        Some(&self.0[place].1)
     }
 }
 

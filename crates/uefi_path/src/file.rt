@@ -190,7 +190,7 @@ impl FileNode {
 }
 
 /// Whether the bytes are those of a name's units with a zero behind it.
-pub(crate) fn is_name(bytes: &[u8]) -> bool
+pub(crate) fn is_path_name(bytes: &[u8]) -> bool
     ensures { result ≡ is_some (name_of bytes.now) }
 {
     let mut rest = bytes;

@@ -8,7 +8,7 @@ ghost use Rattle.uefi_path.specs.Reading.{fixed_node_of, list_node_of, node_of};
 ghost use Rattle.uefi_path.specs.Writing.{Extends};
 
 use crate::fields::{NodeBytes, bytes_at, field, u8_at, u16_at, u32_at};
-use crate::file::{FileNode, is_name};
+use crate::file::{FileNode, is_path_name};
 use crate::generic::{BODY_MAX, HEADER_LEN};
 use crate::hard_drive::HardDriveNode;
 use crate::ipv4::Ipv4Node;
@@ -64,7 +64,9 @@ impl Node {
         }
     }
 
-    /// The node of these parts, where the table has a row for them with data of one length.
+    /// The node of these parts, where the table has a row for them with data of one length. Each node that is read
+    /// comes through here: out of line, its nodes are moved once more, and reading takes twice the time.
+    #[inline(always)]
     fn of_one_length(kind: u8, sub: u8, body: &[u8]) -> Option<Node>
         ensures { result ≡ fixed_node_of (row kind sub body.now) }
     {
@@ -123,7 +125,7 @@ impl Node {
         match (kind, sub) {
             (1, 4) | (3, 10) | (4, 3) => body.len() >= GUID_LEN,
             (3, 24) => true,
-            (4, 4) => is_name(body),
+            (4, 4) => is_path_name(body),
             _ => false,
         }
     }

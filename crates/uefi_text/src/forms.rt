@@ -41,37 +41,37 @@ pub(crate) fn node_of(alloc: Global, segment: Segment<'_>) -> Result<Node, Segme
 fn named_node(alloc: Global, name: &[u8], inside: &[u8]) -> Result<Node, SegmentFault>
     ensures { AnswersNamed name.now inside.now result }
 {
-    if is_name(name, b"Pci") {
+    if is_named(name, b"Pci") {
         pci(inside)
-    } else if is_name(name, b"USB") {
+    } else if is_named(name, b"USB") {
         usb(inside)
-    } else if is_name(name, b"Sata") {
+    } else if is_named(name, b"Sata") {
         sata(inside)
-    } else if is_name(name, b"NVMe") {
+    } else if is_named(name, b"NVMe") {
         nvme(inside)
-    } else if is_name(name, b"PciRoot") {
+    } else if is_named(name, b"PciRoot") {
         root(inside, PCI_ROOT_HID)
-    } else if is_name(name, b"PcieRoot") {
+    } else if is_named(name, b"PcieRoot") {
         root(inside, PCIE_ROOT_HID)
-    } else if is_name(name, b"Acpi") {
+    } else if is_named(name, b"Acpi") {
         acpi(inside)
-    } else if is_name(name, b"MAC") {
+    } else if is_named(name, b"MAC") {
         mac_node(inside)
-    } else if is_name(name, b"IPv4") {
+    } else if is_named(name, b"IPv4") {
         ipv4(inside)
-    } else if is_name(name, b"Uri") {
+    } else if is_named(name, b"Uri") {
         uri(alloc, inside)
-    } else if is_name(name, b"File") {
+    } else if is_named(name, b"File") {
         file(alloc, inside)
-    } else if is_name(name, b"HD") {
+    } else if is_named(name, b"HD") {
         hard_drive(inside)
-    } else if is_name(name, b"VenHw") {
+    } else if is_named(name, b"VenHw") {
         vendor_hw(alloc, inside)
-    } else if is_name(name, b"VenMsg") {
+    } else if is_named(name, b"VenMsg") {
         vendor_msg(alloc, inside)
-    } else if is_name(name, b"VenMedia") {
+    } else if is_named(name, b"VenMedia") {
         vendor_media(alloc, inside)
-    } else if is_name(name, b"Path") {
+    } else if is_named(name, b"Path") {
         // for its contract: two bytes state the length of a node
         each_node_is_spelled();
         generic(alloc, inside)
@@ -80,7 +80,7 @@ fn named_node(alloc: Global, name: &[u8], inside: &[u8]) -> Result<Node, Segment
     }
 }
 
-fn is_name(name: &[u8], expected: &[u8]) -> bool
+fn is_named(name: &[u8], expected: &[u8]) -> bool
     ensures { IsTrue result ↔ (name.now ≡ expected.now) }
 {
     name == expected

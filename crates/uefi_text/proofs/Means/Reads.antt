@@ -34,27 +34,27 @@ pub data Form : Type 0 where
   generic_form : Form
   no_form : Form
 
-abbrev pub is_name : List ℕ → List ℕ → Bool
-is_name name other = pointwise ◌==◌ name other
+abbrev pub is_named : List ℕ → List ℕ → Bool
+is_named name other = pointwise ◌==◌ name other
 
 abbrev pub form_of : List ℕ → Form
 form_of name =
-    cond (is_name name (codes "Pci")) pci_form
-    (cond (is_name name (codes "USB")) usb_form
-    (cond (is_name name (codes "Sata")) sata_form
-    (cond (is_name name (codes "NVMe")) nvme_form
-    (cond (is_name name (codes "PciRoot")) pci_root_form
-    (cond (is_name name (codes "PcieRoot")) pcie_root_form
-    (cond (is_name name (codes "Acpi")) acpi_form
-    (cond (is_name name (codes "MAC")) mac_form
-    (cond (is_name name (codes "IPv4")) ipv4_form
-    (cond (is_name name (codes "Uri")) uri_form
-    (cond (is_name name (codes "File")) file_form
-    (cond (is_name name (codes "HD")) hard_drive_form
-    (cond (is_name name (codes "VenHw")) vendor_hw_form
-    (cond (is_name name (codes "VenMsg")) vendor_msg_form
-    (cond (is_name name (codes "VenMedia")) vendor_media_form
-    (cond (is_name name (codes "Path")) generic_form
+    cond (is_named name (codes "Pci")) pci_form
+    (cond (is_named name (codes "USB")) usb_form
+    (cond (is_named name (codes "Sata")) sata_form
+    (cond (is_named name (codes "NVMe")) nvme_form
+    (cond (is_named name (codes "PciRoot")) pci_root_form
+    (cond (is_named name (codes "PcieRoot")) pcie_root_form
+    (cond (is_named name (codes "Acpi")) acpi_form
+    (cond (is_named name (codes "MAC")) mac_form
+    (cond (is_named name (codes "IPv4")) ipv4_form
+    (cond (is_named name (codes "Uri")) uri_form
+    (cond (is_named name (codes "File")) file_form
+    (cond (is_named name (codes "HD")) hard_drive_form
+    (cond (is_named name (codes "VenHw")) vendor_hw_form
+    (cond (is_named name (codes "VenMsg")) vendor_msg_form
+    (cond (is_named name (codes "VenMedia")) vendor_media_form
+    (cond (is_named name (codes "Path")) generic_form
     no_form)))))))))))))))
 
 pub record ReadsPci (arguments : List (List ℕ)) (node : Node) : Type 0 where

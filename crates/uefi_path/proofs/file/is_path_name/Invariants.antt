@@ -1,6 +1,6 @@
 use Rattle.std.proofs.Common.{◌≡◌, is_some, length}
 use Rattle.uefi_path.specs.Reading.{name_of}
-use Rattle.uefi_path.proofs.file.is_name.Given as goal
+use Rattle.uefi_path.proofs.file.is_path_name.Given as goal
 
 abbrev pub invariant-loop-rest : goal.invariant-loop-rest
 invariant-loop-rest l = is_some (name_of l.rest) ≡ is_some (name_of l.bytes)

@@ -1,6 +1,6 @@
 use Rattle.std.proofs.Common.{◌∙◌}
 use Rattle.uefi_path.proofs.Names.{unit_passed}
-use Rattle.uefi_path.proofs.file.is_name.Goals as goal
+use Rattle.uefi_path.proofs.file.is_path_name.Goals as goal
 
 pub loop-rest-preserved : goal.loop-rest-preserved
 loop-rest-preserved c =

@@ -1,0 +1,210 @@
+-- The image of a state: that there is one, and that it is the image of no other state.
+use Rattle.std.proofs.Common.{◌≡◌, ◌≢◌, ℕ, zero, suc, ◌*◌, ◌<◌, ◌≤◌, ◌^◌, ◌==◌, List, [], ◌∷◌, length, map, Option, Some, None, IfSome, refl, sym, ap, subst, ◌∙◌, ⊎_elim, arith, if◌then◌else◌, Bool, true, ◌&&◌, nat_le}
+use Rattle.std.specs.Int.{w32, from_le_bytes, to_le_bytes}
+use Rattle.std.specs.List.{AllByRecursion, list_all}
+use Rattle.std.specs.FinMap.{get, same_map, nat_cmp-IsAntisymmetric, slice_cmp-IsAntisymmetric}
+use Rattle.std.proofs.lemmas.Bool.{and_parts, leb-true}
+use Rattle.std.proofs.lemmas.Cmp.{nat_list_cmp_total}
+use Rattle.std.proofs.lemmas.Nat.{from_le_bytes-to_le_bytes_4}
+use Rattle.uefi_path.specs.Units.{units_bytes}
+use Rattle.uefi_path.specs.Row.{IsByte}
+use Rattle.uefi_vars.specs.Name.{IsNameByte, IsName, entry_text, order_text, next_text}
+use Rattle.uefi_vars.specs.Vars.{Variables, IsData, IsVariable, IsVars}
+use Rattle.uefi_vars.specs.Order.{IsEntryNumber, IsOrder, stored_order, stored_next, HasBadOrder, HasBadNext}
+use Rattle.boot_requests.specs.declared.outcome.Outcome.{Outcome}
+use Rattle.boot_requests.specs.declared.outcome.Outcome.TheVariants.{Done, Exists, Missing, OrderRepeats, OrderUnknown}
+use Rattle.boot_requests.specs.declared.fault.OpenFault.{OpenFault}
+use Rattle.boot_requests.specs.declared.fault.OpenFault.TheVariants as fault
+use Rattle.boot_requests.specs.State.{State, IsState, IsImage, IsBootName, IsMark, keep_text, outcome_byte, mark_bytes, stored_mark}
+use Rattle.boot_requests.specs.Opening.{HasMark, IsOpenFault}
+use Rattle.boot_requests.specs.Machine.{Entries, with_stored, with_entries, machine_of, image_of}
+use Rattle.boot_requests.proofs.Stored.{stored_here, stored_apart, same_name_or_not, same_number_or_not, names_apart, order_is_no_entry, next_is_no_entry, keep_is_no_entry, order_is_not_next, order_is_not_keep, next_is_not_keep}
+use Rattle.boot_requests.proofs.Edits.{mark_stored, is_entry_name, is_order_name, is_next_name, is_keep_name}
+use Rattle.boot_requests.proofs.Machines.{boot_or_not, machine_is}
+
+-- ---- which marks are equal
+
+abbrev outcome_at : ℕ → Outcome
+outcome_at byte =
+    if byte == 0 then Done else if byte == 1 then Exists else if byte == 2 then Missing else if byte == 3 then OrderRepeats else OrderUnknown
+
+outcome_again : (outcome : Outcome) → outcome_at (outcome_byte outcome) ≡ outcome
+outcome_again Done = refl
+outcome_again Exists = refl
+outcome_again Missing = refl
+outcome_again OrderRepeats = refl
+outcome_again OrderUnknown = refl
+
+pub same_outcomes : (a b : List Outcome) → map outcome_byte a ≡ map outcome_byte b → a ≡ b
+same_outcomes [] [] e = refl
+same_outcomes [] (p ∷ b) e = cc
+same_outcomes (o ∷ a) [] e = cc
+same_outcomes (o ∷ a) (p ∷ b) e =
+    let first : outcome_byte o ≡ outcome_byte p = cc in
+    let rest : map outcome_byte a ≡ map outcome_byte b = cc in
+    let same : o ≡ p = sym (outcome_again o) ∙ ap outcome_at first ∙ outcome_again p in
+    let others : a ≡ b = same_outcomes a b rest in
+    cc
+
+none_of_none : (kept : List Outcome) → length kept ≡ 0 → kept ≡ []
+none_of_none [] e = refl
+none_of_none (o ∷ kept) e = absurd (omega (arith, e))
+
+same_bytes : (c d : ℕ) (a b : List Outcome) → c < 2 ^ 32 → d < 2 ^ 32 → mark_bytes c a ≡ mark_bytes d b → (c ≡ d) × (a ≡ b)
+same_bytes c d a b p q e =
+    let number : to_le_bytes w32 c ≡ to_le_bytes w32 d = cc in
+    let outcomes : map outcome_byte a ≡ map outcome_byte b = cc in
+    (sym (from_le_bytes-to_le_bytes_4 c p) ∙ ap (from_le_bytes w32) number ∙ from_le_bytes-to_le_bytes_4 d q, same_outcomes a b outcomes)
+
+same_some : (a b : List ℕ) → ◌≡◌ {A = Option (List ℕ)} (Some a) (Some b) → a ≡ b
+same_some a b e = cc
+
+apart : (bytes : List ℕ) → ◌≡◌ {A = Option (List ℕ)} None (Some bytes) → ⊥
+apart bytes e = cc
+
+pub same_mark : (c d : ℕ) (a b : List Outcome) → IsMark c a → IsMark d b → stored_mark c a ≡ stored_mark d b → (c ≡ d) × (a ≡ b)
+same_mark zero zero a b p q e = (refl, none_of_none a (omega (arith, p.len)) ∙ sym (none_of_none b (omega (arith, q.len))))
+same_mark zero (suc d) a b p q e = absurd (apart (mark_bytes (suc d) b) (e ∙ mark_stored (suc d) b (omega arith)))
+same_mark (suc c) zero a b p q e = absurd (apart (mark_bytes (suc c) a) (sym e ∙ mark_stored (suc c) a (omega arith)))
+same_mark (suc c) (suc d) a b p q e = same_bytes (suc c) (suc d) a b p.four_bytes q.four_bytes (same_some _ _ (sym (mark_stored (suc c) a (omega arith)) ∙ e ∙ mark_stored (suc d) b (omega arith)))
+
+pub one_state : (m n : State) (vars : Variables) → IsState m → IsState n → IsImage m vars → IsImage n vars → m ≡ n
+one_state m n vars p q f g =
+    let same = same_mark m.count n.count m.kept n.kept p.mark q.mark (sym f.mark ∙ g.mark) in
+    machine_is m vars (record { is = p; image = f }) ∙ (λ i. machine_of vars (same.0 i) (same.1 i)) ∙ sym (machine_is n vars (record { is = q; image = g }))
+
+-- ---- one image
+
+pub one_image : (m : State) (a b : Variables) → IsImage m a → IsImage m b → a ≡ b
+one_image m a b f g = same_map nat_list_cmp_total (slice_cmp-IsAntisymmetric nat_cmp-IsAntisymmetric) _ _ (λ name. ⊎_elim
+    (λ boot. ⊎_elim (λ entry. subst (λ (n : List ℕ). get a n ≡ get b n) (sym entry.2) (f.entry entry.0 entry.1 ∙ sym (g.entry entry.0 entry.1)))
+    (λ rest. ⊎_elim (λ e. subst (λ (n : List ℕ). get a n ≡ get b n) (sym e) (f.order ∙ sym g.order))
+    (λ last. ⊎_elim (λ e. subst (λ (n : List ℕ). get a n ≡ get b n) (sym e) (f.next ∙ sym g.next)) (λ e. subst (λ (n : List ℕ). get a n ≡ get b n) (sym e) (f.mark ∙ sym g.mark)) last) rest) boot)
+    (λ odd. f.other name odd ∙ sym (g.other name odd))
+    (boot_or_not name))
+
+-- ---- an image that may stand in a set
+
+named : (name : List ℕ) (stored : Option (List ℕ)) → IsName name → IfSome stored IsData → IfSome stored (λ value. IsVariable (name, value))
+named name None is valid = tt
+named name (Some bytes) is valid = (is, valid)
+
+pub still_valid : (vars : Variables) (name : List ℕ) (stored : Option (List ℕ)) → IsVars vars → IsName name → IfSome stored IsData → IsVars (with_stored vars name stored)
+still_valid vars name stored valid is whole other =
+    ⊎_elim (λ same. subst (λ (n : List ℕ). IfSome (get (with_stored vars name stored) n) (λ value. IsVariable (n, value))) same
+    (subst (λ (o : Option (List ℕ)). IfSome o (λ value. IsVariable (name, value))) (sym (stored_here vars name stored)) (named name stored is whole)))
+    (λ differ. subst (λ (o : Option (List ℕ)). IfSome o (λ value. IsVariable (other, value))) (sym (stored_apart vars name stored other differ)) (valid other))
+    (same_name_or_not name other)
+
+are_bytes : (numbers : List ℕ) → AllByRecursion IsByte (units_bytes numbers)
+are_bytes [] = tt
+are_bytes (n ∷ numbers) = (omega arith, (omega arith, are_bytes numbers))
+
+length-units : (numbers : List ℕ) → length (units_bytes numbers) ≡ 2 * length numbers
+length-units [] = refl
+length-units (n ∷ numbers) = omega (arith, length-units numbers)
+
+order_data : (order : List ℕ) → IsOrder order → IfSome (stored_order order) IsData
+order_data [] fits = tt
+order_data (n ∷ numbers) fits = let twice = length-units (n ∷ numbers) in let few = fits.len in record { some = λ e. cc; len = omega (arith, twice, few); bytes = are_bytes (n ∷ numbers) }
+
+next_data : (next : Option ℕ) → IfSome (stored_next next) IsData
+next_data None = tt
+next_data (Some number) = record { some = λ e. cc; len = omega arith; bytes = (omega arith, (omega arith, tt)) }
+
+outcome_is_byte : (outcome : Outcome) → outcome_byte outcome < 256
+outcome_is_byte Done = omega arith
+outcome_is_byte Exists = omega arith
+outcome_is_byte Missing = omega arith
+outcome_is_byte OrderRepeats = omega arith
+outcome_is_byte OrderUnknown = omega arith
+
+outcomes_are_bytes : (kept : List Outcome) → AllByRecursion IsByte (map outcome_byte kept)
+outcomes_are_bytes [] = tt
+outcomes_are_bytes (o ∷ kept) = (outcome_is_byte o, outcomes_are_bytes kept)
+
+length-outcomes : (kept : List Outcome) → length (map outcome_byte kept) ≡ length kept
+length-outcomes [] = refl
+length-outcomes (o ∷ kept) = ap suc (length-outcomes kept)
+
+mark_data : (count : ℕ) (kept : List Outcome) → IsMark count kept → IfSome (stored_mark count kept) IsData
+mark_data zero kept mark = tt
+mark_data (suc count) kept mark =
+    subst (λ (o : Option (List ℕ)). IfSome o IsData) (sym (mark_stored (suc count) kept (omega arith)))
+    (let few = mark.len in let long = length-outcomes kept in record { some = λ e. cc; len = omega (arith, few, long); bytes = (omega arith, (omega arith, (omega arith, (omega arith, (omega arith, (omega (arith, few), outcomes_are_bytes kept)))))) })
+
+-- what is stored under each number is an entry's data
+abbrev AreEntries : Entries → Type 0
+AreEntries entries = (number : ℕ) → IfSome (get entries number) (λ bytes. IsEntryNumber number × IsData bytes)
+
+data_of : (number : ℕ) (stored : Option (List ℕ)) → IfSome stored (λ bytes. IsEntryNumber number × IsData bytes) → IfSome stored IsData
+data_of number None valid = tt
+data_of number (Some bytes) valid = valid.1
+
+variable_of : (name : List ℕ) (stored : Option (List ℕ)) → IfSome stored (λ bytes. IsVariable (name, bytes) × (¬ IsBootName name)) → IfSome stored (λ value. IsVariable (name, value))
+variable_of name None valid = tt
+variable_of name (Some bytes) valid = valid.0
+
+with_entry_at : (limit : ℕ) (entries : Entries) (vars : Variables) (k : ℕ) → limit ≤ 2 ^ 16 → k < limit → get (with_entries limit entries vars) (entry_text k) ≡ get entries k
+unfolding with_entries
+with_entry_at zero entries vars k fits h = absurd (omega (arith, h))
+with_entry_at (suc number) entries vars k fits h =
+    ⊎_elim (λ same. subst (λ (j : ℕ). get (with_stored (with_entries number entries vars) (entry_text number) (get entries number)) (entry_text j) ≡ get entries j) same (stored_here _ (entry_text number) (get entries number)))
+    (λ differ. stored_apart _ (entry_text number) (get entries number) (entry_text k) (λ e. differ (names_apart number k (omega (arith, fits)) (omega (arith, h, fits)) e))
+    ∙ with_entry_at number entries vars k (omega (arith, fits)) (let apart : number ≢ k = differ in omega (arith, h, apart)))
+    (same_number_or_not number k)
+
+with_entry_apart : (limit : ℕ) (entries : Entries) (vars : Variables) (name : List ℕ) → ((k : ℕ) → k < limit → entry_text k ≢ name) → get (with_entries limit entries vars) name ≡ get vars name
+unfolding with_entries
+with_entry_apart zero entries vars name apart = refl
+with_entry_apart (suc number) entries vars name apart =
+    stored_apart _ (entry_text number) (get entries number) name (apart number (omega arith)) ∙ with_entry_apart number entries vars name (λ k h. apart k (omega (arith, h)))
+
+module _ (names : (number : ℕ) → number < 2 ^ 16 → IsName (entry_text number)) (order_name : IsName order_text) (next_name : IsName next_text) (keep_name : IsName keep_text) where
+  entries_valid : (limit : ℕ) (entries : Entries) (vars : Variables) → limit ≤ 2 ^ 16 → AreEntries entries → IsVars vars → IsVars (with_entries limit entries vars)
+  unfolding with_entries
+  entries_valid zero entries vars fits are valid = valid
+  entries_valid (suc number) entries vars fits are valid =
+      still_valid (with_entries number entries vars) (entry_text number) (get entries number) (entries_valid number entries vars (omega (arith, fits)) are valid) (names number (omega (arith, fits))) (data_of number (get entries number) (are number))
+
+  pub image_valid : (m : State) → IsState m → IsVars (image_of m)
+  image_valid m is =
+      let others = λ (name : List ℕ). variable_of name (get m.others name) (is.others name) in
+      still_valid _ keep_text _ (still_valid _ next_text _ (still_valid _ order_text _ (entries_valid (2 ^ 16) m.entries m.others (omega arith) is.entries others) order_name (order_data m.order is.order)) next_name (next_data m.next)) keep_name
+      (mark_data m.count m.kept is.mark)
+
+pub image_is : (m : State) → IsImage m (image_of m)
+image_is m = record {
+  entry = λ n p. stored_apart _ keep_text _ (entry_text n) (λ e. keep_is_no_entry n (sym e)) ∙ stored_apart _ next_text _ (entry_text n) (λ e. next_is_no_entry n (sym e))
+      ∙ stored_apart _ order_text _ (entry_text n) (λ e. order_is_no_entry n (sym e)) ∙ with_entry_at (2 ^ 16) m.entries m.others n (omega arith) p;
+  order = stored_apart _ keep_text _ order_text (λ e. order_is_not_keep (sym e)) ∙ stored_apart _ next_text _ order_text (λ e. order_is_not_next (sym e)) ∙ stored_here _ order_text (stored_order m.order);
+  next = stored_apart _ keep_text _ next_text (λ e. next_is_not_keep (sym e)) ∙ stored_here _ next_text (stored_next m.next);
+  mark = stored_here _ keep_text (stored_mark m.count m.kept);
+  other = λ name odd. stored_apart _ keep_text _ name (λ e. odd (subst IsBootName e is_keep_name)) ∙ stored_apart _ next_text _ name (λ e. odd (subst IsBootName e is_next_name))
+      ∙ stored_apart _ order_text _ name (λ e. odd (subst IsBootName e is_order_name)) ∙ with_entry_apart (2 ^ 16) m.entries m.others name (λ k h e. odd (subst IsBootName e (is_entry_name k h)));
+}
+
+-- ---- the name of the mark
+
+prints : List ℕ → Bool
+prints name = list_all (λ byte. nat_le 0x21 byte && nat_le byte 0x7E) name
+
+each_prints : (name : List ℕ) → prints name ≡ true → AllByRecursion IsNameByte name
+unfolding prints
+each_prints [] h = tt
+each_prints (byte ∷ name) h =
+    let parts = and_parts (nat_le 0x21 byte && nat_le byte 0x7E) (prints name) h in
+    let ends = and_parts (nat_le 0x21 byte) (nat_le byte 0x7E) parts.0 in
+    ((leb-true 0x21 byte ends.0, leb-true byte 0x7E ends.1), each_prints name parts.1)
+
+pub keep_is_name : IsName keep_text
+unfolding prints
+keep_is_name = record { some = λ e. cc; len = omega arith; printing = each_prints keep_text refl }
+
+-- ---- no fault
+
+pub no_fault : (vars : Variables) (count : ℕ) (kept : List Outcome) → (HasBadOrder vars → ⊥) → (HasBadNext vars → ⊥) → HasMark vars count kept → (fault : OpenFault) → IsOpenFault vars fault → ⊥
+no_fault vars count kept order next mark fault.BadOrder h = order h
+no_fault vars count kept order next mark fault.BadNext h = next h.1
+no_fault vars count kept order next mark fault.BadState h = h.2 count kept mark
+no_fault vars count kept order next mark fault.OutOfMemory h = h

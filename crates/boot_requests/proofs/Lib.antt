@@ -1,0 +1,27 @@
+pub mod Numbers
+pub mod Gaps
+pub mod Deliveries
+pub mod Runs
+pub mod Turns
+pub mod Histories
+pub mod Hands
+pub mod Replies
+pub mod Valid
+pub mod Answers
+pub mod Repeats
+pub mod Orders
+pub mod ByteLists
+pub mod TwoBytes
+pub mod Lengths
+pub mod Cuts
+pub mod Requests
+pub mod Reader
+pub mod Events
+mod Stored
+mod Edits
+mod Machines
+mod Images
+mod Steps
+mod OrderLists
+mod Outcomes
+pub mod Asked

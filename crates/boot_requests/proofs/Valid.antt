@@ -1,0 +1,183 @@
+-- A request that was sent leads from a state to a state, and so does a run of them.
+use Rattle.std.proofs.Common.{◌≡◌, ℕ, zero, suc, ◌+◌, ◌-◌, ◌*◌, ◌^◌, ◌<◌, ◌≤◌, Bool, true, false, cond, eqb, ltb, not, min, List, [], ◌∷◌, ◌++◌, length, filter, Option, Some, None, refl, sym, ap, subst, ◌∙◌, arith}
+use Rattle.std.specs.Prelude.{IfSome, if◌then◌else◌}
+use Rattle.std.specs.List.{AllByRecursion, flat_map}
+use Rattle.std.specs.Int.{w16, to_le_bytes}
+use Rattle.std.specs.Cmp.{nat_cmp_total}
+use Rattle.std.specs.FinMap.{get, insert, remove, get-remove}
+use Rattle.std.proofs.lemmas.Bool.Decides.{nat_tests}
+use Rattle.std.proofs.lemmas.List.{length-append, length-drop}
+use Rattle.uefi_path.specs.Row.{IsByte}
+use Rattle.uefi_option.specs.LoadOption.{OptionParts, IsOption, SpellsOption, option_bytes}
+use Rattle.uefi_vars.specs.Vars.{IsData}
+use Rattle.uefi_vars.specs.Order.{order_max, IsEntryNumber, IsOrder}
+use Rattle.boot_requests.specs.declared.request.Request.{Request}
+use Rattle.boot_requests.specs.declared.request.Request.TheVariants.{Add, Replace, Remove, Order, Next}
+use Rattle.boot_requests.specs.declared.outcome.Outcome.{Outcome}
+use Rattle.boot_requests.specs.declared.outcome.Outcome.TheVariants.{Done, Exists, Missing, OrderRepeats, OrderUnknown}
+use Rattle.boot_requests.specs.Limits.{kept_max, no_number, payload_max}
+use Rattle.boot_requests.specs.Request.{IsRequest, payload_of}
+use Rattle.boot_requests.specs.Frame.{IsSent}
+use Rattle.boot_requests.specs.State.{State, IsState}
+use Rattle.boot_requests.specs.Apply.{is_in, appended, next_without, outcome_of, changed, effect, kept_with, counted, applied, booted}
+use Rattle.boot_requests.specs.Seen.{Seen}
+use Rattle.boot_requests.specs.Changes.{Change, Applies, Boots, folded, numbers_in, rising}
+use Rattle.boot_requests.specs.Run.{gap_at, history, state_at}
+use Rattle.boot_requests.specs.Keeping.{AreRead}
+use Rattle.boot_requests.proofs.Numbers.{tie_test, get_inserted}
+use Rattle.boot_requests.proofs.Runs.{effect_count, applied_count}
+use Rattle.boot_requests.proofs.Histories.{AreSent, history_sent, history_numbers}
+
+-- what an entry holds
+abbrev IsEntry : ℕ → Option (List ℕ) → Type 0
+IsEntry number stored = IfSome stored (λ bytes. IsEntryNumber number × IsData bytes)
+
+push_all : (P : ℕ → Type 0) (xs : List ℕ) (x : ℕ) → AllByRecursion P xs → P x → AllByRecursion P (xs ++ x ∷ [])
+push_all P [] x h p = (p, tt)
+push_all P (y ∷ ys) x h p = (h.0, push_all P ys x h.1 p)
+
+filter_all : (P : ℕ → Type 0) (test : ℕ → Bool) (xs : List ℕ) → AllByRecursion P xs → AllByRecursion P (filter test xs)
+filter_all P test [] h = tt
+filter_all P test (x ∷ xs) h =
+    let rest = filter_all P test xs h.1 in
+    elim (test x) as (λ b. AllByRecursion P (cond b (x ∷ filter test xs) (filter test xs))) [ true ↦ (h.0, rest) | false ↦ rest ]
+
+filter_len : (test : ℕ → Bool) (xs : List ℕ) → length (filter test xs) ≤ length xs
+filter_len test [] = omega arith
+filter_len test (x ∷ xs) =
+    let rest = filter_len test xs in
+    elim (test x) as (λ b. length (cond b (x ∷ filter test xs) (filter test xs)) ≤ suc (length xs)) [ true ↦ omega arith | false ↦ omega arith ]
+
+appended_valid : (order : List ℕ) (entry : ℕ) → IsOrder order → IsEntryNumber entry → IsOrder (appended order entry)
+appended_valid order entry h number =
+    elim (is_in order entry) as (λ b. IsOrder (if b then order else if ltb (length order) order_max then order ++ entry ∷ [] else order)) [
+      | true ↦ h
+      | false ↦ elim (ltb (length order) order_max) as (λ b. ltb (length order) order_max ≡ b → IsOrder (if b then order ++ entry ∷ [] else order)) [
+        | true ↦ λ t.
+            let room : length order < order_max = grind (arith, nat_tests, t) in
+            record { numbers = push_all IsEntryNumber order entry h.numbers number; len = simp length-append (omega arith) }
+        | false ↦ λ t. h
+      ] refl
+    ]
+
+next_valid : (next : Option ℕ) (entry : ℕ) → IfSome next IsEntryNumber → IfSome (next_without next entry) IsEntryNumber
+next_valid None entry h = tt
+next_valid (Some next) entry h = elim (eqb next entry) as (λ b. IfSome (if b then None else Some next) IsEntryNumber) [ true ↦ tt | false ↦ h ]
+
+-- the spelling of an option is the data of an entry, where a payload has room for it
+module _ (spelled : (option : OptionParts) → IsOption option → (bytes : List ℕ) × SpellsOption bytes option × AllByRecursion IsByte bytes) where
+  data_of : (entry : ℕ) (option : OptionParts) → IsOption option → length (to_le_bytes w16 entry ++ option_bytes option) ≤ payload_max → IsData (option_bytes option)
+  data_of entry option valid len =
+      let s = spelled option valid in
+      let shorter : length (option_bytes option) ≤ payload_max = omega (arith, length-append (to_le_bytes w16 entry) (option_bytes option)) in
+      record {
+        some = λ none. some_bytes option (ap length none);
+        len = omega arith;
+        bytes = subst (λ (bytes : List ℕ). AllByRecursion IsByte bytes) s.1.1 s.2;
+      }
+    where
+      some_bytes : (option : OptionParts) → length (option_bytes option) ≡ 0 → ⊥
+      some_bytes option none = absurd (omega (arith, none))
+
+  stored_valid : (m : State) (entry : ℕ) (bytes : List ℕ) → IsState m → IsEntryNumber entry → IsData bytes → (q : ℕ) → IsEntry q (get (insert m.entries entry bytes) q)
+  stored_valid m entry bytes h number valid q =
+      subst (IsEntry q) (sym (get_inserted m.entries entry bytes q))
+      (elim (eqb q entry) as (λ b. eqb q entry ≡ b → IsEntry q (cond b (Some bytes) (get m.entries q))) [
+        | true ↦ λ t. let is : entry ≡ q = grind (arith, nat_tests, t) in (subst IsEntryNumber is number, valid)
+        | false ↦ λ t. h.entries q
+      ] refl)
+
+  removed_valid : (m : State) (entry : ℕ) → IsState m → (q : ℕ) → IsEntry q (get (remove m.entries entry) q)
+  removed_valid m entry h q =
+      subst (IsEntry q) (sym (get-remove nat_cmp_total m.entries entry q ∙ ap (λ b. cond b None (get m.entries q)) (tie_test q entry)))
+      (elim (eqb q entry) as (λ b. IsEntry q (cond b None (get m.entries q))) [ true ↦ tt | false ↦ h.entries q ])
+
+  units_len : (numbers : List ℕ) → length (flat_map (to_le_bytes w16) numbers) ≡ 2 * length numbers
+  units_len [] = refl
+  units_len (n ∷ ns) = let rest = units_len ns in omega (arith, length-append (to_le_bytes w16 n) (flat_map (to_le_bytes w16) ns))
+
+  pub changed_valid : (m : State) (request : Request) → IsState m → IsRequest request → length (payload_of request) ≤ payload_max → IsState (changed m request)
+  changed_valid m (Add entry option) h valid len = record {
+    entries = stored_valid m entry (option_bytes option) h valid.0 (data_of entry option valid.1 len);
+    order = appended_valid m.order entry h.order valid.0;
+    next = h.next;
+    mark = h.mark;
+    others = h.others;
+  }
+  changed_valid m (Replace entry option) h valid len = record {
+    entries = stored_valid m entry (option_bytes option) h valid.0 (data_of entry option valid.1 len);
+    order = h.order;
+    next = h.next;
+    mark = h.mark;
+    others = h.others;
+  }
+  changed_valid m (Remove entry) h valid len = record {
+    entries = removed_valid m entry h;
+    order = record {
+      numbers = filter_all IsEntryNumber (λ other. not (eqb other entry)) m.order h.order.numbers;
+      len = let shorter = filter_len (λ other. not (eqb other entry)) m.order in let most = h.order.len in omega arith;
+    };
+    next = next_valid m.next entry h.next;
+    mark = h.mark;
+    others = h.others;
+  }
+  changed_valid m (Order numbers) h valid len = record {
+    entries = h.entries;
+    order = record { numbers = valid; len = let all = units_len numbers in omega arith };
+    next = h.next;
+    mark = h.mark;
+    others = h.others;
+  }
+  changed_valid m (Next entry) h valid len = record {
+    entries = h.entries;
+    order = h.order;
+    next = valid;
+    mark = h.mark;
+    others = h.others;
+  }
+
+  effect_valid : (m : State) (request : Request) (outcome : Outcome) → IsState m → IsRequest request → length (payload_of request) ≤ payload_max → IsState (effect m request outcome)
+  effect_valid m request Done h valid len = changed_valid m request h valid len
+  effect_valid m request Exists h valid len = h
+  effect_valid m request Missing h valid len = h
+  effect_valid m request OrderRepeats h valid len = h
+  effect_valid m request OrderUnknown h valid len = h
+
+  kept_len : (kept : List Outcome) (outcome : Outcome) (count : ℕ) → length kept ≡ min kept_max count → length (kept_with kept outcome) ≡ min kept_max (count + 1)
+  kept_len kept outcome count h =
+      let all : length (kept ++ outcome ∷ []) ≡ length kept + 1 = simp length-append (omega arith) in
+      simp length-drop (omega (arith, all))
+
+  counted_valid : (m : State) (outcome : Outcome) → m.count < no_number → IsState m → IsState (counted m outcome)
+  counted_valid m outcome below h = record {
+    entries = h.entries;
+    order = h.order;
+    next = h.next;
+    mark = record { four_bytes = let small : m.count + 1 < 2 ^ 32 = omega arith in small; len = kept_len m.kept outcome m.count h.mark.len };
+    others = h.others;
+  }
+
+  -- a request that was sent with the next number leads from a state to a state
+  pub applied_valid : (m : State) (request : Request) → IsState m → IsSent m.count request → IsState (applied m request)
+  applied_valid m request h sent =
+      let outcome = outcome_of m request in
+      let below : (effect m request outcome).count < no_number = omega (arith, effect_count m request outcome, sent.1.below) in
+      counted_valid (effect m request outcome) outcome below (effect_valid m request outcome h sent.1.valid sent.1.len)
+
+  pub booted_valid : (m : State) → IsState m → IsState (booted m)
+  booted_valid m h = record { entries = h.entries; order = h.order; next = tt; mark = h.mark; others = h.others }
+
+  pub folded_valid : (m : State) (changes : List Change) (steps : ℕ) → IsState m → AreSent changes → numbers_in changes ≡ rising m.count steps → IsState (folded m changes)
+  folded_valid m [] steps h sent numbers = h
+  folded_valid m (Applies number request ∷ changes) zero h sent numbers = absurd (let clash = ap length numbers in omega arith)
+  folded_valid m (Applies number request ∷ changes) (suc steps) h sent numbers =
+      let at : number ≡ m.count = cc in
+      let rest : numbers_in changes ≡ rising (suc m.count) steps = cc in
+      let next : suc m.count ≡ (applied m request).count = omega (arith, applied_count m request) in
+      folded_valid (applied m request) changes steps (applied_valid m request h (subst (λ (n : ℕ). IsSent n request) at sent.0)) sent.1 (rest ∙ ap (λ n. rising n steps) next)
+  folded_valid m (Boots ∷ changes) steps h sent numbers = folded_valid (booted m) changes steps (booted_valid m h) sent numbers
+
+  -- a run of requests that were read leads to a state
+  pub state_valid : (start : State) (run : List Seen) → IsState start → AreRead run → IsState (state_at start run)
+  state_valid start run h read =
+      folded_valid start (history start.count run) (gap_at start.count run - start.count) h (history_sent start.count run read) (history_numbers start.count run)

@@ -1,0 +1,5 @@
+use Rattle.boot_requests.proofs.Requests.{fault_leaves_none}
+use Rattle.boot_requests.proofs.laws.a_fault_leaves_no_request.Goals as goal
+
+pub returns : goal.returns
+returns c = fault_leaves_none c.a_fault_leaves_no_option.ensures

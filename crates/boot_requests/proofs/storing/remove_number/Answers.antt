@@ -1,0 +1,17 @@
+use Rattle.std.proofs.Common.{◌≡◌, ℕ, List, length, ap, subst, ◌∙◌, arith}
+use Rattle.boot_requests.specs.Apply.{without}
+use Rattle.boot_requests.specs.Keeping.{IsStateOf}
+use Rattle.boot_requests.proofs.OrderLists.{no_longer}
+use Rattle.boot_requests.proofs.storing.remove_number.Goals as goal
+
+pub store_order-requires : goal.store_order-requires
+store_order-requires c =
+    let others = c.deref-2.ensures.value ∙ c.in_ok-others.ensures ∙ ap (λ (o : List ℕ). without o c.args.number) c.deref.ensures.value in
+    let len : length c.deref-2.result.now ≡ length (without c.in_ok-order.order.items c.args.number) = ap length others in
+    omega (arith, len, no_longer c.in_ok-order.order.items c.args.number, c.in_ok-order.ensures.len)
+
+pub returns : goal.returns
+returns c = λ m h.
+    let order = c.deref.ensures.value ∙ c.in_ok-order.ensures.order m h in
+    let others = c.deref-2.ensures.value ∙ c.in_ok-others.ensures ∙ ap (λ (o : List ℕ). without o c.args.number) order in
+    subst (λ (o : List ℕ). IsStateOf (record m { order = o }) c.store_order.new.vars) others (c.in_ok-store_order.ensures m h)

@@ -1,0 +1,18 @@
+-- The numbers that this crate fixes.
+use Rattle.std.specs.Prelude.{ℕ}
+
+-- a request is accepted only where its number is one of so many, the next one included
+abbrev pub width : ℕ
+width = 1
+
+-- the most outcomes that are kept
+abbrev pub kept_max : ℕ
+kept_max = 16
+
+-- the most bytes of a payload
+abbrev pub payload_max : ℕ
+payload_max = 131072
+
+-- the number that no request has, the greatest of four bytes
+abbrev pub no_number : ℕ
+no_number = 4294967295

@@ -1,0 +1,59 @@
+-- For private functions of the reader and the writer: what stands in a frame.
+use Rattle.std.specs.Prelude.{◌≡◌, ℕ, ◌<◌, ◌≤◌, List, ◌++◌, length, drop}
+use Rattle.std.specs.Int.{w16, to_le_bytes}
+use Rattle.uefi_option.specs.LoadOption.{OptionParts, IsOption, option_bytes}
+use Rattle.uefi_option.specs.Fault.{IsFirstFault as IsFirstOptionFault}
+use Rattle.boot_requests.specs.declared.frame.Kind.{Kind}
+use Rattle.boot_requests.specs.declared.frame.Kind.TheVariants as kind
+use Rattle.boot_requests.specs.declared.fault.FrameFault.{FrameFault}
+use Rattle.boot_requests.specs.declared.fault.FrameFault.TheVariants as fault
+use Rattle.boot_requests.specs.declared.request.Request.{Request}
+use Rattle.boot_requests.specs.Limits.{payload_max, no_number}
+use Rattle.boot_requests.specs.Request.{IsRequest, kind_of, payload_of}
+use Rattle.boot_requests.specs.Frame.{header_bytes}
+use Rattle.boot_requests.specs.FrameFault.{Cut, HoldsOption, IsBadPayload}
+
+-- the byte that stands for the kind
+abbrev pub byte_of : Kind → ℕ
+byte_of kind.Add = 1
+byte_of kind.Replace = 2
+byte_of kind.Remove = 3
+byte_of kind.Order = 4
+byte_of kind.Next = 5
+
+abbrev pub cut_of : List ℕ → ℕ → ℕ → ℕ → ℕ → List ℕ → Cut
+cut_of magic version kind number len payload =
+    record { magic = magic; version = version; kind = kind; number = number; len = len; payload = payload }
+
+-- the bytes are those of a frame, as far as can be told without reading the payload
+pub record SplitsFrame (bytes : List ℕ) (number kind : ℕ) (payload : List ℕ) : Type 0 where
+  pub below : number < no_number
+  pub len : length payload ≤ payload_max
+  pub parts : bytes ≡ header_bytes kind number (length payload) ++ payload
+
+-- the payload is that of the request, which has this kind
+pub record SpellsPayload (kind : ℕ) (payload : List ℕ) (request : Request) : Type 0 where
+  pub valid : IsRequest request
+  pub same_kind : kind ≡ kind_of request
+  pub is : payload ≡ payload_of request
+
+-- the payload is that of no request of this kind
+abbrev pub IsPayloadFault : ℕ → List ℕ → FrameFault → Type 0
+IsPayloadFault kind payload fault.BadPayload = IsBadPayload kind payload
+IsPayloadFault kind payload (fault.Option option_fault) =
+    HoldsOption kind × (2 ≤ length payload) × IsFirstOptionFault (drop 2 payload) option_fault
+IsPayloadFault kind payload fault.OutOfMemory = Unit {0}
+IsPayloadFault kind payload _ = ⊥
+
+-- the payload is the number of an entry and the spelling of an option
+pub record SpellsEntry (payload : List ℕ) (entry : ℕ) (option : OptionParts) : Type 0 where
+  pub valid : IsOption option
+  pub is : payload ≡ to_le_bytes w16 entry ++ option_bytes option
+
+-- the payload is no number of an entry and spelling of an option
+abbrev pub IsEntryFault : List ℕ → FrameFault → Type 0
+IsEntryFault payload fault.BadPayload = length payload < 2
+IsEntryFault payload (fault.Option option_fault) =
+    (2 ≤ length payload) × IsFirstOptionFault (drop 2 payload) option_fault
+IsEntryFault payload fault.OutOfMemory = Unit {0}
+IsEntryFault payload _ = ⊥

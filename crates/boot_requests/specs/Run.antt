@@ -1,0 +1,159 @@
+-- Whole runs: lists of what happened, the newest first. Nothing here knows how it is kept.
+use Rattle.std.specs.Prelude.{◌≡◌, ◌⊎◌, ℕ, ◌+◌, ◌<◌, ◌==◌, ◌&&◌, nat_lt, Bool, true, false, if◌then◌else◌, List, [], ◌∷◌, ◌++◌, Option, Some, None}
+use Rattle.std.specs.FinMap.{empty, insert, retain_keys}
+use Rattle.uefi_vars.specs.Plan.{PlanParts}
+use Rattle.boot_requests.specs.declared.request.Request.{Request}
+use Rattle.boot_requests.specs.declared.request.Request.TheVariants.{Add, Replace, Remove, Order, Next}
+use Rattle.boot_requests.specs.declared.outcome.Outcome.{Outcome}
+use Rattle.boot_requests.specs.declared.outcome.Outcome.TheVariants.{Done, Exists, Missing, OrderRepeats, OrderUnknown}
+use Rattle.boot_requests.specs.Limits.{width}
+use Rattle.boot_requests.specs.State.{State}
+use Rattle.boot_requests.specs.Apply.{outcome_of, applied, booted, HasPlanOf}
+use Rattle.boot_requests.specs.Seen.{Seen, Came, Garbled, Prepare, Hand, Restart}
+use Rattle.boot_requests.specs.Window.{Requests, gap_of, is_open}
+use Rattle.boot_requests.specs.Changes.{Change, Applies, Boots, changes_between, folded}
+
+-- ---- which requests are accepted
+
+-- The accepted requests, where the numbers begin with the first: each first request of its number that came when that
+-- number was open. Those behind the gap are forgotten where the keeper starts anew.
+abbrev pub accepted : ℕ → List Seen → Requests
+accepted first [] = empty
+accepted first (Came number request ∷ before) =
+    let requests = accepted first before in
+    if is_open requests (gap_of first requests) number then insert requests number request else requests
+accepted first (Restart ∷ before) =
+    let requests = accepted first before in
+    let gap = gap_of first requests in
+    retain_keys requests (λ number. nat_lt number gap)
+accepted first (Garbled fault ∷ before) = accepted first before
+accepted first (Prepare ∷ before) = accepted first before
+accepted first (Hand ∷ before) = accepted first before
+
+-- the least number that isn't accepted: the number of the request that is to be applied next
+abbrev pub gap_at : ℕ → List Seen → ℕ
+gap_at first run = gap_of first (accepted first run)
+
+-- ---- which plans are prepared
+
+-- whether a plan is prepared, and neither handed out since nor forgotten by a restart
+abbrev pub is_armed : List Seen → Bool
+is_armed [] = false
+is_armed (Came number request ∷ before) = is_armed before
+is_armed (Garbled fault ∷ before) = is_armed before
+is_armed (Prepare ∷ before) = true
+is_armed (Hand ∷ before) = false
+is_armed (Restart ∷ before) = false
+
+-- what happened before the last boot that was prepared while no plan was: such a boot is taken. Nothing, where none was
+-- taken.
+abbrev pub before_taken : List Seen → List Seen
+before_taken [] = []
+before_taken (Came number request ∷ before) = before_taken before
+before_taken (Garbled fault ∷ before) = before_taken before
+before_taken (Prepare ∷ before) = if is_armed before then before_taken before else before
+before_taken (Hand ∷ before) = before_taken before
+before_taken (Restart ∷ before) = before_taken before
+
+-- ---- the history: what is done to the state, oldest first
+
+-- what is done as this happens: a request that fills the gap is applied with those that follow it without one, and a boot
+-- that is taken deletes BootNext
+abbrev pub newly : ℕ → List Seen → Seen → List Change
+newly first before (Came number request) =
+    let run = Came number request ∷ before in changes_between (gap_at first before) (gap_at first run) (accepted first run)
+newly first before (Garbled fault) = []
+newly first before Prepare = if is_armed before then [] else Boots ∷ []
+newly first before Hand = []
+newly first before Restart = []
+
+abbrev pub history : ℕ → List Seen → List Change
+history first [] = []
+history first (seen ∷ before) = history first before ++ newly first before seen
+
+-- the state after a run, from the state at its start
+abbrev pub state_at : State → List Seen → State
+state_at start run = folded start (history start.count run)
+
+-- the plan that is prepared and not handed out yet: that of the state before the last boot that was taken
+abbrev pub IsPending : State → List Seen → Option PlanParts → Type 0
+IsPending start run None = is_armed run ≡ false
+IsPending start run (Some plan) = (is_armed run ≡ true) × HasPlanOf (state_at start (before_taken run)) plan
+
+-- ---- what becomes of each entry and of BootNext
+
+abbrev pub is_done : Outcome → Bool
+is_done Done = true
+is_done Exists = false
+is_done Missing = false
+is_done OrderRepeats = false
+is_done OrderUnknown = false
+
+-- whether the request sets BootNext to the entry
+abbrev pub is_next : Request → ℕ → Bool
+is_next (Next next) entry = next == entry
+is_next (Add number option) entry = false
+is_next (Replace number option) entry = false
+is_next (Remove number) entry = false
+is_next (Order numbers) entry = false
+
+-- whether the request is one to store or to remove the entry
+abbrev pub is_about : Request → ℕ → Bool
+is_about (Add number option) entry = number == entry
+is_about (Replace number option) entry = number == entry
+is_about (Remove number) entry = number == entry
+is_about (Order numbers) entry = false
+is_about (Next next) entry = false
+
+-- how often changes set BootNext to the entry, from this state on
+abbrev pub sets_in : State → List Change → ℕ → ℕ
+sets_in m [] entry = 0
+sets_in m (Applies number request ∷ changes) entry =
+    (if is_next request entry && is_done (outcome_of m request) then 1 else 0) + sets_in (applied m request) changes entry
+sets_in m (Boots ∷ changes) entry = sets_in (booted m) changes entry
+
+-- whether this, as BootNext, is the entry
+abbrev pub is_next_entry : Option ℕ → ℕ → Bool
+is_next_entry None entry = false
+is_next_entry (Some next) entry = next == entry
+
+-- how often a run set BootNext to the entry, at its start included
+abbrev pub sets : State → List Seen → ℕ → ℕ
+sets start run entry = (if is_next_entry start.next entry then 1 else 0) + sets_in start (history start.count run) entry
+
+-- the last request that stored or removed the entry, among changes from this state on, or else the one before them
+abbrev pub last_in : State → List Change → ℕ → Option Request → Option Request
+last_in m [] entry last = last
+last_in m (Applies number request ∷ changes) entry last =
+    last_in (applied m request) changes entry
+    (if is_about request entry && is_done (outcome_of m request) then Some request else last)
+last_in m (Boots ∷ changes) entry last = last_in (booted m) changes entry last
+
+-- the last request of a run that stored or removed the entry
+abbrev pub last_of : State → List Seen → ℕ → Option Request
+last_of start run entry = last_in start (history start.count run) entry None
+
+-- ---- runs of deliveries alone
+
+-- the run delivers the request with this number
+abbrev pub Delivers : List Seen → ℕ → Request → Type 0
+Delivers [] number request = ⊥
+Delivers (Came other another ∷ before) number request =
+    ((other ≡ number) × (another ≡ request)) ⊎ Delivers before number request
+Delivers (Garbled fault ∷ before) number request = Delivers before number request
+Delivers (Prepare ∷ before) number request = Delivers before number request
+Delivers (Hand ∷ before) number request = Delivers before number request
+Delivers (Restart ∷ before) number request = Delivers before number request
+
+-- nothing but deliveries happened, and none was too far ahead as it came
+abbrev pub AreTaken : ℕ → List Seen → Type 0
+AreTaken first [] = Unit {0}
+AreTaken first (Came number request ∷ before) = (number < gap_at first before + width) × AreTaken first before
+AreTaken first (Garbled fault ∷ before) = AreTaken first before
+AreTaken first (Prepare ∷ before) = ⊥
+AreTaken first (Hand ∷ before) = ⊥
+AreTaken first (Restart ∷ before) = ⊥
+
+-- no number has two requests
+abbrev pub AgreeOnNumbers : List Seen → Type 0
+AgreeOnNumbers run = (number : ℕ) (a b : Request) → Delivers run number a → Delivers run number b → a ≡ b

@@ -1,0 +1,53 @@
+-- One step of a keeper, as a table over plain states. It knows nothing of runs.
+use Rattle.std.specs.Prelude.{◌≡◌, ℕ, nat_lt, if◌then◌else◌, Option, Some, None, MatchOption}
+use Rattle.std.specs.FinMap.{empty, insert, retain_keys}
+use Rattle.uefi_vars.specs.Plan.{PlanParts}
+use Rattle.boot_requests.specs.declared.request.Request.{Request}
+use Rattle.boot_requests.specs.declared.reply.Reply.{Reply}
+use Rattle.boot_requests.specs.declared.reply.Reply.TheVariants as reply
+use Rattle.boot_requests.specs.State.{State}
+use Rattle.boot_requests.specs.Apply.{booted, HasPlanOf}
+use Rattle.boot_requests.specs.Seen.{Seen, Came, Garbled, Prepare, Hand, Restart}
+use Rattle.boot_requests.specs.Window.{Requests, gap_of, is_open}
+use Rattle.boot_requests.specs.Changes.{changes_between, folded}
+use Rattle.boot_requests.specs.Answer.{IsReplyTo, choice_count, handed}
+
+-- the state of the boot entries, the requests that wait, by numbers above the next one, and the plan that is prepared
+pub record Plain : Type 0 where
+  pub machine : State
+  pub waiting : Requests
+  pub plan : Option PlanParts
+
+-- nothing waits and nothing is prepared
+abbrev pub plain_start : State → Plain
+plain_start m = record { machine = m; waiting = empty; plan = None }
+
+-- Where these requests wait, those that follow each other from the next number on are applied, and the others go on
+-- waiting.
+abbrev pub settled : Plain → Requests → Plain
+settled k requests =
+    let next = k.machine.count in
+    let after = gap_of next requests in
+    record k {
+      machine = folded k.machine (changes_between next after requests);
+      waiting = retain_keys requests (λ number. nat_lt after number);
+    }
+
+-- a request comes with its number: it waits if its number is open, and changes nothing if not
+abbrev pub delivered : Plain → ℕ → Request → Plain
+delivered k number request =
+    if is_open k.waiting k.machine.count number then settled k (insert k.waiting number request) else k
+
+-- from the one plain state, what happens leads to the other and is answered so
+abbrev pub Turn : Plain → Seen → Plain → Reply → Type 0
+Turn k (Came number request) to answer =
+    (to ≡ delivered k number request)
+    × IsReplyTo k.machine k.waiting k.machine.count (delivered k number request).machine.count number request answer
+Turn k (Garbled fault) to answer = (to ≡ k) × (answer ≡ reply.Malformed fault)
+Turn k Prepare to answer =
+    MatchOption k.plan
+    ((plan : PlanParts) × HasPlanOf k.machine plan
+    × (to ≡ record k { machine = booted k.machine; plan = Some plan }) × (answer ≡ reply.Prepared (choice_count plan)))
+    (λ _. (to ≡ k) × (answer ≡ reply.AlreadyPrepared))
+Turn k Hand to answer = (to ≡ record k { plan = None }) × (answer ≡ handed k.plan)
+Turn k Restart to answer = (to ≡ plain_start k.machine) × (answer ≡ reply.Restarted k.machine.count)

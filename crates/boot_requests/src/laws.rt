@@ -1,0 +1,295 @@
+//! Laws of the definitions. Each function's contract is one law; calling it does nothing.
+
+ghost use Rattle.std.specs.Prelude.{◌≡◌, ◌⊎◌, ◌↔◌, ℕ, ◌-◌, ◌<◌, ◌≤◌, List, [], ◌∷◌, ◌++◌, length, None, IsTrue, true, false};
+ghost use Rattle.std.specs.List.{AllByRecursion};
+ghost use Rattle.std.specs.FinMap as map;
+ghost use Rattle.uefi_path.specs.Row.{IsByte};
+ghost use Rattle.uefi_vars.specs.Vars.{Variables, IsVars};
+ghost use Rattle.boot_requests.specs.declared.event.Event.{Event};
+ghost use Rattle.boot_requests.specs.declared.fault.FrameFault.{FrameFault};
+ghost use Rattle.boot_requests.specs.declared.fault.OpenFault.{OpenFault};
+ghost use Rattle.boot_requests.specs.declared.outcome.Outcome.{Outcome};
+ghost use Rattle.boot_requests.specs.declared.reply.Reply.{Reply};
+ghost use Rattle.boot_requests.specs.declared.request.Request.{Request};
+ghost use Rattle.boot_requests.specs.Limits.{width, kept_max, payload_max, no_number};
+ghost use Rattle.boot_requests.specs.Request.{IsRequest, payload_of};
+ghost use Rattle.boot_requests.specs.Frame.{SpellsFrame};
+ghost use Rattle.boot_requests.specs.FrameFault.{IsFirstFault};
+ghost use Rattle.boot_requests.specs.State.{State, IsState, IsImage};
+ghost use Rattle.boot_requests.specs.Seen.{Seen, Came, Prepare, IsEvent, IsSeen};
+ghost use Rattle.boot_requests.specs.Changes.{numbers_in, rising};
+ghost use Rattle.boot_requests.specs.Run.{accepted, gap_at, Delivers, AreTaken, AgreeOnNumbers, is_armed, history, state_at, last_of, sets};
+ghost use Rattle.boot_requests.specs.Reply.{IsReply, AreReplies, hands};
+ghost use Rattle.boot_requests.specs.Turn.{Plain, plain_start, Turn};
+ghost use Rattle.boot_requests.specs.Keeping.{StandsFor, AreRead, IsLeft, IsStored};
+ghost use Rattle.boot_requests.specs.Opening.{IsOpenFault};
+
+use crate::bytes::Bytes;
+use crate::event::Event;
+use crate::fault::{FrameFault, OpenFault};
+use crate::frame::PAYLOAD_MAX;
+use crate::keeper::WIDTH;
+use crate::outcome::{KEPT_MAX, Outcome};
+use crate::reply::Reply;
+use crate::request::{OrderList, Request};
+use uefi_option::laws as option_laws;
+
+/// A turn of the plain state that stands for a run leads to the one that stands for the longer run, and is answered as
+/// that run is.
+pub fn a_turn_goes_on_with_the_run()
+    ensures state { (k to : Plain) (start : State) (run : List Seen) (seen : Seen) (answer : Reply) →
+        StandsFor k start run → Turn k seen to answer → StandsFor to start (seen ∷ run) }
+    ensures reply { (k to : Plain) (start : State) (run : List Seen) (seen : Seen) (answer : Reply) →
+        StandsFor k start run → Turn k seen to answer → IsReply start run seen answer }
+{}
+
+/// The state at the start stands for the run in which nothing happened.
+pub fn a_start_stands_for_no_events()
+    ensures { (start : State) → StandsFor (plain_start start) start [] }
+{}
+
+/// The numbers of the requests that a run applied are those from the first one on to below the gap, each once and in
+/// their order, and the gap is the next number of the state.
+pub fn each_number_is_applied_once()
+    ensures numbers { (start : State) (run : List Seen) → let first = start.count in
+        numbers_in (history first run) ≡ rising first (gap_at first run - first) }
+    ensures gap { (start : State) (run : List Seen) → start.count ≤ gap_at start.count run }
+    ensures next { (start : State) (run : List Seen) → (state_at start run).count ≡ gap_at start.count run }
+{}
+
+/// An entry is what the last request asked for that stored or removed it, and what it was at the start where there is none.
+pub fn each_entry_is_what_was_asked_last()
+    ensures { (start : State) (run : List Seen) (entry : ℕ) → AreRead run →
+        IsLeft (map.get start.entries entry) (last_of start run entry)
+        (map.get (state_at start run).entries entry) }
+{}
+
+/// Plans are handed out with an entry as BootNext's at most as often as BootNext was set to it.
+pub fn each_next_is_handed_out_at_most_once()
+    ensures { (start : State) (run : List Seen) (answers : List Reply) (entry : ℕ) →
+        AreReplies start run answers → hands answers entry ≤ sets start run entry }
+{}
+
+/// Where a boot is prepared and no plan was, BootNext is gone.
+pub fn a_boot_deletes_the_next_entry()
+    ensures { (start : State) (run : List Seen) → is_armed run ≡ false →
+        (state_at start (Prepare ∷ run)).next ≡ None }
+{}
+
+/// What happens after a run has at most one reply.
+pub fn an_event_has_one_reply()
+    ensures { (start : State) (run : List Seen) (seen : Seen) (a b : Reply) →
+        IsReply start run seen a → IsReply start run seen b → a ≡ b }
+{
+    uefi_vars::laws::entries_have_one_plan();
+}
+
+/// From a plain state, what happens leads to one other at most, with one reply.
+pub fn a_turn_is_one()
+    ensures state { (k x y : Plain) (seen : Seen) (a b : Reply) →
+        Turn k seen x a → Turn k seen y b → x ≡ y }
+    ensures reply { (k x y : Plain) (seen : Seen) (a b : Reply) →
+        Turn k seen x a → Turn k seen y b → a ≡ b }
+{
+    uefi_vars::laws::entries_have_one_plan();
+}
+
+/// From a state, a run of requests that were read leads to a state: what it has is in its ranges.
+pub fn a_run_leads_to_a_state()
+    ensures { (start : State) (run : List Seen) → IsState start → AreRead run →
+        IsState (state_at start run) }
+{
+    uefi_option::laws::each_option_is_spelled();
+}
+
+/// To deliver once more a request whose number is below the gap or accepted, with any content, changes neither the state
+/// then or after any further events, nor any later reply.
+pub fn a_repeat_changes_nothing()
+    ensures state { (start : State) (later run : List Seen) (number : ℕ) (request : Request) →
+        (number < gap_at start.count run) ⊎ (map.contains_key (accepted start.count run) number ≡ true) →
+        state_at start (later ++ Came number request ∷ run) ≡ state_at start (later ++ run) }
+    ensures replies { (start : State) (later run : List Seen) (number : ℕ) (request : Request) →
+        (number < gap_at start.count run) ⊎ (map.contains_key (accepted start.count run) number ≡ true) →
+        (seen : Seen) (answer : Reply) → IsReply start (later ++ Came number request ∷ run) seen answer →
+        IsReply start (later ++ run) seen answer }
+{}
+
+/// Deliveries alone, of the same requests, no number of which has two, lead to one state, in whatever order and however
+/// often they come, where none is too far ahead as it comes.
+pub fn the_order_of_deliveries_does_not_matter()
+    ensures { (start : State) (x y : List Seen) →
+        AreTaken start.count x → AreTaken start.count y → AgreeOnNumbers x → AgreeOnNumbers y →
+        ((number : ℕ) (request : Request) → Delivers x number request ↔ Delivers y number request) →
+        state_at start x ≡ state_at start y }
+{}
+
+/// The public constants are the limits that the definitions state.
+pub fn limits_are_those_of_the_definitions()
+    ensures payload_max { PAYLOAD_MAX ≡ payload_max }
+    ensures kept_max { KEPT_MAX ≡ kept_max }
+    ensures width { WIDTH ≡ width }
+{}
+
+/// Each request whose numbers are in their ranges and whose payload isn't too long has a frame with each number but the
+/// greatest, of bytes.
+pub fn each_request_is_spelled()
+    ensures { (number : ℕ) (request : Request) → number < no_number → IsRequest request →
+        length (payload_of request) ≤ payload_max →
+        (bytes : List ℕ) × SpellsFrame bytes number request × AllByRecursion IsByte bytes }
+{
+    option_laws::each_option_is_spelled();
+}
+
+/// A request with its number has at most one spelling.
+pub fn a_request_has_one_spelling()
+    ensures { (number : ℕ) (request : Request) (a b : List ℕ) →
+        SpellsFrame a number request → SpellsFrame b number request → a ≡ b }
+{}
+
+/// Bytes spell at most one request, with one number.
+pub fn bytes_spell_one_request()
+    ensures { (bytes : List ℕ) (m n : ℕ) (q r : Request) →
+        SpellsFrame bytes m q → SpellsFrame bytes n r → (m ≡ n) × (q ≡ r) }
+{
+    option_laws::bytes_spell_one_option();
+}
+
+/// Bytes spell a request with its number, or have a first fault.
+pub fn bytes_spell_a_request_or_have_a_fault()
+    ensures { (bytes : List ℕ) → AllByRecursion IsByte bytes →
+        ((number : ℕ) × (request : Request) × SpellsFrame bytes number request)
+        ⊎ ((fault : FrameFault) × IsFirstFault bytes fault) }
+{
+    option_laws::bytes_spell_an_option_or_have_a_fault();
+}
+
+/// Bytes that have a first fault spell no request.
+pub fn a_fault_leaves_no_request()
+    ensures { (bytes : List ℕ) (fault : FrameFault) (number : ℕ) (request : Request) →
+        IsFirstFault bytes fault → SpellsFrame bytes number request → ⊥ }
+{
+    option_laws::a_fault_leaves_no_option();
+}
+
+/// Bytes have at most one first fault.
+pub fn bytes_have_one_first_fault()
+    ensures { (bytes : List ℕ) (f g : FrameFault) →
+        IsFirstFault bytes f → IsFirstFault bytes g → f ≡ g }
+{
+    option_laws::bytes_have_one_first_fault();
+}
+
+/// A frame with more bytes behind it is no frame.
+pub fn no_frame_begins_another()
+    ensures { (bytes rest : List ℕ) (m n : ℕ) (q r : Request) →
+        SpellsFrame bytes m q → SpellsFrame (bytes ++ rest) n r → rest ≡ [] }
+{}
+
+/// An event is seen in at most one way.
+pub fn an_event_is_seen_as_one()
+    ensures { (event : Event) (a b : Seen) → IsSeen event a → IsSeen event b → a ≡ b }
+{
+    bytes_spell_one_request();
+    a_fault_leaves_no_request();
+    bytes_have_one_first_fault();
+}
+
+/// Each event is seen in some way.
+pub fn each_event_is_seen()
+    ensures { (event : Event) → IsEvent event → (seen : Seen) × IsSeen event seen }
+{
+    bytes_spell_a_request_or_have_a_fault();
+}
+
+/// `==` on requests tells whether they are equal.
+pub fn requests_compare_as_values()
+    ensures { (a b : Request) → IsTrue (⟦<Request as PartialEq>⟧.eq a b) ↔ (a ≡ b) }
+{
+    option_laws::load_options_compare_as_values();
+}
+
+/// `==` on orders tells whether they are equal.
+pub fn orders_compare_as_values()
+    ensures { (a b : List ℕ) → IsTrue (⟦<OrderList as PartialEq>⟧.eq a b) ↔ (a ≡ b) }
+{}
+
+/// `==` on the bytes of deliveries tells whether they are equal.
+pub fn deliveries_compare_as_values()
+    ensures { (a b : List ℕ) → IsTrue (⟦<Bytes as PartialEq>⟧.eq a b) ↔ (a ≡ b) }
+{}
+
+/// `==` on events tells whether they are equal.
+pub fn events_compare_as_values()
+    ensures { (a b : Event) → IsTrue (⟦<Event as PartialEq>⟧.eq a b) ↔ (a ≡ b) }
+{}
+
+/// `==` on outcomes tells whether they are equal.
+pub fn outcomes_compare_as_values()
+    ensures { (a b : Outcome) → IsTrue (⟦<Outcome as PartialEq>⟧.eq a b) ↔ (a ≡ b) }
+{}
+
+/// `==` on the faults of frames tells whether they are equal.
+pub fn frame_faults_compare_as_values()
+    ensures { (a b : FrameFault) → IsTrue (⟦<FrameFault as PartialEq>⟧.eq a b) ↔ (a ≡ b) }
+{
+    option_laws::option_faults_compare_as_values();
+}
+
+/// `==` on the faults of opening tells whether they are equal.
+pub fn open_faults_compare_as_values()
+    ensures { (a b : OpenFault) → IsTrue (⟦<OpenFault as PartialEq>⟧.eq a b) ↔ (a ≡ b) }
+{}
+
+/// Variables are the image of at most one state.
+pub fn variables_have_one_state()
+    ensures { (m n : State) (vars : Variables) → IsState m → IsState n →
+        IsImage m vars → IsImage n vars → m ≡ n }
+{}
+
+/// A state has at most one image.
+pub fn a_state_has_one_image()
+    ensures { (m : State) (a b : Variables) → IsImage m a → IsImage m b → a ≡ b }
+{}
+
+/// A state has an image, which may stand in a set.
+pub fn each_state_has_an_image()
+    ensures { (m : State) → IsState m → (vars : Variables) × IsVars vars × IsImage m vars }
+{
+    uefi_vars::laws::boot_names_are_names();
+}
+
+/// The image of a state has no fault for which it can't be kept.
+pub fn an_image_can_be_kept()
+    ensures { (m : State) (vars : Variables) (fault : OpenFault) → IsState m → IsImage m vars →
+        IsOpenFault vars fault → ⊥ }
+{
+    uefi_vars::laws::a_bad_order_gives_no_order();
+    uefi_vars::laws::a_bad_next_gives_no_next();
+}
+
+/// What happens after a run of frames that were read has a reply.
+pub fn each_event_has_a_reply()
+    ensures { (start : State) (run : List Seen) (seen : Seen) → IsState start → AreRead run →
+        (answer : Reply) × IsReply start run seen answer }
+{
+    uefi_option::laws::each_option_is_spelled();
+    uefi_vars::laws::entries_have_a_plan();
+    requests_compare_as_values();
+}
+
+/// Whatever happens, a plain state has a turn.
+pub fn each_plain_state_has_a_turn()
+    ensures { (k : Plain) (seen : Seen) → IsState k.machine →
+        (to : Plain) × (answer : Reply) × Turn k seen to answer }
+{
+    uefi_vars::laws::entries_have_a_plan();
+    requests_compare_as_values();
+}
+
+/// Where nothing waits, and a request to store an entry is answered Applied and Done, what is stored of the entry spells
+/// the option that was asked for.
+pub fn a_stored_option_is_what_was_asked_for()
+    ensures { (k to : Plain) (number next : ℕ) (request : Request) →
+        k.waiting ≡ map.empty → IsRequest request →
+        Turn k (Came number request) to (Reply.Applied Outcome.Done next) → IsStored to.machine request }
+{}

@@ -1,0 +1,38 @@
+//! Numbered requests that change the boot entries of a machine, each applied once and in the order of the numbers, and
+//! the boots between them (UEFI specification, version 2.10, chapter 3).
+//!
+//! A [`Request`] with its number is sent as a frame: [`read_frame`] reads one from its bytes, all of them, and
+//! [`write_frame`] gives its one spelling.
+#![tactic(auto)]
+
+mod applying;
+mod bytes;
+mod event;
+mod fault;
+mod frame;
+mod keeper;
+pub mod laws;
+mod line;
+mod opening;
+mod outcome;
+mod reading;
+mod reply;
+mod request;
+mod storing;
+mod writing;
+
+pub use bytes::Bytes;
+pub use event::Event;
+pub use fault::{FrameFault, OpenFault};
+pub use frame::PAYLOAD_MAX;
+pub use keeper::{Keeper, WIDTH};
+pub use line::reply_line;
+pub use opening::OpenRefused;
+pub use outcome::{KEPT_MAX, Outcome};
+pub use reading::read_frame;
+pub use reply::Reply;
+pub use request::{OrderList, Request};
+pub use writing::write_frame;
+
+#[cfg(test)]
+mod tests;

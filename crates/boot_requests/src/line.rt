@@ -1,0 +1,39 @@
+//! Replies as text.
+
+ghost use Rattle.std.specs.Prelude.{◌≡◌, IfOk};
+ghost use Rattle.std.specs.String.{string_bytes};
+ghost use Rattle.boot_requests.specs.Words.{line_of};
+
+use crate::reply::Reply;
+use std::alloc::{AllocError, Global};
+
+/// The reply as one line of words with one blank between two, without a line feed: what it is, in lower case, and then the
+/// words of its fault, the name of its outcome, and its number in decimal. A plan is the line of
+/// [`BootPlan::words`](uefi_vars::BootPlan::words). The one refusal is for want of memory.
+pub fn reply_line(alloc: Global, reply: &Reply) -> Result<String, AllocError>
+    ensures { IfOk result (λ text. string_bytes text ≡ line_of reply.now) }
+{
+    match reply {
+        Reply::Malformed(fault) => {
+            let words = fault.words(alloc)?;
+            format!(in alloc; "malformed {words}")
+        }
+        Reply::Repeat(outcome) => {
+            let name = outcome.name();
+            format!(in alloc; "repeat {name}")
+        }
+        Reply::Old => String::from_str(alloc, "old"),
+        Reply::Ahead(next) => format!(in alloc; "ahead {next}"),
+        Reply::Conflict => String::from_str(alloc, "conflict"),
+        Reply::Waiting(next) => format!(in alloc; "waiting {next}"),
+        Reply::Applied(outcome, next) => {
+            let name = outcome.name();
+            format!(in alloc; "applied {name} {next}")
+        }
+        Reply::Prepared(count) => format!(in alloc; "prepared {count}"),
+        Reply::AlreadyPrepared => String::from_str(alloc, "already prepared"),
+        Reply::Plan(plan) => plan.words(alloc),
+        Reply::NothingPrepared => String::from_str(alloc, "nothing prepared"),
+        Reply::Restarted(next) => format!(in alloc; "restarted {next}"),
+    }
+}

@@ -1,0 +1,100 @@
+//! Requests as values.
+
+ghost use Rattle.std.specs.Prelude.{◌≡◌, IfOk};
+
+use std::alloc::{AllocError, Global};
+use std::marker::Model;
+use uefi_option::LoadOption;
+
+/// The numbers of entries in the order in which a boot is to try them, as BootOrder has them (UEFI 2.10, 3.3).
+#[derive(Debug, Drop)]
+pub struct OrderList {
+    numbers: Vec<u16>,
+}
+
+impl Model for OrderList {
+    ghost use Rattle.std.specs.Prelude.{ℕ, List};
+
+    ghost Value = { List ℕ };
+
+    ghost view = { λ order. order.numbers.items };
+}
+
+impl PartialEq for OrderList {
+    ghost use Rattle.std.specs.Prelude.{◌≡◌, ◌==◌, ◌↔◌, IsTrue};
+    ghost use Rattle.std.proofs.Common.{rules};
+    ghost use Rattle.std.specs.Cmp.Lexicographic.{pointwise};
+    ghost use Rattle.std.specs.Cmp.Rules.{comparing};
+
+    ghost eq = { pointwise ◌==◌ };
+
+    ghost laws = { Prim.search (comparing, rules) };
+
+    fn eq(&self, other: &OrderList) -> bool
+        ensures value { result ≡ pointwise ◌==◌ self.now other.now }
+        ensures equal { IsTrue result ↔ (self.now ≡ other.now) }
+    {
+        self.numbers == other.numbers
+    }
+}
+
+impl Eq for OrderList {
+    ghost use Rattle.std.proofs.Common.{rules};
+    ghost use Rattle.std.specs.Cmp.Rules.{comparing};
+
+    ghost laws = { Prim.search (comparing, rules) };
+}
+
+impl OrderList {
+    /// These numbers in their order.
+    pub fn new(numbers: Vec<u16>) -> OrderList
+        ensures { result ≡ numbers.items }
+    {
+        OrderList { numbers }
+    }
+
+    /// An equal list. The one refusal is for want of memory.
+    pub fn copy(&self, alloc: Global) -> Result<OrderList, AllocError>
+        ensures { IfOk result (λ order. order ≡ self.now) }
+    {
+        let numbers = Vec::from_slice(alloc, &self.numbers)?;
+        Ok(OrderList { numbers })
+    }
+
+    /// The numbers.
+    pub fn numbers(&self) -> &[u16]
+        ensures { result.now ≡ self.now }
+    {
+        &self.numbers
+    }
+}
+
+/// A change of the boot entries (UEFI 2.10, 3.3). The number of an entry is that of its variable, `Boot####`.
+#[derive(Debug, PartialEq, Eq, Drop)]
+pub enum Request {
+    /// Stores an entry that isn't there, and appends its number to BootOrder.
+    Add(u16, LoadOption),
+    /// Stores an entry in the place of one that is there.
+    Replace(u16, LoadOption),
+    /// Takes out an entry, its number from BootOrder, and a BootNext that names it.
+    Remove(u16),
+    /// Sets BootOrder to these numbers of entries that are there, each once.
+    Order(OrderList),
+    /// Sets BootNext to an entry that is there.
+    Next(u16),
+}
+
+impl Request {
+    /// An equal request. The one refusal is for want of memory.
+    pub fn copy(&self, alloc: Global) -> Result<Request, AllocError>
+        ensures { IfOk result (λ request. request ≡ self.now) }
+    {
+        Ok(match self {
+            Request::Add(entry, option) => Request::Add(*entry, option.copy(alloc)?),
+            Request::Replace(entry, option) => Request::Replace(*entry, option.copy(alloc)?),
+            Request::Remove(entry) => Request::Remove(*entry),
+            Request::Order(order) => Request::Order(order.copy(alloc)?),
+            Request::Next(entry) => Request::Next(*entry),
+        })
+    }
+}

@@ -1,0 +1,4 @@
+//! Frames, requests and replies by examples.
+
+mod frames;
+mod keeper;

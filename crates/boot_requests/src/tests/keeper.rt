@@ -1,0 +1,338 @@
+//! Keepers, by runs of events.
+
+use super::frames::{DISK, disk, order};
+use crate::{Bytes, Event, Keeper, OpenFault, Request, reply_line, write_frame};
+use std::alloc::Global;
+use std::test::Fail;
+use uefi_vars::{Vars, write_set};
+
+/// The delivery of this request with this number.
+fn deliver(alloc: Global, number: u32, request: Request) -> Result<Event, Fail> {
+    Ok(Event::Deliver(Bytes::new(write_frame(alloc, number, &request)?)))
+}
+
+/// The delivery of these bytes.
+fn raw(alloc: Global, bytes: &[u8]) -> Result<Event, Fail> {
+    Ok(Event::Deliver(Bytes::new(Vec::from_slice(alloc, bytes)?)))
+}
+
+/// Variables of these names and this data.
+fn vars(alloc: Global, table: &[(&str, &[u8])]) -> Result<Vars, Fail> {
+    let mut vars = Vars::new(alloc);
+    for (name, value) in table {
+        vars.put(name, value)?;
+    }
+    Ok(vars)
+}
+
+/// So many zero bytes.
+fn zeros(alloc: Global, len: usize) -> Result<Vec<u8>, Fail> {
+    Ok(vec![in alloc; 0; len]?)
+}
+
+/// The keeper after the event, and the line of the reply.
+fn told(alloc: Global, keeper: &Keeper, event: &Event) -> Result<(Keeper, String), Fail> {
+    let (next, reply) = keeper.step(alloc, event)?;
+    Ok((next, reply_line(alloc, &reply)?))
+}
+
+/// The keeper after the events, and the lines of the replies, each ended by a line feed.
+fn run(alloc: Global, keeper: Keeper, events: &[Event]) -> Result<(Keeper, String), Fail> {
+    let mut now = keeper;
+    let mut lines = String::new(alloc);
+    for event in events {
+        let (next, line) = told(alloc, &now, event)?;
+        lines.push_str(&line)?;
+        lines.push('\n')?;
+        now = next;
+    }
+    Ok((now, lines))
+}
+
+#[test]
+fn first_add(rt: HostRuntime) -> Result<(), Fail> {
+    let alloc = rt.alloc();
+    let keeper = Keeper::open(alloc, Vars::new(alloc))?;
+    let mut frame = Vec::from_slice(
+        alloc,
+        &[
+            0x42, 0x51, 0x01, 0x01, 0x00, 0x00, 0x00, 0x00, 0x2c, 0x00, 0x00, 0x00, 0x01, 0x00,
+        ],
+    )?;
+    frame.extend_from_slice(&DISK)?;
+    let (keeper, line) = told(alloc, &keeper, &raw(alloc, &frame)?)?;
+    assert_eq!(rt; line.as_str(), "applied Done 1");
+    assert_eq!(rt; keeper.next_number(), 1);
+    assert_eq!(rt; keeper.waiting(), 0);
+    let wanted = vars(
+        alloc,
+        &[
+            ("Boot0001", &DISK),
+            ("BootOrder", &[0x01, 0x00]),
+            ("BootKeepState", &[0x01, 0x01, 0, 0, 0, 0x01, 0x00]),
+        ],
+    )?;
+    assert!(rt; *keeper.vars() == wanted);
+    assert_eq!(rt; write_set(alloc, &keeper.into_vars())?.len(), 100);
+    Ok(())
+}
+
+#[test]
+fn seventeen_removals(rt: HostRuntime) -> Result<(), Fail> {
+    let alloc = rt.alloc();
+    let first = Keeper::open(alloc, Vars::new(alloc))?;
+    let mut now = first.step(alloc, &Event::Restart)?.0;
+    for number in 0u32..17 {
+        let (next, line) = told(alloc, &now, &deliver(alloc, number, Request::Remove(9))?)?;
+        let wanted = format!(in alloc; "applied Missing {}", next.next_number())?;
+        assert_eq!(rt; line.as_str(), wanted.as_str());
+        assert!(rt; now.next_number() == number && next.next_number() > number);
+        now = next;
+    }
+    let state = now.vars().get("BootKeepState").unwrap_or(&[]);
+    assert_eq!(rt; state.len(), 22);
+    let (front, outcomes) = state.split_at(6);
+    assert_eq!(rt; front, &[0x01, 0x11, 0, 0, 0, 0x10][..]);
+    assert_eq!(rt; outcomes, &[0x02; 16][..]);
+    // the first keeper stayed as it was
+    assert!(rt; first.vars().is_empty() && first.next_number() == 0);
+    let events = [
+        deliver(alloc, 0, Request::Remove(9))?,
+        deliver(alloc, 1, Request::Next(3))?,
+        deliver(alloc, 18, Request::Remove(9))?,
+    ];
+    let (_, lines) = run(alloc, now, &events)?;
+    assert_eq!(rt; lines.as_str(), "old\nrepeat Missing\nahead 17\n");
+    Ok(())
+}
+
+/// The keeper of an entry and nothing else.
+fn one_entry(alloc: Global) -> Result<Keeper, Fail> {
+    Ok(Keeper::open(alloc, vars(alloc, &[("Boot0001", &DISK)])?)?)
+}
+
+#[test]
+fn a_restart_loses_the_plan(rt: HostRuntime) -> Result<(), Fail> {
+    let alloc = rt.alloc();
+    let events = [
+        deliver(alloc, 0, Request::Next(1))?,
+        Event::Prepare,
+        Event::Restart,
+        Event::Hand,
+    ];
+    let (keeper, lines) = run(alloc, one_entry(alloc)?, &events)?;
+    assert_eq!(rt;
+        lines.as_str(),
+        "applied Done 1\nprepared 1\nrestarted 1\nnothing prepared\n"
+    );
+    assert!(rt; keeper.vars().get("BootNext").is_none());
+    Ok(())
+}
+
+#[test]
+fn a_plan_is_handed_out_once(rt: HostRuntime) -> Result<(), Fail> {
+    let alloc = rt.alloc();
+    let events = [
+        deliver(alloc, 0, Request::Next(1))?,
+        Event::Prepare,
+        Event::Prepare,
+        Event::Hand,
+        Event::Hand,
+    ];
+    let (_, lines) = run(alloc, one_entry(alloc)?, &events)?;
+    assert_eq!(rt;
+        lines.as_str(),
+        "applied Done 1\nprepared 1\nalready prepared\nplan next 0001 normal -\nnothing prepared\n"
+    );
+    Ok(())
+}
+
+#[test]
+fn a_plan_stays_what_it_was_made(rt: HostRuntime) -> Result<(), Fail> {
+    let alloc = rt.alloc();
+    let events = [
+        deliver(alloc, 0, Request::Next(1))?,
+        Event::Prepare,
+        deliver(alloc, 1, Request::Remove(1))?,
+        Event::Hand,
+    ];
+    let (_, lines) = run(alloc, one_entry(alloc)?, &events)?;
+    assert_eq!(rt;
+        lines.as_str(),
+        "applied Done 1\nprepared 1\napplied Done 2\nplan next 0001 normal -\n"
+    );
+    Ok(())
+}
+
+#[test]
+fn a_removal_leaves_no_trace(rt: HostRuntime) -> Result<(), Fail> {
+    let alloc = rt.alloc();
+    let start = vars(
+        alloc,
+        &[
+            ("Boot0001", &DISK),
+            ("BootOrder", &[0x01, 0x00]),
+            ("BootNext", &[0x01, 0x00]),
+        ],
+    )?;
+    let events = [deliver(alloc, 0, Request::Remove(1))?];
+    let (keeper, lines) = run(alloc, Keeper::open(alloc, start)?, &events)?;
+    assert_eq!(rt; lines.as_str(), "applied Done 1\n");
+    let wanted = vars(
+        alloc,
+        &[("BootKeepState", &[0x01, 0x01, 0, 0, 0, 0x01, 0x00])],
+    )?;
+    assert!(rt; *keeper.vars() == wanted);
+    Ok(())
+}
+
+#[test]
+fn orders_are_of_entries_that_are_there(rt: HostRuntime) -> Result<(), Fail> {
+    let alloc = rt.alloc();
+    let events = [
+        deliver(alloc, 0, Request::Add(1, disk(alloc)?))?,
+        deliver(alloc, 1, order(alloc, &[1, 1, 9])?)?,
+        deliver(alloc, 2, order(alloc, &[1, 9])?)?,
+        deliver(alloc, 3, order(alloc, &[])?)?,
+    ];
+    let (keeper, lines) = run(alloc, Keeper::open(alloc, Vars::new(alloc))?, &events)?;
+    assert_eq!(rt;
+        lines.as_str(),
+        "applied Done 1\napplied OrderRepeats 2\napplied OrderUnknown 3\napplied Done 4\n"
+    );
+    let wanted = vars(
+        alloc,
+        &[
+            ("Boot0001", &DISK),
+            ("BootKeepState", &[0x01, 0x04, 0, 0, 0, 0x04, 0, 3, 4, 0]),
+        ],
+    )?;
+    assert!(rt; *keeper.vars() == wanted);
+    Ok(())
+}
+
+#[test]
+fn entries_are_added_once_and_replaced(rt: HostRuntime) -> Result<(), Fail> {
+    let alloc = rt.alloc();
+    let start = vars(alloc, &[("Boot0001", &[0x00])])?;
+    let events = [
+        deliver(alloc, 0, Request::Add(1, disk(alloc)?))?,
+        deliver(alloc, 1, Request::Replace(9, disk(alloc)?))?,
+        deliver(alloc, 2, Request::Replace(1, disk(alloc)?))?,
+        deliver(alloc, 3, order(alloc, &[1])?)?,
+    ];
+    let (keeper, lines) = run(alloc, Keeper::open(alloc, start)?, &events)?;
+    assert_eq!(rt;
+        lines.as_str(),
+        "applied Exists 1\napplied Missing 2\napplied Done 3\napplied Done 4\n"
+    );
+    let wanted = vars(
+        alloc,
+        &[
+            ("Boot0001", &DISK),
+            ("BootOrder", &[0x01, 0x00]),
+            ("BootKeepState", &[0x01, 0x04, 0, 0, 0, 0x04, 1, 2, 0, 0]),
+        ],
+    )?;
+    assert!(rt; *keeper.vars() == wanted);
+    Ok(())
+}
+
+#[test]
+fn last_number(rt: HostRuntime) -> Result<(), Fail> {
+    let alloc = rt.alloc();
+    let mut state = Vec::from_slice(alloc, &[0x01, 0xfe, 0xff, 0xff, 0xff, 0x10])?;
+    state.extend_from_slice(&[0; 16])?;
+    let start = vars(alloc, &[("BootKeepState", &state)])?;
+    let events = [
+        deliver(alloc, 0xffff_fffe, Request::Remove(9))?,
+        raw(
+            alloc,
+            &[
+                0x42, 0x51, 0x01, 0x03, 0xff, 0xff, 0xff, 0xff, 0x02, 0x00, 0x00, 0x00, 0x09, 0x00,
+            ],
+        )?,
+        deliver(alloc, 0xffff_fffe, Request::Remove(9))?,
+        deliver(alloc, 0, Request::Remove(9))?,
+    ];
+    let (keeper, lines) = run(alloc, Keeper::open(alloc, start)?, &events)?;
+    assert_eq!(rt;
+        lines.as_str(),
+        "applied Missing 4294967295\nmalformed BadNumber\nrepeat Missing\nold\n"
+    );
+    let mut state = Vec::from_slice(alloc, &[0x01, 0xff, 0xff, 0xff, 0xff, 0x10])?;
+    state.extend_from_slice(&[0; 15])?;
+    state.push(2)?;
+    assert!(rt; keeper.vars().get("BootKeepState") == Some(state.as_slice()));
+    Ok(())
+}
+
+#[test]
+fn choice(rt: HostRuntime) -> Result<(), Fail> {
+    let alloc = rt.alloc();
+    let mut start = vars(
+        alloc,
+        &[
+            ("BootOrder", &[5, 0, 1, 0, 2, 0, 3, 0, 4, 0, 6, 0, 7, 0]),
+            ("BootNext", &[7, 0]),
+            ("Boot0003", &[0]),
+        ],
+    )?;
+    for (number, low, high) in [
+        (1u16, 0x00u8, 0x00u8),
+        (2, 0x01, 0x01),
+        (4, 0x01, 0x00),
+        (6, 0x09, 0x00),
+        (7, 0x01, 0x02),
+    ] {
+        let mut bytes = Vec::from_slice(alloc, &[low, high])?;
+        let (_, rest) = DISK.split_at(2);
+        bytes.extend_from_slice(rest)?;
+        start.put_entry(number, &bytes)?;
+    }
+    let mut wanted = start.copy(alloc)?;
+    wanted.remove("BootNext");
+    let events = [Event::Prepare, Event::Hand];
+    let (keeper, lines) = run(alloc, Keeper::open(alloc, start)?, &events)?;
+    assert_eq!(rt;
+        lines.as_str(),
+        "prepared 3\nplan next 0007 normal 0004 0006\n"
+    );
+    assert!(rt; *keeper.vars() == wanted);
+    Ok(())
+}
+
+#[test]
+fn limits_at_open(rt: HostRuntime) -> Result<(), Fail> {
+    let alloc = rt.alloc();
+    let full = zeros(alloc, 131_072)?;
+    let start = vars(alloc, &[("BootOrder", &full)])?;
+    let events = [deliver(alloc, 0, Request::Add(1, disk(alloc)?))?];
+    let (keeper, lines) = run(alloc, Keeper::open(alloc, start)?, &events)?;
+    assert_eq!(rt; lines.as_str(), "applied Done 1\n");
+    assert!(rt; keeper.vars().entry(1) == Some(&DISK[..]));
+    assert!(rt; keeper.vars().get("BootOrder") == Some(full.as_slice()));
+    let table: [(&str, &[u8], OpenFault); 6] = [
+        ("BootOrder", &[0, 0, 0], OpenFault::BadOrder),
+        ("BootNext", &[0], OpenFault::BadNext),
+        ("BootKeepState", &[1, 0, 0, 0, 0, 0], OpenFault::BadState),
+        ("BootKeepState", &[2, 1, 0, 0, 0, 1, 0], OpenFault::BadState),
+        ("BootKeepState", &[1, 1, 0, 0, 0, 1, 5], OpenFault::BadState),
+        (
+            "BootKeepState",
+            &[1, 1, 0, 0, 0, 2, 0, 0],
+            OpenFault::BadState,
+        ),
+    ];
+    for (name, value, fault) in table {
+        let bad = vars(alloc, &[(name, value), ("Other", &[1])])?;
+        match Keeper::open(alloc, bad.copy(alloc)?) {
+            Ok(_) => assert!(rt; false, "{name} {value:?}"),
+            Err(refused) => assert!(rt;
+                refused.fault == fault && refused.vars == bad,
+                "{name} {value:?}"
+            ),
+        }
+    }
+    Ok(())
+}
