@@ -1,7 +1,6 @@
 -- For private functions of the reader: where a fault of a segment has its place in the text.
 use Rattle.std.specs.Prelude.{◌≡◌, ℕ}
 use Rattle.uefi_text.specs.declared.fault.SegmentFault.{SegmentFault}
-use Rattle.uefi_text.specs.declared.fault.SegmentFault.TheVariants.{BadSegment, BadNumber, OutOfRange, BadEnd, OutOfMemory}
 use Rattle.uefi_text.specs.declared.fault.TextFault.{TextFault}
 use Rattle.uefi_text.specs.declared.fault.TextFault.TheVariants as text
 use Rattle.uefi_text.specs.Fault.{IsPlaceOf}

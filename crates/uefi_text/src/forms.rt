@@ -38,46 +38,61 @@ pub(crate) fn node_of(alloc: Global, segment: Segment<'_>) -> Result<Node, Segme
 }
 
 /// The node of a segment of this name, with this text between its parentheses.
+// Each form returns at once: out of a chain of `else if` its node would be copied branch by branch.
 fn named_node(alloc: Global, name: &[u8], inside: &[u8]) -> Result<Node, SegmentFault>
     ensures { AnswersNamed name.now inside.now result }
 {
     if is_named(name, b"Pci") {
-        pci(inside)
-    } else if is_named(name, b"USB") {
-        usb(inside)
-    } else if is_named(name, b"Sata") {
-        sata(inside)
-    } else if is_named(name, b"NVMe") {
-        nvme(inside)
-    } else if is_named(name, b"PciRoot") {
-        root(inside, PCI_ROOT_HID)
-    } else if is_named(name, b"PcieRoot") {
-        root(inside, PCIE_ROOT_HID)
-    } else if is_named(name, b"Acpi") {
-        acpi(inside)
-    } else if is_named(name, b"MAC") {
-        mac_node(inside)
-    } else if is_named(name, b"IPv4") {
-        ipv4(inside)
-    } else if is_named(name, b"Uri") {
-        uri(alloc, inside)
-    } else if is_named(name, b"File") {
-        file(alloc, inside)
-    } else if is_named(name, b"HD") {
-        hard_drive(inside)
-    } else if is_named(name, b"VenHw") {
-        vendor_hw(alloc, inside)
-    } else if is_named(name, b"VenMsg") {
-        vendor_msg(alloc, inside)
-    } else if is_named(name, b"VenMedia") {
-        vendor_media(alloc, inside)
-    } else if is_named(name, b"Path") {
+        return pci(inside);
+    }
+    if is_named(name, b"USB") {
+        return usb(inside);
+    }
+    if is_named(name, b"Sata") {
+        return sata(inside);
+    }
+    if is_named(name, b"NVMe") {
+        return nvme(inside);
+    }
+    if is_named(name, b"PciRoot") {
+        return root(inside, PCI_ROOT_HID);
+    }
+    if is_named(name, b"PcieRoot") {
+        return root(inside, PCIE_ROOT_HID);
+    }
+    if is_named(name, b"Acpi") {
+        return acpi(inside);
+    }
+    if is_named(name, b"MAC") {
+        return mac_node(inside);
+    }
+    if is_named(name, b"IPv4") {
+        return ipv4(inside);
+    }
+    if is_named(name, b"Uri") {
+        return uri(alloc, inside);
+    }
+    if is_named(name, b"File") {
+        return file(alloc, inside);
+    }
+    if is_named(name, b"HD") {
+        return hard_drive(inside);
+    }
+    if is_named(name, b"VenHw") {
+        return vendor_hw(alloc, inside);
+    }
+    if is_named(name, b"VenMsg") {
+        return vendor_msg(alloc, inside);
+    }
+    if is_named(name, b"VenMedia") {
+        return vendor_media(alloc, inside);
+    }
+    if is_named(name, b"Path") {
         // for its contract: two bytes state the length of a node
         each_node_is_spelled();
-        generic(alloc, inside)
-    } else {
-        Err(SegmentFault::BadSegment)
+        return generic(alloc, inside);
     }
+    Err(SegmentFault::BadSegment)
 }
 
 fn is_named(name: &[u8], expected: &[u8]) -> bool

@@ -1,6 +1,6 @@
 -- Segments of vendors' nodes and of nodes in general, from what the reader's functions read.
 use Rattle.std.proofs.Common.{◌≡◌, ◌≢◌, ◌<◌, ◌≤◌, ◌^◌, ℕ, true, List, length, refl, ap, sym, subst}
-use Rattle.std.specs.Prelude.{Option, Some, None, Result, Ok, Err, IfOk, IfErr, codes}
+use Rattle.std.specs.Prelude.{Option, Some, None, Result, Ok, Err, codes}
 use Rattle.std.proofs.lemmas.List.Splits.{join_with_byte-slice_split}
 use Rattle.uefi_path.specs.declared.node.Node.{Node}
 use Rattle.uefi_path.specs.declared.node.Node.TheVariants.{VendorHw, VendorMsg, VendorMedia}

@@ -1,7 +1,6 @@
 -- The segments of vendors, and those of any type, are read as the definitions say.
-use Rattle.std.proofs.Common.{◌≡◌, ◌≢◌, ◌⊎◌, inl, inr, ℕ, leb, List, [], ◌∷◌, length, refl, ap, sym, subst, ◌∙◌, arith}
+use Rattle.std.proofs.Common.{◌≡◌, ◌≢◌, ◌⊎◌, inl, inr, ℕ, List, [], ◌∷◌, length, refl, ap, sym, subst, ◌∙◌, arith}
 use Rattle.std.specs.Prelude.{Some, codes}
-use Rattle.std.proofs.lemmas.Bool.{leb-true, le-leb}
 use Rattle.uefi_path.specs.declared.node.Node.{Node}
 use Rattle.uefi_path.specs.declared.node.Node.TheVariants.{VendorHw, VendorMsg, VendorMedia}
 use Rattle.uefi_path.specs.Parts.{VendorParts, vendor_parts, IsVendor}
@@ -11,7 +10,7 @@ use Rattle.uefi_text.specs.Segment.{named}
 use Rattle.uefi_text.specs.Node.{IsVendorText, vendor_hw, vendor_msg, vendor_media, generic}
 use Rattle.uefi_text.specs.Path.{IsNodeText}
 use Rattle.uefi_text.specs.Reading.{number_up_to, guid_read, data_of, vendor_of, generic_of}
-use Rattle.uefi_text.proofs.Read.Numbers.{bind_some, chosen_some, some_same, up_to_found, up_to_again}
+use Rattle.uefi_text.proofs.Read.Numbers.{bind_some, some_same, up_to_found, up_to_again}
 use Rattle.uefi_text.proofs.Read.Forms.{hex_bytes, guid_bytes}
 use Rattle.uefi_text.proofs.Read.Hex.{data_found, data_again}
 use Rattle.uefi_text.proofs.Read.Arguments.{guid_read_found, guid_read_again}

@@ -1,6 +1,6 @@
 -- A text is cut at its first byte of a kind.
 use Rattle.std.proofs.Common.{◌≡◌, ◌≢◌, ◌<◌, ◌≤◌, ◌+◌, ℕ, zero, suc, Bool, true, false, eqb, ltb, List, [], ◌∷◌, ◌++◌, length, length-append, get_or, take, drop, refl, ap, sym, ◌∙◌, arith}
-use Rattle.std.specs.Prelude.{Option, Some, None, position, if◌then◌else◌}
+use Rattle.std.specs.Prelude.{Some, None, position, if◌then◌else◌}
 use Rattle.std.specs.List.{AllByRecursion, list_all, onto_first, position_or_len}
 use Rattle.std.proofs.lemmas.Bool.{and_parts, eqb-true, eqb-false, ltb-false}
 use Rattle.std.proofs.lemmas.Bool.Decides.{nat_tests}

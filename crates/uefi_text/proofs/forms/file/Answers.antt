@@ -1,4 +1,4 @@
-use Rattle.std.proofs.Common.{◌≡◌, true, ap, sym, ◌∙◌, Err, length, refl, arith}
+use Rattle.std.proofs.Common.{◌≡◌, true, ap, sym, ◌∙◌, length, refl, arith}
 use Rattle.std.specs.List.{list_all}
 use Rattle.uefi_text.specs.Printed.{is_plain_from}
 use Rattle.uefi_text.proofs.Read.Marks.{no_zero_unit}

@@ -17,96 +17,96 @@ returns-then-is_named c =
 
 pub returns-then-is_named-2 : goal.returns-then-is_named-2
 returns-then-is_named-2 c =
-    subst (λ (n : List ℕ). AnswersNamed n c.args.inside.now c.usb.result) (sym (c.is_named-else-is_named.ensures.0 c.if-is_named-2.true))
+    subst (λ (n : List ℕ). AnswersNamed n c.args.inside.now c.usb.result) (sym (c.is_named-2.ensures.0 c.if-is_named-2.true))
     (cut_answers (codes "USB") c.args.inside.now c.usb.result usb_of refl usb_found usb_again (makes c.usb.result _ c.usb.ensures))
 
 pub returns-then-is_named-3 : goal.returns-then-is_named-3
 returns-then-is_named-3 c =
-    subst (λ (n : List ℕ). AnswersNamed n c.args.inside.now c.sata.result) (sym (c.is_named-else-is_named-2.ensures.0 c.if-is_named-3.true))
+    subst (λ (n : List ℕ). AnswersNamed n c.args.inside.now c.sata.result) (sym (c.is_named-3.ensures.0 c.if-is_named-3.true))
     (cut_answers (codes "Sata") c.args.inside.now c.sata.result sata_of refl sata_found sata_again (makes c.sata.result _ c.sata.ensures))
 
 pub returns-then-is_named-4 : goal.returns-then-is_named-4
 returns-then-is_named-4 c =
-    subst (λ (n : List ℕ). AnswersNamed n c.args.inside.now c.nvme.result) (sym (c.is_named-else-is_named-3.ensures.0 c.if-is_named-4.true))
+    subst (λ (n : List ℕ). AnswersNamed n c.args.inside.now c.nvme.result) (sym (c.is_named-4.ensures.0 c.if-is_named-4.true))
     (cut_answers (codes "NVMe") c.args.inside.now c.nvme.result nvme_of refl nvme_found nvme_again (makes c.nvme.result _ c.nvme.ensures))
 
 pub returns-then-is_named-5 : goal.returns-then-is_named-5
 returns-then-is_named-5 c =
-    subst (λ (n : List ℕ). AnswersNamed n c.args.inside.now c.root.result) (sym (c.is_named-else-is_named-4.ensures.0 c.if-is_named-5.true))
+    subst (λ (n : List ℕ). AnswersNamed n c.args.inside.now c.root.result) (sym (c.is_named-5.ensures.0 c.if-is_named-5.true))
     (cut_answers (codes "PciRoot") c.args.inside.now c.root.result (root_of pci_root_hid) refl root_found root_again (makes c.root.result _ c.root.ensures))
 
 pub returns-then-is_named-6 : goal.returns-then-is_named-6
 returns-then-is_named-6 c =
-    subst (λ (n : List ℕ). AnswersNamed n c.args.inside.now c.root-then-is_named-6.result) (sym (c.is_named-else-is_named-5.ensures.0 c.if-is_named-6.true))
+    subst (λ (n : List ℕ). AnswersNamed n c.args.inside.now c.root-then-is_named-6.result) (sym (c.is_named-6.ensures.0 c.if-is_named-6.true))
     (cut_answers (codes "PcieRoot") c.args.inside.now c.root-then-is_named-6.result (root_of pcie_root_hid) refl pcie_found pcie_again (makes c.root-then-is_named-6.result _ c.root-then-is_named-6.ensures))
 
 pub returns-then-is_named-7 : goal.returns-then-is_named-7
 returns-then-is_named-7 c =
-    subst (λ (n : List ℕ). AnswersNamed n c.args.inside.now c.acpi.result) (sym (c.is_named-else-is_named-6.ensures.0 c.if-is_named-7.true))
+    subst (λ (n : List ℕ). AnswersNamed n c.args.inside.now c.acpi.result) (sym (c.is_named-7.ensures.0 c.if-is_named-7.true))
     (cut_answers (codes "Acpi") c.args.inside.now c.acpi.result acpi_of refl acpi_found acpi_again (makes c.acpi.result _ c.acpi.ensures))
 
 pub returns-then-is_named-8 : goal.returns-then-is_named-8
 returns-then-is_named-8 c =
-    subst (λ (n : List ℕ). AnswersNamed n c.args.inside.now c.mac_node.result) (sym (c.is_named-else-is_named-7.ensures.0 c.if-is_named-8.true))
+    subst (λ (n : List ℕ). AnswersNamed n c.args.inside.now c.mac_node.result) (sym (c.is_named-8.ensures.0 c.if-is_named-8.true))
     (cut_answers (codes "MAC") c.args.inside.now c.mac_node.result mac_node_of refl mac_node_found mac_node_again (makes c.mac_node.result _ c.mac_node.ensures))
 
 pub returns-then-is_named-9 : goal.returns-then-is_named-9
 returns-then-is_named-9 c =
-    subst (λ (n : List ℕ). AnswersNamed n c.args.inside.now c.ipv4.result) (sym (c.is_named-else-is_named-8.ensures.0 c.if-is_named-9.true))
+    subst (λ (n : List ℕ). AnswersNamed n c.args.inside.now c.ipv4.result) (sym (c.is_named-9.ensures.0 c.if-is_named-9.true))
     (cut_answers (codes "IPv4") c.args.inside.now c.ipv4.result ipv4_of refl ipv4_found ipv4_again (makes c.ipv4.result _ c.ipv4.ensures))
 
 pub returns-then-is_named-10 : goal.returns-then-is_named-10
 returns-then-is_named-10 c =
-    subst (λ (n : List ℕ). AnswersNamed n c.args.inside.now c.uri.result) (sym (c.is_named-else-is_named-9.ensures.0 c.if-is_named-10.true))
+    subst (λ (n : List ℕ). AnswersNamed n c.args.inside.now c.uri.result) (sym (c.is_named-10.ensures.0 c.if-is_named-10.true))
     (whole_answers (codes "Uri") c.args.inside.now c.uri.result uri_of uri_found (uri_again c.args.inside.now) c.uri.ensures)
 
 pub returns-then-is_named-11 : goal.returns-then-is_named-11
 returns-then-is_named-11 c =
-    subst (λ (n : List ℕ). AnswersNamed n c.args.inside.now c.file.result) (sym (c.is_named-else-is_named-10.ensures.0 c.if-is_named-11.true))
+    subst (λ (n : List ℕ). AnswersNamed n c.args.inside.now c.file.result) (sym (c.is_named-11.ensures.0 c.if-is_named-11.true))
     (whole_answers (codes "File") c.args.inside.now c.file.result file_of file_found (file_again c.args.inside.now) c.file.ensures)
 
 pub returns-then-is_named-12 : goal.returns-then-is_named-12
 returns-then-is_named-12 c =
-    subst (λ (n : List ℕ). AnswersNamed n c.args.inside.now c.hard_drive.result) (sym (c.is_named-else-is_named-11.ensures.0 c.if-is_named-12.true))
+    subst (λ (n : List ℕ). AnswersNamed n c.args.inside.now c.hard_drive.result) (sym (c.is_named-12.ensures.0 c.if-is_named-12.true))
     (cut_answers (codes "HD") c.args.inside.now c.hard_drive.result hard_drive_of refl hard_drive_found hard_drive_again (makes c.hard_drive.result _ c.hard_drive.ensures))
 
 pub returns-then-is_named-13 : goal.returns-then-is_named-13
 returns-then-is_named-13 c =
-    subst (λ (n : List ℕ). AnswersNamed n c.args.inside.now c.vendor_hw.result) (sym (c.is_named-else-is_named-12.ensures.0 c.if-is_named-13.true))
+    subst (λ (n : List ℕ). AnswersNamed n c.args.inside.now c.vendor_hw.result) (sym (c.is_named-13.ensures.0 c.if-is_named-13.true))
     (cut_answers (codes "VenHw") c.args.inside.now c.vendor_hw.result vendor_hw_of refl hw_found hw_again c.vendor_hw.ensures)
 
 pub returns-then-is_named-14 : goal.returns-then-is_named-14
 returns-then-is_named-14 c =
-    subst (λ (n : List ℕ). AnswersNamed n c.args.inside.now c.vendor_msg.result) (sym (c.is_named-else-is_named-13.ensures.0 c.if-is_named-14.true))
+    subst (λ (n : List ℕ). AnswersNamed n c.args.inside.now c.vendor_msg.result) (sym (c.is_named-14.ensures.0 c.if-is_named-14.true))
     (cut_answers (codes "VenMsg") c.args.inside.now c.vendor_msg.result vendor_msg_of refl msg_found msg_again c.vendor_msg.ensures)
 
 pub returns-then-is_named-15 : goal.returns-then-is_named-15
 returns-then-is_named-15 c =
-    subst (λ (n : List ℕ). AnswersNamed n c.args.inside.now c.vendor_media.result) (sym (c.is_named-else-is_named-14.ensures.0 c.if-is_named-15.true))
+    subst (λ (n : List ℕ). AnswersNamed n c.args.inside.now c.vendor_media.result) (sym (c.is_named-15.ensures.0 c.if-is_named-15.true))
     (cut_answers (codes "VenMedia") c.args.inside.now c.vendor_media.result vendor_media_of refl media_found media_again c.vendor_media.ensures)
 
 pub returns-then-is_named-16 : goal.returns-then-is_named-16
 returns-then-is_named-16 c =
-    subst (λ (n : List ℕ). AnswersNamed n c.args.inside.now c.generic.result) (sym (c.is_named-else-is_named-15.ensures.0 c.if-is_named-16.true))
+    subst (λ (n : List ℕ). AnswersNamed n c.args.inside.now c.generic.result) (sym (c.is_named-16.ensures.0 c.if-is_named-16.true))
     (generic_answers c.each_node_is_spelled.ensures c.args.inside.now c.generic.result c.generic.ensures)
 
-pub returns-else-is_named-16 : goal.returns-else-is_named-16
-returns-else-is_named-16 c =
+pub returns : goal.returns
+returns c =
     (λ node m. no_form c.args.name.now c.args.inside.now node (record {
       pci_name = λ e. true≢false (sym (c.is_named.ensures.1 (sym e)) ∙ c.if-is_named.false);
-      usb_name = λ e. true≢false (sym (c.is_named-else-is_named.ensures.1 (sym e)) ∙ c.if-is_named-2.false);
-      sata_name = λ e. true≢false (sym (c.is_named-else-is_named-2.ensures.1 (sym e)) ∙ c.if-is_named-3.false);
-      nvme_name = λ e. true≢false (sym (c.is_named-else-is_named-3.ensures.1 (sym e)) ∙ c.if-is_named-4.false);
-      pci_root_name = λ e. true≢false (sym (c.is_named-else-is_named-4.ensures.1 (sym e)) ∙ c.if-is_named-5.false);
-      pcie_root_name = λ e. true≢false (sym (c.is_named-else-is_named-5.ensures.1 (sym e)) ∙ c.if-is_named-6.false);
-      acpi_name = λ e. true≢false (sym (c.is_named-else-is_named-6.ensures.1 (sym e)) ∙ c.if-is_named-7.false);
-      mac_name = λ e. true≢false (sym (c.is_named-else-is_named-7.ensures.1 (sym e)) ∙ c.if-is_named-8.false);
-      ipv4_name = λ e. true≢false (sym (c.is_named-else-is_named-8.ensures.1 (sym e)) ∙ c.if-is_named-9.false);
-      uri_name = λ e. true≢false (sym (c.is_named-else-is_named-9.ensures.1 (sym e)) ∙ c.if-is_named-10.false);
-      file_name = λ e. true≢false (sym (c.is_named-else-is_named-10.ensures.1 (sym e)) ∙ c.if-is_named-11.false);
-      hd_name = λ e. true≢false (sym (c.is_named-else-is_named-11.ensures.1 (sym e)) ∙ c.if-is_named-12.false);
-      vendor_hw_name = λ e. true≢false (sym (c.is_named-else-is_named-12.ensures.1 (sym e)) ∙ c.if-is_named-13.false);
-      vendor_msg_name = λ e. true≢false (sym (c.is_named-else-is_named-13.ensures.1 (sym e)) ∙ c.if-is_named-14.false);
-      vendor_media_name = λ e. true≢false (sym (c.is_named-else-is_named-14.ensures.1 (sym e)) ∙ c.if-is_named-15.false);
-      generic_name = λ e. true≢false (sym (c.is_named-else-is_named-15.ensures.1 (sym e)) ∙ c.if-is_named-16.false);
+      usb_name = λ e. true≢false (sym (c.is_named-2.ensures.1 (sym e)) ∙ c.if-is_named-2.false);
+      sata_name = λ e. true≢false (sym (c.is_named-3.ensures.1 (sym e)) ∙ c.if-is_named-3.false);
+      nvme_name = λ e. true≢false (sym (c.is_named-4.ensures.1 (sym e)) ∙ c.if-is_named-4.false);
+      pci_root_name = λ e. true≢false (sym (c.is_named-5.ensures.1 (sym e)) ∙ c.if-is_named-5.false);
+      pcie_root_name = λ e. true≢false (sym (c.is_named-6.ensures.1 (sym e)) ∙ c.if-is_named-6.false);
+      acpi_name = λ e. true≢false (sym (c.is_named-7.ensures.1 (sym e)) ∙ c.if-is_named-7.false);
+      mac_name = λ e. true≢false (sym (c.is_named-8.ensures.1 (sym e)) ∙ c.if-is_named-8.false);
+      ipv4_name = λ e. true≢false (sym (c.is_named-9.ensures.1 (sym e)) ∙ c.if-is_named-9.false);
+      uri_name = λ e. true≢false (sym (c.is_named-10.ensures.1 (sym e)) ∙ c.if-is_named-10.false);
+      file_name = λ e. true≢false (sym (c.is_named-11.ensures.1 (sym e)) ∙ c.if-is_named-11.false);
+      hd_name = λ e. true≢false (sym (c.is_named-12.ensures.1 (sym e)) ∙ c.if-is_named-12.false);
+      vendor_hw_name = λ e. true≢false (sym (c.is_named-13.ensures.1 (sym e)) ∙ c.if-is_named-13.false);
+      vendor_msg_name = λ e. true≢false (sym (c.is_named-14.ensures.1 (sym e)) ∙ c.if-is_named-14.false);
+      vendor_media_name = λ e. true≢false (sym (c.is_named-15.ensures.1 (sym e)) ∙ c.if-is_named-15.false);
+      generic_name = λ e. true≢false (sym (c.is_named-16.ensures.1 (sym e)) ∙ c.if-is_named-16.false);
     }) m)
