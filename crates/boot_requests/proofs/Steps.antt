@@ -169,11 +169,6 @@ pub applied_is : (m : State) (r : Request) (outcome : Outcome) (count : ℕ) (ke
 applied_is m r outcome count kept o c k =
     subst (λ (x : Outcome). kept ≡ kept_with m.kept x → with_mark count kept (effect m r x) ≡ applied m r) (sym o) (with_its_outcome m r count kept c) k
 
-pub kept_length : (kept : List Outcome) (outcome : Outcome) (count : ℕ) → length kept ≡ min kept_max count → length (kept_with kept outcome) ≡ min kept_max (count + 1)
-kept_length kept outcome count h =
-    let all = length-append kept (outcome ∷ []) in
-    length-drop (length (kept ++ outcome ∷ []) - kept_max) (kept ++ outcome ∷ []) ∙ omega (arith, all, h)
-
 -- ---- answers to what was applied before
 
 pub old : (m : State) (number : ℕ) → number < m.count - length m.kept → reply.Old ≡ again (kept_outcome m number)

@@ -183,7 +183,8 @@ impl Keeper {
         if number < next {
             return Ok((None, self.again(number)));
         }
-        if number - next >= WIDTH {
+        let is_ahead = number - next >= WIDTH;
+        if is_ahead {
             return Ok((None, Reply::Ahead(next)));
         }
         if number == next {
@@ -299,8 +300,8 @@ impl Keeper {
     {
         let next = self.window.next();
         let window = Window::new(alloc, next)?;
-        let keeper = self.with(alloc, window, None)?;
-        Ok((Some(keeper), Reply::Restarted(next)))
+        let fresh = self.with(alloc, window, None)?;
+        Ok((Some(fresh), Reply::Restarted(next)))
     }
 
     /// An equal keeper.

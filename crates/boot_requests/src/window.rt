@@ -81,7 +81,7 @@ impl Window {
         count
     }
 
-    /// The request waits under this number, under which none does.
+    /// The request waits under this number from now on.
     pub(crate) fn keep(&mut self, number: u32, request: Request)
         requires above { self.old.next < number }
         requires near { number < self.old.next + width }
