@@ -3,6 +3,7 @@ pub mod Gaps
 pub mod Deliveries
 pub mod Runs
 pub mod Turns
+pub mod Followed
 pub mod Histories
 pub mod Hands
 pub mod Replies
@@ -21,6 +22,9 @@ mod Stored
 mod Edits
 mod Machines
 mod Images
+mod Slots
+mod Fills
+mod Plains
 mod Steps
 mod OrderLists
 mod Outcomes

@@ -1,7 +1,7 @@
 //! Keepers, by runs of events.
 
 use super::frames::{DISK, disk, order};
-use crate::{Bytes, Event, Keeper, OpenFault, Request, reply_line, write_frame};
+use crate::{Bytes, Event, Keeper, OpenFault, Reply, Request, reply_line, run, write_frame};
 use std::alloc::Global;
 use std::test::Fail;
 use uefi_vars::{Vars, write_set};
@@ -36,8 +36,8 @@ fn told(alloc: Global, keeper: &Keeper, event: &Event) -> Result<(Keeper, String
     Ok((next, reply_line(alloc, &reply)?))
 }
 
-/// The keeper after the events, and the lines of the replies, each ended by a line feed.
-fn run(alloc: Global, keeper: Keeper, events: &[Event]) -> Result<(Keeper, String), Fail> {
+/// The keeper after the events, step by step, and the lines of the replies, each ended by a line feed.
+fn steps(alloc: Global, keeper: Keeper, events: &[Event]) -> Result<(Keeper, String), Fail> {
     let mut now = keeper;
     let mut lines = String::new(alloc);
     for event in events {
@@ -47,6 +47,21 @@ fn run(alloc: Global, keeper: Keeper, events: &[Event]) -> Result<(Keeper, Strin
         now = next;
     }
     Ok((now, lines))
+}
+
+/// The lines of the replies, each ended by a line feed.
+fn lines(alloc: Global, replies: &[Reply]) -> Result<String, Fail> {
+    let mut lines = String::new(alloc);
+    for reply in replies {
+        lines.push_str(&reply_line(alloc, reply)?)?;
+        lines.push('\n')?;
+    }
+    Ok(lines)
+}
+
+/// A keeper of no variables.
+fn empty(alloc: Global) -> Result<Keeper, Fail> {
+    Ok(Keeper::open(alloc, Vars::new(alloc))?)
 }
 
 #[test]
@@ -99,10 +114,128 @@ fn seventeen_removals(rt: HostRuntime) -> Result<(), Fail> {
     let events = [
         deliver(alloc, 0, Request::Remove(9))?,
         deliver(alloc, 1, Request::Next(3))?,
-        deliver(alloc, 18, Request::Remove(9))?,
+        deliver(alloc, 32, Request::Remove(9))?,
+        deliver(alloc, 33, Request::Remove(9))?,
     ];
-    let (_, lines) = run(alloc, now, &events)?;
-    assert_eq!(rt; lines.as_str(), "old\nrepeat Missing\nahead 17\n");
+    let (_, lines) = steps(alloc, now, &events)?;
+    assert_eq!(rt;
+        lines.as_str(),
+        "old\nrepeat Missing\nwaiting 17\nahead 17\n"
+    );
+    Ok(())
+}
+
+/// Three requests, that of the greatest number first: BootNext is to be the entry that the second adds.
+fn three_requests(alloc: Global) -> Result<[Event; 3], Fail> {
+    Ok([
+        deliver(alloc, 2, Request::Next(2))?,
+        deliver(alloc, 1, Request::Add(2, disk(alloc)?))?,
+        deliver(alloc, 0, Request::Add(1, disk(alloc)?))?,
+    ])
+}
+
+/// The variables after these three.
+fn three_applied(alloc: Global) -> Result<Vars, Fail> {
+    vars(
+        alloc,
+        &[
+            ("Boot0001", &DISK),
+            ("Boot0002", &DISK),
+            ("BootOrder", &[1, 0, 2, 0]),
+            ("BootNext", &[2, 0]),
+            ("BootKeepState", &[1, 3, 0, 0, 0, 3, 0, 0, 0]),
+        ],
+    )
+}
+
+#[test]
+fn out_of_order(rt: HostRuntime) -> Result<(), Fail> {
+    let alloc = rt.alloc();
+    let events = three_requests(alloc)?;
+    let mut replies = Vec::new(alloc);
+    let (keeper, whole) = run(alloc, empty(alloc)?, &events, &mut replies);
+    assert!(rt; whole);
+    let lines = lines(alloc, &replies)?;
+    assert_eq!(rt; lines.as_str(), "waiting 0\nwaiting 0\napplied Done 3\n");
+    assert_eq!(rt; keeper.next_number(), 3);
+    assert_eq!(rt; keeper.waiting(), 0);
+    assert!(rt; *keeper.vars() == three_applied(alloc)?);
+    Ok(())
+}
+
+#[test]
+fn in_order(rt: HostRuntime) -> Result<(), Fail> {
+    let alloc = rt.alloc();
+    let mut events = three_requests(alloc)?;
+    events.reverse();
+    let mut replies = Vec::new(alloc);
+    replies.push(Reply::Old)?;
+    let (keeper, whole) = run(alloc, empty(alloc)?, &events, &mut replies);
+    assert!(rt; whole);
+    let lines = lines(alloc, &replies)?;
+    assert_eq!(rt;
+        lines.as_str(),
+        "old\napplied Done 1\napplied Done 2\napplied Done 3\n"
+    );
+    assert!(rt; *keeper.vars() == three_applied(alloc)?);
+    Ok(())
+}
+
+#[test]
+fn an_old_keeper_stays(rt: HostRuntime) -> Result<(), Fail> {
+    let alloc = rt.alloc();
+    let events = three_requests(alloc)?;
+    let [last, second, first] = &events;
+    let (old, _) = told(alloc, &empty(alloc)?, last)?;
+    let (next, line) = told(alloc, &old, second)?;
+    assert_eq!(rt; line.as_str(), "waiting 0");
+    assert_eq!(rt; next.waiting(), 2);
+    assert_eq!(rt; old.waiting(), 1);
+    let (filled, line) = told(alloc, &next, first)?;
+    assert_eq!(rt; line.as_str(), "applied Done 3");
+    assert!(rt; *filled.vars() == three_applied(alloc)?);
+    assert!(rt; next.vars().is_empty() && next.next_number() == 0);
+    let (other, line) = told(alloc, &old, first)?;
+    assert_eq!(rt; line.as_str(), "applied Done 1");
+    assert_eq!(rt; other.waiting(), 1);
+    Ok(())
+}
+
+#[test]
+fn the_window_has_sixteen_numbers(rt: HostRuntime) -> Result<(), Fail> {
+    let alloc = rt.alloc();
+    let events = [
+        deliver(alloc, 15, Request::Remove(9))?,
+        deliver(alloc, 16, Request::Remove(9))?,
+        raw(alloc, &[])?,
+    ];
+    let (keeper, lines) = steps(alloc, empty(alloc)?, &events)?;
+    assert_eq!(rt; lines.as_str(), "waiting 0\nahead 0\nmalformed Short\n");
+    assert_eq!(rt; keeper.waiting(), 1);
+    Ok(())
+}
+
+#[test]
+fn what_waits_is_neither_replaced_nor_kept_over_a_restart(rt: HostRuntime) -> Result<(), Fail> {
+    let alloc = rt.alloc();
+    let events = [
+        deliver(alloc, 1, Request::Remove(9))?,
+        deliver(alloc, 1, Request::Remove(8))?,
+        deliver(alloc, 1, Request::Remove(9))?,
+        Event::Restart,
+        deliver(alloc, 1, Request::Remove(8))?,
+        deliver(alloc, 0, Request::Remove(7))?,
+    ];
+    let (keeper, lines) = steps(alloc, empty(alloc)?, &events)?;
+    assert_eq!(rt;
+        lines.as_str(),
+        "waiting 0\nconflict\nwaiting 0\nrestarted 0\nwaiting 0\napplied Missing 2\n"
+    );
+    let wanted = vars(
+        alloc,
+        &[("BootKeepState", &[1, 2, 0, 0, 0, 2, 2, 2])],
+    )?;
+    assert!(rt; *keeper.vars() == wanted);
     Ok(())
 }
 
@@ -120,7 +253,7 @@ fn a_restart_loses_the_plan(rt: HostRuntime) -> Result<(), Fail> {
         Event::Restart,
         Event::Hand,
     ];
-    let (keeper, lines) = run(alloc, one_entry(alloc)?, &events)?;
+    let (keeper, lines) = steps(alloc, one_entry(alloc)?, &events)?;
     assert_eq!(rt;
         lines.as_str(),
         "applied Done 1\nprepared 1\nrestarted 1\nnothing prepared\n"
@@ -139,7 +272,7 @@ fn a_plan_is_handed_out_once(rt: HostRuntime) -> Result<(), Fail> {
         Event::Hand,
         Event::Hand,
     ];
-    let (_, lines) = run(alloc, one_entry(alloc)?, &events)?;
+    let (_, lines) = steps(alloc, one_entry(alloc)?, &events)?;
     assert_eq!(rt;
         lines.as_str(),
         "applied Done 1\nprepared 1\nalready prepared\nplan next 0001 normal -\nnothing prepared\n"
@@ -156,7 +289,7 @@ fn a_plan_stays_what_it_was_made(rt: HostRuntime) -> Result<(), Fail> {
         deliver(alloc, 1, Request::Remove(1))?,
         Event::Hand,
     ];
-    let (_, lines) = run(alloc, one_entry(alloc)?, &events)?;
+    let (_, lines) = steps(alloc, one_entry(alloc)?, &events)?;
     assert_eq!(rt;
         lines.as_str(),
         "applied Done 1\nprepared 1\napplied Done 2\nplan next 0001 normal -\n"
@@ -176,7 +309,7 @@ fn a_removal_leaves_no_trace(rt: HostRuntime) -> Result<(), Fail> {
         ],
     )?;
     let events = [deliver(alloc, 0, Request::Remove(1))?];
-    let (keeper, lines) = run(alloc, Keeper::open(alloc, start)?, &events)?;
+    let (keeper, lines) = steps(alloc, Keeper::open(alloc, start)?, &events)?;
     assert_eq!(rt; lines.as_str(), "applied Done 1\n");
     let wanted = vars(
         alloc,
@@ -195,7 +328,7 @@ fn orders_are_of_entries_that_are_there(rt: HostRuntime) -> Result<(), Fail> {
         deliver(alloc, 2, order(alloc, &[1, 9])?)?,
         deliver(alloc, 3, order(alloc, &[])?)?,
     ];
-    let (keeper, lines) = run(alloc, Keeper::open(alloc, Vars::new(alloc))?, &events)?;
+    let (keeper, lines) = steps(alloc, empty(alloc)?, &events)?;
     assert_eq!(rt;
         lines.as_str(),
         "applied Done 1\napplied OrderRepeats 2\napplied OrderUnknown 3\napplied Done 4\n"
@@ -221,7 +354,7 @@ fn entries_are_added_once_and_replaced(rt: HostRuntime) -> Result<(), Fail> {
         deliver(alloc, 2, Request::Replace(1, disk(alloc)?))?,
         deliver(alloc, 3, order(alloc, &[1])?)?,
     ];
-    let (keeper, lines) = run(alloc, Keeper::open(alloc, start)?, &events)?;
+    let (keeper, lines) = steps(alloc, Keeper::open(alloc, start)?, &events)?;
     assert_eq!(rt;
         lines.as_str(),
         "applied Exists 1\napplied Missing 2\napplied Done 3\napplied Done 4\n"
@@ -255,7 +388,7 @@ fn last_number(rt: HostRuntime) -> Result<(), Fail> {
         deliver(alloc, 0xffff_fffe, Request::Remove(9))?,
         deliver(alloc, 0, Request::Remove(9))?,
     ];
-    let (keeper, lines) = run(alloc, Keeper::open(alloc, start)?, &events)?;
+    let (keeper, lines) = steps(alloc, Keeper::open(alloc, start)?, &events)?;
     assert_eq!(rt;
         lines.as_str(),
         "applied Missing 4294967295\nmalformed BadNumber\nrepeat Missing\nold\n"
@@ -264,6 +397,26 @@ fn last_number(rt: HostRuntime) -> Result<(), Fail> {
     state.extend_from_slice(&[0; 15])?;
     state.push(2)?;
     assert!(rt; keeper.vars().get("BootKeepState") == Some(state.as_slice()));
+    Ok(())
+}
+
+#[test]
+fn the_window_reaches_the_last_number(rt: HostRuntime) -> Result<(), Fail> {
+    let alloc = rt.alloc();
+    let mut state = Vec::from_slice(alloc, &[0x01, 0xfd, 0xff, 0xff, 0xff, 0x10])?;
+    state.extend_from_slice(&[0; 16])?;
+    let start = vars(alloc, &[("BootKeepState", &state)])?;
+    let events = [
+        deliver(alloc, 0xffff_fffe, Request::Remove(9))?,
+        deliver(alloc, 0xffff_fffd, Request::Next(9))?,
+        deliver(alloc, 0xffff_fffe, Request::Next(9))?,
+    ];
+    let (keeper, lines) = steps(alloc, Keeper::open(alloc, start)?, &events)?;
+    assert_eq!(rt;
+        lines.as_str(),
+        "waiting 4294967293\napplied Missing 4294967295\nrepeat Missing\n"
+    );
+    assert_eq!(rt; keeper.next_number(), 0xffff_ffff);
     Ok(())
 }
 
@@ -293,7 +446,7 @@ fn choice(rt: HostRuntime) -> Result<(), Fail> {
     let mut wanted = start.copy(alloc)?;
     wanted.remove("BootNext");
     let events = [Event::Prepare, Event::Hand];
-    let (keeper, lines) = run(alloc, Keeper::open(alloc, start)?, &events)?;
+    let (keeper, lines) = steps(alloc, Keeper::open(alloc, start)?, &events)?;
     assert_eq!(rt;
         lines.as_str(),
         "prepared 3\nplan next 0007 normal 0004 0006\n"
@@ -308,7 +461,7 @@ fn limits_at_open(rt: HostRuntime) -> Result<(), Fail> {
     let full = zeros(alloc, 131_072)?;
     let start = vars(alloc, &[("BootOrder", &full)])?;
     let events = [deliver(alloc, 0, Request::Add(1, disk(alloc)?))?];
-    let (keeper, lines) = run(alloc, Keeper::open(alloc, start)?, &events)?;
+    let (keeper, lines) = steps(alloc, Keeper::open(alloc, start)?, &events)?;
     assert_eq!(rt; lines.as_str(), "applied Done 1\n");
     assert!(rt; keeper.vars().entry(1) == Some(&DISK[..]));
     assert!(rt; keeper.vars().get("BootOrder") == Some(full.as_slice()));
