@@ -11,12 +11,17 @@
 
 mod command_line;
 mod failure;
+mod fault;
 mod input;
+pub mod laws;
 mod program;
 mod refusal;
 mod report;
+mod script;
+mod source;
 #[cfg(test)]
 mod tests;
+mod transfer;
 
 use std::process::ExitCode;
 

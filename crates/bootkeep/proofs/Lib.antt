@@ -1,0 +1,3 @@
+mod Lines
+mod Scripts
+mod Transfers
