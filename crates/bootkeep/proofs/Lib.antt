@@ -1,3 +1,4 @@
 mod Lines
 mod Scripts
 mod Transfers
+mod Happening

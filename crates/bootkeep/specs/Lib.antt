@@ -9,3 +9,4 @@ pub mod Words
 pub mod Source
 -- for private functions
 pub mod Lines
+pub mod Answering

@@ -2,7 +2,7 @@
 
 ghost use Rattle.std.specs.Prelude.{◌≡◌, IfOk};
 ghost use Rattle.std.specs.String.{string_bytes};
-ghost use Rattle.bootkeep.specs.ScriptFault.{script_status_of};
+ghost use Rattle.bootkeep.specs.ScriptFault.{script_fault_of, script_status_of};
 ghost use Rattle.bootkeep.specs.declared.fault.ScriptFault.TheVariants as script;
 
 use boot_requests::OpenFault;
@@ -50,6 +50,19 @@ impl ScriptFault {
             ScriptFault::Write => String::from_str(alloc, "Write"),
             ScriptFault::TooMuch => String::from_str(alloc, "TooMuch"),
             ScriptFault::OutOfMemory => String::from_str(alloc, "OutOfMemory"),
+        }
+    }
+}
+
+impl From<OpenFault> for ScriptFault {
+    ghost from_gives = { λ fault made. made ≡ script_fault_of fault };
+
+    fn from(fault: OpenFault) -> ScriptFault {
+        match fault {
+            OpenFault::OutOfMemory => ScriptFault::OutOfMemory,
+            OpenFault::BadOrder | OpenFault::BadNext | OpenFault::BadState => ScriptFault::Open(
+                fault,
+            ),
         }
     }
 }

@@ -17,6 +17,7 @@ pub mod laws;
 mod program;
 mod refusal;
 mod report;
+mod running;
 mod script;
 mod source;
 #[cfg(test)]
