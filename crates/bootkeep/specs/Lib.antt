@@ -1,3 +1,12 @@
 pub mod Failure
 pub mod Input
 pub mod Report
+-- scripts, in the order in which to read them
+pub mod Script
+pub mod Running
+pub mod ScriptFault
+pub mod Words
+pub mod Source
+-- for private functions
+pub mod Lines
+pub mod Answering

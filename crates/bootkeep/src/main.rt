@@ -11,12 +11,18 @@
 
 mod command_line;
 mod failure;
+mod fault;
 mod input;
+pub mod laws;
 mod program;
 mod refusal;
 mod report;
+mod running;
+mod script;
+mod source;
 #[cfg(test)]
 mod tests;
+mod transfer;
 
 use std::process::ExitCode;
 

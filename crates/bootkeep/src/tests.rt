@@ -1,6 +1,9 @@
 //! What the program answers to words on a command line, over a runtime of the tests' own.
 
 mod files;
+mod script_faults;
+mod scripts;
+mod streams;
 
 use crate::failure::Failure;
 use crate::input::{self, InputFault};
