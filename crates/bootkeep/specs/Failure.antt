@@ -4,6 +4,8 @@ use Rattle.bootkeep.specs.declared.failure.Failure.{Failure}
 use Rattle.bootkeep.specs.declared.failure.Failure.TheVariants as failure
 use Rattle.bootkeep.specs.declared.input.InputFault.{InputFault}
 use Rattle.bootkeep.specs.declared.input.InputFault.TheVariants as input
+use Rattle.bootkeep.specs.declared.output.OutputFault.{OutputFault}
+use Rattle.bootkeep.specs.declared.output.OutputFault.TheVariants as output
 use Rattle.bootkeep.specs.declared.refusal.Refusal.{Refusal}
 use Rattle.bootkeep.specs.declared.refusal.Refusal.TheVariants as refusal
 
@@ -26,3 +28,8 @@ abbrev pub failure_of_input : InputFault → Failure
 failure_of_input input.TooMuch = failure.TooMuch
 failure_of_input input.Read = failure.Read
 failure_of_input input.Memory = failure.Memory
+
+-- what an output that isn't written is to the program
+abbrev pub failure_of_output : OutputFault → Failure
+failure_of_output output.Write = failure.Write
+failure_of_output output.Memory = failure.Memory

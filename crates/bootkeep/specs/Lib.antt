@@ -1,3 +1,4 @@
 pub mod Failure
 pub mod Input
+pub mod Output
 pub mod Report

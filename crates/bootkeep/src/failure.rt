@@ -1,11 +1,12 @@
 //! What keeps the program from doing what it was asked to.
 
 ghost use Rattle.std.specs.Prelude.{◌≡◌};
-ghost use Rattle.bootkeep.specs.Failure.{failure_of, failure_of_input};
+ghost use Rattle.bootkeep.specs.Failure.{failure_of, failure_of_input, failure_of_output};
 ghost use Rattle.bootkeep.specs.declared.failure.Failure.TheVariants as failure;
 
 use crate::command_line::USAGE;
 use crate::input::InputFault;
+use crate::output::OutputFault;
 use crate::refusal::Refusal;
 use std::alloc::{AllocError, AllocFailed};
 use thiserror::Error;
@@ -25,7 +26,7 @@ pub enum Failure {
     /// The words of the command line can't be had, or a file can't be opened or read.
     #[error("fault: read")]
     Read,
-    /// Standard output took not all of the answer.
+    /// Standard output took not all of the answer, or a file can't be written.
     #[error("fault: write")]
     Write,
     /// Memory was refused.
@@ -86,6 +87,17 @@ impl From<InputFault> for Failure {
             InputFault::TooMuch => Failure::TooMuch,
             InputFault::Read => Failure::Read,
             InputFault::Memory => Failure::Memory,
+        }
+    }
+}
+
+impl From<OutputFault> for Failure {
+    ghost from_gives = { λ fault made. made ≡ failure_of_output fault };
+
+    fn from(fault: OutputFault) -> Failure {
+        match fault {
+            OutputFault::Write => Failure::Write,
+            OutputFault::Memory => Failure::Memory,
         }
     }
 }

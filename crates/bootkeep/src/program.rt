@@ -6,9 +6,11 @@ ghost use Rattle.bootkeep.specs.Failure.{status_of};
 use crate::command_line::{self, Request, USAGE};
 use crate::failure::Failure;
 use crate::input::{self, InputFault};
-use crate::report;
-use std::env;
+use crate::refusal::refuse;
+use crate::{output, report, stand_in};
 use std::rt::{Env, Files};
+use std::{env, fs, io};
+use uefi_vars::{Vars, read_set, write_set};
 
 /// Does what the words of the command line ask for, and returns the status to end with: 0, or that
 /// of the [`Failure`], whose line goes to standard error.
@@ -46,8 +48,29 @@ fn answer<R: Env + Files + Print + AllocGlobal>(rt: &R) -> Result<(), Failure> {
             let bytes = input::read_file(rt, set)?;
             rt.print(report::set_report(rt.alloc(), bytes.as_slice())?)
         }
+        Request::Run { set, script, file } => return run_script(rt, set, script, file),
     }
     .map_err(|_| Failure::Write)
+}
+
+/// Runs the script of the one file over the set of another, prints the replies, and then writes the new set to a third.
+fn run_script<R: Files + Print + AllocGlobal>(
+    rt: &R,
+    set: &str,
+    script: &str,
+    file: &str,
+) -> Result<(), Failure> {
+    let vars = read_vars(rt, set)?;
+    let script = fs::open(rt, script).map_err(InputFault::from)?;
+    let vars = stand_in::run_script(rt.alloc(), script, &mut io::writer(rt), vars)?;
+    let bytes = write_set(rt.alloc(), &vars)?;
+    Ok(output::write_file(rt, file, &bytes)?)
+}
+
+/// The variables of the set file at this path.
+fn read_vars<R: Files + AllocGlobal>(rt: &R, set: &str) -> Result<Vars, Failure> {
+    let bytes = input::read_file(rt, set)?;
+    Ok(read_set(rt.alloc(), &bytes).map_err(|fault| refuse(rt.alloc(), fault))?)
 }
 
 fn words<R: Env + AllocGlobal>(rt: &R) -> Result<Vec<String>, Failure> {
