@@ -90,6 +90,7 @@ fn overwrite<R: Files + AllocGlobal>(
     if !is_same(&old, &fs::symlink_metadata(rt, end.as_path())?) {
         return Err(io::Error::from(ErrorKind::NotFound));
     }
+    drop(file);
     place(rt, end.as_path(), Some(&old), bytes)
 }
 
