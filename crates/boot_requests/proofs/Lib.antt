@@ -3,6 +3,7 @@ pub mod Gaps
 pub mod Deliveries
 pub mod Runs
 pub mod Turns
+pub mod Followed
 pub mod Histories
 pub mod Hands
 pub mod Replies

@@ -30,6 +30,13 @@ AreReplies start [] answers = answers ≡ []
 AreReplies start (seen ∷ before) [] = ⊥
 AreReplies start (seen ∷ before) (answer ∷ answers) = IsReply start before seen answer × AreReplies start before answers
 
+-- the answers to these after a run, one each, the first first
+abbrev pub AreAnswers : State → List Seen → List Seen → List Reply → Type 0
+AreAnswers start run [] answers = answers ≡ []
+AreAnswers start run (seen ∷ later) [] = ⊥
+AreAnswers start run (seen ∷ later) (answer ∷ answers) =
+    IsReply start run seen answer × AreAnswers start (seen ∷ run) later answers
+
 abbrev pub names_next : Option Choice → ℕ → ℕ
 names_next None entry = 0
 names_next (Some choice) entry = if choice.number == entry then 1 else 0

@@ -13,6 +13,11 @@ use Rattle.boot_requests.specs.Seen.{Seen, Came, Garbled, Prepare, Hand, Restart
 use Rattle.boot_requests.specs.Window.{Requests, gap_of, is_open}
 use Rattle.boot_requests.specs.Changes.{Change, Applies, Boots, changes_between, folded}
 
+-- the run, and then these, the first first
+abbrev pub followed : List Seen → List Seen → List Seen
+followed run [] = run
+followed run (seen ∷ later) = followed (seen ∷ run) later
+
 -- ---- which requests are accepted
 
 -- The accepted requests, where the numbers begin with the first: each first request of its number that came when that

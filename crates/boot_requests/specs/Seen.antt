@@ -1,5 +1,5 @@
 -- What happened, with deliveries read.
-use Rattle.std.specs.Prelude.{ℕ}
+use Rattle.std.specs.Prelude.{ℕ, List, [], ◌∷◌}
 use Rattle.std.specs.List.{AllByRecursion}
 use Rattle.uefi_path.specs.Row.{IsByte}
 use Rattle.boot_requests.specs.declared.request.Request.{Request}
@@ -33,3 +33,9 @@ IsSeen event.Prepare Prepare = Unit {0}
 IsSeen event.Hand Hand = Unit {0}
 IsSeen event.Restart Restart = Unit {0}
 IsSeen _ _ = ⊥
+
+-- the events are read as these, one each
+abbrev pub AreSeen : List Event → List Seen → Type 0
+AreSeen [] [] = Unit {0}
+AreSeen (event ∷ events) (seen ∷ later) = IsSeen event seen × AreSeen events later
+AreSeen _ _ = ⊥

@@ -1,5 +1,5 @@
 -- One step of a keeper, as a table over plain states. It knows nothing of runs.
-use Rattle.std.specs.Prelude.{◌≡◌, ℕ, nat_lt, if◌then◌else◌, Option, Some, None, MatchOption}
+use Rattle.std.specs.Prelude.{◌≡◌, ℕ, nat_lt, if◌then◌else◌, List, [], ◌∷◌, Option, Some, None, MatchOption}
 use Rattle.std.specs.FinMap.{empty, insert, retain_keys}
 use Rattle.uefi_vars.specs.Plan.{PlanParts}
 use Rattle.boot_requests.specs.declared.request.Request.{Request}
@@ -51,3 +51,9 @@ Turn k Prepare to answer =
     (λ _. (to ≡ k) × (answer ≡ reply.AlreadyPrepared))
 Turn k Hand to answer = (to ≡ record k { plan = None }) × (answer ≡ handed k.plan)
 Turn k Restart to answer = (to ≡ plain_start k.machine) × (answer ≡ reply.Restarted k.machine.count)
+
+-- these happen, the first first, and lead from the one plain state to the other, each answered so
+abbrev pub Turns : Plain → List Seen → Plain → List Reply → Type 0
+Turns k [] to answers = (to ≡ k) × (answers ≡ [])
+Turns k (seen ∷ later) to [] = ⊥
+Turns k (seen ∷ later) to (answer ∷ answers) = (next : Plain) × Turn k seen next answer × Turns next later to answers

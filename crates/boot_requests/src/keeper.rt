@@ -1,6 +1,6 @@
 //! What keeps the boot entries of a machine.
 
-ghost use Rattle.std.specs.Prelude.{◌≡◌, ◌≢◌, ◌↔◌, ℕ, ◌+◌, ◌<◌, ◌≤◌, List, ◌∷◌, length, IfOk, IsTrue};
+ghost use Rattle.std.specs.Prelude.{◌≡◌, ◌≢◌, ◌↔◌, ℕ, ◌+◌, ◌<◌, ◌≤◌, List, ◌∷◌, length, unwrap_or, IfOk, IsTrue};
 ghost use Rattle.std.specs.FinMap as map;
 ghost use Rattle.boot_requests.specs.declared.request.Request.{Request};
 ghost use Rattle.boot_requests.specs.declared.reply.Reply.{Reply};
@@ -119,13 +119,21 @@ impl Keeper {
             StandsFor answer.0 start (seen ∷ run) × IsReply start run seen answer.1) }
     {
         laws::a_turn_goes_on_with_the_run();
-        self.take_turn(alloc, event)
+        let (next, reply) = self.take_turn(alloc, event)?;
+        match next {
+            Some(keeper) => Ok((keeper, reply)),
+            None => Ok((self.copy(alloc)?, reply)),
+        }
     }
 
-    /// What becomes of the keeper with this event, by the table of turns.
-    fn take_turn(&self, alloc: Global, event: &Event) -> Result<(Keeper, Reply), AllocError>
+    /// What becomes of the keeper with this event, by the table of turns: `None` where it stays as it was.
+    pub(crate) fn take_turn(
+        &self,
+        alloc: Global,
+        event: &Event,
+    ) -> Result<(Option<Keeper>, Reply), AllocError>
         ensures { IfOk result (λ answer. (seen : Seen) → IsSeen event.now seen →
-            Turn self.now seen answer.0 answer.1) }
+            Turn self.now seen (unwrap_or answer.0 self.now) answer.1) }
     {
         match event {
             Event::Deliver(bytes) => self.receive(alloc, bytes.bytes()),
@@ -136,12 +144,13 @@ impl Keeper {
     }
 
     /// These bytes came.
-    fn receive(&self, alloc: Global, bytes: &[u8]) -> Result<(Keeper, Reply), AllocError>
+    fn receive(&self, alloc: Global, bytes: &[u8]) -> Result<(Option<Keeper>, Reply), AllocError>
         ensures came { IfOk result (λ answer. (number : ℕ) (request : Request) →
             SpellsFrame bytes.now number request →
-            Turn self.now (Came number request) answer.0 answer.1) }
+            Turn self.now (Came number request) (unwrap_or answer.0 self.now) answer.1) }
         ensures garbled { IfOk result (λ answer. (fault : FrameFault) →
-            IsFirstFault bytes.now fault → Turn self.now (Garbled fault) answer.0 answer.1) }
+            IsFirstFault bytes.now fault →
+            Turn self.now (Garbled fault) (unwrap_or answer.0 self.now) answer.1) }
     {
         match read_frame(alloc, bytes) {
             Ok((number, request)) => {
@@ -149,22 +158,10 @@ impl Keeper {
                 Ok(answer)
             }
             Err(fault) => {
-                let refused = self.refuse(alloc, fault)?;
-                Ok(refused)
+                let reply = refusal(fault)?;
+                Ok((None, reply))
             }
         }
-    }
-
-    /// Bytes came that are no frame, for this fault, unless that is want of memory.
-    fn refuse(&self, alloc: Global, fault: FrameFault) -> Result<(Keeper, Reply), AllocError>
-        ensures { IfOk result (λ answer. (fault ≢ FrameFault.OutOfMemory)
-            × Turn self.now (Garbled fault) answer.0 answer.1) }
-    {
-        if is_memory(fault) {
-            return Err(AllocError);
-        }
-        let keeper = self.copy(alloc)?;
-        Ok((keeper, Reply::Malformed(fault)))
     }
 
     /// A request came with its number.
@@ -173,22 +170,20 @@ impl Keeper {
         alloc: Global,
         number: u32,
         request: &Request,
-    ) -> Result<(Keeper, Reply), AllocError>
+    ) -> Result<(Option<Keeper>, Reply), AllocError>
         requires below { number < no_number }
         requires fits { length (payload_of request.now) ≤ payload_max }
         ensures { IfOk result (λ answer.
-            Turn self.now (Came number request.now) answer.0 answer.1) }
+            Turn self.now (Came number request.now) (unwrap_or answer.0 self.now) answer.1) }
     {
         if number < self.next {
-            let unchanged = self.copy(alloc)?;
-            return Ok((unchanged, self.again(number)));
+            return Ok((None, self.again(number)));
         }
         if number - self.next >= WIDTH {
-            let stays = self.copy(alloc)?;
-            return Ok((stays, Reply::Ahead(self.next)));
+            return Ok((None, Reply::Ahead(self.next)));
         }
-        let answer = self.apply(alloc, request)?;
-        Ok(answer)
+        let (keeper, reply) = self.apply(alloc, request)?;
+        Ok((Some(keeper), reply))
     }
 
     /// The answer to a request of this number, which was applied before.
@@ -231,11 +226,12 @@ impl Keeper {
     }
 
     /// A boot is prepared.
-    fn prepare(&self, alloc: Global) -> Result<(Keeper, Reply), AllocError>
-        ensures { IfOk result (λ answer. Turn self.now Prepare answer.0 answer.1) }
+    fn prepare(&self, alloc: Global) -> Result<(Option<Keeper>, Reply), AllocError>
+        ensures { IfOk result (λ answer.
+            Turn self.now Prepare (unwrap_or answer.0 self.now) answer.1) }
     {
         if self.plan.is_some() {
-            return Ok((self.copy(alloc)?, Reply::AlreadyPrepared));
+            return Ok((None, Reply::AlreadyPrepared));
         }
         let plan = make_plan(alloc, &self.vars)?;
         let count = choice_count(&plan);
@@ -248,26 +244,30 @@ impl Keeper {
             kept,
             plan: Some(plan),
         };
-        Ok((keeper, Reply::Prepared(count)))
+        Ok((Some(keeper), Reply::Prepared(count)))
     }
 
     /// The plan that is prepared is to be handed out.
-    fn hand(&self, alloc: Global) -> Result<(Keeper, Reply), AllocError>
-        ensures { IfOk result (λ answer. Turn self.now Hand answer.0 answer.1) }
+    fn hand(&self, alloc: Global) -> Result<(Option<Keeper>, Reply), AllocError>
+        ensures { IfOk result (λ answer.
+            Turn self.now Hand (unwrap_or answer.0 self.now) answer.1) }
     {
-        let reply = match copy_plan(alloc, &self.plan)? {
-            Some(plan) => Reply::Plan(plan),
-            None => Reply::NothingPrepared,
-        };
-        Ok((self.with_plan(alloc, None)?, reply))
+        match copy_plan(alloc, &self.plan)? {
+            Some(plan) => {
+                let keeper = self.with_plan(alloc, None)?;
+                Ok((Some(keeper), Reply::Plan(plan)))
+            }
+            None => Ok((None, Reply::NothingPrepared)),
+        }
     }
 
     /// The keeper starts anew.
-    fn restart(&self, alloc: Global) -> Result<(Keeper, Reply), AllocError>
-        ensures { IfOk result (λ answer. Turn self.now Restart answer.0 answer.1) }
+    fn restart(&self, alloc: Global) -> Result<(Option<Keeper>, Reply), AllocError>
+        ensures { IfOk result (λ answer.
+            Turn self.now Restart (unwrap_or answer.0 self.now) answer.1) }
     {
         let keeper = self.with_plan(alloc, None)?;
-        Ok((keeper, Reply::Restarted(self.next)))
+        Ok((Some(keeper), Reply::Restarted(self.next)))
     }
 
     /// An equal keeper.
@@ -290,6 +290,17 @@ impl Keeper {
             plan,
         })
     }
+}
+
+/// The answer to bytes that are no frame, for this fault, unless that is want of memory.
+fn refusal(fault: FrameFault) -> Result<Reply, AllocError>
+    ensures { IfOk result (λ reply.
+        (fault ≢ FrameFault.OutOfMemory) × (reply ≡ Reply.Malformed fault)) }
+{
+    if is_memory(fault) {
+        return Err(AllocError);
+    }
+    Ok(Reply::Malformed(fault))
 }
 
 /// Whether the fault is want of memory.

@@ -18,6 +18,7 @@ mod outcome;
 mod reading;
 mod reply;
 mod request;
+mod running;
 mod storing;
 mod writing;
 
@@ -32,6 +33,7 @@ pub use outcome::{KEPT_MAX, Outcome};
 pub use reading::read_frame;
 pub use reply::Reply;
 pub use request::{OrderList, Request};
+pub use running::run;
 pub use writing::write_frame;
 
 #[cfg(test)]

@@ -2,3 +2,12 @@ pub mod Failure
 pub mod Input
 pub mod Output
 pub mod Report
+-- scripts, in the order in which to read them
+pub mod Script
+pub mod Running
+pub mod ScriptFault
+pub mod Words
+pub mod Source
+-- for private functions
+pub mod Lines
+pub mod Answering

@@ -1,14 +1,15 @@
 //! What keeps the program from doing what it was asked to.
 
 ghost use Rattle.std.specs.Prelude.{◌≡◌};
-ghost use Rattle.bootkeep.specs.Failure.{failure_of, failure_of_input, failure_of_output};
+ghost use Rattle.bootkeep.specs.Failure.{failure_of, failure_of_input, failure_of_output, IsFailureOf};
 ghost use Rattle.bootkeep.specs.declared.failure.Failure.TheVariants as failure;
 
 use crate::command_line::USAGE;
+use crate::fault::ScriptFault;
 use crate::input::InputFault;
 use crate::output::OutputFault;
 use crate::refusal::Refusal;
-use std::alloc::{AllocError, AllocFailed};
+use std::alloc::{AllocError, AllocFailed, Global};
 use thiserror::Error;
 
 /// Why the program did not do what it was asked to. Its `Display` is the line for standard error.
@@ -48,6 +49,22 @@ impl Failure {
             Failure::CommandLine => 2,
             Failure::Read | Failure::Write => 3,
             Failure::Memory => 4,
+        }
+    }
+
+    /// What a fault of a script is to the program. Where there is no memory for its words it is want of memory.
+    pub fn of_script(alloc: Global, fault: ScriptFault) -> Failure
+        ensures { IsFailureOf fault result }
+    {
+        match fault {
+            ScriptFault::Read => Failure::Read,
+            ScriptFault::Write => Failure::Write,
+            ScriptFault::TooMuch => Failure::TooMuch,
+            ScriptFault::OutOfMemory => Failure::Memory,
+            ScriptFault::BadLine(_) | ScriptFault::Open(_) => match fault.words(alloc) {
+                Ok(words) => Failure::Refused(words),
+                Err(AllocError) => Failure::Memory,
+            },
         }
     }
 }

@@ -12,14 +12,19 @@
 
 mod command_line;
 mod failure;
+mod fault;
 mod input;
+pub mod laws;
 mod output;
 mod program;
 mod refusal;
 mod report;
-mod stand_in;
+mod running;
+mod script;
+mod source;
 #[cfg(test)]
 mod tests;
+mod transfer;
 
 use std::process::ExitCode;
 

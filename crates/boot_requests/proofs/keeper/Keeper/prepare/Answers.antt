@@ -13,7 +13,7 @@ use Rattle.boot_requests.proofs.keeper.Keeper.prepare.Goals as goal
 
 pub returns-then-is_some : goal.returns-then-is_some
 returns-then-is_some c =
-    plan_there c.args.self.now.plan _ _ (ap (λ (k : Plain). is_some k.plan) (sym c.self.view_is) ∙ sym c.is_some.ensures ∙ c.if-is_some.true) (c.in_ok-copy.ensures, refl)
+    plan_there c.args.self.now.plan _ _ (ap (λ (k : Plain). is_some k.plan) (sym c.self.view_is) ∙ sym c.is_some.ensures ∙ c.if-is_some.true) (refl, refl)
 
 pub invariant_of-keeper : goal.invariant_of-keeper
 invariant_of-keeper c =

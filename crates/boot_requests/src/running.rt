@@ -1,0 +1,79 @@
+//! Events one after the other.
+
+ghost use Rattle.std.specs.Prelude.{◌≡◌, ◌<◌, ◌+◌, List, [], ◌∷◌, ◌++◌, length, take, drop, IsTrue, false};
+ghost use Rattle.std.specs.Bool.{OnTrue, OnFalse};
+ghost use Rattle.boot_requests.specs.declared.reply.Reply.{Reply};
+ghost use Rattle.boot_requests.specs.State.{State};
+ghost use Rattle.boot_requests.specs.Seen.{Seen, IsSeen, AreSeen};
+ghost use Rattle.boot_requests.specs.Run.{followed};
+ghost use Rattle.boot_requests.specs.Reply.{AreAnswers};
+ghost use Rattle.boot_requests.specs.Turn.{Turn, Turns};
+ghost use Rattle.boot_requests.specs.Keeping.{StandsFor};
+
+use crate::event::Event;
+use crate::keeper::Keeper;
+use crate::reply::Reply;
+use std::alloc::Global;
+
+/// What becomes of the keeper with these events, one after the other, as [`Keeper::step`] has it. The reply to each is
+/// appended to those that are there. False says that memory was refused: the keeper is then the one after as many of the
+/// events, the first ones, as replies were appended. An event that changes nothing copies nothing.
+pub fn run(
+    alloc: Global,
+    keeper: Keeper,
+    events: &[Event],
+    replies: &mut Vec<Reply>,
+) -> (Keeper, bool)
+    // What was there stays, and one reply for each of the first events is behind it: of all of them, or of fewer where
+    // memory was refused.
+    ensures kept { replies.new.items
+        ≡ replies.old.items ++ drop (length replies.old.items) replies.new.items }
+    ensures whole { IsTrue result.1 →
+        length replies.new.items ≡ length replies.old.items + length events.now }
+    ensures cut { result.1 ≡ false →
+        length replies.new.items < length replies.old.items + length events.now }
+    // The table of turns.
+    ensures turns { let answers = drop (length replies.old.items) replies.new.items in
+        (seen : List Seen) → AreSeen (take (length answers) events.now) seen →
+        Turns keeper seen result.0 answers }
+    // From a keeper that stands for a run, to one that stands for it and the events, with the replies of the run.
+    ensures run { let answers = drop (length replies.old.items) replies.new.items in
+        (start : State) (before seen : List Seen) → StandsFor keeper start before →
+        AreSeen (take (length answers) events.now) seen →
+        StandsFor result.0 start (followed before seen) × AreAnswers start before seen answers }
+{
+    let mut now = keeper;
+    for event in events {
+        let (next, taken) = take_event(alloc, now, event, replies);
+        now = next;
+        if !taken {
+            return (now, false);
+        }
+    }
+    (now, true)
+}
+
+/// The keeper after this event, whose reply is appended. Where memory is refused, nothing changes.
+fn take_event(
+    alloc: Global,
+    keeper: Keeper,
+    event: &Event,
+    replies: &mut Vec<Reply>,
+) -> (Keeper, bool)
+    ensures taken { OnTrue result.1 ((answer : Reply)
+        × (replies.new.items ≡ replies.old.items ++ answer ∷ [])
+        × ((seen : Seen) → IsSeen event.now seen → Turn keeper seen result.0 answer)) }
+    ensures refused { OnFalse result.1
+        ((replies.new.items ≡ replies.old.items) × (result.0 ≡ keeper)) }
+{
+    let Ok((next, reply)) = keeper.take_turn(alloc, event) else {
+        return (keeper, false);
+    };
+    match replies.push(reply) {
+        Ok(()) => match next {
+            Some(next) => (next, true),
+            None => (keeper, true),
+        },
+        Err(_) => (keeper, false),
+    }
+}

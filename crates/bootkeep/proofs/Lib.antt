@@ -1,0 +1,4 @@
+mod Lines
+mod Scripts
+mod Transfers
+mod Happening

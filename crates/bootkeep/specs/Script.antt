@@ -1,0 +1,47 @@
+-- Scripts: what happens to a machine, as text with an event on each line.
+use Rattle.std.specs.Prelude.{◌≡◌, ◌⊎◌, ℕ, ◌+◌, ◌==◌, List, [], ◌∷◌, ◌++◌, length, codes, Ok}
+use Rattle.std.specs.List.{AllByRecursion, slice_split}
+use Rattle.hex.specs.Hex.{decode_of}
+use Rattle.boot_requests.specs.declared.event.Event.{Event}
+use Rattle.boot_requests.specs.declared.event.Event.TheVariants as event
+
+abbrev pub line_feed : ℕ
+line_feed = 0x0A
+
+-- the lines of a text: what line feeds part, so there is one line more than there are line feeds
+abbrev pub lines_of : List ℕ → List (List ℕ)
+lines_of text = slice_split (λ byte. byte == line_feed) text
+
+-- The line tells of the event. The bytes of a delivery stand behind one blank, each as two hexadecimal digits of either
+-- case, perhaps none.
+abbrev pub Tells : List ℕ → Event → Type 0
+Tells line (event.Deliver bytes) =
+    (digits : List ℕ) × (line ≡ codes "deliver " ++ digits) × (decode_of digits ≡ Ok bytes)
+Tells line event.Prepare = line ≡ codes "prepare"
+Tells line event.Hand = line ≡ codes "hand"
+Tells line event.Restart = line ≡ codes "restart"
+
+-- the lines tell of the events, in their order, and empty lines of none
+abbrev pub TellOf : List (List ℕ) → List Event → Type 0
+TellOf [] events = events ≡ []
+TellOf ([] ∷ lines) events = TellOf lines events
+TellOf ((byte ∷ line) ∷ lines) [] = ⊥
+TellOf ((byte ∷ line) ∷ lines) (event ∷ events) = Tells (byte ∷ line) event × TellOf lines events
+
+-- the text is a script, with these events
+abbrev pub IsScript : List ℕ → List Event → Type 0
+IsScript text events = TellOf (lines_of text) events
+
+-- a line that may stand in a script: an empty one, or one that tells of an event
+abbrev pub IsScriptLine : List ℕ → Type 0
+IsScriptLine line = (line ≡ []) ⊎ ((event : Event) × Tells line event)
+
+-- The line of this number may stand in no script, and each line before it may. Numbers count from 1, empty lines included.
+pub record IsFirstBadLine (text : List ℕ) (number : ℕ) : Type 0 where
+  pub before : List (List ℕ)
+  pub bad : List ℕ
+  pub after : List (List ℕ)
+  pub lines : lines_of text ≡ before ++ bad ∷ after
+  pub good : AllByRecursion IsScriptLine before
+  pub is_bad : ¬ IsScriptLine bad
+  pub at : number ≡ length before + 1

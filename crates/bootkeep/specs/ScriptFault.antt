@@ -1,0 +1,62 @@
+-- What is wrong with a script or with the variables that it is to be run over.
+use Rattle.std.specs.Prelude.{◌≡◌, ◌⊎◌, ℕ, ◌<◌, ◌≤◌, Bool, true, false, List, length, Result, Ok, Err}
+use Rattle.uefi_vars.specs.Vars.{Variables}
+use Rattle.boot_requests.specs.declared.event.Event.{Event}
+use Rattle.boot_requests.specs.declared.fault.OpenFault.{OpenFault}
+use Rattle.boot_requests.specs.declared.fault.OpenFault.TheVariants as opening
+use Rattle.boot_requests.specs.Opening.{IsOpenFault}
+use Rattle.bootkeep.specs.declared.fault.ScriptFault.{ScriptFault}
+use Rattle.bootkeep.specs.declared.fault.ScriptFault.TheVariants as fault
+use Rattle.bootkeep.specs.Script.{IsScript, IsFirstBadLine}
+
+-- the most bytes of a script
+abbrev pub script_max : ℕ
+script_max = 67108864
+
+-- the fault is that of a text, whatever its length is
+abbrev pub IsLineFault : List ℕ → ScriptFault → Type 0
+IsLineFault text (fault.BadLine number) = IsFirstBadLine text number
+IsLineFault text _ = ⊥
+
+-- the fault is that of variables that can't be kept
+abbrev pub IsVarsFault : Variables → ScriptFault → Type 0
+IsVarsFault vars (fault.Open open_fault) = IsOpenFault vars open_fault
+IsVarsFault vars _ = ⊥
+
+-- what a fault for which variables can't be kept is to a script
+abbrev pub script_fault_of : OpenFault → ScriptFault
+script_fault_of opening.OutOfMemory = fault.OutOfMemory
+script_fault_of open_fault = fault.Open open_fault
+
+-- The fault is the first of the text and the variables, by cases: the text is too long, else a line is none of a script,
+-- else the variables can't be kept.
+abbrev pub IsFirstFault : List ℕ → Variables → ScriptFault → Type 0
+IsFirstFault text vars fault.TooMuch = script_max < length text
+IsFirstFault text vars (fault.BadLine number) = (length text ≤ script_max) × IsFirstBadLine text number
+IsFirstFault text vars (fault.Open open_fault) =
+    (length text ≤ script_max) × (events : List Event) × IsScript text events × IsOpenFault vars open_fault
+IsFirstFault text vars _ = ⊥
+
+-- whether the answer is that a read failed
+abbrev pub failed_read : {T : Type 0} → Result T ScriptFault → Bool
+failed_read (Ok _) = false
+failed_read (Err fault.Read) = true
+failed_read (Err _) = false
+
+-- whether the answer is that a write failed
+abbrev pub failed_write : {T : Type 0} → Result T ScriptFault → Bool
+failed_write (Ok _) = false
+failed_write (Err fault.Write) = true
+failed_write (Err _) = false
+
+-- the answer is this fault, unless a read failed or memory was refused
+abbrev pub IsFaultUnless : {T : Type 0} → Result T ScriptFault → ScriptFault → Type 0
+IsFaultUnless answer expected =
+    (answer ≡ Err expected) ⊎ ((answer ≡ Err fault.Read) ⊎ (answer ≡ Err fault.OutOfMemory))
+
+-- the status that a program ends with where a script is refused so
+abbrev pub script_status_of : ScriptFault → ℕ
+script_status_of fault.Read = 3
+script_status_of fault.Write = 3
+script_status_of fault.OutOfMemory = 4
+script_status_of _ = 1
