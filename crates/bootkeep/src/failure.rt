@@ -1,6 +1,7 @@
 //! What keeps the program from doing what it was asked to.
 
-ghost use Rattle.std.specs.Prelude.{◌≡◌};
+ghost use Rattle.std.specs.Prelude.{◌≡◌, ◌⊎◌};
+ghost use Rattle.bootkeep.specs.ScriptFault.{script_status_of};
 ghost use Rattle.bootkeep.specs.Failure.{failure_of, failure_of_input, failure_of_output, IsFailureOf};
 ghost use Rattle.bootkeep.specs.declared.failure.Failure.TheVariants as failure;
 
@@ -54,7 +55,8 @@ impl Failure {
 
     /// What a fault of a script is to the program. Where there is no memory for its words it is want of memory.
     pub fn of_script(alloc: Global, fault: ScriptFault) -> Failure
-        ensures { IsFailureOf fault result }
+        ensures fault { IsFailureOf fault result }
+        ensures status { (result ≡ failure.Memory) ⊎ (status_of result ≡ script_status_of fault) }
     {
         match fault {
             ScriptFault::Read => Failure::Read,
