@@ -5,7 +5,7 @@ mod folder;
 mod outputs;
 mod real_files;
 mod runtime;
-mod scripts;
+mod run_command;
 
 use crate::failure::Failure;
 use crate::input::{self, InputFault};
