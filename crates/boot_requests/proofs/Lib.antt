@@ -22,6 +22,9 @@ mod Stored
 mod Edits
 mod Machines
 mod Images
+mod Slots
+mod Fills
+mod Plains
 mod Steps
 mod OrderLists
 mod Outcomes

@@ -88,6 +88,15 @@ entry_gone_apart entries number other differ = remove_apart nat_cmp_total exact_
 
 -- ---- requests
 
+pub request_here : (requests : Requests) (number : ℕ) (r : Request) → get (insert requests number r) number ≡ Some r
+request_here requests number r = insert_here nat_cmp_total exact_unsigned requests number r
+
+pub request_gone : (requests : Requests) (number : ℕ) → get (remove requests number) number ≡ None
+request_gone requests number = remove_here nat_cmp_total exact_unsigned requests number
+
+pub request_gone_apart : (requests : Requests) (number other : ℕ) → number ≢ other → get (remove requests number) other ≡ get requests other
+request_gone_apart requests number other differ = remove_apart nat_cmp_total exact_unsigned requests number other differ
+
 pub request_apart : (requests : Requests) (number : ℕ) (r : Request) (other : ℕ) → number ≢ other → get (insert requests number r) other ≡ get requests other
 request_apart requests number r other differ = insert_apart nat_cmp_total exact_unsigned requests number r other differ
 

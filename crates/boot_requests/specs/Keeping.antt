@@ -1,13 +1,15 @@
 -- Which run a plain state stands for, and with which variables it starts.
-use Rattle.std.specs.Prelude.{◌≡◌, ℕ, nat_lt, List, [], ◌∷◌, Option, Some, None}
+use Rattle.std.specs.Prelude.{◌≡◌, ℕ, ◌+◌, ◌<◌, ◌==◌, nat_lt, Bool, false, List, [], ◌∷◌, Option, Some, None, IfSome}
 use Rattle.std.specs.FinMap.{get, retain_keys}
 use Rattle.uefi_option.specs.LoadOption.{SpellsOption}
 use Rattle.uefi_vars.specs.Vars.{Variables}
 use Rattle.boot_requests.specs.declared.request.Request.{Request}
 use Rattle.boot_requests.specs.declared.request.Request.TheVariants.{Add, Replace, Remove, Order, Next}
+use Rattle.boot_requests.specs.Limits.{width}
 use Rattle.boot_requests.specs.Frame.{IsSent}
 use Rattle.boot_requests.specs.State.{State, IsState, IsImage}
 use Rattle.boot_requests.specs.Seen.{Seen, Came, Garbled, Prepare, Hand, Restart}
+use Rattle.boot_requests.specs.Window.{Requests}
 use Rattle.boot_requests.specs.Run.{accepted, gap_at, state_at, IsPending}
 use Rattle.boot_requests.specs.Turn.{Plain}
 
@@ -22,6 +24,16 @@ pub record StandsFor (k : Plain) (start : State) (run : List Seen) : Type 0 wher
 pub record IsStateOf (m : State) (vars : Variables) : Type 0 where
   pub is : IsState m
   pub image : IsImage m vars
+
+-- what waits has numbers above the next one and less than `width` from it, and was read off frames
+abbrev pub AreWaiting : ℕ → Requests → Type 0
+AreWaiting next requests = (number : ℕ) →
+    IfSome (get requests number) (λ request. (next < number) × (number < next + width) × IsSent number request)
+
+-- a keeper can be in this plain state
+pub record IsPlain (k : Plain) : Type 0 where
+  pub machine : IsState k.machine
+  pub waiting : AreWaiting k.machine.count k.waiting
 
 -- what came was read off frames
 abbrev pub AreRead : List Seen → Type 0
@@ -49,3 +61,24 @@ IsStored m (Replace entry option) = (bytes : List ℕ) × (get m.entries entry �
 IsStored m (Remove entry) = Unit {0}
 IsStored m (Order numbers) = Unit {0}
 IsStored m (Next entry) = Unit {0}
+
+-- whether the request is one to replace or to remove the entry
+abbrev pub touches : Request → ℕ → Bool
+touches (Add number option) entry = false
+touches (Replace number option) entry = number == entry
+touches (Remove number) entry = number == entry
+touches (Order numbers) entry = false
+touches (Next next) entry = false
+
+-- of these requests none with a number between the two replaces or removes the entry
+abbrev pub IsUntouched : Requests → ℕ → ℕ → ℕ → Type 0
+IsUntouched requests from to entry = (number : ℕ) → from < number → number < to →
+    IfSome (get requests number) (λ request. touches request entry ≡ false)
+
+-- where the request is one to store an entry, none of those between the two numbers replaces or removes that entry
+abbrev pub IsLast : Requests → ℕ → ℕ → Request → Type 0
+IsLast requests from to (Add entry option) = IsUntouched requests from to entry
+IsLast requests from to (Replace entry option) = IsUntouched requests from to entry
+IsLast requests from to (Remove entry) = Unit {0}
+IsLast requests from to (Order numbers) = Unit {0}
+IsLast requests from to (Next entry) = Unit {0}

@@ -21,3 +21,4 @@ pub mod Reading
 pub mod Writing
 pub mod Marks
 pub mod Edit
+pub mod Slots

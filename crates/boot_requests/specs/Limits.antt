@@ -3,7 +3,7 @@ use Rattle.std.specs.Prelude.{ℕ}
 
 -- a request is accepted only where its number is one of so many, the next one included
 abbrev pub width : ℕ
-width = 1
+width = 16
 
 -- the most outcomes that are kept
 abbrev pub kept_max : ℕ

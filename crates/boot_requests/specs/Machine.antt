@@ -10,6 +10,7 @@ use Rattle.uefi_path.specs.Units.{units_of}
 use Rattle.uefi_vars.specs.Plan.{PlanParts}
 use Rattle.boot_requests.specs.declared.outcome.Outcome.{Outcome}
 use Rattle.boot_requests.specs.State.{State, keep_text, stored_mark}
+use Rattle.boot_requests.specs.Window.{Requests}
 use Rattle.boot_requests.specs.Turn.{Plain}
 
 -- entries by their numbers
@@ -57,9 +58,9 @@ machine_of vars count kept = record {
   others = others_below (2 ^ 16) vars;
 }
 
--- the plain state of such a state, where nothing waits
-abbrev pub plain_of : State → Option PlanParts → Plain
-plain_of m plan = record { machine = m; waiting = empty; plan = plan }
+-- the plain state of these
+abbrev pub plain_of : State → Requests → Option PlanParts → Plain
+plain_of m waiting plan = record { machine = m; waiting = waiting; plan = plan }
 
 -- ---- of a state
 

@@ -5,41 +5,40 @@ ghost use Rattle.std.specs.FinMap as map;
 ghost use Rattle.boot_requests.specs.declared.request.Request.{Request};
 ghost use Rattle.boot_requests.specs.declared.reply.Reply.{Reply};
 ghost use Rattle.boot_requests.specs.declared.fault.FrameFault.{FrameFault};
-ghost use Rattle.boot_requests.specs.Limits.{payload_max, no_number, kept_max};
+ghost use Rattle.boot_requests.specs.Limits.{width, payload_max, no_number};
 ghost use Rattle.boot_requests.specs.Request.{payload_of};
-ghost use Rattle.boot_requests.specs.Frame.{SpellsFrame};
+ghost use Rattle.boot_requests.specs.Frame.{SpellsFrame, IsSent};
 ghost use Rattle.boot_requests.specs.FrameFault.{IsFirstFault};
 ghost use Rattle.boot_requests.specs.State.{State, IsState, IsImage};
-ghost use Rattle.boot_requests.specs.Apply.{outcome_of, applied, kept_with, HasPlanOf};
+ghost use Rattle.boot_requests.specs.Apply.{outcome_of, HasPlanOf};
 ghost use Rattle.boot_requests.specs.Seen.{Seen, IsSeen, Came, Garbled, Prepare, Hand, Restart};
 ghost use Rattle.boot_requests.specs.Answer.{kept_outcome, again, choice_count};
 ghost use Rattle.boot_requests.specs.Reply.{IsReply};
-ghost use Rattle.boot_requests.specs.Turn.{Turn};
-ghost use Rattle.boot_requests.specs.Keeping.{IsStateOf, StandsFor};
+ghost use Rattle.boot_requests.specs.Turn.{settled, Turn};
+ghost use Rattle.boot_requests.specs.Keeping.{IsStateOf, IsPlain, StandsFor};
 ghost use Rattle.boot_requests.specs.Machine.{plain_of};
 
-use crate::applying::carry_out;
 use crate::event::Event;
 use crate::fault::FrameFault;
+use crate::filling::{apply, apply_followers};
 use crate::laws;
-use crate::outcome::{KEPT_MAX, Outcome};
+use crate::outcome::Outcome;
 use crate::reading::read_frame;
 use crate::reply::Reply;
 use crate::request::Request;
-use crate::storing::{delete_next, store_mark};
+use crate::storing::delete_next;
+use crate::window::{WIDTH, Window};
 use std::alloc::{AllocError, Global};
 use std::marker::Model;
 use uefi_vars::{BootPlan, Vars, laws as vars_laws, plan};
 
-/// How many numbers are taken, the next one included: a request waits for none of a lower number, so it is that one alone.
-pub const WIDTH: u32 = 1;
-
 /// What keeps the boot entries of a machine: its variables, the number of the request that is to be applied next, what came
-/// of the last ones, and the plan that is prepared. A request of a higher number never waits.
+/// of the last ones, the requests that wait for one of a lower number, and the plan that is prepared. What waits and the
+/// plan are kept in memory alone.
 #[derive(Debug, Drop)]
 pub struct Keeper {
     pub(crate) vars: Vars,
-    pub(crate) next: u32,
+    pub(crate) window: Window,
     pub(crate) kept: Vec<Outcome>,
     pub(crate) plan: Option<BootPlan>,
 }
@@ -55,9 +54,10 @@ impl Model for Keeper {
 
     ghost coded = { Prim.hlevel (codes, map_code) };
 
-    ghost view = { λ k. plain_of (machine_of k.vars k.next k.kept.items) k.plan };
+    ghost view = { λ k.
+        plain_of (machine_of k.vars k.window.next k.kept.items) k.window.waiting k.plan };
 
-    ghost invariant = { λ k. IsStateOf (machine_of k.vars k.next k.kept.items) k.vars };
+    ghost invariant = { λ k. IsStateOf (machine_of k.vars k.window.next k.kept.items) k.vars };
 }
 
 impl Keeper {
@@ -80,18 +80,18 @@ impl Keeper {
     /// The number of the request that is to be applied next.
     pub fn next_number(&self) -> u32
         ensures number { result ≡ self.now.machine.count }
-        ensures valid { IsState self.now.machine }
+        ensures valid { IsPlain self.now }
     {
-        self.next
+        self.window.next()
     }
 
-    /// How many requests wait for one of a lower number: none, since such a request isn't taken.
+    /// How many requests wait for one of a lower number: fewer than [`WIDTH`].
     pub fn waiting(&self) -> usize
         ensures len { result ≡ map.len self.now.waiting }
-        ensures valid { IsState self.now.machine }
+        ensures bound { result < width }
+        ensures valid { IsPlain self.now }
     {
-        let _variables = &self.vars;
-        0
+        self.window.len()
     }
 
     /// What becomes of the keeper with this event, and the answer to it. This keeper stays as it was, so it can be gone on
@@ -100,11 +100,14 @@ impl Keeper {
     /// A delivery that is no frame is answered [`Reply::Malformed`], with what [`read_frame`](crate::read_frame) finds. A
     /// request whose number is below the next one was applied before and isn't again: [`Reply::Repeat`] with the outcome if
     /// that is still kept, and else [`Reply::Old`], whatever the request is. One whose number is [`WIDTH`] or more above
-    /// the next one isn't taken: [`Reply::Ahead`]. The request of the next number is applied: [`Reply::Applied`].
+    /// the next one isn't taken: [`Reply::Ahead`]. One of another number above the next one waits, [`Reply::Waiting`],
+    /// unless another request of that number does, which stays: [`Reply::Conflict`]. The request of the next number is
+    /// applied, and after it those that wait for it and follow without a gap, in the order of their numbers:
+    /// [`Reply::Applied`], with its own outcome and the next number after them all.
     ///
     /// [`Event::Prepare`] makes the plan of a boot, and then deletes BootNext (UEFI 2.10, 3.3): [`Reply::Prepared`]; where
     /// a plan is prepared, it stays: [`Reply::AlreadyPrepared`]. [`Event::Hand`] gives that plan away, [`Reply::Plan`], or
-    /// [`Reply::NothingPrepared`]. [`Event::Restart`] forgets it: [`Reply::Restarted`].
+    /// [`Reply::NothingPrepared`]. [`Event::Restart`] forgets it and all that waits: [`Reply::Restarted`].
     ///
     /// # Errors
     ///
@@ -171,19 +174,30 @@ impl Keeper {
         number: u32,
         request: &Request,
     ) -> Result<(Option<Keeper>, Reply), AllocError>
-        requires below { number < no_number }
-        requires fits { length (payload_of request.now) ≤ payload_max }
+        requires { IsSent number request.now }
         ensures { IfOk result (λ answer.
             Turn self.now (Came number request.now) (unwrap_or answer.0 self.now) answer.1) }
     {
-        if number < self.next {
+        laws::requests_compare_as_values();
+        let next = self.window.next();
+        if number < next {
             return Ok((None, self.again(number)));
         }
-        if number - self.next >= WIDTH {
-            return Ok((None, Reply::Ahead(self.next)));
+        if number - next >= WIDTH {
+            return Ok((None, Reply::Ahead(next)));
         }
-        let (keeper, reply) = self.apply(alloc, request)?;
-        Ok((Some(keeper), reply))
+        if number == next {
+            let (keeper, reply) = self.fill(alloc, request)?;
+            return Ok((Some(keeper), reply));
+        }
+        match self.window.get(number) {
+            Some(other) if *other == *request => Ok((None, Reply::Waiting(next))),
+            Some(_) => Ok((None, Reply::Conflict)),
+            None => {
+                let keeper = self.keep(alloc, number, request)?;
+                Ok((Some(keeper), Reply::Waiting(next)))
+            }
+        }
     }
 
     /// The answer to a request of this number, which was applied before.
@@ -191,7 +205,7 @@ impl Keeper {
         requires { number < self.now.machine.count }
         ensures { result ≡ again (kept_outcome self.now.machine number) }
     {
-        let oldest = self.next - self.kept.len() as u32;
+        let oldest = self.window.next() - self.kept.len() as u32;
         if number < oldest {
             return Reply::Old;
         }
@@ -201,24 +215,39 @@ impl Keeper {
         }
     }
 
-    /// The request of the next number is applied.
-    fn apply(&self, alloc: Global, request: &Request) -> Result<(Keeper, Reply), AllocError>
+    /// A request waits under this number, under which none does.
+    fn keep(&self, alloc: Global, number: u32, request: &Request) -> Result<Keeper, AllocError>
+        requires above { self.now.machine.count < number }
+        requires near { number < self.now.machine.count + width }
+        requires sent { IsSent number request.now }
+        ensures { IfOk result (λ keeper. keeper ≡ plain_of self.now.machine
+            (map.insert self.now.waiting number request.now) self.now.plan) }
+    {
+        let mut window = self.window.copy(alloc)?;
+        window.keep(number, request.copy(alloc)?);
+        let plan = copy_plan(alloc, &self.plan)?;
+        let keeper = self.with(alloc, window, plan)?;
+        Ok(keeper)
+    }
+
+    /// The request of the next number is applied, and then those that follow it without a gap.
+    fn fill(&self, alloc: Global, request: &Request) -> Result<(Keeper, Reply), AllocError>
         requires room { self.now.machine.count < no_number }
         requires fits { length (payload_of request.now) ≤ payload_max }
-        ensures state { IfOk result (λ answer.
-            answer.0 ≡ plain_of (applied self.now.machine request.now) self.now.plan) }
+        ensures state { IfOk result (λ answer. answer.0
+            ≡ settled self.now (map.insert self.now.waiting self.now.machine.count request.now)) }
         ensures answer { IfOk result (λ answer. answer.1
-            ≡ Reply.Applied (outcome_of self.now.machine request.now) (self.now.machine.count + 1)) }
+            ≡ Reply.Applied (outcome_of self.now.machine request.now) answer.0.machine.count) }
     {
         let mut vars = self.vars.copy(alloc)?;
-        let outcome = carry_out(alloc, &mut vars, request)?;
-        let kept = kept_with(alloc, &self.kept, outcome)?;
-        let next = self.next + 1;
-        store_mark(alloc, &mut vars, next, &kept)?;
+        let mut window = self.window.copy(alloc)?;
+        let (outcome, first) = apply(alloc, &mut vars, window.next(), &self.kept, request)?;
+        let kept = apply_followers(alloc, &mut vars, &mut window, first)?;
         let plan = copy_plan(alloc, &self.plan)?;
+        let next = window.next();
         let keeper = Keeper {
             vars,
-            next,
+            window,
             kept,
             plan,
         };
@@ -237,10 +266,11 @@ impl Keeper {
         let count = choice_count(&plan);
         let mut vars = self.vars.copy(alloc)?;
         delete_next(&mut vars);
+        let window = self.window.copy(alloc)?;
         let kept = copy_outcomes(alloc, &self.kept)?;
         let keeper = Keeper {
             vars,
-            next: self.next,
+            window,
             kept,
             plan: Some(plan),
         };
@@ -254,7 +284,8 @@ impl Keeper {
     {
         match copy_plan(alloc, &self.plan)? {
             Some(plan) => {
-                let keeper = self.with_plan(alloc, None)?;
+                let window = self.window.copy(alloc)?;
+                let keeper = self.with(alloc, window, None)?;
                 Ok((Some(keeper), Reply::Plan(plan)))
             }
             None => Ok((None, Reply::NothingPrepared)),
@@ -266,27 +297,38 @@ impl Keeper {
         ensures { IfOk result (λ answer.
             Turn self.now Restart (unwrap_or answer.0 self.now) answer.1) }
     {
-        let keeper = self.with_plan(alloc, None)?;
-        Ok((Some(keeper), Reply::Restarted(self.next)))
+        let next = self.window.next();
+        let window = Window::new(alloc, next)?;
+        let keeper = self.with(alloc, window, None)?;
+        Ok((Some(keeper), Reply::Restarted(next)))
     }
 
     /// An equal keeper.
     fn copy(&self, alloc: Global) -> Result<Keeper, AllocError>
         ensures { IfOk result (λ keeper. keeper ≡ self.now) }
     {
+        let window = self.window.copy(alloc)?;
         let plan = copy_plan(alloc, &self.plan)?;
-        let keeper = self.with_plan(alloc, plan)?;
+        let keeper = self.with(alloc, window, plan)?;
         Ok(keeper)
     }
 
-    /// An equal keeper, but with this plan, or with none.
-    fn with_plan(&self, alloc: Global, plan: Option<BootPlan>) -> Result<Keeper, AllocError>
-        ensures { IfOk result (λ keeper. keeper ≡ plain_of self.now.machine plan) }
+    /// A keeper of the same state, with this window of its next number, and with this plan, or none.
+    fn with(
+        &self,
+        alloc: Global,
+        window: Window,
+        plan: Option<BootPlan>,
+    ) -> Result<Keeper, AllocError>
+        requires { window.next ≡ self.now.machine.count }
+        ensures { IfOk result (λ keeper. keeper ≡ plain_of self.now.machine window.waiting plan) }
     {
+        let vars = self.vars.copy(alloc)?;
+        let kept = copy_outcomes(alloc, &self.kept)?;
         Ok(Keeper {
-            vars: self.vars.copy(alloc)?,
-            next: self.next,
-            kept: Vec::from_slice(alloc, &self.kept)?,
+            vars,
+            window,
+            kept,
             plan,
         })
     }
@@ -348,19 +390,4 @@ fn choice_count(plan: &BootPlan) -> usize
         Some(_) => 1 + plan.normal().len(),
         None => plan.normal().len(),
     }
-}
-
-/// The outcomes with one more behind them, of which the last ones are kept.
-fn kept_with(alloc: Global, kept: &[Outcome], outcome: Outcome) -> Result<Vec<Outcome>, AllocError>
-    requires { length kept.now ≤ kept_max }
-    ensures { IfOk result (λ all. all.items ≡ kept_with kept.now outcome) }
-{
-    let last = if kept.len() < KEPT_MAX {
-        kept
-    } else {
-        &kept[1..]
-    };
-    let mut all = Vec::from_slice(alloc, last)?;
-    all.push(outcome)?;
-    Ok(all)
 }

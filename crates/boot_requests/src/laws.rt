@@ -21,17 +21,17 @@ ghost use Rattle.boot_requests.specs.Changes.{numbers_in, rising};
 ghost use Rattle.boot_requests.specs.Run.{accepted, gap_at, Delivers, AreTaken, AgreeOnNumbers, is_armed, history, state_at, last_of, sets};
 ghost use Rattle.boot_requests.specs.Reply.{IsReply, AreReplies, hands};
 ghost use Rattle.boot_requests.specs.Turn.{Plain, plain_start, Turn};
-ghost use Rattle.boot_requests.specs.Keeping.{StandsFor, AreRead, IsLeft, IsStored};
+ghost use Rattle.boot_requests.specs.Keeping.{StandsFor, IsPlain, AreRead, IsLeft, IsStored, IsLast};
 ghost use Rattle.boot_requests.specs.Opening.{IsOpenFault};
 
 use crate::bytes::Bytes;
 use crate::event::Event;
 use crate::fault::{FrameFault, OpenFault};
 use crate::frame::PAYLOAD_MAX;
-use crate::keeper::WIDTH;
 use crate::outcome::{KEPT_MAX, Outcome};
 use crate::reply::Reply;
 use crate::request::{OrderList, Request};
+use crate::window::WIDTH;
 use uefi_option::laws as option_laws;
 
 /// A turn of the plain state that stands for a run leads to the one that stands for the longer run, and is answered as
@@ -286,10 +286,18 @@ pub fn each_plain_state_has_a_turn()
     requests_compare_as_values();
 }
 
-/// Where nothing waits, and a request to store an entry is answered Applied and Done, what is stored of the entry spells
-/// the option that was asked for.
+/// A turn leads from a plain state that a keeper can be in to such a one, whatever is read off frames.
+pub fn a_turn_leads_to_a_plain_state()
+    ensures { (k to : Plain) (seen : Seen) (answer : Reply) → IsPlain k → AreRead (seen ∷ []) →
+        Turn k seen to answer → IsPlain to }
+{
+    uefi_option::laws::each_option_is_spelled();
+}
+
+/// Where a request to store an entry is answered Applied and Done, and none of the waiting requests that are applied with
+/// it replaces or removes that entry, what is stored of the entry spells the option that was asked for.
 pub fn a_stored_option_is_what_was_asked_for()
     ensures { (k to : Plain) (number next : ℕ) (request : Request) →
-        k.waiting ≡ map.empty → IsRequest request →
+        IsRequest request → IsLast k.waiting number next request →
         Turn k (Came number request) to (Reply.Applied Outcome.Done next) → IsStored to.machine request }
 {}

@@ -9,6 +9,7 @@ mod applying;
 mod bytes;
 mod event;
 mod fault;
+mod filling;
 mod frame;
 mod keeper;
 pub mod laws;
@@ -20,13 +21,14 @@ mod reply;
 mod request;
 mod running;
 mod storing;
+mod window;
 mod writing;
 
 pub use bytes::Bytes;
 pub use event::Event;
 pub use fault::{FrameFault, OpenFault};
 pub use frame::PAYLOAD_MAX;
-pub use keeper::{Keeper, WIDTH};
+pub use keeper::Keeper;
 pub use line::reply_line;
 pub use opening::OpenRefused;
 pub use outcome::{KEPT_MAX, Outcome};
@@ -34,6 +36,7 @@ pub use reading::read_frame;
 pub use reply::Reply;
 pub use request::{OrderList, Request};
 pub use running::run;
+pub use window::WIDTH;
 pub use writing::write_frame;
 
 #[cfg(test)]

@@ -17,6 +17,7 @@ use crate::fault::OpenFault;
 use crate::keeper::Keeper;
 use crate::outcome::{KEPT_MAX, Outcome};
 use crate::storing::KEEP_STATE;
+use crate::window::Window;
 use std::alloc::{AllocError, Global};
 use uefi_vars::{BOOT_ORDER, ORDER_MAX, Vars, boot_next, laws};
 
@@ -56,12 +57,18 @@ impl Keeper {
         crate::laws::variables_have_one_state();
         crate::laws::an_image_can_be_kept();
         match read_state(alloc, &vars) {
-            Ok((next, kept)) => Ok(Keeper {
-                vars,
-                next,
-                kept,
-                plan: None,
-            }),
+            Ok((next, kept)) => match Window::new(alloc, next) {
+                Ok(window) => Ok(Keeper {
+                    vars,
+                    window,
+                    kept,
+                    plan: None,
+                }),
+                Err(_) => Err(OpenRefused {
+                    fault: OpenFault::OutOfMemory,
+                    vars,
+                }),
+            },
             Err(fault) => Err(OpenRefused { fault, vars }),
         }
     }

@@ -48,6 +48,9 @@ pub fn run_script<R: Source, W: Sink>(
         (answers : List Reply) × Runs text vars after answers
         × Appends (W.contents writer.old) (W.contents writer.new) (answer_lines answers))) }
     ensures all_read { OnOk result (IsAtEnd (R.remaining reader.new)) }
+    ensures all_read_before { IfErr result (λ fault.
+        fault ≢ ScriptFault.Read → fault ≢ ScriptFault.TooMuch → fault ≢ ScriptFault.OutOfMemory →
+        IsAtEnd (R.remaining reader.new)) }
     // The first fault of what the reader had left and of the variables.
     ensures fault { IfErr result (λ fault. IfSome (R.remaining reader.old) (λ text.
         fault ≢ ScriptFault.Read → fault ≢ ScriptFault.Write → fault ≢ ScriptFault.OutOfMemory →
@@ -60,7 +63,7 @@ pub fn run_script<R: Source, W: Sink>(
         × AppendsFront (W.contents writer.old) (W.contents writer.new) (answer_lines answers)) }
     ensures unwritten { IfErr result (λ fault. fault ≢ ScriptFault.Write →
         Keeps (W.contents writer.old) (W.contents writer.new)) }
-    ensures named { (fault : ScriptFault) → result ≡ Err fault → fault ≢ ScriptFault.Open OpenFault.OutOfMemory }
+    ensures memory { result ≢ Err (ScriptFault.Open OpenFault.OutOfMemory) }
     ensures read_flag { R.failed reader.new ≡ failed_read result }
     ensures write_flag { W.failed writer.new ≡ failed_write result }
 {

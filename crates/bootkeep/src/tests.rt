@@ -4,8 +4,11 @@ mod files;
 mod folder;
 mod outputs;
 mod real_files;
-mod runtime;
 mod run_command;
+mod runtime;
+mod script_faults;
+mod scripts;
+mod streams;
 
 use crate::failure::Failure;
 use crate::input::{self, InputFault};

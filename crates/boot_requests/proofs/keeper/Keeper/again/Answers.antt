@@ -12,16 +12,16 @@ use Rattle.boot_requests.proofs.keeper.Keeper.again.Goals as goal
 pub returns-then-number-oldest : goal.returns-then-number-oldest
 returns-then-number-oldest c =
     subst (λ (k : Plain). reply.Old ≡ again (kept_outcome k.machine c.args.number)) c.self.view_is
-    (old (machine_of c.self.inside.vars c.self.inside.next c.self.inside.kept.items) c.args.number (omega (arith, c.if-number-oldest.true, c.len.ensures)))
+    (old (machine_of c.self.inside.vars c.self.inside.window.next c.self.inside.kept.items) c.args.number (omega (arith, c.if-number-oldest.true, c.len.ensures)))
 
 pub returns-in-Some : goal.returns-in-Some
 returns-in-Some c =
     let lookup = c.in-Some.ensures.lookup in
     let outcome = c.in-Some.outcome.now in
     let kept = c.self.inside.kept.items in
-    let at = c.args.number - (c.self.inside.next - c.len.result) in
+    let at = c.args.number - (c.next.result - c.len.result) in
     let within : at < length c.deref.result.now = ltb-true _ _ (sym lookup.0) in
-    let place : at ≡ c.args.number - (c.self.inside.next - length kept) = ap (λ (n : ℕ). c.args.number - (c.self.inside.next - n)) (c.len.ensures ∙ sym c.deref.ensures.len ∙ ap length c.deref.ensures.value) in
+    let place : at ≡ c.args.number - (c.self.inside.window.next - length kept) = ap (λ (n : ℕ). c.args.number - (n - c.len.result)) c.next.ensures.number ∙ ap (λ (n : ℕ). c.args.number - (c.self.inside.window.next - n)) (c.len.ensures ∙ sym c.deref.ensures.len ∙ ap length c.deref.ensures.value) in
     let found = subst (λ (j : ℕ). slice_get kept j ≡ Some outcome) place (subst (λ (xs : List Outcome). slice_get xs at ≡ Some outcome) c.deref.ensures.value (found_at c.deref.result.now at outcome within lookup.1)) in
     subst (λ (k : Plain). reply.Repeat outcome ≡ again (kept_outcome k.machine c.args.number)) c.self.view_is
-    (repeated (machine_of c.self.inside.vars c.self.inside.next kept) c.args.number outcome (omega (arith, c.if-number-oldest.false, c.len.ensures)) found)
+    (repeated (machine_of c.self.inside.vars c.self.inside.window.next kept) c.args.number outcome (omega (arith, c.if-number-oldest.false, c.len.ensures)) found)

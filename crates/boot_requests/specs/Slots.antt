@@ -1,0 +1,44 @@
+-- For the private type of the window: the slots in which requests wait, and what waits in them.
+use Rattle.std.specs.Prelude.{◌≡◌, ℕ, zero, suc, ◌+◌, ◌-◌, ◌%◌, ◌<◌, List, length, slice_index_or, Option, Some, None, IfSome}
+use Rattle.std.specs.FinMap.{empty, insert}
+use Rattle.boot_requests.specs.declared.request.Request.{Request}
+use Rattle.boot_requests.specs.Limits.{width}
+use Rattle.boot_requests.specs.Frame.{IsSent}
+use Rattle.boot_requests.specs.Window.{Requests}
+
+-- the next number, and what waits, by numbers above it
+pub record WindowParts : Type 0 where
+  pub next : ℕ
+  pub waiting : Requests
+
+abbrev pub parts_of : ℕ → Requests → WindowParts
+parts_of next waiting = record { next = next; waiting = waiting }
+
+-- how many numbers above the next one are taken
+abbrev pub reach : ℕ
+reach = width - 1
+
+-- the slot in which a request of this number waits
+abbrev pub place_of : ℕ → ℕ
+place_of number = number % width
+
+abbrev pub slot_at : List (Option Request) → ℕ → Option Request
+slot_at slots place = slice_index_or slots place None
+
+-- the requests with this one under the number, if it is one
+abbrev pub with_slot : Requests → ℕ → Option Request → Requests
+with_slot requests number None = requests
+with_slot requests number (Some request) = insert requests number request
+
+-- what waits under as many numbers above the next one
+unfoldable pub waiting_in : ℕ → ℕ → List (Option Request) → Requests
+waiting_in zero next slots = empty
+waiting_in (suc count) next slots =
+    with_slot (waiting_in count next slots) (next + suc count) (slot_at slots (place_of (next + suc count)))
+
+-- There is a slot for each number that is taken, that of the next one is free, and what stands in the others was read off
+-- frames.
+pub record IsWindow (next : ℕ) (slots : List (Option Request)) : Type 0 where
+  pub len : length slots ≡ width
+  pub free : slot_at slots (place_of next) ≡ None
+  pub sent : (number : ℕ) → next < number → number < next + width → IfSome (slot_at slots (place_of number)) (IsSent number)

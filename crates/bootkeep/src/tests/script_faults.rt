@@ -1,0 +1,156 @@
+//! What scripts are refused for.
+
+use super::files::Fed;
+use super::scripts::{Table, vars_of};
+use super::streams::{Given, Narrow, NoRoom, Taken};
+use crate::fault::{ScriptFault, script_status};
+use crate::input::LIMIT;
+use crate::running::run_script;
+use crate::source::Watched;
+use boot_requests::OpenFault;
+use std::alloc::Global;
+use std::cell::Cell;
+use std::test::Fail;
+
+/// The fault for which a script over variables is refused, and how many bytes were written.
+fn refused(
+    alloc: Global,
+    before: Table<'_>,
+    script: &str,
+) -> Result<(Option<ScriptFault>, usize), Fail> {
+    let mut source = Given {
+        rest: script.as_bytes(),
+    };
+    let mut sink = Taken::new(alloc);
+    let fault = run_script(alloc, &mut source, &mut sink, vars_of(alloc, before)?).err();
+    Ok((fault, sink.bytes.len()))
+}
+
+#[test]
+fn bad_lines_are_told(rt: HostRuntime) -> Result<(), Fail> {
+    let alloc = rt.alloc();
+    for line in [
+        "boot",
+        " ",
+        "Prepare",
+        " prepare",
+        "prepare ",
+        "prepare.",
+        "hand\r",
+        "restart\thand",
+        "deliver",
+        "deliver\t00",
+        "deliver  00",
+        "deliver 0",
+        "deliver 0g",
+        "deliver 00 ",
+        "deliver 00 00",
+        "Deliver 00",
+        "deliver0000",
+        "\0",
+    ] {
+        assert_eq!(rt;
+            refused(alloc, &[], line)?,
+            (Some(ScriptFault::BadLine(1)), 0),
+            "at {line:?}"
+        );
+        let script = format!(in alloc; "prepare\n\nhand\n{line}\nboot\n")?;
+        assert_eq!(rt;
+            refused(alloc, &[], &script)?,
+            (Some(ScriptFault::BadLine(4)), 0),
+            "at {line:?}"
+        );
+    }
+    assert_eq!(rt;
+        refused(alloc, &[], "prepare\nboot")?,
+        (Some(ScriptFault::BadLine(2)), 0)
+    );
+    Ok(())
+}
+
+#[test]
+fn variables_that_cannot_be_kept_are_told(rt: HostRuntime) -> Result<(), Fail> {
+    for (name, digits, fault) in [
+        ("BootOrder", "000000", OpenFault::BadOrder),
+        ("BootNext", "00", OpenFault::BadNext),
+        ("BootKeepState", "010000000000", OpenFault::BadState),
+    ] {
+        let before: [(&str, &str); 1] = [(name, digits)];
+        let open = refused(rt.alloc(), &before, "prepare")?;
+        assert_eq!(rt; open, (Some(ScriptFault::Open(fault)), 0));
+        // lines come first
+        let line = refused(rt.alloc(), &before, "prepare\n\nboot")?;
+        assert_eq!(rt; line, (Some(ScriptFault::BadLine(3)), 0));
+    }
+    Ok(())
+}
+
+#[test]
+fn a_failed_read_is_told(rt: HostRuntime) -> Result<(), Fail> {
+    let alloc = rt.alloc();
+    for (bytes, fails_at, fault) in [
+        (10, Some(0), ScriptFault::Read),
+        (10, Some(10), ScriptFault::Read),
+        (LIMIT as u64, None, ScriptFault::BadLine(1)),
+        (LIMIT as u64 + 1, None, ScriptFault::TooMuch),
+        (u64::MAX, None, ScriptFault::TooMuch),
+        (u64::MAX, Some(LIMIT as u64), ScriptFault::Read),
+    ] {
+        let given = Cell::new(0);
+        let mut reader = Watched {
+            inner: Fed::new(bytes, 1_000_000, fails_at, &given),
+            failed: false,
+        };
+        let mut sink = Taken::new(alloc);
+        let answer = run_script(alloc, &mut reader, &mut sink, vars_of(alloc, &[])?);
+        assert_eq!(rt; answer.err(), Some(fault));
+        assert!(rt; reader.failed == (fault == ScriptFault::Read) && sink.bytes.is_empty());
+        assert!(rt; given.get() <= LIMIT as u64 + 1);
+    }
+    Ok(())
+}
+
+#[test]
+fn a_failed_write_is_told(rt: HostRuntime) -> Result<(), Fail> {
+    let alloc = rt.alloc();
+    let lines = b"nothing prepared\nrestarted 0\n";
+    for room in 0..lines.len() {
+        for no_room in [NoRoom::Error, NoRoom::Nothing] {
+            let mut source = Given {
+                rest: b"hand\nrestart\n",
+            };
+            let mut writer = Watched {
+                inner: Narrow {
+                    bytes: Vec::new(alloc),
+                    room,
+                    no_room,
+                },
+                failed: false,
+            };
+            let answer = run_script(alloc, &mut source, &mut writer, vars_of(alloc, &[])?);
+            assert_eq!(rt; answer.err(), Some(ScriptFault::Write));
+            assert!(rt; writer.failed);
+            assert_eq!(rt; Some(writer.inner.bytes.as_slice()), lines.get(..room));
+        }
+    }
+    Ok(())
+}
+
+#[test]
+fn faults_have_words_and_statuses(rt: HostRuntime) -> Result<(), Fail> {
+    for (fault, words, status) in [
+        (ScriptFault::BadLine(2), "BadLine 2", 1),
+        (ScriptFault::Open(OpenFault::BadOrder), "Open BadOrder", 1),
+        (ScriptFault::Open(OpenFault::BadState), "Open BadState", 1),
+        (ScriptFault::TooMuch, "TooMuch", 1),
+        (ScriptFault::Read, "Read", 3),
+        (ScriptFault::Write, "Write", 3),
+        (ScriptFault::OutOfMemory, "OutOfMemory", 4),
+    ] {
+        assert_eq!(rt; fault.words(rt.alloc())?.as_str(), words);
+        let shown = format!(in rt.alloc(); "{fault}")?;
+        assert_eq!(rt; shown.as_str(), words);
+        assert_eq!(rt; script_status(&fault), status);
+    }
+    Ok(())
+}
