@@ -1,11 +1,19 @@
 -- How the program ends where it did not do what it was asked to.
-use Rattle.std.specs.Prelude.{ℕ}
+use Rattle.std.specs.Prelude.{◌≡◌, ℕ, List, ⊤}
+use Rattle.std.specs.String.{string_bytes}
+use Rattle.uefi_vars.specs.Vars.{Variables}
 use Rattle.bootkeep.specs.declared.failure.Failure.{Failure}
 use Rattle.bootkeep.specs.declared.failure.Failure.TheVariants as failure
+use Rattle.bootkeep.specs.declared.fault.ScriptFault.{ScriptFault}
+use Rattle.bootkeep.specs.declared.fault.ScriptFault.TheVariants as script
 use Rattle.bootkeep.specs.declared.input.InputFault.{InputFault}
 use Rattle.bootkeep.specs.declared.input.InputFault.TheVariants as input
+use Rattle.bootkeep.specs.declared.output.OutputFault.{OutputFault}
+use Rattle.bootkeep.specs.declared.output.OutputFault.TheVariants as output
 use Rattle.bootkeep.specs.declared.refusal.Refusal.{Refusal}
 use Rattle.bootkeep.specs.declared.refusal.Refusal.TheVariants as refusal
+use Rattle.bootkeep.specs.ScriptFault.{IsFirstFault}
+use Rattle.bootkeep.specs.Words.{script_fault_words}
 
 -- the status that the program ends with
 abbrev pub status_of : Failure → ℕ
@@ -26,3 +34,33 @@ abbrev pub failure_of_input : InputFault → Failure
 failure_of_input input.TooMuch = failure.TooMuch
 failure_of_input input.Read = failure.Read
 failure_of_input input.Memory = failure.Memory
+
+-- what an output that isn't written is to the program
+abbrev pub failure_of_output : OutputFault → Failure
+failure_of_output output.Write = failure.Write
+failure_of_output output.Memory = failure.Memory
+
+-- P of the words, if the input is refused with words
+abbrev pub IfRefused : Failure → (List ℕ → Type 0) → Type 0
+IfRefused (failure.Refused words) P = P (string_bytes words)
+IfRefused _ P = ⊤
+
+-- the failure tells of a script or of variables by these words, or memory was refused for them
+abbrev pub IsRefusedBy : List ℕ → Failure → Type 0
+IsRefusedBy words (failure.Refused told) = string_bytes told ≡ words
+IsRefusedBy words failure.Memory = ⊤
+IsRefusedBy words _ = ⊥
+
+-- the failure is what a fault of a script is to the program
+abbrev pub IsFailureOf : ScriptFault → Failure → Type 0
+IsFailureOf script.Read made = made ≡ failure.Read
+IsFailureOf script.Write made = made ≡ failure.Write
+IsFailureOf script.TooMuch made = made ≡ failure.TooMuch
+IsFailureOf script.OutOfMemory made = made ≡ failure.Memory
+IsFailureOf (script.BadLine number) made = IsRefusedBy (script_fault_words (script.BadLine number)) made
+IsFailureOf (script.Open fault) made = IsRefusedBy (script_fault_words (script.Open fault)) made
+
+-- the words tell the first fault of a script and of the variables that it is to be run over
+abbrev pub TellsScriptFault : List ℕ → Variables → List ℕ → Type 0
+TellsScriptFault text vars words =
+    (fault : ScriptFault) × IsFirstFault text vars fault × (words ≡ script_fault_words fault)

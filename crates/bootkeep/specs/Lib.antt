@@ -1,5 +1,6 @@
 pub mod Failure
 pub mod Input
+pub mod Output
 pub mod Report
 -- scripts, in the order in which to read them
 pub mod Script

@@ -18,6 +18,8 @@ const OPTION_COMMAND: &str = "option";
 
 const SHOW_COMMAND: &str = "show";
 
+const RUN_COMMAND: &str = "run";
+
 // The values that stand behind them, each by its name in the usage line.
 const HEX_VALUE: &str = "HEX";
 
@@ -26,6 +28,11 @@ const TEXT_VALUE: &str = "TEXT";
 const FILE_VALUE: &str = "FILE";
 
 const SET_VALUE: &str = "SET";
+
+const SCRIPT_VALUE: &str = "SCRIPT";
+
+// The option of `run`, without the hyphens in front.
+const OUT_OPTION: &str = "out";
 
 /// What the words ask for.
 #[derive(Clone, Copy, Debug, PartialEq, Eq)]
@@ -51,6 +58,15 @@ pub enum Request<'a> {
     Show {
         /// The path of the set file.
         set: &'a str,
+    },
+    /// What becomes of the boot variables of a set file by the events of a script.
+    Run {
+        /// The path of the set file.
+        set: &'a str,
+        /// The path of the script.
+        script: &'a str,
+        /// The path of the file that the new set is written to.
+        file: &'a str,
     },
 }
 
@@ -80,12 +96,21 @@ fn command<'a>(alloc: Global) -> Result<Command<'a>, AllocError> {
         .subcommand(subcommand(alloc, PATH_COMMAND, HEX_VALUE)?)?
         .subcommand(subcommand(alloc, TEXT_COMMAND, TEXT_VALUE)?)?
         .subcommand(subcommand(alloc, OPTION_COMMAND, FILE_VALUE)?)?
-        .subcommand(subcommand(alloc, SHOW_COMMAND, SET_VALUE)?)
+        .subcommand(subcommand(alloc, SHOW_COMMAND, SET_VALUE)?)?
+        .subcommand(run_subcommand(alloc)?)
 }
 
 /// The subcommand of this name, which takes one value.
 fn subcommand<'a>(alloc: Global, name: &'a str, value: &'a str) -> Result<Command<'a>, AllocError> {
     Command::new(alloc, name).arg(Arg::new(alloc, value).required(true))
+}
+
+/// The subcommand that runs a script, which takes two values and an option with one.
+fn run_subcommand<'a>(alloc: Global) -> Result<Command<'a>, AllocError> {
+    let file = Arg::new(alloc, FILE_VALUE).long(OUT_OPTION).required(true);
+    subcommand(alloc, RUN_COMMAND, SET_VALUE)?
+        .arg(Arg::new(alloc, SCRIPT_VALUE).required(true))?
+        .arg(file)
 }
 
 fn request_of<'a>(matches: &ArgMatches<'a>) -> Option<Request<'a>> {
@@ -101,6 +126,11 @@ fn request_of<'a>(matches: &ArgMatches<'a>) -> Option<Request<'a>> {
         }),
         (SHOW_COMMAND, matches) => Some(Request::Show {
             set: matches.get_str(SET_VALUE)?,
+        }),
+        (RUN_COMMAND, matches) => Some(Request::Run {
+            set: matches.get_str(SET_VALUE)?,
+            script: matches.get_str(SCRIPT_VALUE)?,
+            file: matches.get_str(FILE_VALUE)?,
         }),
         _ => None,
     }

@@ -1,13 +1,16 @@
 //! What keeps the program from doing what it was asked to.
 
-ghost use Rattle.std.specs.Prelude.{◌≡◌};
-ghost use Rattle.bootkeep.specs.Failure.{failure_of, failure_of_input};
+ghost use Rattle.std.specs.Prelude.{◌≡◌, ◌⊎◌};
+ghost use Rattle.bootkeep.specs.ScriptFault.{script_status_of};
+ghost use Rattle.bootkeep.specs.Failure.{failure_of, failure_of_input, failure_of_output, IsFailureOf};
 ghost use Rattle.bootkeep.specs.declared.failure.Failure.TheVariants as failure;
 
 use crate::command_line::USAGE;
+use crate::fault::ScriptFault;
 use crate::input::InputFault;
+use crate::output::OutputFault;
 use crate::refusal::Refusal;
-use std::alloc::{AllocError, AllocFailed};
+use std::alloc::{AllocError, AllocFailed, Global};
 use thiserror::Error;
 
 /// Why the program did not do what it was asked to. Its `Display` is the line for standard error.
@@ -25,7 +28,7 @@ pub enum Failure {
     /// The words of the command line can't be had, or a file can't be opened or read.
     #[error("fault: read")]
     Read,
-    /// Standard output took not all of the answer.
+    /// Standard output took not all of the answer, or a file can't be written.
     #[error("fault: write")]
     Write,
     /// Memory was refused.
@@ -47,6 +50,23 @@ impl Failure {
             Failure::CommandLine => 2,
             Failure::Read | Failure::Write => 3,
             Failure::Memory => 4,
+        }
+    }
+
+    /// What a fault of a script is to the program. Where there is no memory for its words it is want of memory.
+    pub fn of_script(alloc: Global, fault: ScriptFault) -> Failure
+        ensures fault { IsFailureOf fault result }
+        ensures status { (result ≡ failure.Memory) ⊎ (status_of result ≡ script_status_of fault) }
+    {
+        match fault {
+            ScriptFault::Read => Failure::Read,
+            ScriptFault::Write => Failure::Write,
+            ScriptFault::TooMuch => Failure::TooMuch,
+            ScriptFault::OutOfMemory => Failure::Memory,
+            ScriptFault::BadLine(_) | ScriptFault::Open(_) => match fault.words(alloc) {
+                Ok(words) => Failure::Refused(words),
+                Err(AllocError) => Failure::Memory,
+            },
         }
     }
 }
@@ -86,6 +106,17 @@ impl From<InputFault> for Failure {
             InputFault::TooMuch => Failure::TooMuch,
             InputFault::Read => Failure::Read,
             InputFault::Memory => Failure::Memory,
+        }
+    }
+}
+
+impl From<OutputFault> for Failure {
+    ghost from_gives = { λ fault made. made ≡ failure_of_output fault };
+
+    fn from(fault: OutputFault) -> Failure {
+        match fault {
+            OutputFault::Write => Failure::Write,
+            OutputFault::Memory => Failure::Memory,
         }
     }
 }

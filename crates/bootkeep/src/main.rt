@@ -1,10 +1,11 @@
-//! The command `bootkeep`, which shows what firmware keeps about how a machine starts.
+//! The command `bootkeep`, which shows what firmware keeps about how a machine starts, and changes it by numbered requests.
 //!
 //! `bootkeep path HEX` shows the device path at the front of some bytes, `bootkeep text TEXT` the
 //! bytes of the device path that a text stands for, `bootkeep option FILE` the load option that a
-//! file holds, and `bootkeep show SET` the boot variables of a set file. The program ends with
-//! status 0 where it did what it was asked to, and otherwise with the status and the line on
-//! standard error of its [`Failure`].
+//! file holds, and `bootkeep show SET` the boot variables of a set file. `bootkeep run SET SCRIPT --out FILE`
+//! runs the events of a script over the variables of a set file, shows the reply to each, and writes the
+//! new set file. The program ends with status 0 where it did what it was asked to, and otherwise with
+//! the status and the line on standard error of its [`Failure`].
 //!
 //! [`Failure`]: failure::Failure
 #![tactic(auto)]
@@ -14,6 +15,7 @@ mod failure;
 mod fault;
 mod input;
 pub mod laws;
+mod output;
 mod program;
 mod refusal;
 mod report;

@@ -1,14 +1,23 @@
 //! A run of the program, over any runtime.
 
-ghost use Rattle.std.specs.Prelude.{◌≡◌, MatchResult};
-ghost use Rattle.bootkeep.specs.Failure.{status_of};
+ghost use Rattle.std.specs.Prelude.{◌≡◌, ◌<◌, List, length, Err, IfOk, IfErr, IfSome, MatchResult};
+ghost use Rattle.boot_requests.specs.declared.reply.Reply.{Reply};
+ghost use Rattle.bootkeep.specs.Failure.{status_of, IfRefused, TellsScriptFault};
+ghost use Rattle.bootkeep.specs.Running.{Runs};
+ghost use Rattle.bootkeep.specs.ScriptFault.{script_max};
+ghost use Rattle.bootkeep.specs.declared.failure.Failure.TheVariants as failure;
 
 use crate::command_line::{self, Request, USAGE};
 use crate::failure::Failure;
 use crate::input::{self, InputFault};
-use crate::report;
-use std::env;
+use crate::refusal::refuse;
+use crate::source::Watched;
+use crate::{output, report, running};
+use std::alloc::Global;
+use std::io::{self, Read, Write};
 use std::rt::{Env, Files};
+use std::{env, fs};
+use uefi_vars::{Vars, read_set, write_set};
 
 /// Does what the words of the command line ask for, and returns the status to end with: 0, or that
 /// of the [`Failure`], whose line goes to standard error.
@@ -46,8 +55,57 @@ fn answer<R: Env + Files + Print + AllocGlobal>(rt: &R) -> Result<(), Failure> {
             let bytes = input::read_file(rt, set)?;
             rt.print(report::set_report(rt.alloc(), bytes.as_slice())?)
         }
+        Request::Run { set, script, file } => return run_script(rt, set, script, file),
     }
     .map_err(|_| Failure::Write)
+}
+
+/// Runs the script of the one file over the set of another, prints the replies, and then writes the new set to a third.
+fn run_script<R: Files + Print + AllocGlobal>(
+    rt: &R,
+    set: &str,
+    script: &str,
+    file: &str,
+) -> Result<(), Failure> {
+    let vars = read_vars(rt, set)?;
+    let script = fs::open(rt, script).map_err(InputFault::from)?;
+    let vars = run_events(rt.alloc(), script, io::writer(rt), vars)?;
+    let bytes = write_set(rt.alloc(), &vars)?;
+    Ok(output::write_file(rt, file, &bytes)?)
+}
+
+/// The variables after the events of a script, whose replies are written, a line for each.
+fn run_events<R: Read + Drop, W: Write + Drop>(
+    alloc: Global,
+    script: R,
+    replies: W,
+    vars: Vars,
+) -> Result<Vars, Failure>
+    ensures done { IfOk result (λ after. IfSome (R.remaining script) (λ text.
+        (answers : List Reply) × Runs text vars after answers)) }
+    ensures refused { IfErr result (λ failure. IfSome (R.remaining script) (λ text.
+        IfRefused failure (TellsScriptFault text vars))) }
+    ensures too_much { result ≡ Err failure.TooMuch → IfSome (R.remaining script) (λ text.
+        script_max < length text) }
+{
+    let mut reader = Watched {
+        inner: script,
+        failed: false,
+    };
+    let mut writer = Watched {
+        inner: replies,
+        failed: false,
+    };
+    match running::run_script(alloc, &mut reader, &mut writer, vars) {
+        Ok(vars) => Ok(vars),
+        Err(fault) => Err(Failure::of_script(alloc, fault)),
+    }
+}
+
+/// The variables of the set file at this path.
+fn read_vars<R: Files + AllocGlobal>(rt: &R, set: &str) -> Result<Vars, Failure> {
+    let bytes = input::read_file(rt, set)?;
+    Ok(read_set(rt.alloc(), &bytes).map_err(|fault| refuse(rt.alloc(), fault))?)
 }
 
 fn words<R: Env + AllocGlobal>(rt: &R) -> Result<Vec<String>, Failure> {

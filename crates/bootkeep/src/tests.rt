@@ -1,6 +1,11 @@
 //! What the program answers to words on a command line, over a runtime of the tests' own.
 
 mod files;
+mod folder;
+mod outputs;
+mod real_files;
+mod run_command;
+mod runtime;
 mod script_faults;
 mod scripts;
 mod streams;
@@ -9,13 +14,10 @@ use crate::failure::Failure;
 use crate::input::{self, InputFault};
 use crate::refusal::Refusal;
 use crate::{program, report};
-use files::{Contents, Fed, NamedFile};
+use files::{Contents, Fed, NamedFile, Shelf};
+use runtime::{FakeRuntime, Run, Stream, Words};
 use std::alloc::Global;
-use std::cell::{Cell, RefCell};
-use std::env::FillError;
-use std::fmt::Display;
-use std::io;
-use std::rt::Env;
+use std::cell::Cell;
 use std::test::Fail;
 use uefi_vars::{Vars, write_set};
 
@@ -93,149 +95,9 @@ const FILES: [NamedFile<'static>; 7] = [
     },
 ];
 
-/// A stream that keeps what is written to it, or refuses it all.
-struct Stream {
-    text: RefCell<String>,
-    refuses: bool,
-}
-
-impl Stream {
-    fn new(alloc: Global) -> Stream {
-        Stream {
-            text: RefCell::new(String::new(alloc)),
-            refuses: false,
-        }
-    }
-
-    fn refusing(alloc: Global) -> Stream {
-        Stream {
-            text: RefCell::new(String::new(alloc)),
-            refuses: true,
-        }
-    }
-
-    fn write<D: Display + Drop>(&self, value: D, end: &str) -> io::Result<()> {
-        if self.refuses {
-            return Err(io::Error::from(io::ErrorKind::BrokenPipe));
-        }
-        match self.text.try_borrow_mut() {
-            Ok(mut text) => Ok(write!(text, "{value}{end}")?),
-            Err(_) => Err(io::Error::from(io::ErrorKind::ResourceBusy)),
-        }
-    }
-
-    fn into_text(self) -> String {
-        let Stream { text, refuses: _ } = self;
-        text.into_inner()
-    }
-}
-
-/// The words of a command line.
-#[derive(Clone, Copy)]
-enum Words<'a> {
-    /// The program's name and what follows it.
-    Given(&'a [&'a str]),
-    /// Bytes that are no UTF-8.
-    NotText,
-}
-
-/// A runtime with these words and streams.
-struct FakeRuntime<'a> {
-    alloc: Global,
-    words: Words<'a>,
-    files: &'a [NamedFile<'a>],
-    stdout: Stream,
-    stderr: Stream,
-}
-
-impl Alloc for FakeRuntime<'_> {
-    type A = Global;
-
-    fn alloc(&self) -> Global {
-        self.alloc
-    }
-}
-
-impl Print for FakeRuntime<'_> {
-    fn print<D: Display + Drop>(&self, value: D) -> io::Result<()> {
-        self.stdout.write(value, "")
-    }
-
-    fn println<D: Display + Drop>(&self, value: D) -> io::Result<()> {
-        self.stdout.write(value, "\n")
-    }
-
-    fn write_all(&self, _bytes: &[u8]) -> io::Result<()> {
-        Err(io::Error::from(io::ErrorKind::Unsupported))
-    }
-}
-
-impl Eprint for FakeRuntime<'_> {
-    fn eprint<D: Display + Drop>(&self, value: D) -> io::Result<()> {
-        self.stderr.write(value, "")
-    }
-
-    fn eprintln<D: Display + Drop>(&self, value: D) -> io::Result<()> {
-        self.stderr.write(value, "\n")
-    }
-}
-
-impl Env for FakeRuntime<'_> {
-    fn arg(&self, i: usize, buf: &mut [u8]) -> Result<usize, FillError> {
-        let word = match self.words {
-            Words::Given(words) => words.get(i).ok_or(FillError::NotPresent)?.as_bytes(),
-            Words::NotText => &[0xff],
-        };
-        match buf.get_mut(..word.len()) {
-            Some(front) => front.copy_from_slice(word),
-            None => return Err(FillError::TooLong),
-        }
-        Ok(word.len())
-    }
-
-    fn var(&self, _name: &str, _buf: &mut [u8]) -> Result<usize, FillError> {
-        Err(FillError::NotPresent)
-    }
-
-    fn var_at(&self, _i: usize, _buf: &mut [u8]) -> Result<usize, FillError> {
-        Err(FillError::NotPresent)
-    }
-}
-
-/// What a run leaves behind.
-#[derive(Drop)]
-struct Run {
-    status: u8,
-    stdout: String,
-    stderr: String,
-}
-
-impl Run {
-    fn with(alloc: Global, words: Words<'_>) -> Run {
-        Run::over(FakeRuntime {
-            alloc,
-            words,
-            files: &FILES,
-            stdout: Stream::new(alloc),
-            stderr: Stream::new(alloc),
-        })
-    }
-
-    fn over(runtime: FakeRuntime<'_>) -> Run {
-        let status = program::run(&runtime);
-        let FakeRuntime {
-            alloc: _,
-            words: _,
-            files: _,
-            stdout,
-            stderr,
-        } = runtime;
-        Run {
-            status,
-            stdout: stdout.into_text(),
-            stderr: stderr.into_text(),
-        }
-    }
+/// A run with these words, which finds [`FILES`].
+fn run_on_shelf(alloc: Global, words: Words<'_>) -> Run {
+    Run::with(alloc, words, Shelf(&FILES))
 }
 
 #[test]
@@ -539,7 +401,7 @@ const CALLS: [(&[&str], u8, &str, &str); 24] = [
 #[test]
 fn ends_with_one_answer(rt: HostRuntime) -> Result<(), Fail> {
     for (words, status, stdout, stderr) in CALLS {
-        let run = Run::with(rt.alloc(), Words::Given(words));
+        let run = run_on_shelf(rt.alloc(), Words::Given(words));
         assert_eq!(rt; run.status, status, "at {words:?}");
         assert_eq!(rt; run.stdout.as_str(), stdout, "at {words:?}");
         assert_eq!(rt; run.stderr.as_str(), stderr, "at {words:?}");
@@ -548,7 +410,7 @@ fn ends_with_one_answer(rt: HostRuntime) -> Result<(), Fail> {
 }
 
 /// Words that ask for nothing that the program does.
-const OTHER_CALLS: [&[&str]; 34] = [
+const OTHER_CALLS: [&[&str]; 40] = [
     &[],
     &["bootkeep"],
     &["bootkeep", ""],
@@ -567,7 +429,15 @@ const OTHER_CALLS: [&[&str]; 34] = [
     &["bootkeep", "option", "option", "option"],
     &["bootkeep", "show"],
     &["bootkeep", "show", "set", "set"],
-    &["bootkeep", "run", "set", "script", "--out", "new"],
+    &["bootkeep", "run", "set", "script"],
+    &["bootkeep", "run", "set", "--out", "new"],
+    &["bootkeep", "run", "--out", "new"],
+    &["bootkeep", "run", "set", "script", "new"],
+    &["bootkeep", "run", "set", "script", "--out"],
+    &["bootkeep", "run", "set", "script", "script", "--out", "new"],
+    &[
+        "bootkeep", "run", "set", "script", "--out", "new", "--out", "new",
+    ],
     &[
         "bootkeep", "run", "--stream", "set", "script", "--out", "new",
     ],
@@ -590,7 +460,7 @@ const OTHER_CALLS: [&[&str]; 34] = [
 #[test]
 fn tells_how_it_is_called(rt: HostRuntime) -> Result<(), Fail> {
     for words in OTHER_CALLS {
-        let run = Run::with(rt.alloc(), Words::Given(words));
+        let run = run_on_shelf(rt.alloc(), Words::Given(words));
         assert_eq!(rt; run.status, 2, "at {words:?}");
         assert_eq!(rt; run.stdout.as_str(), "", "at {words:?}");
         assert_eq!(rt; run.stderr.as_str(), USAGE_LINE, "at {words:?}");
@@ -600,7 +470,7 @@ fn tells_how_it_is_called(rt: HostRuntime) -> Result<(), Fail> {
 
 #[test]
 fn refuses_words_that_are_no_text(rt: HostRuntime) -> Result<(), Fail> {
-    let run = Run::with(rt.alloc(), Words::NotText);
+    let run = run_on_shelf(rt.alloc(), Words::NotText);
     assert_eq!(rt; run.status, 3);
     assert_eq!(rt; run.stdout.as_str(), "");
     assert_eq!(rt; run.stderr.as_str(), "fault: read\n");
@@ -618,7 +488,7 @@ fn ends_where_standard_output_refuses(rt: HostRuntime) -> Result<(), Fail> {
         let run = Run::over(FakeRuntime {
             alloc: rt.alloc(),
             words: Words::Given(words),
-            files: &FILES,
+            files: Shelf(&FILES),
             stdout: Stream::refusing(rt.alloc()),
             stderr: Stream::new(rt.alloc()),
         });
@@ -639,7 +509,7 @@ fn keeps_its_status_where_standard_error_refuses(rt: HostRuntime) -> Result<(), 
         let run = Run::over(FakeRuntime {
             alloc: rt.alloc(),
             words: Words::Given(words),
-            files: &FILES,
+            files: Shelf(&FILES),
             stdout: Stream::refusing(rt.alloc()),
             stderr: Stream::refusing(rt.alloc()),
         });
@@ -662,7 +532,7 @@ fn tells_each_failure(rt: HostRuntime) -> Result<(), Fail> {
         let runtime = FakeRuntime {
             alloc: rt.alloc(),
             words: Words::NotText,
-            files: &[],
+            files: Shelf(&[]),
             stdout: Stream::new(rt.alloc()),
             stderr: Stream::new(rt.alloc()),
         };

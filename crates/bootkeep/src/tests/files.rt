@@ -1,6 +1,5 @@
-//! Files in memory.
+//! Files in memory that are read alone.
 
-use super::FakeRuntime;
 use std::cell::Cell;
 use std::fs::{Metadata, OpenOptions};
 use std::io::{self, Read, Seek, SeekFrom, Write};
@@ -87,13 +86,17 @@ impl std::fs::OpenFile for FakeFile<'_> {
     }
 }
 
-impl<'a> Files for FakeRuntime<'a> {
+/// The files that are found, each by its path.
+#[derive(Clone, Copy)]
+pub struct Shelf<'a>(pub &'a [NamedFile<'a>]);
+
+impl<'a> Files for Shelf<'a> {
     type File = FakeFile<'a>;
 
     type Dir = FakeFile<'a>;
 
     fn open_file(&self, _how: &OpenOptions, path: &str) -> io::Result<FakeFile<'a>> {
-        for file in self.files {
+        for file in self.0 {
             if file.path == path {
                 return Ok(FakeFile {
                     rest: file.contents,

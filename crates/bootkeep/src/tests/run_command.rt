@@ -1,0 +1,176 @@
+//! Scripts that are run over set files of the system.
+
+use super::real_files::Scratch;
+use super::runtime::{FakeRuntime, Run, Stream, Words};
+use super::{DRIVE_OPTION, SET};
+use std::fs::{self, File, Permissions};
+use std::os::unix::fs::{PermissionsExt, symlink};
+use std::test::Fail;
+
+/// A set file without a variable.
+const EMPTY_SET: &[u8] = b"BVS1";
+
+/// What stands in front of the option in the frame of request 0, to add it as entry 1.
+const ADD: &str = "42510101000000002c0000000100";
+
+/// A script that adds the option of the drive as entry 1 by request 0, once more, and shows the plan of a boot.
+fn add_script(rt: &HostRuntime) -> Result<String, Fail> {
+    let option = hex::encode(rt.alloc(), DRIVE_OPTION.as_slice())?;
+    Ok(format!(in rt.alloc();
+        "deliver {ADD}{option}\n\ndeliver {ADD}{option}\nprepare\nhand\nhand\nrestart\ndeliver \n"
+    )?)
+}
+
+const ADD_LINES: &str =
+    "applied Done 1\nrepeat Done\nprepared 1\nplan next - normal 0001\nnothing prepared\nrestarted 1\nmalformed Short\n";
+
+/// A new folder with sets and scripts.
+fn scratch<'a>(rt: &'a HostRuntime) -> Result<Scratch<'a>, Fail> {
+    let scratch = Scratch::new(rt)?;
+    fs::write(&scratch, "set", EMPTY_SET)?;
+    fs::write(&scratch, "no set", b"BVS0".as_slice())?;
+    fs::write(
+        &scratch,
+        "bad order",
+        b"BVS1\x09BootOrder\x03\x00\x00\x00\x01\x00\x02".as_slice(),
+    )?;
+    fs::write(&scratch, "script", add_script(rt)?)?;
+    fs::write(&scratch, "bad script", "prepare\nboot")?;
+    fs::write(&scratch, "long", [0x5a; 1000].as_slice())?;
+    fs::create_dir(&scratch, "folder")?;
+    Ok(scratch)
+}
+
+/// A run of these files.
+fn run_on(rt: &HostRuntime, scratch: &Scratch<'_>, set: &str, script: &str, file: &str) -> Run {
+    let words = ["bootkeep", "run", set, script, "--out", file];
+    Run::with(rt.alloc(), Words::Given(&words), scratch)
+}
+
+#[test]
+fn writes_the_new_set(rt: HostRuntime) -> Result<(), Fail> {
+    let scratch = scratch(&rt)?;
+    symlink(&scratch, "long", "link")?;
+    symlink(&scratch, "folder/target", "leads to nothing")?;
+    let names = scratch.count()?;
+    // the file, and where what was written is found
+    for (file, found) in [
+        ("new", "new"),
+        ("new", "new"),
+        ("link", "long"),
+        ("leads to nothing", "folder/target"),
+        (".bootkeep-0", ".bootkeep-0"),
+        ("set", "set"),
+    ] {
+        let run = run_on(&rt, &scratch, "set", "script", file);
+        assert_eq!(rt; run.stderr.as_str(), "", "at {file}");
+        assert_eq!(rt; run.stdout.as_str(), ADD_LINES, "at {file}");
+        assert_eq!(rt; run.status, 0, "at {file}");
+        let bytes = fs::read(&(&scratch, rt.alloc()), found)?;
+        assert_eq!(rt; bytes.as_slice(), SET.as_slice(), "at {file}");
+    }
+    assert!(rt; fs::symlink_metadata(&scratch, "link")?.is_symlink());
+    assert_eq!(rt; Some(scratch.count()?), names.checked_add(2));
+    scratch.remove()
+}
+
+#[test]
+fn refuses_scripts_and_files(rt: HostRuntime) -> Result<(), Fail> {
+    let scratch = scratch(&rt)?;
+    let names = scratch.count()?;
+    let long = [0x5a; 1000];
+    // set, script and file; status, standard output and standard error
+    let table: [(&str, &str, &str, u8, &str, &str); 12] = [
+        (
+            "no set",
+            "bad script",
+            "long",
+            1,
+            "",
+            "refused: BadMagic 0\n",
+        ),
+        (
+            "bad order",
+            "script",
+            "long",
+            1,
+            "",
+            "refused: Open BadOrder\n",
+        ),
+        (
+            "bad order",
+            "bad script",
+            "long",
+            1,
+            "",
+            "refused: BadLine 2\n",
+        ),
+        ("set", "bad script", "long", 1, "", "refused: BadLine 2\n"),
+        ("set", "/dev/zero", "long", 1, "", "refused: TooMuch\n"),
+        ("missing", "script", "long", 3, "", "fault: read\n"),
+        ("set", "missing", "long", 3, "", "fault: read\n"),
+        ("set", "folder", "long", 3, "", "fault: read\n"),
+        (
+            "set",
+            "script",
+            "missing/new",
+            3,
+            ADD_LINES,
+            "fault: write\n",
+        ),
+        ("set", "script", "folder", 3, ADD_LINES, "fault: write\n"),
+        ("set", "script", "/dev/full", 3, ADD_LINES, "fault: write\n"),
+        ("set", "script", "/dev/null", 0, ADD_LINES, ""),
+    ];
+    for (set, script, file, status, stdout, stderr) in table {
+        let run = run_on(&rt, &scratch, set, script, file);
+        assert_eq!(rt;
+            run.stderr.as_str(),
+            stderr,
+            "at {set}, {script} and {file}"
+        );
+        assert_eq!(rt;
+            run.stdout.as_str(),
+            stdout,
+            "at {set}, {script} and {file}"
+        );
+        assert_eq!(rt; run.status, status, "at {set}, {script} and {file}");
+        let bytes = fs::read(&(&scratch, rt.alloc()), "long")?;
+        assert!(rt;
+            bytes.as_slice() == long.as_slice(),
+            "at {set}, {script} and {file}"
+        );
+    }
+    assert_eq!(rt; scratch.count()?, names);
+    scratch.remove()
+}
+
+#[test]
+fn writes_no_file_where_standard_output_refuses(rt: HostRuntime) -> Result<(), Fail> {
+    let scratch = scratch(&rt)?;
+    let run = Run::over(FakeRuntime {
+        alloc: rt.alloc(),
+        words: Words::Given(&["bootkeep", "run", "set", "script", "--out", "set"]),
+        files: &scratch,
+        stdout: Stream::refusing(rt.alloc()),
+        stderr: Stream::new(rt.alloc()),
+    });
+    assert_eq!(rt; run.status, 3);
+    assert_eq!(rt; run.stderr.as_str(), "fault: write\n");
+    let bytes = fs::read(&(&scratch, rt.alloc()), "set")?;
+    assert_eq!(rt; bytes.as_slice(), EMPTY_SET);
+    scratch.remove()
+}
+
+#[test]
+fn keeps_the_rights_of_a_file(rt: HostRuntime) -> Result<(), Fail> {
+    let scratch = scratch(&rt)?;
+    for mode in [0o600, 0o640, 0o666, 0o755] {
+        File::open(&scratch, "long")?.set_permissions(Permissions::from_mode(mode))?;
+        let run = run_on(&rt, &scratch, "set", "script", "long");
+        assert_eq!(rt; run.status, 0);
+        let rights = fs::metadata(&scratch, "long")?.permissions().mode() & 0o777;
+        assert_eq!(rt; rights, mode);
+    }
+    scratch.remove()
+}
