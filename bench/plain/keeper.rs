@@ -50,20 +50,25 @@ impl Keeper {
 
     /// The keeper after a delivery, and the answer. This one stays as it was.
     pub fn deliver(&self, bytes: &[u8]) -> Result<(Keeper, Reply), Box<dyn Error>> {
+        let mut keeper = self.clone();
+        let reply = keeper.take(bytes)?;
+        Ok((keeper, reply))
+    }
+
+    /// Takes a delivery, and answers it.
+    pub fn take(&mut self, bytes: &[u8]) -> Result<Reply, Box<dyn Error>> {
         let Ok((number, request)) = read_frame(bytes) else {
-            return Ok((self.clone(), Reply::Malformed));
+            return Ok(Reply::Malformed);
         };
         if number < self.next {
-            return Ok((self.clone(), self.again(number)));
+            return Ok(self.again(number));
         }
         if number > self.next {
-            return Ok((self.clone(), Reply::Ahead(self.next)));
+            return Ok(Reply::Ahead(self.next));
         }
-        let mut keeper = self.clone();
-        let outcome = apply(&mut keeper.vars, &request)?;
-        keeper.count(outcome);
-        let reply = Reply::Applied(outcome, keeper.next);
-        Ok((keeper, reply))
+        let outcome = apply(&mut self.vars, &request)?;
+        self.count(outcome);
+        Ok(Reply::Applied(outcome, self.next))
     }
 
     /// The answer to a request that was applied before.

@@ -4,8 +4,8 @@
 //! values that both sides are timed on.
 //!
 //! `plain make KIND COUNT FILE` writes a value to a file: a `path` of so many nodes, an `option` of
-//! so many paths, a `set` of so many entries, the same for a `step`, or a `frame` with a payload of so
-//! many bytes. `plain time KIND FILE` times the value in a file and prints one line: what the value
+//! so many paths, a `set` of so many entries, the same for a `step` or a `run`, or a `frame` with a
+//! payload of so many bytes. `plain time KIND FILE` times the value in a file and prints one line: what the value
 //! has, and, behind a colon, the shortest time of each call in nanoseconds. The file `KIND_tasks` says
 //! what these are. The times have the growth of what is made in them, and not its drop. Each answer is
 //! compared outside of them, and a wrong one ends the program.
@@ -22,6 +22,7 @@ mod path_tasks;
 mod plan;
 mod printing;
 mod reading;
+mod run_tasks;
 mod set;
 mod set_tasks;
 mod step_tasks;
@@ -54,7 +55,8 @@ fn time_value(kind: &str, bytes: &[u8]) -> Result<(), Box<dyn Error>> {
         "set" => print_times(&set_tasks::held(bytes)?, || set_tasks::times(bytes)),
         "frame" => print_times(&frame_tasks::held(bytes)?, || frame_tasks::times(bytes)),
         "step" => print_times(&step_tasks::held(bytes)?, || step_tasks::times(bytes)),
-        _ => Err("the kinds are path, option, set, frame and step".into()),
+        "run" => print_times(&run_tasks::held(bytes)?, || run_tasks::times(bytes)),
+        _ => Err("the kinds are path, option, set, frame, step and run".into()),
     }
 }
 

@@ -44,9 +44,9 @@ pub fn value_of(kind: &str, count: usize) -> Result<Vec<u8>, Box<dyn Error>> {
     match kind {
         "path" => Ok(path_of(count)),
         "option" => option_of(count),
-        "set" | "step" => set_of(count),
+        "set" | "step" | "run" => set_of(count),
         "frame" => frame_of(count),
-        _ => Err("the kinds are path, option, set, frame and step".into()),
+        _ => Err("the kinds are path, option, set, frame, step and run".into()),
     }
 }
 
