@@ -1,14 +1,14 @@
 -- Events one after the other: turns that follow each other, and the answers to a run.
-use Rattle.std.proofs.Common.{◌≡◌, ℕ, suc, ◌+◌, ◌<◌, Bool, true, false, List, [], ◌∷◌, ◌++◌, length, take, drop, get_or, refl, sym, ap, subst, ◌∙◌, append_assoc, arith}
+use Rattle.std.proofs.Common.{◌≡◌, ℕ, suc, ◌+◌, ◌<◌, Bool, true, false, List, [], ◌∷◌, ◌++◌, length, reverse, take, drop, get_or, refl, sym, ap, subst, ◌∙◌, append_assoc, arith}
 use Rattle.std.specs.Bool.{OnTrue, OnFalse}
 use Rattle.std.proofs.Math.Seq.{take-suc, drop-append_seam}
-use Rattle.std.proofs.lemmas.List.{length-append, append-nil}
+use Rattle.std.proofs.lemmas.List.{length-append, append-nil, reverse-append}
 use Rattle.boot_requests.specs.declared.event.Event.{Event}
 use Rattle.boot_requests.specs.declared.reply.Reply.{Reply}
 use Rattle.boot_requests.specs.State.{State}
 use Rattle.boot_requests.specs.Seen.{Seen, IsSeen, AreSeen}
 use Rattle.boot_requests.specs.Run.{followed}
-use Rattle.boot_requests.specs.Reply.{AreAnswers}
+use Rattle.boot_requests.specs.Reply.{AreReplies, AreAnswers}
 use Rattle.boot_requests.specs.Turn.{Plain, Turn, Turns}
 use Rattle.boot_requests.specs.Keeping.{StandsFor}
 use Rattle.boot_requests.proofs.Turns.{turn_goes_on}
@@ -42,6 +42,17 @@ turns_go_on k to start before (seen ∷ later) (answer ∷ answers) s h =
     let one = turn_goes_on k start before s seen h.0 answer h.1 in
     let rest = turns_go_on h.0 to start (seen ∷ before) later answers one.0 h.2 in
     (rest.0, (one.1, rest.1))
+
+-- the answers in their order are the replies with the newest first
+pub answers_reply : (start : State) (run seen : List Seen) (replies answers : List Reply) → AreReplies start run replies → AreAnswers start run seen answers →
+    AreReplies start (followed run seen) (reverse answers ++ replies)
+answers_reply start run [] replies answers g h = subst (λ (rs : List Reply). AreReplies start run (reverse rs ++ replies)) (sym h) g
+answers_reply start run (seen ∷ later) replies [] g h = absurd h
+answers_reply start run (seen ∷ later) replies (answer ∷ answers) g h =
+    let last : reverse (answer ∷ answers) ++ replies ≡ reverse answers ++ (answer ∷ replies) =
+    ap (λ (rs : List Reply). rs ++ replies) (reverse-append (answer ∷ []) answers) ∙ append_assoc (reverse answers) (answer ∷ []) replies in
+    subst (λ (rs : List Reply). AreReplies start (followed (seen ∷ run) later) rs) (sym last)
+    (answers_reply start (seen ∷ run) later (answer ∷ replies) answers (h.0, g) h.1)
 
 -- as many of the events were taken, and their answers are behind those that were there
 pub record Ran (from : Plain) (events : List Event) (before : List Reply) (count : ℕ) (to : Plain) (now : List Reply) : Type 0 where

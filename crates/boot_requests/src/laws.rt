@@ -1,6 +1,6 @@
 //! Laws of the definitions. Each function's contract is one law; calling it does nothing.
 
-ghost use Rattle.std.specs.Prelude.{◌≡◌, ◌⊎◌, ◌↔◌, ℕ, ◌-◌, ◌<◌, ◌≤◌, List, [], ◌∷◌, ◌++◌, length, None, IsTrue, true, false};
+ghost use Rattle.std.specs.Prelude.{◌≡◌, ◌⊎◌, ◌↔◌, ℕ, ◌-◌, ◌<◌, ◌≤◌, List, [], ◌∷◌, ◌++◌, length, reverse, None, IsTrue, true, false};
 ghost use Rattle.std.specs.List.{AllByRecursion};
 ghost use Rattle.std.specs.FinMap as map;
 ghost use Rattle.uefi_path.specs.Row.{IsByte};
@@ -18,8 +18,8 @@ ghost use Rattle.boot_requests.specs.FrameFault.{IsFirstFault};
 ghost use Rattle.boot_requests.specs.State.{State, IsState, IsImage};
 ghost use Rattle.boot_requests.specs.Seen.{Seen, Came, Prepare, IsEvent, IsSeen};
 ghost use Rattle.boot_requests.specs.Changes.{numbers_in, rising};
-ghost use Rattle.boot_requests.specs.Run.{accepted, gap_at, Delivers, AreTaken, AgreeOnNumbers, is_armed, history, state_at, last_of, sets};
-ghost use Rattle.boot_requests.specs.Reply.{IsReply, AreReplies, hands};
+ghost use Rattle.boot_requests.specs.Run.{followed, accepted, gap_at, Delivers, AreTaken, AgreeOnNumbers, is_armed, history, state_at, last_of, sets};
+ghost use Rattle.boot_requests.specs.Reply.{IsReply, AreReplies, AreAnswers, hands};
 ghost use Rattle.boot_requests.specs.Turn.{Plain, plain_start, Turn};
 ghost use Rattle.boot_requests.specs.Keeping.{StandsFor, IsPlain, AreRead, IsLeft, IsStored, IsLast};
 ghost use Rattle.boot_requests.specs.Opening.{IsOpenFault};
@@ -68,6 +68,14 @@ pub fn each_entry_is_what_was_asked_last()
 pub fn each_next_is_handed_out_at_most_once()
     ensures { (start : State) (run : List Seen) (answers : List Reply) (entry : ℕ) →
         AreReplies start run answers → hands answers entry ≤ sets start run entry }
+{}
+
+/// The answers to what follows a run, behind those to the run, are the replies to the longer run: these are told the newest
+/// first.
+pub fn answers_are_the_replies_of_the_run()
+    ensures { (start : State) (run seen : List Seen) (replies answers : List Reply) →
+        AreReplies start run replies → AreAnswers start run seen answers →
+        AreReplies start (followed run seen) (reverse answers ++ replies) }
 {}
 
 /// Where a boot is prepared and no plan was, BootNext is gone.

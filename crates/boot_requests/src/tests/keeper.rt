@@ -50,13 +50,21 @@ fn steps(alloc: Global, keeper: Keeper, events: &[Event]) -> Result<(Keeper, Str
 }
 
 /// The lines of the replies, each ended by a line feed.
-fn lines(alloc: Global, replies: &[Reply]) -> Result<String, Fail> {
+fn told_by(alloc: Global, replies: &[Reply]) -> Result<String, Fail> {
     let mut lines = String::new(alloc);
     for reply in replies {
         lines.push_str(&reply_line(alloc, reply)?)?;
         lines.push('\n')?;
     }
     Ok(lines)
+}
+
+/// The keeper after the events, in one run, and the lines of the replies.
+fn all(alloc: Global, keeper: Keeper, events: &[Event]) -> Result<(Keeper, String), Fail> {
+    let mut replies = Vec::new(alloc);
+    let (now, _whole) = run(alloc, keeper, events, &mut replies);
+    let lines = told_by(alloc, &replies)?;
+    Ok((now, lines))
 }
 
 /// A keeper of no variables.
@@ -92,32 +100,51 @@ fn first_add(rt: HostRuntime) -> Result<(), Fail> {
     Ok(())
 }
 
+/// Requests for the removal of an entry, so many, from number 0 on.
+fn removals(alloc: Global, count: u32) -> Result<Vec<Event>, Fail> {
+    let mut events = Vec::new(alloc);
+    for number in 0..count {
+        events.push(deliver(alloc, number, Request::Remove(9))?)?;
+    }
+    Ok(events)
+}
+
+/// The lines of the replies to them where the entry isn't there.
+fn removal_lines(alloc: Global, count: u32) -> Result<String, Fail> {
+    let mut lines = String::new(alloc);
+    for number in 0..count {
+        let line = format!(in alloc; "applied Missing {}\n", number + 1)?;
+        lines.push_str(&line)?;
+    }
+    Ok(lines)
+}
+
 #[test]
 fn seventeen_removals(rt: HostRuntime) -> Result<(), Fail> {
     let alloc = rt.alloc();
-    let first = Keeper::open(alloc, Vars::new(alloc))?;
-    let mut now = first.step(alloc, &Event::Restart)?.0;
-    for number in 0u32..17 {
-        let (next, line) = told(alloc, &now, &deliver(alloc, number, Request::Remove(9))?)?;
-        let wanted = format!(in alloc; "applied Missing {}", next.next_number())?;
-        assert_eq!(rt; line.as_str(), wanted.as_str());
-        assert!(rt; now.next_number() == number && next.next_number() > number);
-        now = next;
-    }
-    let state = now.vars().get("BootKeepState").unwrap_or(&[]);
+    let events = removals(alloc, 17)?;
+    let (keeper, lines) = steps(alloc, empty(alloc)?, &events)?;
+    let wanted = removal_lines(alloc, 17)?;
+    assert_eq!(rt; lines.as_str(), wanted.as_str());
+    let state = keeper.vars().get("BootKeepState").unwrap_or(&[]);
     assert_eq!(rt; state.len(), 22);
     let (front, outcomes) = state.split_at(6);
     assert_eq!(rt; front, &[0x01, 0x11, 0, 0, 0, 0x10][..]);
     assert_eq!(rt; outcomes, &[0x02; 16][..]);
-    // the first keeper stayed as it was
-    assert!(rt; first.vars().is_empty() && first.next_number() == 0);
+    Ok(())
+}
+
+#[test]
+fn sixteen_outcomes_are_kept(rt: HostRuntime) -> Result<(), Fail> {
+    let alloc = rt.alloc();
+    let (keeper, _) = steps(alloc, empty(alloc)?, &removals(alloc, 17)?)?;
     let events = [
         deliver(alloc, 0, Request::Remove(9))?,
         deliver(alloc, 1, Request::Next(3))?,
         deliver(alloc, 32, Request::Remove(9))?,
         deliver(alloc, 33, Request::Remove(9))?,
     ];
-    let (_, lines) = steps(alloc, now, &events)?;
+    let (_, lines) = steps(alloc, keeper, &events)?;
     assert_eq!(rt;
         lines.as_str(),
         "old\nrepeat Missing\nwaiting 17\nahead 17\n"
@@ -125,16 +152,7 @@ fn seventeen_removals(rt: HostRuntime) -> Result<(), Fail> {
     Ok(())
 }
 
-/// Three requests, that of the greatest number first: BootNext is to be the entry that the second adds.
-fn three_requests(alloc: Global) -> Result<[Event; 3], Fail> {
-    Ok([
-        deliver(alloc, 2, Request::Next(2))?,
-        deliver(alloc, 1, Request::Add(2, disk(alloc)?))?,
-        deliver(alloc, 0, Request::Add(1, disk(alloc)?))?,
-    ])
-}
-
-/// The variables after these three.
+/// The variables after two entries were added and BootNext was set to the second.
 fn three_applied(alloc: Global) -> Result<Vars, Fail> {
     vars(
         alloc,
@@ -151,14 +169,13 @@ fn three_applied(alloc: Global) -> Result<Vars, Fail> {
 #[test]
 fn out_of_order(rt: HostRuntime) -> Result<(), Fail> {
     let alloc = rt.alloc();
-    let events = three_requests(alloc)?;
-    let mut replies = Vec::new(alloc);
-    let (keeper, whole) = run(alloc, empty(alloc)?, &events, &mut replies);
-    assert!(rt; whole);
-    let lines = lines(alloc, &replies)?;
+    let events = [
+        deliver(alloc, 2, Request::Next(2))?,
+        deliver(alloc, 1, Request::Add(2, disk(alloc)?))?,
+        deliver(alloc, 0, Request::Add(1, disk(alloc)?))?,
+    ];
+    let (keeper, lines) = all(alloc, empty(alloc)?, &events)?;
     assert_eq!(rt; lines.as_str(), "waiting 0\nwaiting 0\napplied Done 3\n");
-    assert_eq!(rt; keeper.next_number(), 3);
-    assert_eq!(rt; keeper.waiting(), 0);
     assert!(rt; *keeper.vars() == three_applied(alloc)?);
     Ok(())
 }
@@ -166,38 +183,39 @@ fn out_of_order(rt: HostRuntime) -> Result<(), Fail> {
 #[test]
 fn in_order(rt: HostRuntime) -> Result<(), Fail> {
     let alloc = rt.alloc();
-    let mut events = three_requests(alloc)?;
-    events.reverse();
-    let mut replies = Vec::new(alloc);
-    replies.push(Reply::Old)?;
-    let (keeper, whole) = run(alloc, empty(alloc)?, &events, &mut replies);
-    assert!(rt; whole);
-    let lines = lines(alloc, &replies)?;
+    let events = [
+        deliver(alloc, 0, Request::Add(1, disk(alloc)?))?,
+        deliver(alloc, 1, Request::Add(2, disk(alloc)?))?,
+        deliver(alloc, 2, Request::Next(2))?,
+    ];
+    let (keeper, lines) = all(alloc, empty(alloc)?, &events)?;
     assert_eq!(rt;
         lines.as_str(),
-        "old\napplied Done 1\napplied Done 2\napplied Done 3\n"
+        "applied Done 1\napplied Done 2\napplied Done 3\n"
     );
     assert!(rt; *keeper.vars() == three_applied(alloc)?);
     Ok(())
 }
 
+/// A keeper in which requests wait that need the request 0.
+fn two_wait(alloc: Global) -> Result<Keeper, Fail> {
+    let events = [
+        deliver(alloc, 1, Request::Remove(9))?,
+        deliver(alloc, 2, Request::Remove(9))?,
+    ];
+    let (keeper, _lines) = steps(alloc, empty(alloc)?, &events)?;
+    Ok(keeper)
+}
+
 #[test]
 fn an_old_keeper_stays(rt: HostRuntime) -> Result<(), Fail> {
     let alloc = rt.alloc();
-    let events = three_requests(alloc)?;
-    let [last, second, first] = &events;
-    let (old, _) = told(alloc, &empty(alloc)?, last)?;
-    let (next, line) = told(alloc, &old, second)?;
-    assert_eq!(rt; line.as_str(), "waiting 0");
-    assert_eq!(rt; next.waiting(), 2);
-    assert_eq!(rt; old.waiting(), 1);
-    let (filled, line) = told(alloc, &next, first)?;
-    assert_eq!(rt; line.as_str(), "applied Done 3");
-    assert!(rt; *filled.vars() == three_applied(alloc)?);
-    assert!(rt; next.vars().is_empty() && next.next_number() == 0);
-    let (other, line) = told(alloc, &old, first)?;
-    assert_eq!(rt; line.as_str(), "applied Done 1");
-    assert_eq!(rt; other.waiting(), 1);
+    let old = two_wait(alloc)?;
+    let event = deliver(alloc, 0, Request::Remove(9))?;
+    let (next, line) = told(alloc, &old, &event)?;
+    assert_eq!(rt; line.as_str(), "applied Missing 3");
+    assert!(rt; next.waiting() == 0 && next.next_number() == 3);
+    assert!(rt; old.waiting() == 2 && old.next_number() == 0 && old.vars().is_empty());
     Ok(())
 }
 
