@@ -1,8 +1,8 @@
 -- Events that happen to variables, and what is answered where a text is a script.
-use Rattle.std.proofs.Common.{◌≡◌, ◌≢◌, ◌<◌, ◌≤◌, ◌+◌, ℕ, List, [], ◌∷◌, ◌++◌, length, take, drop, Option, Some, None, Result, Ok, Err, refl, ap, sym, subst, ◌∙◌, inl, inr, arith, append-nil}
+use Rattle.std.proofs.Common.{◌≡◌, ◌≢◌, ◌≤◌, ◌+◌, ℕ, List, [], ◌∷◌, ◌++◌, length, take, drop, Option, Some, None, Result, Ok, Err, refl, ap, sym, subst, ◌∙◌, inl, inr, arith, append-nil}
 use Rattle.std.specs.Prelude.{IfOk, IfErr, IfSome}
 use Rattle.std.specs.List.{AllByRecursion}
-use Rattle.std.specs.Io.KnownBytes.{Keeps, Appends}
+use Rattle.std.specs.Io.KnownBytes.{Appends}
 use Rattle.std.proofs.lemmas.List.{take_all}
 use Rattle.uefi_vars.specs.Vars.{Variables}
 use Rattle.boot_requests.specs.declared.event.Event.{Event}
@@ -12,13 +12,12 @@ use Rattle.boot_requests.specs.declared.fault.OpenFault.TheVariants as opening
 use Rattle.boot_requests.specs.State.{State, IsState, IsImage}
 use Rattle.boot_requests.specs.Opening.{IsOpenFault}
 use Rattle.boot_requests.specs.Seen.{Seen, IsEvent, IsSeen, AreSeen}
-use Rattle.boot_requests.specs.Run.{followed, state_at}
+use Rattle.boot_requests.specs.Run.{followed}
 use Rattle.boot_requests.specs.Reply.{AreAnswers}
 use Rattle.boot_requests.specs.Turn.{Plain, plain_start}
 use Rattle.boot_requests.specs.Keeping.{StandsFor, IsStateOf}
 use Rattle.bootkeep.specs.declared.fault.ScriptFault.{ScriptFault}
 use Rattle.bootkeep.specs.declared.fault.ScriptFault.TheVariants as fault
-use Rattle.bootkeep.specs.Script.{IsScript, IsFirstBadLine}
 use Rattle.bootkeep.specs.Running.{answer_lines, Happens, Runs}
 use Rattle.bootkeep.specs.ScriptFault.{script_max, IsFirstFault, IsFaultUnless}
 use Rattle.bootkeep.specs.Source.{ReadsAll, AppendsFront}

@@ -2,3 +2,4 @@ mod Lines
 mod Scripts
 mod Transfers
 mod Happening
+mod Texts

@@ -207,7 +207,7 @@ bytes_from (x ∷ xs) each = (each 0, bytes_from xs (λ i. each (suc i)))
 pub decoded_bytes : (digits bytes : List ℕ) → decode_of digits ≡ Ok bytes → AllByRecursion IsByte bytes
 decoded_bytes digits bytes decoded = bytes_from bytes (decode_of-ok digits bytes decoded).3
 
-no_event : (line : List ℕ) → line ≢ codes "prepare" → line ≢ codes "hand" → line ≢ codes "restart" → ((bytes : List ℕ) → Tells line (event.Deliver bytes) → ⊥)
+pub no_event : (line : List ℕ) → line ≢ codes "prepare" → line ≢ codes "hand" → line ≢ codes "restart" → ((bytes : List ℕ) → Tells line (event.Deliver bytes) → ⊥)
     → (event : Event) → Tells line event → ⊥
 no_event line prepare hand restart deliver (event.Deliver bytes) told = deliver bytes told
 no_event line prepare hand restart deliver event.Prepare told = prepare told

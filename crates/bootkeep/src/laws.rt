@@ -1,8 +1,21 @@
 //! Laws of the definitions. Each function's contract is one law; calling it does nothing.
 
 ghost use Rattle.std.specs.Prelude.{◌≡◌, ◌⊎◌, ℕ, List};
+ghost use Rattle.uefi_vars.specs.Vars.{Variables};
 ghost use Rattle.boot_requests.specs.declared.event.Event.{Event};
+ghost use Rattle.boot_requests.specs.declared.reply.Reply.{Reply};
+ghost use Rattle.bootkeep.specs.declared.fault.ScriptFault.{ScriptFault};
+ghost use Rattle.bootkeep.specs.Running.{Runs};
 ghost use Rattle.bootkeep.specs.Script.{IsScript, IsFirstBadLine};
+ghost use Rattle.bootkeep.specs.ScriptFault.{IsFirstFault};
+
+use boot_requests::laws;
+
+/// A text is a script, or has a first bad line.
+pub fn a_text_is_a_script_or_has_a_bad_line()
+    ensures { (text : List ℕ) →
+        ((events : List Event) × IsScript text events) ⊎ ((number : ℕ) × IsFirstBadLine text number) }
+{}
 
 /// A text is a script with one list of events at most.
 pub fn a_text_is_one_script()
@@ -19,3 +32,22 @@ pub fn a_bad_line_leaves_no_script()
 pub fn a_text_has_one_first_bad_line()
     ensures { (text : List ℕ) (m n : ℕ) → IsFirstBadLine text m → IsFirstBadLine text n → m ≡ n }
 {}
+
+/// A text and variables have one first fault at most.
+pub fn a_script_has_one_first_fault()
+    ensures { (text : List ℕ) (vars : Variables) (f g : ScriptFault) →
+        IsFirstFault text vars f → IsFirstFault text vars g → f ≡ g }
+{}
+
+/// A script leads from variables to others in one way at most, with one list of answers.
+pub fn a_script_has_one_run()
+    ensures variables { (text : List ℕ) (before a b : Variables) (x y : List Reply) →
+        Runs text before a x → Runs text before b y → a ≡ b }
+    ensures answers { (text : List ℕ) (before a b : Variables) (x y : List Reply) →
+        Runs text before a x → Runs text before b y → x ≡ y }
+{
+    laws::an_event_is_seen_as_one();
+    laws::variables_have_one_state();
+    laws::an_event_has_one_reply();
+    laws::a_state_has_one_image();
+}

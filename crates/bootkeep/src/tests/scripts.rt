@@ -111,36 +111,41 @@ fn an_entry_is_added(rt: HostRuntime) -> Result<(), Fail> {
     Ok(())
 }
 
+/// Both entries, of which the second is the next one.
+const TWO_ENTRIES: Table<'static> = &[
+    ("Boot0001", OPTION),
+    ("Boot0002", OPTION),
+    ("BootOrder", "01000200"),
+    ("BootNext", "0200"),
+    ("BootKeepState", "010300000003000000"),
+];
+
 #[test]
 fn requests_come_out_of_order(rt: HostRuntime) -> Result<(), Fail> {
-    let alloc = rt.alloc();
-    let after: [(&str, &str); 5] = [
-        ("Boot0001", OPTION),
-        ("Boot0002", OPTION),
-        ("BootOrder", "01000200"),
-        ("BootNext", "0200"),
-        ("BootKeepState", "010300000003000000"),
-    ];
-    let script = format!(in alloc; "{NEXT_2}{ADD_2}{ADD_1}")?;
+    let script = format!(in rt.alloc(); "{NEXT_2}{ADD_2}{ADD_1}")?;
     check(
         &rt,
-        alloc,
+        rt.alloc(),
         &Case {
             before: &[],
             script: &script,
             lines: "waiting 0\nwaiting 0\napplied Done 3\n",
-            after: &after,
+            after: TWO_ENTRIES,
         },
-    )?;
-    let script = format!(in alloc; "{ADD_1}\n{ADD_2}\n{NEXT_2}")?;
+    )
+}
+
+#[test]
+fn requests_come_in_order(rt: HostRuntime) -> Result<(), Fail> {
+    let script = format!(in rt.alloc(); "{ADD_1}\n{ADD_2}\n{NEXT_2}")?;
     check(
         &rt,
-        alloc,
+        rt.alloc(),
         &Case {
             before: &[],
             script: &script,
             lines: "applied Done 1\napplied Done 2\napplied Done 3\n",
-            after: &after,
+            after: TWO_ENTRIES,
         },
     )
 }

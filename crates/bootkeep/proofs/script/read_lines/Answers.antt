@@ -1,4 +1,4 @@
-use Rattle.std.proofs.Common.{◌≡◌, ◌<◌, List, [], ◌∷◌, None, Some, length}
+use Rattle.std.proofs.Common.{◌≡◌, ◌<◌, [], ◌∷◌, None, Some, length}
 use Rattle.std.specs.Prelude.{MatchOption}
 use Rattle.bootkeep.specs.Script.{lines_of, IsFirstBadLine}
 use Rattle.bootkeep.proofs.Scripts.{reading_more, reading_ends, reading_fails}

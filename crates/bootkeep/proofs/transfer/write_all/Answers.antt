@@ -1,4 +1,4 @@
-use Rattle.std.proofs.Common.{◌≡◌, ◌≤◌, ◌-◌, ◌++◌, ◌||◌, Bool, false, length, take, drop, ap, ◌∙◌, arith, length-drop}
+use Rattle.std.proofs.Common.{◌≤◌, ◌-◌, ◌++◌, ◌||◌, Bool, false, length, take, drop, ap, ◌∙◌, arith, length-drop}
 use Rattle.std.proofs.lemmas.List.{take_all}
 use Rattle.bootkeep.proofs.Transfers.{appends_more, wrote_more}
 use Rattle.bootkeep.proofs.transfer.write_all.Goals as goal
