@@ -141,17 +141,17 @@ reading_starts text events none = record {
   len = omega arith;
 }
 
-pub reading_more : (text rest : List ℕ) (events new : List Event) (number : ℕ) (line others : List ℕ) → IsReading text rest events number
-    → lines_of rest ≡ line ∷ lines_of others → length others < length rest → AppendsEvents line events new
-    → IsReading text others new (number + 1)
-reading_more text rest events new number line others so_far cut shorter appends = record {
+pub reading_more : (text rest : List ℕ) (events new : List Event) (number next : ℕ) (line others : List ℕ) → IsReading text rest events number
+    → lines_of rest ≡ line ∷ lines_of others → length others < length rest → AppendsEvents line events new → next ≡ number + 1
+    → IsReading text others new next
+reading_more text rest events new number next line others so_far cut shorter appends one_more = record {
   before = so_far.before ++ line ∷ [];
   lines = so_far.lines ∙ ap (λ (lines : List (List ℕ)). so_far.before ++ lines) cut ∙ sym (append_assoc so_far.before (line ∷ []) (lines_of others));
   told = let P : List Event → Type 0 = λ events. TellOf (so_far.before ++ line ∷ []) events in
       subst P (sym appends.items) (told_more so_far.before (line ∷ []) events appends.events so_far.told appends.told);
   valid = let P : List Event → Type 0 = λ events. AllByRecursion IsEvent events in
       subst P (sym appends.items) (all_more IsEvent events appends.events so_far.valid appends.valid);
-  at = let len = length-append so_far.before (line ∷ []) in omega (arith, len, so_far.at);
+  at = let len = length-append so_far.before (line ∷ []) in omega (arith, len, so_far.at, one_more);
   len = let len = length-append so_far.before (line ∷ []) in omega (arith, len, so_far.len, shorter);
 }
 

@@ -1,4 +1,4 @@
-use Rattle.std.proofs.Common.{◌≡◌, ◌<◌, [], ◌∷◌, None, Some, length}
+use Rattle.std.proofs.Common.{◌≡◌, ◌<◌, [], ◌∷◌, None, Some, length, arith}
 use Rattle.std.specs.Prelude.{MatchOption}
 use Rattle.bootkeep.specs.Script.{lines_of, IsFirstBadLine}
 use Rattle.bootkeep.proofs.Scripts.{reading_more, reading_ends, reading_fails}
@@ -21,7 +21,7 @@ pub loop-events-preserved : goal.loop-events-preserved
 loop-events-preserved c =
     let cut = rw c.in-Some.is at c.split_line.ensures in
     let appends = rw c.if-not-branch.false at c.in_ok-append_event.ensures in
-    reading_more c.args.text.now c.loop-events.rest.now _ _ _ c.split_line.result.0.now c.in-Some.others.now c.loop-events.invariant cut.0 cut.1 appends
+    reading_more c.args.text.now c.loop-events.rest.now _ _ c.loop-events.number _ c.split_line.result.0.now c.in-Some.others.now c.loop-events.invariant cut.0 cut.1 appends (omega arith)
 
 pub returns-in-None-clause-found : goal.returns-in-None-clause-found
 returns-in-None-clause-found c =
