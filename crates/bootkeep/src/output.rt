@@ -1,8 +1,11 @@
 //! What the program writes to files.
 
-ghost use Rattle.std.specs.Prelude.{◌≡◌, OnOk};
+ghost use Rattle.std.specs.Prelude.{◌≡◌, ◌↔◌, ℕ, Some, IfOk, OnOk, IsTrue, MatchOption};
 ghost use Rattle.std.specs.Io.KnownBytes.{Appends};
+ghost use Rattle.std.specs.Path.{path_bytes, path_buf_bytes, path_file_name};
+ghost use Rattle.bootkeep.specs.Output.{new_name, IsBeside};
 
+use std::alloc::{AllocError, Global};
 use std::fs::{self, File, Metadata, OpenFile, OpenOptions};
 use std::io::{self, ErrorKind, Write};
 use std::os::unix::fs::{MetadataExt, OpenOptionsExt, lchown};
@@ -136,17 +139,17 @@ fn create_beside<R: Files + AllocGlobal>(
     rt: &R,
     path: Path<'_>,
     old: Option<&Metadata>,
-) -> io::Result<(PathBuf, R::File)> {
+) -> io::Result<(PathBuf, R::File)>
+    ensures { IfOk result (λ made. (number : ℕ) ×
+        IsBeside (path_bytes path.entry) (new_name number) (path_buf_bytes made.0)) }
+{
     let mode = if old.is_some() { PRIVATE_MODE } else { MODE };
     let mut how = OpenOptions::new();
     how.write(true).create_new(true).mode(mode);
     for number in 0..=u16::MAX {
-        let name = format!(in rt.alloc(); ".bootkeep-{number}")?;
-        // The name of the path itself isn't one to be half written under, also where it isn't taken.
-        if path.file_name() == Some(name.as_str()) {
+        let Some(new) = path_beside(rt.alloc(), path, number)? else {
             continue;
-        }
-        let new = path.with_file_name(rt.alloc(), name.as_str())?;
+        };
         match how.open(rt, new.as_path()) {
             Ok(file) => {
                 if let Some(old) = old {
@@ -159,6 +162,30 @@ fn create_beside<R: Files + AllocGlobal>(
         }
     }
     Err(io::Error::from(ErrorKind::AlreadyExists))
+}
+
+/// The path of the new file of this number, in the folder of the path. There is none if it is that path itself, which isn't to
+/// be half written either.
+fn path_beside(alloc: Global, path: Path<'_>, number: u16) -> Result<Option<PathBuf>, AllocError>
+    ensures { IfOk result (λ new. MatchOption new
+        (path_file_name (path_bytes path.entry) ≡ Some (new_name number))
+        (λ new. IsBeside (path_bytes path.entry) (new_name number) (path_buf_bytes new))) }
+{
+    let name = format!(in alloc; ".bootkeep-{number}")?;
+    if has_name(path, name.as_str()) {
+        return Ok(None);
+    }
+    Ok(Some(path.with_file_name(alloc, name.as_str())?))
+}
+
+/// Whether this is the name of the file at the path.
+fn has_name(path: Path<'_>, name: &str) -> bool
+    ensures { IsTrue result ↔ (path_file_name (path_bytes path.entry) ≡ Some name.now) }
+{
+    match path.file_name() {
+        Some(own) => own == name,
+        None => false,
+    }
 }
 
 /// Gives the new file the group, the owner and the rights of the old one, each where the user may and the file system has
