@@ -249,10 +249,7 @@ fn what_waits_is_neither_replaced_nor_kept_over_a_restart(rt: HostRuntime) -> Re
         lines.as_str(),
         "waiting 0\nconflict\nwaiting 0\nrestarted 0\nwaiting 0\napplied Missing 2\n"
     );
-    let wanted = vars(
-        alloc,
-        &[("BootKeepState", &[1, 2, 0, 0, 0, 2, 2, 2])],
-    )?;
+    let wanted = vars(alloc, &[("BootKeepState", &[1, 2, 0, 0, 0, 2, 2, 2])])?;
     assert!(rt; *keeper.vars() == wanted);
     Ok(())
 }
