@@ -57,15 +57,15 @@ tells_or_not line =
     elim (is_or_not line (codes "prepare")) [
       | inl is ↦ inl (event.Prepare, is)
       | inr prepare ↦ elim (is_or_not line (codes "hand")) [
-          | inl is ↦ inl (event.Hand, is)
-          | inr hand ↦ elim (is_or_not line (codes "restart")) [
-              | inl is ↦ inl (event.Restart, is)
-              | inr restart ↦ elim (delivers_or_not line) [
-                  | inl found ↦ inl (event.Deliver found.0, found.1)
-                  | inr deliver ↦ inr (no_event line prepare hand restart deliver)
-                ]
-            ]
+        | inl is ↦ inl (event.Hand, is)
+        | inr hand ↦ elim (is_or_not line (codes "restart")) [
+          | inl is ↦ inl (event.Restart, is)
+          | inr restart ↦ elim (delivers_or_not line) [
+            | inl found ↦ inl (event.Deliver found.0, found.1)
+            | inr deliver ↦ inr (no_event line prepare hand restart deliver)
+          ]
         ]
+      ]
     ]
 
 -- ---- lines
@@ -103,9 +103,9 @@ lines_or_bad ([] ∷ lines) =
 lines_or_bad ((c ∷ line) ∷ lines) =
     elim (tells_or_not (c ∷ line)) [
       | inl first ↦ elim (lines_or_bad lines) [
-          | inl told ↦ inl (first.0 ∷ told.0, (first.1, told.1))
-          | inr h ↦ inr (bad_later (c ∷ line) lines (inr first) h)
-        ]
+        | inl told ↦ inl (first.0 ∷ told.0, (first.1, told.1))
+        | inr h ↦ inr (bad_later (c ∷ line) lines (inr first) h)
+      ]
       | inr none ↦ inr (record { before = []; bad = c ∷ line; after = lines; parts = refl; good = tt; is_bad = no_event_line c line none })
     ]
 
