@@ -26,7 +26,8 @@ use uefi_vars::Vars;
 
 /// Runs a script over variables, writes what is answered to each of its events on a line of its own, and returns the
 /// variables after it. The script is all that the reader gives, up to its end, and has the lines that [`read_script`]
-/// reads; a line of answer is that of [`reply_line`] and a line feed. All lines are there before one is written.
+/// reads; a line of answer is that of [`reply_line`] and a line feed. All lines are there before one is written. No call of
+/// the reader or the writer may have failed before.
 ///
 /// # Errors
 ///
