@@ -1,6 +1,5 @@
 -- Events one after the other: turns that follow each other, and the answers to a run.
-use Rattle.std.proofs.Common.{◌≡◌, ℕ, suc, ◌+◌, ◌<◌, Bool, true, false, List, [], ◌∷◌, ◌++◌, length, reverse, take, drop, get_or, refl, sym, ap, subst, ◌∙◌, append_assoc, arith}
-use Rattle.std.specs.Bool.{OnTrue, OnFalse}
+use Rattle.std.proofs.Common.{◌≡◌, ℕ, suc, ◌+◌, ◌<◌, List, [], ◌∷◌, ◌++◌, length, reverse, take, drop, get_or, refl, sym, ap, subst, ◌∙◌, append_assoc, arith}
 use Rattle.std.proofs.Math.Seq.{take-suc, drop-append_seam}
 use Rattle.std.proofs.lemmas.List.{length-append, append-nil, reverse-append}
 use Rattle.boot_requests.specs.declared.event.Event.{Event}
@@ -114,9 +113,3 @@ pub ran_same : (from : Plain) (events : List Event) (before : List Reply) (count
     Ran from events before count to now → other ≡ to → then ≡ now → Ran from events before count other then
 ran_same from events before count to other now then ran same kept =
     subst (λ (p : Plain). Ran from events before count p then) (sym same) (subst (λ (rs : List Reply). Ran from events before count to rs) (sym kept) ran)
-
-pub when_true : (b : Bool) (P : Type 0) → b ≡ true → OnTrue b P → P
-when_true b P is h = subst (λ (t : Bool). OnTrue t P) is h
-
-pub when_false : (b : Bool) (P : Type 0) → b ≡ false → OnFalse b P → P
-when_false b P is h = subst (λ (t : Bool). OnFalse t P) is h

@@ -1,7 +1,6 @@
 //! Events one after the other.
 
-ghost use Rattle.std.specs.Prelude.{◌≡◌, ◌<◌, ◌+◌, List, [], ◌∷◌, ◌++◌, length, take, drop, IsTrue, false};
-ghost use Rattle.std.specs.Bool.{OnTrue, OnFalse};
+ghost use Rattle.std.specs.Prelude.{◌≡◌, ◌<◌, ◌+◌, List, [], ◌∷◌, ◌++◌, length, take, drop, IsTrue, OnOk, OnErr, false};
 ghost use Rattle.boot_requests.specs.declared.reply.Reply.{Reply};
 ghost use Rattle.boot_requests.specs.State.{State};
 ghost use Rattle.boot_requests.specs.Seen.{Seen, IsSeen, AreSeen};
@@ -13,7 +12,7 @@ ghost use Rattle.boot_requests.specs.Keeping.{StandsFor};
 use crate::event::Event;
 use crate::keeper::Keeper;
 use crate::reply::Reply;
-use std::alloc::Global;
+use std::alloc::{AllocError, Global};
 
 /// What becomes of the keeper with these events, one after the other, as [`Keeper::step`] has it. The reply to each is
 /// appended to those that are there. False says that memory was refused: the keeper is then the one after as many of the
@@ -44,36 +43,31 @@ pub fn run(
 {
     let mut now = keeper;
     for event in events {
-        let (next, taken) = take_event(alloc, now, event, replies);
-        now = next;
-        if !taken {
+        let Ok(()) = take_event(alloc, &mut now, event, replies) else {
             return (now, false);
-        }
+        };
     }
     (now, true)
 }
 
-/// The keeper after this event, whose reply is appended. Where memory is refused, nothing changes.
+/// The keeper takes this event, and the reply is appended. Where memory is refused, nothing changes. The keeper is lent and
+/// not handed on: it is large, and most events may leave it as it is.
 fn take_event(
     alloc: Global,
-    keeper: Keeper,
+    keeper: &mut Keeper,
     event: &Event,
     replies: &mut Vec<Reply>,
-) -> (Keeper, bool)
-    ensures taken { OnTrue result.1 ((answer : Reply)
+) -> Result<(), AllocError>
+    ensures taken { OnOk result ((answer : Reply)
         × (replies.new.items ≡ replies.old.items ++ answer ∷ [])
-        × ((seen : Seen) → IsSeen event.now seen → Turn keeper seen result.0 answer)) }
-    ensures refused { OnFalse result.1
-        ((replies.new.items ≡ replies.old.items) × (result.0 ≡ keeper)) }
+        × ((seen : Seen) → IsSeen event.now seen → Turn keeper.old seen keeper.new answer)) }
+    ensures refused { OnErr result
+        ((replies.new.items ≡ replies.old.items) × (keeper.new ≡ keeper.old)) }
 {
-    let Ok((next, reply)) = keeper.take_turn(alloc, event) else {
-        return (keeper, false);
-    };
-    match replies.push(reply) {
-        Ok(()) => match next {
-            Some(next) => (next, true),
-            None => (keeper, true),
-        },
-        Err(_) => (keeper, false),
+    let (next, reply) = keeper.take_turn(alloc, event)?;
+    replies.push(reply)?;
+    if let Some(next) = next {
+        *keeper = next;
     }
+    Ok(())
 }

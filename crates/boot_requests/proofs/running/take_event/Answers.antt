@@ -5,10 +5,5 @@ use Rattle.boot_requests.proofs.running.take_event.Goals as goal
 
 pub returns-in-Some-clause-taken : goal.returns-in-Some-clause-taken
 returns-in-Some-clause-taken c =
-    let k = c.args.keeper in
-    (c.in-Ok.reply, c.in-Ok-push.ensures.items, λ seen is. subst (λ (o : Option Plain). Turn k seen (unwrap_or o k) c.in-Ok.reply) c.in-Some.is (c.in-Ok.ensures seen is))
-
-pub returns-in-None-clause-taken : goal.returns-in-None-clause-taken
-returns-in-None-clause-taken c =
-    let k = c.args.keeper in
-    (c.in-Ok.reply, c.in-Ok-push.ensures.items, λ seen is. subst (λ (o : Option Plain). Turn k seen (unwrap_or o k) c.in-Ok.reply) c.in-None.is (c.in-Ok.ensures seen is))
+    let k = c.args.keeper.now in
+    (c.in_ok-next.reply, c.in_ok-push.ensures.items, λ seen is. subst (λ (o : Option Plain). Turn k seen (unwrap_or o k) c.in_ok-next.reply) c.in-Some.is (c.in_ok-next.ensures seen is))
