@@ -10,7 +10,7 @@ use Rattle.uefi_vars.specs.Order.{IsEntryNumber, IsOrder, stored_order, stored_n
 use Rattle.boot_requests.specs.declared.outcome.Outcome.{Outcome}
 use Rattle.boot_requests.specs.State.{State, IsMark, IsBootName, keep_text, mark_bytes, stored_mark}
 use Rattle.boot_requests.specs.Apply.{next_without, booted}
-use Rattle.boot_requests.specs.Edit.{names}
+use Rattle.boot_requests.specs.Run.{is_next_entry}
 use Rattle.boot_requests.specs.Keeping.{IsStateOf}
 use Rattle.boot_requests.specs.Machine.{Entries, with_stored}
 use Rattle.boot_requests.proofs.Stored.{stored_here, stored_apart, entry_put, entry_put_apart, entry_gone, entry_gone_apart, same_number_or_not, names_apart, order_is_no_entry, next_is_no_entry, keep_is_no_entry, order_is_not_next, order_is_not_keep, next_is_not_keep}
@@ -140,10 +140,10 @@ module _ (m : State) (vars : Variables) where
 
 -- ---- BootNext without a number
 
-pub next_named : (next : Option ℕ) (number : ℕ) → names next number ≡ true → next_without next number ≡ None
+pub next_named : (next : Option ℕ) (number : ℕ) → is_next_entry next number ≡ true → next_without next number ≡ None
 next_named None number h = refl
 next_named (Some other) number h = cond-true _ _ _ h
 
-pub next_other : (next : Option ℕ) (number : ℕ) → names next number ≡ false → next_without next number ≡ next
+pub next_other : (next : Option ℕ) (number : ℕ) → is_next_entry next number ≡ false → next_without next number ≡ next
 next_other None number h = refl
 next_other (Some other) number h = cond-false _ _ _ h

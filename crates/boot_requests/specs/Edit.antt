@@ -1,5 +1,5 @@
 -- For private functions that edit variables: what an edit makes of the state that they stand for.
-use Rattle.std.specs.Prelude.{◌≡◌, ℕ, ◌==◌, Bool, false, List, Option, Some, None}
+use Rattle.std.specs.Prelude.{◌≡◌, ℕ, List, Option}
 use Rattle.std.specs.FinMap.{insert, remove}
 use Rattle.uefi_vars.specs.Vars.{Variables}
 use Rattle.boot_requests.specs.declared.request.Request.{Request}
@@ -16,11 +16,6 @@ ChangesBy old new change = (m : State) → IsStateOf m old → IsStateOf (change
 abbrev pub CarriesOut : Variables → Variables → Request → Outcome → Type 0
 CarriesOut old new request outcome =
     (m : State) → IsStateOf m old → (outcome ≡ outcome_of m request) × IsStateOf (effect m request outcome) new
-
--- whether BootNext is the number
-abbrev pub names : Option ℕ → ℕ → Bool
-names None number = false
-names (Some next) number = next == number
 
 -- ---- changes
 

@@ -64,7 +64,8 @@ pub enum OpenFault {
 impl FrameFault {
     ghost use Rattle.boot_requests.specs.Words.{frame_fault_words};
 
-    /// The fault's name, and for [`FrameFault::Option`], after a blank, the words of the option's fault. The one refusal is for want of memory.
+    /// The fault's name, and for [`FrameFault::Option`], after a blank, the words of the option's fault. The one refusal is
+    /// for want of memory.
     pub fn words(&self, alloc: Global) -> Result<String, AllocError>
         ensures { IfOk result (λ text. string_bytes text ≡ frame_fault_words self.now) }
     {

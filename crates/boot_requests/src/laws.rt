@@ -239,9 +239,7 @@ pub fn outcomes_compare_as_values()
 /// `==` on the faults of frames tells whether they are equal.
 pub fn frame_faults_compare_as_values()
     ensures { (a b : FrameFault) → IsTrue (⟦<FrameFault as PartialEq>⟧.eq a b) ↔ (a ≡ b) }
-{
-    option_laws::option_faults_compare_as_values();
-}
+{}
 
 /// `==` on the faults of opening tells whether they are equal.
 pub fn open_faults_compare_as_values()

@@ -8,7 +8,8 @@ ghost use Rattle.uefi_vars.specs.Order.{order_max};
 ghost use Rattle.boot_requests.specs.Apply.{is_in, without, is_there as holds, booted};
 ghost use Rattle.boot_requests.specs.State.{State, IsMark, mark_bytes, outcome_byte};
 ghost use Rattle.boot_requests.specs.Keeping.{IsStateOf};
-ghost use Rattle.boot_requests.specs.Edit.{ChangesBy, names, with_order, with_next, with_entry, without_entry, with_mark, with_last, without_number, without_next};
+ghost use Rattle.boot_requests.specs.Run.{is_next_entry};
+ghost use Rattle.boot_requests.specs.Edit.{ChangesBy, with_order, with_next, with_entry, without_entry, with_mark, with_last, without_number, without_next};
 
 use crate::outcome::Outcome;
 use std::alloc::{AllocError, Global};
@@ -157,7 +158,7 @@ pub(crate) fn delete_next(vars: &mut Vars)
 
 /// Whether BootNext is this number.
 fn names_next(vars: &Vars, number: u16) -> bool
-    ensures { (m : State) → IsStateOf m vars.now → result ≡ names m.next number }
+    ensures { (m : State) → IsStateOf m vars.now → result ≡ is_next_entry m.next number }
 {
     let Ok(named) = boot_next(vars) else {
         return false;

@@ -1,5 +1,5 @@
 use Rattle.std.proofs.Common.{◌≡◌, ℕ, Option, Some, None, sym, ap}
-use Rattle.boot_requests.specs.Edit.{names}
+use Rattle.boot_requests.specs.Run.{is_next_entry}
 use Rattle.boot_requests.proofs.storing.names_next.Goals as goal
 
 pub returns-in_default : goal.returns-in_default
@@ -10,10 +10,10 @@ pub returns-in-Some : goal.returns-in-Some
 returns-in-Some c = λ m h.
     let e = c.in-Ok.ensures.only m.next (record { is = h.is.next; stored = h.image.next }) in
     let same : m.next ≡ Some c.in-Some.next = cc in
-    ap (λ (o : Option ℕ). names o c.args.number) (sym same)
+    ap (λ (o : Option ℕ). is_next_entry o c.args.number) (sym same)
 
 pub returns-in-None : goal.returns-in-None
 returns-in-None c = λ m h.
     let e = c.in-Ok.ensures.only m.next (record { is = h.is.next; stored = h.image.next }) in
     let same : m.next ≡ None = cc in
-    ap (λ (o : Option ℕ). names o c.args.number) (sym same)
+    ap (λ (o : Option ℕ). is_next_entry o c.args.number) (sym same)
