@@ -3,15 +3,16 @@
 //! requests, without proofs, in the Rust of `rustc` and its standard library alone. It also makes the
 //! values that both sides are timed on.
 //!
-//! `plain make KIND COUNT FILE` writes a value to a file: a `path` of so many nodes, an `option` of
-//! so many paths, a `set` of so many entries, the same for a `step` or a `run`, or a `frame` with a
-//! payload of so many bytes. `plain time KIND FILE` times the value in a file and prints one line: what the value
+//! `plain make KIND COUNT FILE` writes a value to a file: a `path` of so many nodes, the same for a
+//! `view`, an `option` of so many paths, a `set` of so many entries, the same for a `step` or a `run`,
+//! an `idle` one, of which no entry is active, or a `frame` with a payload of so many bytes. `plain time KIND FILE` times the value in a file and prints one line: what the value
 //! has, and, behind a colon, the shortest time of each call in nanoseconds. The file `KIND_tasks` says
 //! what these are. The times have the growth of what is made in them, and not its drop. Each answer is
 //! compared outside of them, and a wrong one ends the program.
 
 mod frame;
 mod frame_tasks;
+mod idle_tasks;
 mod keeper;
 mod mixed;
 mod node;
@@ -26,6 +27,7 @@ mod run_tasks;
 mod set;
 mod set_tasks;
 mod step_tasks;
+mod view_tasks;
 mod writing;
 
 use std::error::Error;
@@ -51,12 +53,14 @@ fn time_value(kind: &str, bytes: &[u8]) -> Result<(), Box<dyn Error>> {
             let (held, text) = path_tasks::held(bytes)?;
             print_times(&held, || path_tasks::times(bytes, &text))
         }
+        "view" => print_times(&view_tasks::held(bytes)?, || view_tasks::times(bytes)),
         "option" => print_times(&option_tasks::held(bytes)?, || option_tasks::times(bytes)),
         "set" => print_times(&set_tasks::held(bytes)?, || set_tasks::times(bytes)),
+        "idle" => print_times(&idle_tasks::held(bytes)?, || idle_tasks::times(bytes)),
         "frame" => print_times(&frame_tasks::held(bytes)?, || frame_tasks::times(bytes)),
         "step" => print_times(&step_tasks::held(bytes)?, || step_tasks::times(bytes)),
         "run" => print_times(&run_tasks::held(bytes)?, || run_tasks::times(bytes)),
-        _ => Err("the kinds are path, option, set, frame, step and run".into()),
+        _ => Err("the kinds are path, view, option, set, idle, frame, step and run".into()),
     }
 }
 

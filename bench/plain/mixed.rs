@@ -27,6 +27,11 @@ const ROWS: [(u8, u8, &[usize]); 15] = [
 /// The type and the sub-type whose data is text of 16-bit units, ended by a zero.
 const FILE_PATH: (u8, u8) = (4, 4);
 
+/// The attributes of an option that is tried by itself, and of one that isn't.
+const ACTIVE: u32 = 1;
+
+const INACTIVE: u32 = 0;
+
 /// How many nodes an instance has.
 const INSTANCE: usize = 1_000;
 
@@ -42,18 +47,19 @@ const DISK: [u8; 32] = [
 /// The bytes of a value of this kind and size.
 pub fn value_of(kind: &str, count: usize) -> Result<Vec<u8>, Box<dyn Error>> {
     match kind {
-        "path" => Ok(path_of(count)),
-        "option" => option_of(count),
-        "set" | "step" | "run" => set_of(count),
+        "path" | "view" => Ok(path_of(count)),
+        "option" => option_of(ACTIVE, count),
+        "set" | "step" | "run" => set_of(ACTIVE, count),
+        "idle" => set_of(INACTIVE, count),
         "frame" => frame_of(count),
-        _ => Err("the kinds are path, option, set, frame, step and run".into()),
+        _ => Err("the kinds are path, view, option, set, idle, frame, step and run".into()),
     }
 }
 
-/// The bytes of an active option of so many paths to a disk, with as many letters in its
-/// description, and with 16 bytes of optional data for each path but the first.
-fn option_of(paths: usize) -> Result<Vec<u8>, Box<dyn Error>> {
-    let mut option = vec![1, 0, 0, 0];
+/// The bytes of an option with these attributes, of so many paths to a disk, with as many letters in
+/// its description, and with 16 bytes of optional data for each path but the first.
+fn option_of(attributes: u32, paths: usize) -> Result<Vec<u8>, Box<dyn Error>> {
+    let mut option = attributes.to_le_bytes().to_vec();
     option.extend(u16::try_from(paths * DISK.len())?.to_le_bytes());
     option.extend([b'A', 0].repeat(paths));
     option.extend([0, 0]);
@@ -62,12 +68,13 @@ fn option_of(paths: usize) -> Result<Vec<u8>, Box<dyn Error>> {
     Ok(option)
 }
 
-/// The bytes of a set of so many entries of the option of one path, and of a BootOrder that names
-/// each of them once, in another order than that of their numbers.
-fn set_of(entries: usize) -> Result<Vec<u8>, Box<dyn Error>> {
+/// The bytes of a set of so many entries of the option of one path with these attributes, and of a
+/// BootOrder that names each of them once, in another order than that of their numbers.
+fn set_of(attributes: u32, entries: usize) -> Result<Vec<u8>, Box<dyn Error>> {
     let mut set = b"BVS1".to_vec();
     for index in 0..entries {
-        append_variable(&entry_name(u16::try_from(index)?), &option_of(1)?, &mut set)?;
+        let option = option_of(attributes, 1)?;
+        append_variable(&entry_name(u16::try_from(index)?), &option, &mut set)?;
     }
     let mut order = Vec::new();
     for index in 0..entries {
@@ -83,7 +90,7 @@ fn frame_of(payload: usize) -> Result<Vec<u8>, Box<dyn Error>> {
     let mut frame = vec![0x42, 0x51, 1, 1, 0, 0, 0, 0];
     frame.extend(u32::try_from(payload)?.to_le_bytes());
     frame.extend([0, 0]);
-    frame.extend(option_of(1)?);
+    frame.extend(option_of(ACTIVE, 1)?);
     frame.resize(12 + payload, 0x5a);
     Ok(frame)
 }

@@ -1,7 +1,7 @@
 //! Load options, as values and as bytes.
 
 use crate::node::Path;
-use crate::reading::{self, read_path};
+use crate::reading::{self, check_path, read_path};
 use crate::writing::write_path;
 use std::error::Error;
 use std::fmt;
@@ -72,6 +72,45 @@ pub fn read_option(bytes: &[u8]) -> Result<LoadOption, Fault> {
         description: units().take(terminator).collect(),
         paths: read_paths(list, start)?,
         optional: optional.to_vec(),
+    })
+}
+
+/// A load option where it stands in the bytes.
+pub struct OptionView<'a> {
+    pub attributes: u32,
+    /// Without the zero unit that ends it.
+    pub description: &'a [u8],
+    pub list: &'a [u8],
+    pub optional: &'a [u8],
+}
+
+/// The parts of the load option that the bytes are, all of them.
+pub fn check_option(bytes: &[u8]) -> Result<OptionView<'_>, Fault> {
+    let [a, b, c, d, low, high, rest @ ..] = bytes else {
+        return Err(Fault::Short);
+    };
+    let list_len = usize::from(u16::from_le_bytes([*low, *high]));
+    let terminator = rest
+        .chunks_exact(2)
+        .position(|pair| *pair == [0, 0])
+        .ok_or(Fault::NoTerminator)?;
+    let start = 6 + 2 * terminator + 2;
+    let (list, optional) = bytes[start..]
+        .split_at_checked(list_len)
+        .ok_or(Fault::ListPastEnd)?;
+    if list.is_empty() {
+        return Err(Fault::EmptyList);
+    }
+    let mut offset = 0;
+    while offset < list.len() {
+        offset +=
+            check_path(&list[offset..]).map_err(|fault| Fault::Path(start + offset, fault))?;
+    }
+    Ok(OptionView {
+        attributes: u32::from_le_bytes([*a, *b, *c, *d]),
+        description: &bytes[6..start - 2],
+        list,
+        optional,
     })
 }
 

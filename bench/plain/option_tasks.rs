@@ -1,7 +1,7 @@
-//! Reading and writing load options. One call on a small option takes less than the clock can tell,
+//! Reading, writing and checking load options. One call on a small option takes less than the clock can tell,
 //! so each is timed over many.
 
-use crate::option::{LoadOption, read_option, write_option};
+use crate::option::{LoadOption, check_option, read_option, write_option};
 use std::error::Error;
 use std::hint::black_box;
 use std::time::{Duration, Instant};
@@ -9,25 +9,41 @@ use std::time::{Duration, Instant};
 /// How many calls are timed as one.
 const CALLS: usize = 100;
 
-/// How many paths the option has, how many bytes it takes and all calls go over, and how many units
-/// its description and bytes its optional data have.
+/// How many paths the option has, how many bytes it takes and all calls go over, how many units its
+/// description and bytes its optional data have, and its attributes.
 pub fn held(bytes: &[u8]) -> Result<String, Box<dyn Error>> {
     let option = read_option(bytes)?;
     Ok(format!(
-        "{} {} {} {} {}",
+        "{} {} {} {} {} {}",
         option.paths.len(),
         bytes.len(),
         bytes.len() * CALLS,
         option.description.len(),
-        option.optional.len()
+        option.optional.len(),
+        check_option(bytes)?.attributes
     ))
 }
 
-/// The time of the reads of the bytes, and of the writes.
+/// The time of the reads of the bytes, of the writes, and of the checks.
 pub fn times(bytes: &[u8]) -> Result<Vec<Duration>, Box<dyn Error>> {
     let (options, read) = read_timed(bytes)?;
     let write = write_timed(&options, bytes)?;
-    Ok(vec![read, write])
+    let check = check_timed(bytes)?;
+    Ok(vec![read, write, check])
+}
+
+fn check_timed(bytes: &[u8]) -> Result<Duration, Box<dyn Error>> {
+    let mut len = 0;
+    let start = Instant::now();
+    for _ in 0..CALLS {
+        let view = black_box(check_option(black_box(bytes)))?;
+        len += view.description.len() + view.list.len() + view.optional.len();
+    }
+    let time = start.elapsed();
+    if len != CALLS * (bytes.len() - 8) {
+        return Err("plain Rust finds other parts of an option than it has".into());
+    }
+    Ok(time)
 }
 
 fn read_timed(bytes: &[u8]) -> Result<(Vec<LoadOption>, Duration), Box<dyn Error>> {

@@ -30,6 +30,52 @@ impl fmt::Display for Fault {
 
 impl Error for Fault {}
 
+/// A node where it stands in the bytes.
+pub struct NodeView<'a> {
+    pub kind: u8,
+    pub sub: u8,
+    pub body: &'a [u8],
+}
+
+/// The nodes of a path whose bytes are known to be good, without the node that ends it.
+pub struct Nodes<'a> {
+    bytes: &'a [u8],
+}
+
+impl<'a> Iterator for Nodes<'a> {
+    type Item = NodeView<'a>;
+
+    fn next(&mut self) -> Option<NodeView<'a>> {
+        let (kind, sub, body) = split_node(self.bytes, 0).ok()?;
+        self.bytes = &self.bytes[HEADER_LEN + body.len()..];
+        Some(NodeView { kind, sub, body })
+    }
+}
+
+/// How many bytes the path at the front of the bytes takes.
+pub fn check_path(bytes: &[u8]) -> Result<usize, Fault> {
+    let mut offset = 0;
+    loop {
+        let (kind, sub, body) = split_node(&bytes[offset..], offset)?;
+        let end = offset + HEADER_LEN + body.len();
+        match (kind, sub, body.len()) {
+            (0x7f, 0xff, 0) => return Ok(end),
+            (0x7f, 0x01, 0) => {}
+            (0x7f, _, _) => return Err(Fault::BadEnd(offset)),
+            _ => {}
+        }
+        offset = end;
+    }
+}
+
+/// The nodes of the path at the front of the bytes.
+pub fn nodes(bytes: &[u8]) -> Result<Nodes<'_>, Fault> {
+    let len = check_path(bytes)?;
+    Ok(Nodes {
+        bytes: &bytes[..len - HEADER_LEN],
+    })
+}
+
 /// The path at the front of the bytes, and how many bytes it takes.
 pub fn read_path(bytes: &[u8]) -> Result<(Path, usize), Fault> {
     let mut path = Vec::new();

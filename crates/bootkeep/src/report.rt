@@ -8,10 +8,10 @@ ghost use Rattle.bootkeep.specs.Report.{IfInput, TellsBadHex, TellsPathFault, Te
 use crate::refusal::{Refusal, refuse};
 use hex::FromHexError;
 use std::alloc::{AllocError, Global};
-use uefi_option::{OptionFault, description_text, read_option};
+use uefi_option::{check_option, description_text, is_normal, read_option};
 use uefi_path::{read_path, write_path};
 use uefi_text::{PathText, read_text};
-use uefi_vars::{BootPlan, Vars, boot_next, boot_order, entry_number, plan, read_set};
+use uefi_vars::{PlanNumbers, Vars, boot_next, boot_order, entry_number, plan_numbers, read_set};
 
 /// Shows the device path (UEFI 2.10, 10.3) at the front of the bytes that `hex` writes out, two
 /// digits of either case for each. The report has the lines `instances N`, `nodes N`, over all
@@ -89,8 +89,9 @@ pub fn option_report(alloc: Global, bytes: &[u8]) -> Result<String, Refusal>
 /// Shows the boot variables (UEFI 2.10, 3.3) that the bytes of a set file hold, all of them. The report has the lines
 /// `variables N`, one for each entry, a variable named `Boot` and four hexadecimal digits in upper case, by rising
 /// number, `order` with the numbers of BootOrder or `-` where there is none, `next` with that of BootNext or `-`, and
-/// the words of the [`plan`] of what a boot would try (3.1). The line of an entry has its name, `normal` or `other`, as
-/// `LoadOption::is_normal` says, and its description, or its name and `undecodable` where its bytes are no load option.
+/// `plan next`, `normal` and the numbers of each, of what a boot would try (3.1), as [`plan_numbers`] gives them. The line
+/// of an entry has its name, `normal` or `other`, as [`is_normal`] says, and its description, or its name and `undecodable`
+/// where its bytes are no load option.
 ///
 /// # Errors
 ///
@@ -114,8 +115,10 @@ fn variables_report(alloc: Global, vars: &Vars) -> Result<String, Refusal>
     let mut report = format!(in alloc; "variables {}\n", vars.len())?;
     append_entries(alloc, vars, &mut report)?;
     append_numbers("order", &order, &mut report)?;
-    append_numbers("next", next.as_slice(), &mut report)?;
-    writeln!(report, "{}", plan.words(alloc)?)?;
+    append_numbers("\nnext", next.as_slice(), &mut report)?;
+    append_numbers("\nplan next", plan.next.as_slice(), &mut report)?;
+    append_numbers(" normal", &plan.normal, &mut report)?;
+    report.push('\n')?;
     Ok(report)
 }
 
@@ -135,11 +138,11 @@ fn read_next(alloc: Global, vars: &Vars) -> Result<Option<u16>, Refusal>
     boot_next(vars).map_err(|fault| refuse(alloc, fault))
 }
 
-/// The plan of what a boot would try.
-fn read_plan(alloc: Global, vars: &Vars) -> Result<BootPlan, Refusal>
+/// The numbers of what a boot would try.
+fn read_plan(alloc: Global, vars: &Vars) -> Result<PlanNumbers, Refusal>
     ensures refused { IfErr result (λ refusal. IfInput refusal (TellsVarFault vars.now)) }
 {
-    plan(alloc, vars).map_err(|fault| refuse(alloc, fault))
+    plan_numbers(alloc, vars).map_err(|fault| refuse(alloc, fault))
 }
 
 /// Appends the line of each entry.
@@ -159,22 +162,21 @@ fn append_entry(
     data: &[u8],
     report: &mut String,
 ) -> Result<(), AllocError> {
-    match read_option(alloc, data) {
+    match check_option(data) {
         Ok(option) => {
-            let kind = if option.is_normal() {
+            let kind = if is_normal(option.attributes) {
                 "normal"
             } else {
                 "other"
             };
-            let description = description_text(alloc, option.description())?;
+            let description = option.description_text(alloc)?;
             writeln!(report, "{name} {kind} {description}")
         }
-        Err(OptionFault::OutOfMemory) => Err(AllocError),
         Err(_) => writeln!(report, "{name} undecodable"),
     }
 }
 
-/// Appends a line of the word and the numbers, each with four hexadecimal digits in upper case, or `-` where there is
+/// Appends the word and the numbers, each behind a blank with four hexadecimal digits in upper case, or `-` where there is
 /// none.
 fn append_numbers(word: &str, numbers: &[u16], report: &mut String) -> Result<(), AllocError> {
     report.push_str(word)?;
@@ -184,7 +186,7 @@ fn append_numbers(word: &str, numbers: &[u16], report: &mut String) -> Result<()
     for number in numbers {
         write!(report, " {number:04X}")?;
     }
-    report.push('\n')
+    Ok(())
 }
 
 fn yes_or_no(is: bool) -> &'static str {

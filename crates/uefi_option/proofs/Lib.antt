@@ -5,4 +5,5 @@ pub mod Comparison
 pub mod Fronts
 pub mod Options
 pub mod Reader
+pub mod Views
 pub mod Lengths

@@ -50,9 +50,9 @@ split_front : (bytes : List ℕ) (attributes : ℕ) (description list optional :
 split_front bytes attributes description list optional split =
     front_read bytes attributes (length list) ((description ++ to_le_bytes w16 0) ++ (list ++ optional)) description (list ++ optional) (split.four_bytes, let len = split.len in omega (arith, len)) split.parts (record { units = split.units; parts = refl })
 
-pub list_fault_is : (bytes : List ℕ) (attributes : ℕ) (description list optional : List ℕ) (start : ℕ) (f : OptionFault) → SplitsOption bytes attributes description list optional → start ≡ length bytes - length optional - length list → IsListFault list start f → f ≢ fault.OutOfMemory
+pub list_fault_is : (bytes : List ℕ) (attributes : ℕ) (description list optional : List ℕ) (start : ℕ) (f : OptionFault) → SplitsOption bytes attributes description list optional → start ≡ length bytes - length optional - length list → IsListFault list start f
     → IsFirstFault bytes f
-list_fault_is bytes attributes description list optional start (fault.Path place path_fault) split at h cause =
+list_fault_is bytes attributes description list optional start (fault.Path place path_fault) split at h =
     let front = header_bytes attributes (length list) ++ (description ++ to_le_bytes w16 0) in
     let whole = split_front bytes attributes description list optional split in
     let size : length bytes ≡ length front + (length list + length optional) = ap length whole.parts ∙ length-append front (list ++ optional) ∙ ap (λ (n : ℕ). length front + n) (length-append list optional) in
@@ -69,16 +69,16 @@ list_fault_is bytes attributes description list optional start (fault.Path place
       at = h.at ∙ ap (λ (n : ℕ). n + length (list_bytes h.paths)) begins ∙ sym (length-append front (list_bytes h.paths));
       first = h.first;
     }
-list_fault_is bytes attributes description list optional start fault.OutOfMemory split at h cause = absurd (cause refl)
-list_fault_is bytes attributes description list optional start fault.Short split at h cause = absurd h
-list_fault_is bytes attributes description list optional start fault.NoTerminator split at h cause = absurd h
-list_fault_is bytes attributes description list optional start fault.ListPastEnd split at h cause = absurd h
-list_fault_is bytes attributes description list optional start fault.EmptyList split at h cause = absurd h
-list_fault_is bytes attributes description list optional start fault.ZeroUnit split at h cause = absurd h
-list_fault_is bytes attributes description list optional start fault.ListTooLong split at h cause = absurd h
+list_fault_is bytes attributes description list optional start fault.OutOfMemory split at h = absurd h
+list_fault_is bytes attributes description list optional start fault.Short split at h = absurd h
+list_fault_is bytes attributes description list optional start fault.NoTerminator split at h = absurd h
+list_fault_is bytes attributes description list optional start fault.ListPastEnd split at h = absurd h
+list_fault_is bytes attributes description list optional start fault.EmptyList split at h = absurd h
+list_fault_is bytes attributes description list optional start fault.ZeroUnit split at h = absurd h
+list_fault_is bytes attributes description list optional start fault.ListTooLong split at h = absurd h
 
 -- a list that is not empty is that of some path
-some_path : (list : List ℕ) (paths : List Path) → list ≡ list_bytes paths → 0 < length list → paths ≢ []
+pub some_path : (list : List ℕ) (paths : List Path) → list ≡ list_bytes paths → 0 < length list → paths ≢ []
 some_path list paths parts some none =
     let size : length list ≡ 0 = ap length parts ∙ ap (λ (ps : List Path). length (list_bytes ps)) none in
     omega arith

@@ -34,7 +34,7 @@ unit_fits low high rest unit fits is = omega (arith, fits 0, fits 1, is)
 
 -- ---- units that are read again
 
-two_bytes : (units : List ℕ) → AllByRecursion IsUnit units → AllByRecursion IsTwoByte units
+pub two_bytes : (units : List ℕ) → AllByRecursion IsUnit units → AllByRecursion IsTwoByte units
 two_bytes [] valid = tt
 two_bytes (n ∷ units) valid = (valid.0.1, two_bytes units valid.1)
 

@@ -3,6 +3,7 @@ pub mod LoadOption
 pub mod Attributes
 pub mod Text
 pub mod Fault
+pub mod View
 pub mod Making
 pub mod Words
 pub mod Equality

@@ -49,7 +49,13 @@ pub record HasListFault (list : List ℕ) (start place : ℕ) (path_fault : Path
   pub at : place ≡ start + length (list_bytes paths)
   pub first : IsFirstPathFault rest path_fault
 
+-- the list is spellings of paths, one after the other
+pub record ArePaths (list : List ℕ) : Type 0 where
+  pub paths : List (List (List Node))
+  pub whole : AllByRecursion IsPath paths
+  pub parts : list ≡ list_bytes paths
+
+-- the fault is one of a path in the list, which begins at start
 abbrev pub IsListFault : List ℕ → ℕ → OptionFault → Type 0
 IsListFault list start (fault.Path place path_fault) = HasListFault list start place path_fault
-IsListFault list start fault.OutOfMemory = Unit {0}
 IsListFault list start _ = ⊥

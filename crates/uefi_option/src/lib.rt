@@ -3,6 +3,7 @@
 //! A [`LoadOption`] is what stands in a variable `Boot####`: attributes, a description, device paths and
 //! optional data. [`read_option`] reads one from its bytes, all of them, [`make_option`] makes one of its
 //! parts, and [`write_option`] gives its one spelling, so an option that was read is written as it was.
+//! [`check_option`] finds the same parts where they stand in the bytes, as an [`OptionView`], and takes no memory.
 #![tactic(auto)]
 
 mod attributes;
@@ -12,6 +13,7 @@ mod load_option;
 mod making;
 mod reading;
 mod text;
+mod view;
 mod writing;
 
 pub use attributes::{
@@ -21,8 +23,9 @@ pub use attributes::{
 pub use fault::{OptionFault, OptionRefused};
 pub use load_option::{LIST_MAX, LoadOption};
 pub use making::make_option;
-pub use reading::read_option;
+pub use reading::{check_option, read_option};
 pub use text::description_text;
+pub use view::OptionView;
 pub use writing::write_option;
 
 #[cfg(test)]

@@ -1,6 +1,6 @@
 //! Bytes to load options.
 
-ghost use Rattle.std.specs.Prelude.{◌≡◌, ◌≢◌, ◌+◌, ◌<◌, ◌≤◌, ◌^◌, ◌++◌, ℕ, length, IfOk, IfErr, IfSome, IfNone, Ok, Err};
+ghost use Rattle.std.specs.Prelude.{◌≡◌, ◌≢◌, ◌+◌, ◌<◌, ◌≤◌, ◌^◌, ◌++◌, ℕ, length, IfOk, IfErr, IfSome, IfNone, IsOkAnd, OnOk, Ok, Err};
 ghost use Rattle.std.specs.List.{AllByRecursion};
 ghost use Rattle.uefi_path.specs.declared.fault.PathFault.{PathFault};
 ghost use Rattle.uefi_path.specs.Answer.{IsUnless};
@@ -8,22 +8,15 @@ ghost use Rattle.uefi_path.specs.Path.{IsPath};
 ghost use Rattle.uefi_option.specs.declared.fault.OptionFault.{OptionFault};
 ghost use Rattle.uefi_option.specs.LoadOption.{OptionParts, SpellsOption, header_bytes, list_bytes};
 ghost use Rattle.uefi_option.specs.Fault.{IsFirstFault};
-ghost use Rattle.uefi_option.specs.Reading.{AreUnits, SplitsUnits, HasNoZero, SplitsOption, IsListFault};
+ghost use Rattle.uefi_option.specs.View.{ShowsOption, IsCutFrom};
+ghost use Rattle.uefi_option.specs.Reading.{AreUnits, SplitsUnits, HasNoZero, SplitsOption, ArePaths, IsListFault};
 
 use crate::fault::OptionFault;
 use crate::laws;
 use crate::load_option::LoadOption;
-use std::alloc::Global;
-use uefi_path::{Path, PathFault, laws as path_laws, read_path, read_units};
-
-/// The parts of a load option as they stand in the bytes; the description is without its zero unit.
-#[derive(Clone, Copy)]
-struct RawOption<'a> {
-    attributes: u32,
-    description: &'a [u8],
-    list: &'a [u8],
-    optional: &'a [u8],
-}
+use crate::view::OptionView;
+use std::alloc::{AllocError, Global};
+use uefi_path::{Path, PathFault, check_path, laws as path_laws, read_path, read_units};
 
 /// The attributes, the length of the list, and the bytes behind them, if there are the six bytes of the two.
 fn split_header(bytes: &[u8]) -> Option<(u32, usize, &[u8])>
@@ -60,9 +53,9 @@ fn split_units(bytes: &[u8]) -> Option<(&[u8], &[u8])>
 }
 
 /// The parts of the option that the bytes are, if they are one as far as can be told without reading a path.
-fn split_option(bytes: &[u8]) -> Result<RawOption<'_>, OptionFault>
-    ensures found { IfOk result (λ raw.
-        SplitsOption bytes.now raw.attributes raw.description.now raw.list.now raw.optional.now) }
+fn split_option(bytes: &[u8]) -> Result<OptionView<'_>, OptionFault>
+    ensures found { IfOk result (λ view.
+        SplitsOption bytes.now view.attributes view.description.now view.list.now view.optional.now) }
     ensures fault { IfErr result (λ fault. IsFirstFault bytes.now fault) }
 {
     let Some((attributes, len, rest)) = split_header(bytes) else {
@@ -78,7 +71,7 @@ fn split_option(bytes: &[u8]) -> Result<RawOption<'_>, OptionFault>
         return Err(OptionFault::EmptyList);
     }
     let (list, optional) = rest.split_at(len);
-    Ok(RawOption {
+    Ok(OptionView {
         attributes,
         description,
         list,
@@ -86,54 +79,40 @@ fn split_option(bytes: &[u8]) -> Result<RawOption<'_>, OptionFault>
     })
 }
 
-/// The fault of a list in which no path begins at this place.
-fn fault_at(place: usize, fault: PathFault) -> OptionFault
-    ensures path { fault ≢ PathFault.OutOfMemory → result ≡ OptionFault.Path place fault }
-    ensures memory { fault ≡ PathFault.OutOfMemory → result ≡ OptionFault.OutOfMemory }
-{
-    match fault {
-        PathFault::OutOfMemory => OptionFault::OutOfMemory,
-        fault => OptionFault::Path(place, fault),
-    }
-}
-
-/// The paths that the list is, one after the other. The list begins at this offset of the option.
-fn read_paths(alloc: Global, list: &[u8], start: usize) -> Result<Vec<Path>, OptionFault>
+/// Looks whether the list is paths, one after the other. The list begins at this offset of the option.
+fn check_paths(list: &[u8], start: usize) -> Result<(), OptionFault>
     requires { start + length list.now < 2 ^ 64 }
-    ensures valid { IfOk result (λ paths. AllByRecursion IsPath paths.items) }
-    ensures found { IfOk result (λ paths. list.now ≡ list_bytes paths.items) }
+    ensures ok { OnOk result (ArePaths list.now) }
     ensures fault { IfErr result (λ fault. IsListFault list.now start fault) }
 {
-    let mut paths = Vec::new(alloc);
     let mut rest = list;
     while !rest.is_empty() {
-        let place = start + (list.len() - rest.len());
-        let (path, len) = match read_path(alloc, rest) {
-            Ok(read) => read,
-            Err(fault) => return Err(fault_at(place, fault)),
-        };
-        paths.push(path)?;
-        rest = &rest[len..];
+        match check_path(rest) {
+            Ok(len) => rest = &rest[len..],
+            Err(fault) => {
+                let place = start + (list.len() - rest.len());
+                return Err(OptionFault::Path(place, fault));
+            }
+        }
     }
-    Ok(paths)
+    Ok(())
 }
 
-/// Reads an option, and says of its answer what is found.
-fn read_parts(alloc: Global, bytes: &[u8]) -> Result<LoadOption, OptionFault>
-    ensures found { IfOk result (λ option. SpellsOption bytes.now option) }
-    ensures fault { IfErr result (λ fault.
-        fault ≢ OptionFault.OutOfMemory → IsFirstFault bytes.now fault) }
+/// Finds an option, and says of its answer what is found.
+fn find_option(bytes: &[u8]) -> Result<OptionView<'_>, OptionFault>
+    ensures found { IfOk result (λ view.
+        (option : OptionParts) × SpellsOption bytes.now option × ShowsOption view option) }
+    ensures places { IfOk result (λ view. IsCutFrom view bytes.now) }
+    ensures fault { IfErr result (λ fault. IsFirstFault bytes.now fault) }
 {
-    let raw = split_option(bytes)?;
-    let start = bytes.len() - raw.optional.len() - raw.list.len();
-    let paths = read_paths(alloc, raw.list, start)?;
-    let description = read_units(alloc, raw.description)?;
-    let optional = Vec::from_slice(alloc, raw.optional)?;
-    Ok(LoadOption::of_parts(raw.attributes, description, paths, optional))
+    let view = split_option(bytes)?;
+    let start = bytes.len() - view.optional.len() - view.list.len();
+    check_paths(view.list, start)?;
+    Ok(view)
 }
 
-/// Reads the load option that the bytes are, all of them (UEFI 2.10, 3.1.3). What stands behind the list of paths is
-/// its optional data.
+/// Finds the load option that the bytes are, all of them (UEFI 2.10, 3.1.3), where it stands: [`read_option`] without
+/// the memory. What stands behind the list of paths is its optional data.
 ///
 /// # Errors
 ///
@@ -141,7 +120,53 @@ fn read_parts(alloc: Global, bytes: &[u8]) -> Result<LoadOption, OptionFault>
 /// [`OptionFault::NoTerminator`] where no zero unit closes the description; [`OptionFault::ListPastEnd`] where fewer
 /// bytes follow than the list is to have; [`OptionFault::EmptyList`] where it is to have none; [`OptionFault::Path`]
 /// where in the list, behind whole paths, no path begins, which ends where the list ends.
-/// [`OptionFault::OutOfMemory`] comes where memory was refused, also before a fault of a path.
+pub fn check_option(bytes: &[u8]) -> Result<OptionView<'_>, OptionFault>
+    // What is found is spelled so.
+    ensures found { IfOk result (λ view.
+        (option : OptionParts) × SpellsOption bytes.now option × ShowsOption view option) }
+    // Each part is the slice of the input at its place.
+    ensures places { IfOk result (λ view. IsCutFrom view bytes.now) }
+    // What is spelled so is found.
+    ensures only { (option : OptionParts) → SpellsOption bytes.now option →
+        IsOkAnd result (λ view. ShowsOption view option) }
+
+    ensures fault { IfErr result (λ fault. IsFirstFault bytes.now fault) }
+    ensures only_fault { (fault : OptionFault) → IsFirstFault bytes.now fault → result ≡ Err fault }
+    // No memory is taken.
+    ensures memory { result ≢ Err OptionFault.OutOfMemory }
+    ensures own_memory { (place : ℕ) → result ≢ Err (OptionFault.Path place PathFault.OutOfMemory) }
+{
+    laws::bytes_spell_one_option();
+    laws::a_fault_leaves_no_option();
+    laws::bytes_have_one_first_fault();
+    find_option(bytes)
+}
+
+/// The paths that the list is, one after the other.
+fn read_paths(alloc: Global, list: &[u8]) -> Result<Vec<Path>, AllocError>
+    ensures valid { IfOk result (λ paths. AllByRecursion IsPath paths.items) }
+    ensures found { IfOk result (λ paths. list.now ≡ list_bytes paths.items) }
+{
+    let mut paths = Vec::new(alloc);
+    let mut rest = list;
+    while !rest.is_empty() {
+        // The list is whole paths, so nothing is refused but memory.
+        let Ok((path, len)) = read_path(alloc, rest) else {
+            return Err(AllocError);
+        };
+        paths.push(path)?;
+        rest = &rest[len..];
+    }
+    Ok(paths)
+}
+
+/// Reads the load option that the bytes are, all of them (UEFI 2.10, 3.1.3). What stands behind the list of paths is
+/// its optional data.
+///
+/// # Errors
+///
+/// Those of [`check_option`], before any memory is taken. [`OptionFault::OutOfMemory`] comes only for bytes that are a
+/// load option, where memory for its parts was refused.
 pub fn read_option(alloc: Global, bytes: &[u8]) -> Result<LoadOption, OptionFault>
     // What is read is spelled so.
     ensures found { IfOk result (λ option. SpellsOption bytes.now option) }
@@ -157,7 +182,10 @@ pub fn read_option(alloc: Global, bytes: &[u8]) -> Result<LoadOption, OptionFaul
     ensures own_memory { (place : ℕ) → result ≢ Err (OptionFault.Path place PathFault.OutOfMemory) }
 {
     laws::bytes_spell_one_option();
-    laws::a_fault_leaves_no_option();
-    laws::bytes_have_one_first_fault();
-    read_parts(alloc, bytes)
+    path_laws::units_are_read_again();
+    let view = check_option(bytes)?;
+    let paths = read_paths(alloc, view.list)?;
+    let description = read_units(alloc, view.description)?;
+    let optional = Vec::from_slice(alloc, view.optional)?;
+    Ok(LoadOption::of_parts(view.attributes, description, paths, optional))
 }

@@ -1,7 +1,7 @@
 use super::*;
 use std::alloc::Global;
 use std::test::Fail;
-use uefi_path::{BODY_MAX, Path, PathFault, make_path, read_path};
+use uefi_path::{BODY_MAX, Path, PathFault, append_units, make_path, read_path};
 
 /// The option `A` of a disk: active, and with one path of three nodes, the ACPI root 0, the PCI device 31 with
 /// function 2, and the SATA port 0.
@@ -87,6 +87,61 @@ fn reads_writes_makes_and_copies_options(rt: HostRuntime) -> Result<(), Fail> {
 }
 
 #[test]
+fn shows_options_where_they_stand(rt: HostRuntime) -> Result<(), Fail> {
+    let path = &DISK[LIST..];
+    let end: [u8; 4] = [0x7f, 0xff, 0x04, 0x00];
+    let with_data: [u8; 45] = [
+        0x01, 0x00, 0x00, 0x00, 0x20, 0x00, 0x41, 0x00, 0x00, 0x00, 0x02, 0x01, 0x0c, 0x00, 0xd0,
+        0x41, 0x03, 0x0a, 0x00, 0x00, 0x00, 0x00, 0x01, 0x01, 0x06, 0x00, 0x02, 0x1f, 0x03, 0x12,
+        0x0a, 0x00, 0x00, 0x00, 0xff, 0xff, 0x00, 0x00, 0x7f, 0xff, 0x04, 0x00, 0x5a, 0x00, 0x41,
+    ];
+    // a second path behind the list is optional data
+    let one: [u8; 16] = [
+        0xff, 0xff, 0xff, 0xff, 0x04, 0x00, 0x00, 0x00, 0x7f, 0xff, 0x04, 0x00, 0x7f, 0xff, 0x04,
+        0x00,
+    ];
+    let two: [u8; 20] = [
+        0x09, 0x01, 0x00, 0x80, 0x08, 0x00, 0x42, 0x00, 0x00, 0xd8, 0x00, 0x00, 0x7f, 0xff, 0x04,
+        0x00, 0x7f, 0xff, 0x04, 0x00,
+    ];
+    let both: [u8; 8] = [0x7f, 0xff, 0x04, 0x00, 0x7f, 0xff, 0x04, 0x00];
+    // the bytes, and what is shown: attributes, the bytes of the description, of the list and of the optional data, and
+    // the description as text
+    let table: [(&[u8], u32, &[u8], &[u8], &[u8], &str); 4] = [
+        (&DISK, 0x0000_0001, &[0x41, 0x00], path, &[], "A"),
+        (
+            &with_data,
+            0x0000_0001,
+            &[0x41, 0x00],
+            path,
+            &[0x5a, 0x00, 0x41],
+            "A",
+        ),
+        (&one, 0xffff_ffff, &[], &end, &end, ""),
+        (
+            &two,
+            0x8000_0109,
+            &[0x42, 0x00, 0x00, 0xd8],
+            &both,
+            &[],
+            "B\\d800",
+        ),
+    ];
+    for (bytes, attributes, description, list, optional, text) in table {
+        let view = check_option(bytes)?;
+        let shown = OptionView {
+            attributes,
+            description,
+            list,
+            optional,
+        };
+        assert_eq!(rt; view, shown, "of {bytes:?}");
+        assert_eq!(rt; view.description_text(rt.alloc())?.as_str(), text);
+    }
+    Ok(())
+}
+
+#[test]
 fn compares_every_part(rt: HostRuntime) -> Result<(), Fail> {
     let (one, two) = (empty_paths(rt.alloc(), 1)?, empty_paths(rt.alloc(), 2)?);
     let option = make_option(rt.alloc(), 1, &[0x41], one.as_slice(), &[0x5a])?;
@@ -115,6 +170,7 @@ fn tells_the_fault_of_each_cut(rt: HostRuntime) {
             Ok(_) => assert!(rt; false, "{len} bytes are read"),
             Err(found) => assert_eq!(rt; found, fault, "of {len} bytes"),
         }
+        assert_eq!(rt; check_option(&DISK[..len]), Err(fault), "of {len} bytes");
     }
 }
 
@@ -170,6 +226,7 @@ fn tells_the_first_fault_of_an_option(rt: HostRuntime) -> Result<(), Fail> {
             Ok(_) => assert!(rt; false, "{bytes:?} is read"),
             Err(found) => assert_eq!(rt; found, fault, "of {bytes:?}"),
         }
+        assert_eq!(rt; check_option(bytes), Err(fault), "of {bytes:?}");
     }
     Ok(())
 }
@@ -280,6 +337,15 @@ fn shows_descriptions(rt: HostRuntime) -> Result<(), Fail> {
     ];
     for (units, text) in table {
         assert_eq!(rt; description_text(rt.alloc(), units)?.as_str(), text);
+        let mut bytes = Vec::new(rt.alloc());
+        append_units(units, &mut bytes)?;
+        let view = OptionView {
+            attributes: 0,
+            description: &bytes,
+            list: &[],
+            optional: &[],
+        };
+        assert_eq!(rt; view.description_text(rt.alloc())?.as_str(), text);
     }
     Ok(())
 }

@@ -8,5 +8,7 @@ pub mod Rows
 pub mod Faults
 pub mod Paths
 pub mod Reader
+pub mod Rowed
 pub mod Comparison
 pub mod Whole
+pub mod Views

@@ -12,7 +12,7 @@ use Rattle.uefi_path.specs.Path.{IsPath, IsPathFront, separator, path_bytes, pat
 use Rattle.uefi_path.specs.Fault.{IsBeforeEnd, IsFirstFault}
 use Rattle.uefi_path.specs.Reading.{node_of}
 use Rattle.uefi_path.proofs.Bytes.{AllByRecursion-append}
-use Rattle.uefi_path.proofs.Inverse.{node_of-row_of, row_of_is_row}
+use Rattle.uefi_path.proofs.Inverse.{node_of-row_of, node_of_has_row, row_of_is_row}
 use Rattle.uefi_path.proofs.Rows.{same_rows, entire_stops, entire_is_row, instance_is_row, same_parts}
 use Rattle.uefi_path.proofs.Faults.{first_fault_stops, no_fault_at_end}
 
@@ -95,6 +95,21 @@ instances_of-path_rows nodes (more ∷ others) valid =
     let next : instances_of (path_rows (more ∷ others)) ≡ more ∷ others = instances_of-path_rows more others valid.1 in
     instances_of_nodes nodes [] (more ∷ others) (end_instance ∷ path_rows (more ∷ others)) valid.0 (ap (λ (is : List (List Node)). [] ∷ is) next) ∙ ap (λ (ns : List Node). ns ∷ more ∷ others) (append-nil nodes)
 
+-- rows that stand before the end of a path are those of some path
+path_of : (rows : List Row) → AllByRecursion IsBeforeEnd rows → (first : List Node) × (others : List (List Node)) × AllByRecursion (AllByRecursion IsNode) (first ∷ others) × (path_rows (first ∷ others) ≡ rows)
+path_of [] inner = ([], [], (tt, tt), refl)
+path_of (r ∷ rows) inner =
+    let rest = path_of rows inner.1 in
+    elim inner.0.no_end [
+      | inl node ↦
+          let has = node_of_has_row r inner.0.row node in
+          (node_of r ∷ rest.0, rest.1, ((has.0, rest.2.0), rest.2.1), ap (λ (q : Row). q ∷ path_rows (rest.0 ∷ rest.1)) has.1 ∙ ap (λ (rs : List Row). r ∷ rs) rest.3)
+      | inr ends ↦ ([], rest.0 ∷ rest.1, (tt, rest.2), ap (λ (q : Row). q ∷ path_rows (rest.0 ∷ rest.1)) (sym ends) ∙ ap (λ (rs : List Row). r ∷ rs) rest.3)
+    ]
+
+pub some_path : (rows : List Row) → AllByRecursion IsBeforeEnd rows → (path : List (List Node)) × IsPath path × (path_rows path ≡ rows)
+some_path rows inner = let p = path_of rows inner in (p.0 ∷ p.1, record { some = λ e. cc; nodes = p.2 }, p.3)
+
 -- ---- the one path of some bytes
 
 pub path_bytes_of_rows : (instances : List (List Node)) → IsPath instances → path_bytes instances ≡ flat_map row_bytes (path_rows instances) ++ row_bytes end_entire
@@ -105,7 +120,7 @@ pub rows_of_path : (instances : List (List Node)) (behind : List ℕ) → IsPath
 rows_of_path instances behind is =
     ap (λ (t : List ℕ). t ++ behind) (path_bytes_of_rows instances is) ∙ append_assoc (flat_map row_bytes (path_rows instances)) (row_bytes end_entire) behind
 
-same_instances : (p q : List (List Node)) → IsPath p → IsPath q → path_rows p ≡ path_rows q → p ≡ q
+pub same_instances : (p q : List (List Node)) → IsPath p → IsPath q → path_rows p ≡ path_rows q → p ≡ q
 same_instances [] q is-p is-q e = absurd (is-p.some refl)
 same_instances (n ∷ p) [] is-p is-q e = absurd (is-q.some refl)
 same_instances (n ∷ p) (m ∷ q) is-p is-q e =
@@ -126,10 +141,10 @@ no_fault_before input f p behind is e first =
 
 -- ---- fronts of the input
 
-front_splits : (input : List ℕ) (p : List (List Node)) (n : ℕ) → IsPathFront input p n → input ≡ path_bytes p ++ drop n input
+pub front_splits : (input : List ℕ) (p : List (List Node)) (n : ℕ) → IsPathFront input p n → input ≡ path_bytes p ++ drop n input
 front_splits input p n front = sym (take-append-drop n input) ∙ ap (λ (t : List ℕ). t ++ drop n input) front.spelled.1
 
-front_len : (input : List ℕ) (p : List (List Node)) (n : ℕ) → IsPathFront input p n → n ≡ length (path_bytes p)
+pub front_len : (input : List ℕ) (p : List (List Node)) (n : ℕ) → IsPathFront input p n → n ≡ length (path_bytes p)
 front_len input p n front = sym (length-take-le n input front.within) ∙ ap length front.spelled.1
 
 pub same_front : (input : List ℕ) (p q : List (List Node)) (m n : ℕ) → IsPathFront input p m → IsPathFront input q n → (p ≡ q) × (m ≡ n)

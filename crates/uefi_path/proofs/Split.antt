@@ -54,7 +54,7 @@ ends_of kind sub body len size ends =
     ]
 
 -- the data of the node whose bytes are the front of some bytes
-data_of_front : (bytes node : List ℕ) (len : ℕ) → 4 ≤ len → len ≤ length bytes → node ≡ take len bytes → take (length node - 4) (drop 4 node) ≡ take (len - 4) (drop 4 bytes)
+pub data_of_front : (bytes node : List ℕ) (len : ℕ) → 4 ≤ len → len ≤ length bytes → node ≡ take len bytes → take (length node - 4) (drop 4 node) ≡ take (len - 4) (drop 4 bytes)
 data_of_front bytes node len least within is =
     let size : length node ≡ len = rw is (omega (arith, length-take len bytes)) in
     let cut : drop 4 node ≡ take (len - 4) (drop 4 bytes) = ap (drop 4) (is ∙ ap (λ (n : ℕ). take n bytes) (omega arith)) ∙ drop-take 4 (len - 4) bytes in

@@ -10,10 +10,10 @@ use Rattle.uefi_path.specs.declared.fault.PathFault.TheVariants.{NoEnd, ShortHea
 use Rattle.uefi_path.specs.Row.{Row, row, IsByte, row_bytes}
 use Rattle.uefi_path.specs.Path.{IsPathFront}
 use Rattle.uefi_path.specs.Fault.{HasHeader, IsEnd, IsFaultAt, IsFirstFault}
-use Rattle.uefi_path.specs.Reading.{node_of, IsHeader, SplitsRow}
+use Rattle.uefi_path.specs.Reading.{IsHeader, SplitsRow}
 use Rattle.uefi_path.proofs.Bytes.{bytes_from_recursion}
 use Rattle.uefi_path.proofs.Split.{header_of_bytes, splits_row}
-use Rattle.uefi_path.proofs.Reader.{HasRead, nothing_read, one_node, one_instance, whole_path, fault_read}
+use Rattle.uefi_path.proofs.Rowed.{HasRows, no_rows, one_row, path_ends, fault_stands}
 
 -- what each input does
 abbrev pub Begins : List ℕ → Type 0
@@ -63,11 +63,11 @@ behind_fits : (r rest : List ℕ) → AllByRecursion IsByte (r ++ rest) → AllB
 behind_fits [] rest fits = fits
 behind_fits (x ∷ r) rest fits = behind_fits r rest fits.1
 
-begins : (n : ℕ) (bytes : List ℕ) (instances : List (List Node)) (nodes : List Node) (rest : List ℕ) → length rest < n → AllByRecursion IsByte rest → HasRead bytes instances nodes rest → Begins bytes
-begins zero bytes instances nodes rest less fits read = absurd (omega (arith, less))
-begins (suc n) bytes instances nodes rest less fits read =
+begins : (n : ℕ) (bytes rest : List ℕ) → length rest < n → AllByRecursion IsByte rest → HasRows bytes rest → Begins bytes
+begins zero bytes rest less fits h = absurd (omega (arith, less))
+begins (suc n) bytes rest less fits h =
     elim (step (length bytes - length rest) rest fits) [
-      | inl stop ↦ inr (stop.0, fault_read bytes instances nodes rest stop.0 read stop.1)
+      | inl stop ↦ inr (stop.0, fault_stands bytes rest stop.0 h stop.1)
       | inr more ↦
           let r = more.0 in
           let behind = more.1 in
@@ -76,13 +76,13 @@ begins (suc n) bytes instances nodes rest less fits read =
           let rest-fits : AllByRecursion IsByte behind = behind_fits (row_bytes r) behind (subst (AllByRecursion IsByte) split.parts fits) in
           let shorter : length behind < n = omega (arith, less, size) in
           elim (cases_eq r.kind 127) [
-            | inr other ↦ begins n bytes instances (nodes ++ node_of r ∷ []) behind shorter rest-fits (one_node bytes instances nodes rest behind r (node_of r) read split other refl)
+            | inr other ↦ begins n bytes behind shorter rest-fits (one_row bytes rest behind r h split (inl other))
             | inl ends ↦ elim (cases_eq r.sub 255) [
-              | inl all ↦ inl (instances ++ nodes ∷ [], length bytes - length behind, whole_path bytes instances nodes rest behind r read split ends all)
-              | inr one ↦ begins n bytes (instances ++ nodes ∷ []) [] behind shorter rest-fits (one_instance bytes instances nodes rest behind r read split ends one)
+              | inl all ↦ let p = path_ends bytes rest behind r h split ends all in inl (p.0, length bytes - length behind, p.1)
+              | inr one ↦ begins n bytes behind shorter rest-fits (one_row bytes rest behind r h split (inr one))
             ]
           ]
     ]
 
 pub bytes_begin : (bytes : List ℕ) → AllByRecursion IsByte bytes → Begins bytes
-bytes_begin bytes fits = begins (length bytes + 1) bytes [] [] bytes (omega arith) fits (nothing_read bytes)
+bytes_begin bytes fits = begins (length bytes + 1) bytes bytes (omega arith) fits (no_rows bytes)

@@ -7,6 +7,7 @@ pub mod Parts
 pub mod Node
 pub mod Path
 pub mod Nodes
+pub mod Views
 pub mod Fault
 pub mod Words
 pub mod Equality

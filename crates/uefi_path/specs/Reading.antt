@@ -11,6 +11,7 @@ use Rattle.uefi_path.specs.declared.fault.PathFault.{PathFault}
 use Rattle.uefi_path.specs.declared.fault.PathFault.TheVariants.{BadLength, PastEnd, BadEnd}
 use Rattle.uefi_path.specs.Parts.{vendor_of, Ipv4Parts, ipv4_parts, HardDriveParts, hard_drive_parts}
 use Rattle.uefi_path.specs.Row.{Row, IsRow, row_bytes, end_instance, end_entire}
+use Rattle.uefi_path.specs.Path.{IsPath, path_rows}
 use Rattle.uefi_path.specs.Fault.{IsEnd}
 
 -- the one value where the test holds, and the other where it does not
@@ -105,3 +106,8 @@ IsHeaderFault (PastEnd at) kind sub len remaining offset =
 IsHeaderFault (BadEnd at) kind sub len remaining offset =
     (at ≡ offset) × (kind ≡ 0x7F) × (4 ≤ len) × (len ≤ remaining) × (¬ IsEnd sub len)
 IsHeaderFault _ kind sub len remaining offset = ⊥
+
+-- the instances are a path, and these are its rows
+pub record HasRowsOf (instances : List (List Node)) (rows : List Row) : Type 0 where
+  pub is : IsPath instances
+  pub same : path_rows instances ≡ rows

@@ -22,6 +22,7 @@ mod table;
 mod units;
 mod uri;
 mod vendor;
+mod view;
 mod writing;
 
 pub use fault::{NameFault, NodeFault, PathFault};
@@ -34,10 +35,11 @@ pub use ipv4::Ipv4Node;
 pub use node::{Node, PCI_ROOT_HID, PCIE_ROOT_HID};
 pub use other::OtherNode;
 pub use path::{Nodes, Path, make_path};
-pub use reading::{node_from_parts, read_path};
+pub use reading::{check_path, node_from_parts, nodes, read_path};
 pub use units::{append_units, read_units};
 pub use uri::UriNode;
 pub use vendor::{VENDOR_BODY_MAX, Vendor};
+pub use view::{NodeIter, NodeView};
 pub use writing::{node_len, path_len, write_node, write_path};
 
 #[cfg(test)]

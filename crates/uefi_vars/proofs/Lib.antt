@@ -1,4 +1,5 @@
 pub mod Bytes
+pub mod Chosen
 pub mod Faults
 pub mod MapChanges
 pub mod Maps

@@ -14,7 +14,7 @@ use Rattle.uefi_vars.specs.Plan.{PlanParts, plan_parts, HasOption, IsChoice, IsN
 
 -- ---- what is equal where its parts are
 
-abbrev choice_of : ℕ → OptionParts → Choice
+abbrev pub choice_of : ℕ → OptionParts → Choice
 choice_of number option = record { number = number; option = option }
 
 pub same_choice : (a b : Choice) → a.number ≡ b.number → a.option ≡ b.option → a ≡ b
@@ -77,7 +77,7 @@ module _ (entries : ℕ → Option (List ℕ)) where
       rw (take_more order i 0 within) (subst (AreNormalChoices entries (take i order ++ get_or order i 0 ∷ [])) (append-nil choices) (more_choices (take i order) (get_or order i 0 ∷ []) choices [] f (inr (none, refl))))
 
   -- an option that isn't normal leaves none that is
-  pub no_other : SpellsOne → (number : ℕ) (choice : Choice) → IsChoice entries number choice → ¬ IsNormal choice.option.attributes → (other : Choice) → IsNormalChoice entries number other → ⊥
+  no_other : SpellsOne → (number : ℕ) (choice : Choice) → IsChoice entries number choice → ¬ IsNormal choice.option.attributes → (other : Choice) → IsNormalChoice entries number other → ⊥
   no_other one number choice is odd other f = odd (subst (λ (c : Choice). IsNormal c.option.attributes) (one_choice one entries number other choice f.0 is) f.1)
 
 -- ---- what there is at all

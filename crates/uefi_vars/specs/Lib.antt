@@ -12,3 +12,4 @@ pub mod PlanEquality
 -- what private contracts cite
 pub mod Records
 pub mod Reading
+pub mod Choosing

@@ -1,7 +1,8 @@
 -- What a boot would try: BootNext's option, and then options of BootOrder in their order (UEFI 2.10, 3.3). Which of them
 -- is a choice made here: BootNext's always, and of BootOrder's the normal ones. What is stored under the numbers of
 -- entries is seen as a function.
-use Rattle.std.specs.Prelude.{◌≡◌, ◌⊎◌, ℕ, List, [], ◌∷◌, Option, Some, None}
+use Rattle.std.specs.Prelude.{◌≡◌, ◌⊎◌, ℕ, List, [], ◌∷◌, map, Option, Some, None}
+use Rattle.std.specs.Option.{option_map}
 use Rattle.uefi_option.specs.LoadOption.{OptionParts, SpellsOption}
 use Rattle.uefi_option.specs.Attributes.{IsNormal}
 use Rattle.uefi_vars.specs.declared.boot_plan.Choice.{Choice}
@@ -61,3 +62,8 @@ pub record HasPlan (vars : Variables) (plan : PlanParts) : Type 0 where
   pub has_order : HasOrder vars order
   pub has_next : HasNext vars next
   pub is : IsPlan (entry_of vars) order next plan
+
+-- the numbers are those of the choices of the plan, in their order
+pub record AreNumbersOf (plan : PlanParts) (next : Option ℕ) (normal : List ℕ) : Type 0 where
+  pub first : next ≡ option_map (λ choice. choice.number) plan.next
+  pub others : normal ≡ map (λ choice. choice.number) plan.normal

@@ -135,6 +135,15 @@ impl BootPlan {
     }
 }
 
+/// The numbers of what a boot would try (UEFI 2.10, 3.3), without the options.
+#[derive(Debug, PartialEq, Eq, Drop)]
+pub struct PlanNumbers {
+    /// The number of the option that is tried first: `None` where [`BootPlan::next`] gives none.
+    pub next: Option<u16>,
+    /// The numbers of the options that are tried then, in their order, as [`BootPlan::normal`] gives them.
+    pub normal: Vec<u16>,
+}
+
 /// Equal choices, if there is memory for them.
 fn copy_choices(alloc: Global, choices: &[Choice]) -> Result<Vec<Choice>, AllocError>
     ensures { IfOk result (λ copies. copies.items ≡ choices.now) }

@@ -1,19 +1,21 @@
 //! Variables to the options of entries, and to a plan.
 
-ghost use Rattle.std.specs.Prelude.{◌≡◌, ◌↔◌, Some, Ok, Err, IfOk};
+ghost use Rattle.std.specs.Prelude.{◌≡◌, ◌↔◌, Some, Ok, Err, IfOk, MatchResult};
 ghost use Rattle.uefi_path.specs.Answer.{IsUnless};
 ghost use Rattle.uefi_vars.specs.declared.fault.VarFault.{VarFault};
 ghost use Rattle.uefi_vars.specs.Vars.{IsVars, entry_of};
 ghost use Rattle.uefi_vars.specs.Order.{HasBadOrder, HasBadNext};
-ghost use Rattle.uefi_vars.specs.Plan.{PlanParts, IsEntryOption, IsNextChoice, AreNormalChoices, HasPlan};
+ghost use Rattle.uefi_vars.specs.Plan.{PlanParts, IsEntryOption, IsNextChoice, AreNormalChoices, HasPlan, AreNumbersOf};
+ghost use Rattle.uefi_vars.specs.Choosing.{IsNextNumber, AreNormalNumbers};
 
-use crate::boot_plan::{BootPlan, Choice};
+use crate::boot_plan::{BootPlan, Choice, PlanNumbers};
+use crate::choosing::{Looks, read_bytes};
 use crate::fault::VarFault;
 use crate::laws;
 use crate::order::{boot_next, order_bytes};
 use crate::vars::Vars;
 use std::alloc::{AllocError, Global};
-use uefi_option::{LoadOption, OptionFault, is_normal, laws as option_laws, read_option};
+use uefi_option::{LoadOption, check_option};
 use uefi_path::read_units;
 
 /// The load option of the entry of this number, Boot#### (UEFI 2.10, 3.1.3), whatever its attributes are: `None` where
@@ -33,11 +35,7 @@ pub fn entry_option(
     let Some(bytes) = vars.entry(number) else {
         return Ok(None);
     };
-    match read_option(alloc, bytes) {
-        Ok(option) => Ok(Some(option)),
-        Err(OptionFault::OutOfMemory) => Err(AllocError),
-        Err(_) => Ok(None),
-    }
+    read_bytes(alloc, bytes)
 }
 
 /// The option of the entry of this number with the number, if the entry is there and is one.
@@ -69,16 +67,71 @@ fn read_normal_choices(alloc: Global, vars: &Vars, order: &[u16]) -> Result<Vec<
     ensures { IfOk result (λ choices.
         AreNormalChoices (entry_of vars.now) order.now choices.items) }
 {
-    option_laws::bytes_spell_one_option();
+    let mut looks = Looks::new(alloc, vars);
     let mut choices = Vec::new(alloc);
     for number in order {
-        if let Some(choice) = read_choice(alloc, vars, *number)? {
-            if is_normal(choice.option.attributes()) {
-                choices.push(choice)?;
-            }
+        if let Some(choice) = looks.read_normal(alloc, *number)? {
+            choices.push(choice)?;
         }
     }
     Ok(choices)
+}
+
+/// The numbers of an order that have a normal option, as often as they stand there.
+fn normal_numbers(alloc: Global, vars: &Vars, order: &[u16]) -> Result<Vec<u16>, AllocError>
+    ensures { IfOk result (λ numbers.
+        AreNormalNumbers (entry_of vars.now) order.now numbers.items) }
+{
+    let mut looks = Looks::new(alloc, vars);
+    let mut numbers = Vec::new(alloc);
+    for number in order {
+        if looks.is_normal(*number)? {
+            numbers.push(*number)?;
+        }
+    }
+    Ok(numbers)
+}
+
+/// The number of BootNext, if there is one, and its entry is there and is an option.
+fn next_number(vars: &Vars, next: Option<u16>) -> Option<u16>
+    ensures { IsNextNumber (entry_of vars.now) next result }
+{
+    let number = next?;
+    let bytes = vars.entry(number)?;
+    match check_option(bytes) {
+        Ok(_) => Some(number),
+        Err(_) => None,
+    }
+}
+
+/// The numbers of the options that a boot would try, as [`plan`] chooses them: that of BootNext, and then those of
+/// BootOrder, in its order and as often as they stand there (UEFI 2.10, 3.3). However often a number stands in BootOrder,
+/// its entry is looked at once, and the call takes memory for numbers alone, however large the entries are.
+///
+/// # Errors
+///
+/// [`VarFault::BadOrder`] where the bytes of BootOrder are odd in number or more than two for each of
+/// [`ORDER_MAX`](crate::ORDER_MAX) numbers; else [`VarFault::BadNext`] where BootNext has another number of bytes than
+/// two; else [`VarFault::OutOfMemory`] where memory was refused.
+pub fn plan_numbers(alloc: Global, vars: &Vars) -> Result<PlanNumbers, VarFault>
+    ensures found { IfOk result (λ numbers. (plan : PlanParts)
+        × HasPlan vars.now plan × AreNumbersOf plan numbers.next numbers.normal.items) }
+    ensures only { (plan : PlanParts) → HasPlan vars.now plan →
+        MatchResult result (λ numbers. AreNumbersOf plan numbers.next numbers.normal.items)
+        (λ fault. fault ≡ VarFault.OutOfMemory) }
+    ensures bad_order { (result ≡ Err VarFault.BadOrder) ↔ HasBadOrder vars.now }
+    ensures bad_next { (result ≡ Err VarFault.BadNext)
+        ↔ ((¬ HasBadOrder vars.now) × HasBadNext vars.now) }
+    ensures valid { IsVars vars.now }
+{
+    laws::variables_have_one_plan();
+    laws::a_bad_order_gives_no_order();
+    let bytes = order_bytes(vars)?;
+    let next = boot_next(vars)?;
+    let next = next_number(vars, next);
+    let order = read_units(alloc, bytes)?;
+    let normal = normal_numbers(alloc, vars, &order)?;
+    Ok(PlanNumbers { next, normal })
 }
 
 /// What a boot would try: the option that BootNext names, and then those that BootOrder names, in its order and as
@@ -88,7 +141,8 @@ fn read_normal_choices(alloc: Global, vars: &Vars, order: &[u16]) -> Result<Vec<
 /// boots by the plan deletes BootNext first.
 ///
 /// An option is held as often as its number stands there, so the plan of a small set may be large: up to
-/// [`ORDER_MAX`](crate::ORDER_MAX) times [`DATA_MAX`](crate::DATA_MAX) bytes.
+/// [`ORDER_MAX`](crate::ORDER_MAX) times [`DATA_MAX`](crate::DATA_MAX) bytes; [`plan_numbers`] gives the numbers alone.
+/// However often a number stands in BootOrder, an entry that is left out is looked at once, and isn't copied.
 ///
 /// # Errors
 ///

@@ -322,9 +322,17 @@ fn reads_order_and_next(rt: HostRuntime) -> Result<(), Fail> {
         assert_eq!(rt; boot_next(&vars).err(), Some(VarFault::BadNext));
         // both are at fault
         assert_eq!(rt; plan(rt.alloc(), &vars).err(), Some(VarFault::BadOrder));
+        assert_eq!(rt;
+            plan_numbers(rt.alloc(), &vars).err(),
+            Some(VarFault::BadOrder)
+        );
     }
     assert!(rt; vars.remove("BootOrder"));
     assert_eq!(rt; plan(rt.alloc(), &vars).err(), Some(VarFault::BadNext));
+    assert_eq!(rt;
+        plan_numbers(rt.alloc(), &vars).err(),
+        Some(VarFault::BadNext)
+    );
     Ok(())
 }
 
@@ -362,9 +370,15 @@ fn plans_the_normal_options_behind_the_next(rt: HostRuntime) -> Result<(), Fail>
     assert!(rt; entry_option(rt.alloc(), &vars, 5)?.is_none());
     let before = vars.copy(rt.alloc())?;
     let choice = plan(rt.alloc(), &vars)?;
+    let numbers = plan_numbers(rt.alloc(), &vars)?;
     assert!(rt; vars == before);
     assert!(rt; choice.next().is_some_and(|first| first.number == 7));
     assert_eq!(rt; choice.normal().len(), 2);
+    let expected = PlanNumbers {
+        next: Some(7),
+        normal: vec![in rt.alloc(); 4, 6]?,
+    };
+    assert_eq!(rt; numbers, expected);
     let copy = choice.copy(rt.alloc())?;
     assert!(rt; copy == choice);
     let (next, normal) = copy.into_parts();
@@ -381,33 +395,95 @@ fn plans_the_normal_options_behind_the_next(rt: HostRuntime) -> Result<(), Fail>
 
 #[test]
 fn puts_plans_into_words(rt: HostRuntime) -> Result<(), Fail> {
-    // what BootNext and BootOrder say, and the plan
-    let table: [(&[u8], &[u8], &str); 7] = [
+    // what BootNext and BootOrder say, the numbers of the plan, and the plan
+    let table: [(&[u8], &[u8], Option<u16>, &[u16], &str); 7] = [
         (
             &[7, 0],
             &[5, 0, 1, 0, 2, 0, 3, 0, 4, 0, 6, 0, 7, 0],
+            Some(7),
+            &[4, 6],
             "plan next 0007 normal 0004 0006",
         ),
         (
             &[1, 0],
             &[4, 0, 6, 0, 4, 0],
+            Some(1),
+            &[4, 6, 4],
             "plan next 0001 normal 0004 0006 0004",
         ),
-        (&[4, 0], &[4, 0], "plan next 0004 normal 0004"),
-        (&[3, 0], &[6, 0, 4, 0], "plan next - normal 0006 0004"),
-        (&[5, 0], &[7, 0], "plan next - normal -"),
-        (&[2, 0], &[1, 0], "plan next 0002 normal -"),
-        (&[6, 0], &[3, 0, 5, 0], "plan next 0006 normal -"),
+        (
+            &[4, 0],
+            &[4, 0],
+            Some(4),
+            &[4],
+            "plan next 0004 normal 0004",
+        ),
+        (
+            &[3, 0],
+            &[6, 0, 4, 0],
+            None,
+            &[6, 4],
+            "plan next - normal 0006 0004",
+        ),
+        (&[5, 0], &[7, 0], None, &[], "plan next - normal -"),
+        (&[2, 0], &[1, 0], Some(2), &[], "plan next 0002 normal -"),
+        (
+            &[6, 0],
+            &[3, 0, 5, 0],
+            Some(6),
+            &[],
+            "plan next 0006 normal -",
+        ),
     ];
     let mut vars = entries(rt.alloc())?;
-    for (next, order, line) in table {
+    for (next, order, first, others, line) in table {
         vars.put("BootNext", next)?;
         vars.put("BootOrder", order)?;
         let words = plan(rt.alloc(), &vars)?.words(rt.alloc())?;
         assert_eq!(rt; words.as_str(), line);
+        let numbers = plan_numbers(rt.alloc(), &vars)?;
+        assert_eq!(rt; numbers.next, first, "of {next:?}");
+        assert_eq!(rt; numbers.normal.as_slice(), others, "of {order:?}");
     }
     let words = plan(rt.alloc(), &Vars::new(rt.alloc()))?.words(rt.alloc())?;
     assert_eq!(rt; words.as_str(), "plan next - normal -");
+    let numbers = plan_numbers(rt.alloc(), &Vars::new(rt.alloc()))?;
+    assert!(rt; numbers.next.is_none() && numbers.normal.is_empty());
+    Ok(())
+}
+
+/// Variables whose BootOrder has the number 5 as often as it can, and this entry of the number.
+fn repeated(alloc: Global, entry: &[u8]) -> Result<Vars, Fail> {
+    let mut order = Vec::new(alloc);
+    for _ in 0..ORDER_MAX {
+        order.extend_from_slice(&[0x05, 0x00])?;
+    }
+    let mut vars = Vars::new(alloc);
+    vars.put_entry(5, entry)?;
+    vars.put("BootOrder", order.as_slice())?;
+    Ok(vars)
+}
+
+#[test]
+fn looks_once_at_an_entry_whose_number_is_repeated(rt: HostRuntime) -> Result<(), Fail> {
+    let inactive = with_attributes(rt.alloc(), 0x0)?;
+    let data = vec![in rt.alloc(); 0x5au8; 100_000]?;
+    // the attributes of a normal option, and behind them no zero unit
+    let mut broken = Vec::from_slice(rt.alloc(), &DISK[..4])?;
+    broken.extend_from_slice(data.as_slice())?;
+    for entry in [&inactive, &broken] {
+        let vars = repeated(rt.alloc(), entry.as_slice())?;
+        let numbers = plan_numbers(rt.alloc(), &vars)?;
+        assert!(rt; numbers.next.is_none() && numbers.normal.is_empty());
+        let choice = plan(rt.alloc(), &vars)?;
+        assert!(rt; choice.next().is_none() && choice.normal().is_empty());
+    }
+    let mut long = Vec::from_slice(rt.alloc(), &DISK)?;
+    long.extend_from_slice(data.as_slice())?;
+    let vars = repeated(rt.alloc(), long.as_slice())?;
+    let numbers = plan_numbers(rt.alloc(), &vars)?;
+    assert_eq!(rt; numbers.normal.len(), 65_536);
+    assert!(rt; numbers.normal.iter().all(|number| *number == 5));
     Ok(())
 }
 
@@ -461,5 +537,6 @@ fn keeps_many_variables(rt: HostRuntime) -> Result<(), Fail> {
     let bytes = write_set(rt.alloc(), &vars)?;
     assert!(rt; read_set(rt.alloc(), bytes.as_slice())? == vars);
     assert_eq!(rt; plan(rt.alloc(), &vars)?.normal().len(), 10_000);
+    assert_eq!(rt; plan_numbers(rt.alloc(), &vars)?.normal.len(), 10_000);
     Ok(())
 }

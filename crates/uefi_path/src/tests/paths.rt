@@ -2,7 +2,8 @@
 
 use super::examples::{END, example_nodes, long_node, stored_paths};
 use crate::{
-    Node, Path, PathFault, make_path, node_len, path_len, read_path, write_node, write_path,
+    Node, Path, PathFault, check_path, make_path, node_len, nodes, path_len, read_path, write_node,
+    write_path,
 };
 use std::test::Fail;
 
@@ -69,6 +70,16 @@ fn tells_the_first_fault_of_a_path(rt: HostRuntime) {
         (&[0x7f, 0x01, 0x04, 0x00], PathFault::NoEnd(4)),
     ];
     for (bytes, fault) in table {
+        assert_eq!(rt;
+            check_path(bytes).err(),
+            Some(fault),
+            "of {bytes:?}, which is checked"
+        );
+        assert_eq!(rt;
+            nodes(bytes).err(),
+            Some(fault),
+            "of {bytes:?}, which is gone over"
+        );
         match read_path(rt.alloc(), bytes) {
             Ok(_) => assert!(rt; false, "{bytes:?} is read"),
             Err(found) => assert_eq!(rt; found, fault, "of {bytes:?}"),

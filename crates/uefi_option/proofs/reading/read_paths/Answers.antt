@@ -5,5 +5,5 @@ use Rattle.uefi_option.proofs.reading.read_paths.Goals as goal
 
 pub loop-rest-smaller : goal.loop-rest-smaller
 loop-rest-smaller c =
-    let some = takes_some c.loop-rest.rest.now c.in-Ok.read.0 c.in-Ok.read.1 c.in-Ok.ensures.found in
+    let some = takes_some c.loop-rest.rest.now c.in-Ok.path c.in-Ok.len c.in-Ok.ensures.found in
     omega (arith, length-take {A = ℕ}, length-drop {A = ℕ}, c.in-Ok.ensures.found.within)

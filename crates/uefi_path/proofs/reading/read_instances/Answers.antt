@@ -1,29 +1,21 @@
-use Rattle.std.proofs.Common.{map}
-use Rattle.std.proofs.lemmas.Result.{err_from_is_err_and}
+use Rattle.std.proofs.Common.{List, map, subst}
 use Rattle.std.proofs.lemmas.List.{map_push}
-use Rattle.uefi_path.specs.Row.{row}
-use Rattle.uefi_path.proofs.Reader.{one_node, one_instance, whole_path, fault_read}
+use Rattle.uefi_path.specs.declared.node.Node.{Node}
+use Rattle.uefi_path.specs.Row.{Row}
+use Rattle.uefi_path.specs.Views.{row_seen, rows_left}
+use Rattle.uefi_path.proofs.Reader.{HasMade, one_node, one_instance}
 use Rattle.uefi_path.proofs.reading.read_instances.Goals as goal
 
-pub returns-in_err-node-clause-fault : goal.returns-in_err-node-clause-fault
-returns-in_err-node-clause-fault c =
-    let p = err_from_is_err_and c.from_residual.result c.from_residual.ensures.1 in
-    rw (p.1, p.2) (λ _. fault_read c.args.bytes.now (map (λ nodes. nodes.items) c.loop-nodes.instances.items) c.loop-nodes.nodes.items c.loop-nodes.rest.now c.in_err-node.field-0.0 c.loop-nodes.invariant c.in_err-node.ensures.fault)
+pub loop-view-preserved-then-view-eq-END : goal.loop-view-preserved-then-view-eq-END
+loop-view-preserved-then-view-eq-END c =
+    let all = rows_left c.args.views in
+    let instances : List (List Node) = map (λ nodes. nodes.items) c.loop-view.instances.items in
+    let made = subst (λ (rows : List Row). HasMade all instances c.loop-view.nodes.items rows) c.in-Some.ensures.steps c.loop-view.invariant in
+    rw (c.in_ok-push.ensures.items, map_push, c.new-nodes-then-view-eq-END.ensures.items) (one_instance all instances c.loop-view.nodes.items (row_seen c.in-Some.view) (rows_left c.next.new.self) made c.if-view-eq-END.true)
 
-pub loop-nodes-preserved-in_ok-push : goal.loop-nodes-preserved-in_ok-push
-loop-nodes-preserved-in_ok-push c =
-    let node = c.in_ok-node.node in
-    rw c.in_ok-push.ensures.items (one_node c.args.bytes.now (map (λ nodes. nodes.items) c.loop-nodes.instances.items) c.loop-nodes.nodes.items c.loop-nodes.rest.now c.in_ok-node.behind.now (row node.kind node.sub node.body.now) c.in_ok-from_parts.field-0
-    c.loop-nodes.invariant c.in_ok-node.ensures.found c.if-node-ne-END.true c.in_ok-from_parts.ensures)
-
-pub returns-then-node-clause-found : goal.returns-then-node-clause-found
-returns-then-node-clause-found c =
-    let node = c.in_ok-node.node in
-    rw (c.in_ok-push-2.ensures.items, map_push) (whole_path c.args.bytes.now (map (λ nodes. nodes.items) c.loop-nodes.instances.items) c.loop-nodes.nodes.items c.loop-nodes.rest.now c.in_ok-node.behind.now (row node.kind node.sub node.body.now)
-    c.loop-nodes.invariant c.in_ok-node.ensures.found c.if-node-ne-END.false c.if-node.true)
-
-pub loop-nodes-preserved : goal.loop-nodes-preserved
-loop-nodes-preserved c =
-    let node = c.in_ok-node.node in
-    rw (c.in_ok-push-2.ensures.items, map_push, c.new-nodes-else-node-ne-END.ensures.items) (one_instance c.args.bytes.now (map (λ nodes. nodes.items) c.loop-nodes.instances.items) c.loop-nodes.nodes.items c.loop-nodes.rest.now c.in_ok-node.behind.now (row node.kind node.sub node.body.now)
-    c.loop-nodes.invariant c.in_ok-node.ensures.found c.if-node-ne-END.false c.if-node.false)
+pub loop-view-preserved : goal.loop-view-preserved
+loop-view-preserved c =
+    let all = rows_left c.args.views in
+    let instances : List (List Node) = map (λ nodes. nodes.items) c.loop-view.instances.items in
+    let made = subst (λ (rows : List Row). HasMade all instances c.loop-view.nodes.items rows) c.in-Some.ensures.steps c.loop-view.invariant in
+    rw c.in_ok-push-2.ensures.items (one_node all instances c.loop-view.nodes.items (row_seen c.in-Some.view) (rows_left c.next.new.self) c.in_ok-from_parts.field-0 made c.if-view-eq-END.false c.in_ok-from_parts.ensures)

@@ -1,59 +1,49 @@
-use Rattle.std.proofs.Common.{◌≡◌, ◌≢◌, ◌⊎◌, ℕ, List, Result, Ok, Err, refl, ap, ◌∙◌, inl, inr}
+use Rattle.std.proofs.Common.{◌≡◌, ℕ, List, Result, Ok, Err, sym, ap, subst, ◌∙◌, inl}
+use Rattle.std.specs.List.{AllByRecursion}
 use Rattle.std.proofs.lemmas.Result.{err_from_is_err_and}
 use Rattle.uefi_path.specs.declared.node.Node.{Node}
 use Rattle.uefi_path.specs.declared.fault.PathFault.{PathFault}
-use Rattle.uefi_path.specs.declared.fault.PathFault.TheVariants.{NoEnd, ShortHeader, BadLength, PastEnd, BadEnd, OutOfMemory}
+use Rattle.uefi_path.specs.declared.fault.PathFault.TheVariants.{OutOfMemory}
 use Rattle.uefi_path.specs.Answer.{IsUnless}
-use Rattle.uefi_path.specs.Fault.{IsFirstFault}
-use Rattle.uefi_path.specs.Path.{IsPathFront}
+use Rattle.uefi_path.specs.Row.{Row}
+use Rattle.uefi_path.specs.Fault.{IsBeforeEnd}
+use Rattle.uefi_path.specs.Path.{IsPathFront, path_rows}
+use Rattle.uefi_path.specs.Reading.{HasRowsOf}
 use Rattle.uefi_path.proofs.Faults.{same_fault}
-use Rattle.uefi_path.proofs.Paths.{same_front, no_fault_at_front}
+use Rattle.uefi_path.proofs.Paths.{same_front, same_instances, no_fault_at_front, path_rows_are_inner}
 use Rattle.uefi_path.proofs.reading.read_path.Goals as goal
 
-abbrev Read : Type 0
-Read = Result (List (List Node) × ℕ) PathFault
+-- the path that was made of the rows of a path is that path
+made_front : (input : List ℕ) (path made : List (List Node)) (n : ℕ) (rows : List Row) → IsPathFront input path n → rows ≡ path_rows path → HasRowsOf made rows → IsPathFront input made n
+made_front input path made n rows front is has =
+    subst (λ (p : List (List Node)). IsPathFront input p n) (same_instances path made front.spelled.0 has.is (sym is ∙ sym has.same)) front
 
-abbrev refused : PathFault → Read
-refused fault = Err fault
-
-abbrev read : List (List Node) → ℕ → Read
-read path n = Ok (path, n)
-
--- a refusal for another cause than memory is the first fault
-cause : (input : List ℕ) (fault : PathFault) → (fault ≢ OutOfMemory → IsFirstFault input fault) → (fault ≡ OutOfMemory) ⊎ IsFirstFault input fault
-cause input (NoEnd at) h = inr (h (λ e. cc))
-cause input (ShortHeader at) h = inr (h (λ e. cc))
-cause input (BadLength at) h = inr (h (λ e. cc))
-cause input (PastEnd at) h = inr (h (λ e. cc))
-cause input (BadEnd at) h = inr (h (λ e. cc))
-cause input OutOfMemory h = inl refl
-
-no_path : (input : List ℕ) (fault : PathFault) → (fault ≢ OutOfMemory → IsFirstFault input fault) → (path : List (List Node)) (n : ℕ) → IsPathFront input path n → IsUnless (refused fault) (read path n) OutOfMemory
-no_path input fault h path n front =
-    elim (cause input fault h) [ inl memory ↦ inr (ap refused memory) | inr first ↦ absurd (no_fault_at_front input fault path n front first) ]
-
-one_fault : (input : List ℕ) (fault : PathFault) → (fault ≢ OutOfMemory → IsFirstFault input fault) → (other : PathFault) → IsFirstFault input other → IsUnless (refused fault) (refused other) OutOfMemory
-one_fault input fault h other second =
-    elim (cause input fault h) [ inl memory ↦ inr (ap refused memory) | inr first ↦ inl (ap refused (same_fault input fault other first second)) ]
-
-one_path : (input : List ℕ) (path : List (List Node)) (n : ℕ) → IsPathFront input path n → (other : List (List Node)) (m : ℕ) → IsPathFront input other m → IsUnless (read path n) (read other m) OutOfMemory
+one_path : (input : List ℕ) (path : List (List Node)) (n : ℕ) → IsPathFront input path n → (other : List (List Node)) (m : ℕ) → IsPathFront input other m → IsUnless (let ok : Result (List (List Node) × ℕ) PathFault = Ok (path, n) in ok) (Ok (other, m)) OutOfMemory
 one_path input path n front other m second =
     let same = same_front input path other n m front second in
-    inl (ap (λ (p : List (List Node)). read p n) same.0 ∙ ap (read other) same.1)
+    inl (ap (λ (p : List (List Node)). let ok : Result (List (List Node) × ℕ) PathFault = Ok (p, n) in ok) same.0 ∙ ap (λ (k : ℕ). let ok : Result (List (List Node) × ℕ) PathFault = Ok (other, k) in ok) same.1)
 
-pub returns-in_err-instances-clause-only : goal.returns-in_err-instances-clause-only
-returns-in_err-instances-clause-only c =
-    let p = err_from_is_err_and c.from_residual.result c.from_residual.ensures.1 in
-    rw (p.1, p.2) (no_path c.args.bytes.now c.in_err-instances.field-0.0 c.in_err-instances.ensures.fault)
+pub read_instances-requires : goal.read_instances-requires
+read_instances-requires c =
+    let found = c.in_ok-views.ensures.found in
+    subst (AllByRecursion IsBeforeEnd) (sym found.2) (path_rows_are_inner found.0 found.1.spelled.0.nodes)
 
-pub returns-in_err-instances-clause-only_fault : goal.returns-in_err-instances-clause-only_fault
-returns-in_err-instances-clause-only_fault c =
+pub returns-in_err-views-clause-only : goal.returns-in_err-views-clause-only
+returns-in_err-views-clause-only c = λ path n front. absurd (no_fault_at_front c.args.bytes.now c.in_err-views.field-0.0 path n front c.in_err-views.ensures.fault)
+
+pub returns-in_err-views-clause-only_fault : goal.returns-in_err-views-clause-only_fault
+returns-in_err-views-clause-only_fault c = λ fault first.
     let p = err_from_is_err_and c.from_residual.result c.from_residual.ensures.1 in
-    rw (p.1, p.2) (one_fault c.args.bytes.now c.in_err-instances.field-0.0 c.in_err-instances.ensures.fault)
+    let same = same_fault c.args.bytes.now c.in_err-views.field-0.0 fault c.in_err-views.ensures.fault first in
+    rw (p.1, p.2) (inl (ap (λ (f : PathFault). let err : Result (List (List Node) × ℕ) PathFault = Err f in err) same))
+
+pub returns-clause-found : goal.returns-clause-found
+returns-clause-found c =
+    let found = c.in_ok-views.ensures.found in
+    rw c.from_instances.ensures (made_front c.args.bytes.now found.0 _ c.in_ok-views.len _ found.1 found.2 c.in_ok-instances.ensures)
 
 pub returns-clause-only : goal.returns-clause-only
-returns-clause-only c = one_path c.args.bytes.now c.from_instances.result c.in_ok-instances.len (rw c.from_instances.ensures c.in_ok-instances.ensures.found)
+returns-clause-only c = one_path c.args.bytes.now c.from_instances.result c.in_ok-views.len (returns-clause-found c)
 
 pub returns-clause-only_fault : goal.returns-clause-only_fault
-returns-clause-only_fault c = λ fault first.
-    absurd (no_fault_at_front c.args.bytes.now fault c.from_instances.result c.in_ok-instances.len (rw c.from_instances.ensures c.in_ok-instances.ensures.found) first)
+returns-clause-only_fault c = λ fault first. absurd (no_fault_at_front c.args.bytes.now fault c.in_ok-views.ensures.found.0 c.in_ok-views.len c.in_ok-views.ensures.found.1 first)

@@ -1,24 +1,18 @@
-use Rattle.std.proofs.Common.{sym, subst, ◌∙◌, arith}
-use Rattle.std.proofs.lemmas.Bool.{false≢true}
-use Rattle.uefi_option.specs.Attributes.{IsNormal}
+use Rattle.std.proofs.Common.{◌∙◌, arith}
 use Rattle.uefi_vars.specs.Vars.{entry_of}
-use Rattle.uefi_vars.proofs.Plans.{choose, pass, no_other}
+use Rattle.uefi_vars.proofs.Plans.{choose, pass}
 use Rattle.uefi_vars.proofs.planning.read_normal_choices.Goals as goal
-use Rattle.uefi_vars.proofs.planning.read_normal_choices.Goals.{in-Some+then-is_normal+in_ok-push, in-Some+else-is_normal, in_default}
+use Rattle.uefi_vars.proofs.planning.read_normal_choices.Goals.{in-Some+in_ok-push, in_default}
 
 pub loop-number-preserved : goal.loop-number-preserved
 loop-number-preserved c =
     let entries = entry_of c.args.vars.now in
     let i = c.loop-number.number-index in
-    elim c.match-branch-2.branch [
-      | in-Some+then-is_normal+in_ok-push w ↦
-          let is = rw w.in-Some.is at c.in_ok-choice.ensures in
-          let normal = subst IsNormal w.attributes.ensures.value (w.is_normal.ensures.0 w.if-is_normal.true) in
-          record { chosen = rw (w.choices-is, w.in_ok-push.ensures.items) (choose entries c.args.order.now i c.loop-number.choices.items w.in-Some.choice (omega arith) c.loop-number.invariant.chosen (is, normal)) }
-      | in-Some+else-is_normal w ↦
-          let is = rw w.in-Some.is at c.in_ok-choice.ensures in
-          record { chosen = rw w.choices-is (pass entries c.args.order.now i c.loop-number.choices.items (omega arith) c.loop-number.invariant.chosen (no_other entries c.bytes_spell_one_option.ensures _ w.in-Some.choice is (λ h. false≢true (sym w.if-is_normal.false ∙ w.is_normal.ensures.1 (rw w.attributes.ensures.value h))))) }
-      | in_default w ↦
-          let is = rw w.in_default.is at c.in_ok-choice.ensures in
-          record { chosen = rw w.choices-is (pass entries c.args.order.now i c.loop-number.choices.items (omega arith) c.loop-number.invariant.chosen (λ other f. is other f.0)) }
-    ]
+    let found = rw c.loop-number.invariant.same at c.in_ok-choice.ensures.choice in
+    record {
+      same = c.read_normal.ensures.same ∙ c.loop-number.invariant.same;
+      chosen = elim c.match-branch-2.branch [
+        | in-Some+in_ok-push w ↦ rw (w.choices-is, w.in_ok-push.ensures.items) (choose entries c.args.order.now i c.loop-number.choices.items w.in-Some.choice (omega arith) c.loop-number.invariant.chosen (rw w.in-Some.is at found))
+        | in_default w ↦ let none = rw w.in_default.is at found in rw w.choices-is (pass entries c.args.order.now i c.loop-number.choices.items (omega arith) c.loop-number.invariant.chosen (λ choice is. none (choice, is)))
+      ];
+    }
