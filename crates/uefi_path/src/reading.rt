@@ -153,7 +153,7 @@ fn read_instances(alloc: Global, views: NodeIter<'_>) -> Result<Vec<Vec<Node>>, 
             instances.push(nodes)?;
             nodes = Vec::new(alloc);
         } else {
-            nodes.push(Node::from_parts(alloc, view.kind, view.sub, view.body)?)?;
+            Node::push_parts(alloc, view.kind, view.sub, view.body, &mut nodes)?;
         }
     }
     instances.push(nodes)?;

@@ -1,6 +1,6 @@
 //! The table of nodes (UEFI 2.10, 10.3): how each case of `Node` stands in the bytes.
 
-ghost use Rattle.std.specs.Prelude.{◌≡◌, ◌≢◌, ◌↔◌, ◌≤◌, ◌++◌, length, is_some, IsTrue, IfOk, OnOk, OnErr};
+ghost use Rattle.std.specs.Prelude.{◌≡◌, ◌≢◌, ◌↔◌, ◌≤◌, ◌++◌, ◌∷◌, [], length, is_some, IsTrue, IfOk, OnOk, OnErr};
 ghost use Rattle.uefi_path.specs.Standard.{body_max};
 ghost use Rattle.uefi_path.specs.Row.{row, IsListed};
 ghost use Rattle.uefi_path.specs.Node.{row_of, IsNode};
@@ -17,6 +17,68 @@ use crate::other::OtherNode;
 use crate::uri::UriNode;
 use crate::vendor::{GUID_LEN, Vendor};
 use std::alloc::{AllocError, Global};
+
+/// The first expression with the node of these parts, where the table has a row for them with data of one length, and else
+/// the second. That expression stands in the arm of each row, so that a node which is put into a list is made there: a
+/// function that answers it would have it moved, and reading would take a fifth more time.
+macro_rules! match_one_length {
+    (($kind:ident, $sub:ident, $body:ident), $node:ident => $then:expr, $other:expr) => {
+        match ($kind, $sub, $body.len()) {
+            (1, 1, 2) => {
+                let $node = Node::Pci {
+                    function: u8_at($body, 0),
+                    device: u8_at($body, 1),
+                };
+                $then
+            }
+            (2, 1, 8) => {
+                let $node = Node::Acpi {
+                    hid: u32_at($body, 0),
+                    uid: u32_at($body, 4),
+                };
+                $then
+            }
+            (3, 5, 2) => {
+                let $node = Node::Usb {
+                    port: u8_at($body, 0),
+                    interface: u8_at($body, 1),
+                };
+                $then
+            }
+            (3, 11, 33) => {
+                let $node = Node::Mac {
+                    address: bytes_at($body, 0),
+                    if_kind: u8_at($body, 32),
+                };
+                $then
+            }
+            (3, 12, 23) => {
+                let $node = Node::Ipv4(Ipv4Node::from_bytes($body));
+                $then
+            }
+            (3, 18, 6) => {
+                let $node = Node::Sata {
+                    hba: u16_at($body, 0),
+                    multiplier: u16_at($body, 2),
+                    lun: u16_at($body, 4),
+                };
+                $then
+            }
+            (3, 23, 12) => {
+                let $node = Node::Nvme {
+                    namespace: u32_at($body, 0),
+                    eui: bytes_at($body, 4),
+                };
+                $then
+            }
+            (4, 1, 38) => {
+                let $node = Node::HardDrive(HardDriveNode::from_bytes($body));
+                $then
+            }
+            _ => $other,
+        }
+    };
+}
 
 /// What a node's header states: its type, its sub-type, and how many bytes of data follow.
 #[derive(Clone, Copy)]
@@ -64,42 +126,11 @@ impl Node {
         }
     }
 
-    /// The node of these parts, where the table has a row for them with data of one length. Each node that is read
-    /// comes through here: out of line, its nodes are moved once more, and reading takes twice the time.
-    #[inline(always)]
+    /// The node of these parts, where the table has a row for them with data of one length.
     fn of_one_length(kind: u8, sub: u8, body: &[u8]) -> Option<Node>
         ensures { result ≡ fixed_node_of (row kind sub body.now) }
     {
-        match (kind, sub, body.len()) {
-            (1, 1, 2) => Some(Node::Pci {
-                function: u8_at(body, 0),
-                device: u8_at(body, 1),
-            }),
-            (2, 1, 8) => Some(Node::Acpi {
-                hid: u32_at(body, 0),
-                uid: u32_at(body, 4),
-            }),
-            (3, 5, 2) => Some(Node::Usb {
-                port: u8_at(body, 0),
-                interface: u8_at(body, 1),
-            }),
-            (3, 11, 33) => Some(Node::Mac {
-                address: bytes_at(body, 0),
-                if_kind: u8_at(body, 32),
-            }),
-            (3, 12, 23) => Some(Node::Ipv4(Ipv4Node::from_bytes(body))),
-            (3, 18, 6) => Some(Node::Sata {
-                hba: u16_at(body, 0),
-                multiplier: u16_at(body, 2),
-                lun: u16_at(body, 4),
-            }),
-            (3, 23, 12) => Some(Node::Nvme {
-                namespace: u32_at(body, 0),
-                eui: bytes_at(body, 4),
-            }),
-            (4, 1, 38) => Some(Node::HardDrive(HardDriveNode::from_bytes(body))),
-            _ => None,
-        }
+        match_one_length!((kind, sub, body), node => Some(node), None)
     }
 
     /// The node of these parts, where the table has a row for them that holds a list, if there is
@@ -156,6 +187,26 @@ impl Node {
             Some(node) => Ok(node),
             None => Ok(Node::Other(OtherNode::new(alloc, kind, sub, body)?)),
         }
+    }
+
+    /// Appends the node that has these parts, if there is memory for it.
+    pub(crate) fn push_parts(
+        alloc: Global,
+        kind: u8,
+        sub: u8,
+        body: &[u8],
+        nodes: &mut Vec<Node>,
+    ) -> Result<(), AllocError>
+        requires no_end { kind ≢ 0x7F }
+        requires len { length body.now ≤ body_max }
+        ensures { OnOk result (nodes.new.items ≡ nodes.old.items ++ node_of (row kind sub body.now) ∷ []) }
+    {
+        match_one_length!(
+            (kind, sub, body),
+            node => nodes.push(node)?,
+            nodes.push(Node::from_parts(alloc, kind, sub, body)?)?
+        );
+        Ok(())
     }
 
     /// Appends the header, which is the node's, and the fields in their order. An `Err` may leave a

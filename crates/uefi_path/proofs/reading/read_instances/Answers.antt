@@ -1,7 +1,8 @@
-use Rattle.std.proofs.Common.{List, map, subst}
+use Rattle.std.proofs.Common.{List, map, subst, refl}
 use Rattle.std.proofs.lemmas.List.{map_push}
 use Rattle.uefi_path.specs.declared.node.Node.{Node}
 use Rattle.uefi_path.specs.Row.{Row}
+use Rattle.uefi_path.specs.Reading.{node_of}
 use Rattle.uefi_path.specs.Views.{row_seen, rows_left}
 use Rattle.uefi_path.proofs.Reader.{HasMade, one_node, one_instance}
 use Rattle.uefi_path.proofs.reading.read_instances.Goals as goal
@@ -18,4 +19,4 @@ loop-view-preserved c =
     let all = rows_left c.args.views in
     let instances : List (List Node) = map (λ nodes. nodes.items) c.loop-view.instances.items in
     let made = subst (λ (rows : List Row). HasMade all instances c.loop-view.nodes.items rows) c.in-Some.ensures.steps c.loop-view.invariant in
-    rw c.in_ok-push-2.ensures.items (one_node all instances c.loop-view.nodes.items (row_seen c.in-Some.view) (rows_left c.next.new.self) c.in_ok-from_parts.field-0 made c.if-view-eq-END.false c.in_ok-from_parts.ensures)
+    rw c.in_ok-push_parts.ensures (one_node all instances c.loop-view.nodes.items (row_seen c.in-Some.view) (rows_left c.next.new.self) (node_of (row_seen c.in-Some.view)) made c.if-view-eq-END.false refl)
