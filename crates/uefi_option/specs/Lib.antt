@@ -8,4 +8,5 @@ pub mod Making
 pub mod Words
 pub mod Equality
 -- what private contracts cite
+pub mod Shared
 pub mod Reading

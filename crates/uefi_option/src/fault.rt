@@ -38,10 +38,10 @@ pub enum OptionFault {
     OutOfMemory,
 }
 
-/// Parts that are those of no load option, handed back, and why.
+/// Parts of which no load option was made, handed back, and why.
 #[derive(Debug, Drop)]
 pub struct OptionRefused {
-    /// Why they are refused: never for want of memory.
+    /// Why they are refused.
     pub fault: OptionFault,
     /// The units of the description.
     pub description: Vec<u16>,

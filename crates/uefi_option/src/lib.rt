@@ -12,6 +12,7 @@ pub mod laws;
 mod load_option;
 mod making;
 mod reading;
+mod shared;
 mod text;
 mod view;
 mod writing;

@@ -1,18 +1,19 @@
 //! Load options as values.
 
-ghost use Rattle.std.specs.Prelude.{◌≡◌, ◌≢◌, ◌<◌, ◌↔◌, [], length, Contains, IsErrAnd, IsTrue, IfErr, IfOk, OnOk};
-ghost use Rattle.std.specs.List.{AllByRecursion};
-ghost use Rattle.uefi_path.specs.Path.{IsPath};
+ghost use Rattle.std.specs.Prelude.{◌≡◌, ◌<◌, ◌↔◌, [], length, Contains, IsErrAnd, IsTrue, IfErr, IfOk};
 ghost use Rattle.uefi_option.specs.declared.fault.OptionFault.{OptionFault};
 ghost use Rattle.uefi_option.specs.Attributes.{IsActive, category_of, IsNormal};
 ghost use Rattle.uefi_option.specs.LoadOption.{option_parts, list_max, list_bytes, IsOption};
 ghost use Rattle.uefi_option.specs.Making.{IsPartsFault};
+ghost use Rattle.uefi_option.specs.Shared.{option_of};
 
 use crate::attributes;
-use crate::fault::OptionRefused;
+use crate::fault::{OptionFault, OptionRefused};
 use crate::making::check_parts;
-use std::alloc::{AllocError, Global};
+use crate::shared::Lists;
+use std::alloc::{AllocError, AllocFailed, Global};
 use std::marker::Model;
+use std::rc::Rc;
 use uefi_path::{Path, laws};
 
 /// The most bytes that the list of paths of an option can have: two bytes state its length.
@@ -20,24 +21,22 @@ pub const LIST_MAX: usize = 65_535;
 
 /// A load option (UEFI 2.10, 3.1.3), such as a variable `Boot####` holds. It has at least one path, the spellings of
 /// its paths have at most [`LIST_MAX`] bytes together, and no unit of its description is zero; the zero unit that closes
-/// the description in the bytes is not held.
+/// the description in the bytes is not held. Its lists stand in memory that its copies share.
 #[derive(Debug, Drop)]
 pub struct LoadOption {
     attributes: u32,
-    description: Vec<u16>,
-    paths: Vec<Path>,
-    optional: Vec<u8>,
+    lists: Rc<Lists>,
 }
 
 impl Model for LoadOption {
-    ghost use Rattle.uefi_option.specs.LoadOption.{OptionParts, option_parts, IsOption};
+    ghost use Rattle.uefi_option.specs.LoadOption.{OptionParts, IsOption};
+    ghost use Rattle.uefi_option.specs.Shared.{option_of};
 
     ghost Value = { OptionParts };
 
-    ghost view = { λ o. option_parts o.attributes o.description.items o.paths.items o.optional.items };
+    ghost view = { λ o. option_of o.attributes o.lists.value };
 
-    ghost invariant = { λ o.
-        IsOption (option_parts o.attributes o.description.items o.paths.items o.optional.items) };
+    ghost invariant = { λ o. IsOption (option_of o.attributes o.lists.value) };
 }
 
 impl PartialEq for LoadOption {
@@ -57,9 +56,9 @@ impl PartialEq for LoadOption {
     {
         laws::paths_compare_as_values();
         self.attributes == other.attributes
-            && self.description == other.description
-            && self.paths == other.paths
-            && self.optional == other.optional
+            && self.lists.description == other.lists.description
+            && self.lists.paths == other.lists.paths
+            && self.lists.optional == other.lists.optional
     }
 }
 
@@ -72,16 +71,16 @@ impl Eq for LoadOption {
 }
 
 impl LoadOption {
-    /// The load option of these parts (UEFI 2.10, 3.1.3), which takes no memory. The description is given as CHAR16
-    /// units without the zero that closes it.
+    /// The load option of these parts (UEFI 2.10, 3.1.3), which are not copied. The description is given as CHAR16 units
+    /// without the zero that closes it.
     ///
     /// # Errors
     ///
-    /// The parts are handed back, with [`OptionFault::ZeroUnit`](crate::OptionFault::ZeroUnit) where a unit of the
-    /// description is zero; else with [`OptionFault::EmptyList`](crate::OptionFault::EmptyList) where there is no path;
-    /// else with [`OptionFault::ListTooLong`](crate::OptionFault::ListTooLong) where the spellings of the paths have more
-    /// than [`LIST_MAX`] bytes together.
+    /// The parts are handed back, with [`OptionFault::ZeroUnit`] where a unit of the description is zero; else with
+    /// [`OptionFault::EmptyList`] where there is no path; else with [`OptionFault::ListTooLong`] where the spellings of the
+    /// paths have more than [`LIST_MAX`] bytes together; else with [`OptionFault::OutOfMemory`] where memory was refused.
     pub fn from_parts(
+        alloc: Global,
         attributes: u32,
         description: Vec<u16>,
         paths: Vec<Path>,
@@ -97,70 +96,72 @@ impl LoadOption {
             ↔ ((¬ Contains description.items 0) × (paths.items ≡ [])) }
         ensures list_too_long { IsErrAnd result (λ refused. refused.fault ≡ OptionFault.ListTooLong)
             ↔ ((¬ Contains description.items 0) × (list_max < length (list_bytes paths.items))) }
-        // There is no other refusal.
+        // There is no other refusal, but for want of memory.
         ensures named { IfErr result (λ refused. IsPartsFault refused.fault) }
-        ensures no_memory { IfErr result (λ refused. refused.fault ≢ OptionFault.OutOfMemory) }
 
         ensures handed_back { IfErr result (λ refused. (refused.description ≡ description)
             × (refused.paths ≡ paths) × (refused.optional ≡ optional)) }
     {
-        if let Err(fault) = check_parts(&description, &paths) {
-            return Err(OptionRefused {
-                fault,
-                description,
-                paths,
-                optional,
-            });
+        let lists = Lists {
+            description,
+            paths,
+            optional,
+        };
+        if let Err(fault) = check_parts(&lists.description, &lists.paths) {
+            return Err(lists.refused(fault));
         }
-        Ok(LoadOption::of_parts(attributes, description, paths, optional))
+        match LoadOption::of_lists(alloc, attributes, lists) {
+            Ok(option) => Ok(option),
+            Err(refusal) => Err(refusal.value.refused(OptionFault::OutOfMemory)),
+        }
     }
 
     /// The attributes, the units of the description without the zero that closes it, the paths and the optional data,
-    /// given away. This takes no memory.
-    pub fn into_parts(self) -> (u32, Vec<u16>, Vec<Path>, Vec<u8>)
-        ensures parts { option_parts result.0 result.1.items result.2.items result.3.items ≡ self }
+    /// given away. This takes no memory where no copy shares the lists any more; else they are copied, and where memory
+    /// is refused the option is handed back.
+    pub fn into_parts(
+        self,
+        alloc: Global,
+    ) -> Result<(u32, Vec<u16>, Vec<Path>, Vec<u8>), LoadOption>
+        ensures parts { IfOk result (λ parts.
+            option_parts parts.0 parts.1.items parts.2.items parts.3.items ≡ self) }
         ensures valid { IsOption self }
+        ensures handed_back { IfErr result (λ option. option ≡ self) }
     {
-        let LoadOption {
-            attributes,
-            description,
-            paths,
-            optional,
-        } = self;
-        (attributes, description, paths, optional)
+        let LoadOption { attributes, lists } = self;
+        let lists = match Rc::try_unwrap(lists) {
+            Ok(lists) => lists,
+            Err(lists) => match lists.copy(alloc) {
+                Ok(copies) => copies,
+                Err(AllocError) => return Err(LoadOption { attributes, lists }),
+            },
+        };
+        Ok((attributes, lists.description, lists.paths, lists.optional))
     }
 
-    /// The option of these parts.
-    pub(crate) fn of_parts(
+    /// The option of these attributes and lists, if there is memory for it.
+    pub(crate) fn of_lists(
+        alloc: Global,
         attributes: u32,
-        description: Vec<u16>,
-        paths: Vec<Path>,
-        optional: Vec<u8>,
-    ) -> LoadOption
-        requires { IsOption (option_parts attributes description.items paths.items optional.items) }
-        ensures { result ≡ option_parts attributes description.items paths.items optional.items }
+        lists: Lists,
+    ) -> Result<LoadOption, AllocFailed<Lists>>
+        requires { IsOption (option_of attributes lists) }
+        ensures made { IfOk result (λ option. option ≡ option_of attributes lists) }
+        ensures handed_back { IfErr result (λ refusal. refusal.value ≡ lists) }
     {
-        LoadOption {
-            attributes,
-            description,
-            paths,
-            optional,
-        }
+        let lists = Rc::new(alloc, lists)?;
+        Ok(LoadOption { attributes, lists })
     }
 
-    /// An equal option. The one refusal is for want of memory.
-    pub fn copy(&self, alloc: Global) -> Result<LoadOption, AllocError>
+    /// An equal option, which shares its lists with this one, so that no memory is taken for them. The one refusal is where
+    /// so many options share them that no more can be counted.
+    pub fn copy(&self, _alloc: Global) -> Result<LoadOption, AllocError>
         ensures equal { IfOk result (λ option. option ≡ self.now) }
         ensures valid { IsOption self.now }
     {
-        let description = Vec::from_slice(alloc, &self.description)?;
-        let paths = copy_paths(alloc, &self.paths)?;
-        let optional = Vec::from_slice(alloc, &self.optional)?;
         Ok(LoadOption {
             attributes: self.attributes,
-            description,
-            paths,
-            optional,
+            lists: self.lists.clone()?,
         })
     }
 
@@ -203,7 +204,7 @@ impl LoadOption {
         ensures units { result.now ≡ self.now.description }
         ensures valid { IsOption self.now }
     {
-        &self.description
+        &self.lists.description
     }
 
     /// The device paths of the list, in order.
@@ -211,7 +212,7 @@ impl LoadOption {
         ensures paths { result.now ≡ self.now.paths }
         ensures valid { IsOption self.now }
     {
-        &self.paths
+        &self.lists.paths
     }
 
     /// The optional data: the bytes behind the list.
@@ -219,18 +220,6 @@ impl LoadOption {
         ensures bytes { result.now ≡ self.now.optional }
         ensures valid { IsOption self.now }
     {
-        &self.optional
+        &self.lists.optional
     }
-}
-
-/// Equal paths, if there is memory for them.
-pub(crate) fn copy_paths(alloc: Global, paths: &[Path]) -> Result<Vec<Path>, AllocError>
-    ensures equal { IfOk result (λ copies. copies.items ≡ paths.now) }
-    ensures valid { OnOk result (AllByRecursion IsPath paths.now) }
-{
-    let mut copies = Vec::with_capacity(alloc, paths.len())?;
-    for path in paths {
-        copies.push(path.copy(alloc)?)?;
-    }
-    Ok(copies)
 }

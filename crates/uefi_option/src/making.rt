@@ -6,7 +6,8 @@ ghost use Rattle.uefi_option.specs.LoadOption.{option_parts, list_max, list_byte
 ghost use Rattle.uefi_option.specs.Making.{ArePartsOfOption, IsPartsFault};
 
 use crate::fault::OptionFault;
-use crate::load_option::{LoadOption, copy_paths};
+use crate::load_option::LoadOption;
+use crate::shared::Lists;
 use crate::writing::list_len;
 use std::alloc::Global;
 use uefi_path::Path;
@@ -39,10 +40,8 @@ pub fn make_option(
     ensures named { IfErr result IsPartsFault }
 {
     check_parts(description, paths)?;
-    let description = Vec::from_slice(alloc, description)?;
-    let paths = copy_paths(alloc, paths)?;
-    let optional = Vec::from_slice(alloc, optional)?;
-    Ok(LoadOption::of_parts(attributes, description, paths, optional))
+    let lists = Lists::from_slices(alloc, description, paths, optional)?;
+    Ok(LoadOption::of_lists(alloc, attributes, lists)?)
 }
 
 /// Looks whether a description and paths are those of an option.

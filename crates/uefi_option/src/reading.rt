@@ -14,6 +14,7 @@ ghost use Rattle.uefi_option.specs.Reading.{AreUnits, SplitsUnits, HasNoZero, Sp
 use crate::fault::OptionFault;
 use crate::laws;
 use crate::load_option::LoadOption;
+use crate::shared::Lists;
 use crate::view::OptionView;
 use std::alloc::{AllocError, Global};
 use uefi_path::{Path, PathFault, check_path, laws as path_laws, read_path, read_units};
@@ -184,8 +185,10 @@ pub fn read_option(alloc: Global, bytes: &[u8]) -> Result<LoadOption, OptionFaul
     laws::bytes_spell_one_option();
     path_laws::units_are_read_again();
     let view = check_option(bytes)?;
-    let paths = read_paths(alloc, view.list)?;
-    let description = read_units(alloc, view.description)?;
-    let optional = Vec::from_slice(alloc, view.optional)?;
-    Ok(LoadOption::of_parts(view.attributes, description, paths, optional))
+    let lists = Lists {
+        description: read_units(alloc, view.description)?,
+        paths: read_paths(alloc, view.list)?,
+        optional: Vec::from_slice(alloc, view.optional)?,
+    };
+    Ok(LoadOption::of_lists(alloc, view.attributes, lists)?)
 }

@@ -1,5 +1,5 @@
 use super::*;
-use std::alloc::Global;
+use std::alloc::{AllocError, Global};
 use std::test::Fail;
 use uefi_path::{BODY_MAX, Path, PathFault, append_units, make_path, read_path};
 
@@ -73,15 +73,75 @@ fn reads_writes_makes_and_copies_options(rt: HostRuntime) -> Result<(), Fail> {
             optional,
         )?;
         assert!(rt; made == option, "of {bytes:?}");
-        let (bits, units, list, data) = made.into_parts();
+        let (bits, units, list, data) = made.into_parts(rt.alloc()).ok().ok_or(AllocError)?;
         assert_eq!(rt; bits, attributes, "of {bytes:?}");
         assert_eq!(rt; units.as_slice(), description, "of {bytes:?}");
         assert_eq!(rt; list.len(), paths, "of {bytes:?}");
         assert_eq!(rt; data.as_slice(), optional, "of {bytes:?}");
-        match LoadOption::from_parts(bits, units, list, data) {
+        match LoadOption::from_parts(rt.alloc(), bits, units, list, data) {
             Ok(again) => assert!(rt; again == option, "of {bytes:?}"),
             Err(refused) => assert!(rt; false, "{refused:?}"),
         }
+    }
+    Ok(())
+}
+
+#[test]
+fn reads_a_copy_without_its_original(rt: HostRuntime) -> Result<(), Fail> {
+    let paths = empty_paths(rt.alloc(), 2)?;
+    let first = make_option(rt.alloc(), 0x8001, &[0x41], paths.as_slice(), &[0x5a])?;
+    let second = first.copy(rt.alloc())?;
+    let third = second.copy(rt.alloc())?;
+    assert!(rt; first == second && second == third && third == first);
+    // the original goes first, and of its copies the later one
+    drop(first);
+    drop(third);
+    let bytes: [u8; 19] = [
+        0x01, 0x80, 0x00, 0x00, 0x08, 0x00, 0x41, 0x00, 0x00, 0x00, 0x7f, 0xff, 0x04, 0x00, 0x7f,
+        0xff, 0x04, 0x00, 0x5a,
+    ];
+    assert_eq!(rt; second.attributes(), 0x8001);
+    assert_eq!(rt; second.description(), [0x41].as_slice());
+    assert!(rt; second.paths() == paths.as_slice());
+    assert_eq!(rt; second.optional(), [0x5a].as_slice());
+    assert_eq!(rt;
+        write_option(rt.alloc(), &second)?.as_slice(),
+        bytes.as_slice()
+    );
+    Ok(())
+}
+
+#[test]
+fn reads_an_original_without_its_copy(rt: HostRuntime) -> Result<(), Fail> {
+    let original = read_option(rt.alloc(), &DISK)?;
+    let copy = original.copy(rt.alloc())?;
+    assert!(rt; copy == original);
+    drop(copy);
+    assert_eq!(rt; original.attributes(), 0x1);
+    assert_eq!(rt; original.description(), [0x41].as_slice());
+    assert_eq!(rt; original.paths().len(), 1);
+    assert_eq!(rt; original.optional().len(), 0);
+    assert_eq!(rt;
+        write_option(rt.alloc(), &original)?.as_slice(),
+        DISK.as_slice()
+    );
+    Ok(())
+}
+
+#[test]
+fn gives_parts_away_with_and_without_a_copy(rt: HostRuntime) -> Result<(), Fail> {
+    let paths = empty_paths(rt.alloc(), 2)?;
+    let option = make_option(rt.alloc(), 0x8001, &[0x41], paths.as_slice(), &[0x5a])?;
+    let copy = option.copy(rt.alloc())?;
+    let equal = make_option(rt.alloc(), 0x8001, &[0x41], paths.as_slice(), &[0x5a])?;
+    // first from lists that are shared, and then from lists that are shared no longer
+    for shared in [option, copy] {
+        assert!(rt; shared == equal);
+        let (bits, units, list, data) = shared.into_parts(rt.alloc()).ok().ok_or(AllocError)?;
+        assert_eq!(rt; bits, 0x8001);
+        assert_eq!(rt; units.as_slice(), [0x41].as_slice());
+        assert!(rt; list.as_slice() == paths.as_slice());
+        assert_eq!(rt; data.as_slice(), [0x5a].as_slice());
     }
     Ok(())
 }
@@ -258,7 +318,7 @@ fn refuses_parts_in_order(rt: HostRuntime) -> Result<(), Fail> {
         let units = Vec::from_slice(rt.alloc(), description)?;
         let list = empty_paths(rt.alloc(), paths.len())?;
         let data = Vec::from_slice(rt.alloc(), &[0x5a])?;
-        match LoadOption::from_parts(1, units, list, data) {
+        match LoadOption::from_parts(rt.alloc(), 1, units, list, data) {
             Ok(_) => assert!(rt; false, "{fault:?} is no fault"),
             Err(refused) => {
                 assert_eq!(rt; refused.fault, fault);
