@@ -1,27 +1,14 @@
 -- The numbers of a plan: what is known of entries that were looked at, and which numbers are chosen.
-use Rattle.std.proofs.Common.{◌≡◌, ◌↔◌, ℕ, ◌+◌, ◌<◌, ◌≤◌, zero, suc, Bool, IsTrue, List, [], ◌∷◌, ◌++◌, length, take, map, set, replicate, get_or, Option, Some, None, IfSome, Result, Ok, Err, IfOk, refl, sym, ap, subst, ◌∙◌, ⊎_elim, get_or-set_same, get_or-set_other}
+use Rattle.std.proofs.Common.{◌≡◌, ◌↔◌, ℕ, ◌+◌, ◌<◌, IsTrue, List, [], ◌∷◌, ◌++◌, length, take, map, get_or, Option, Result, Ok, Err, IfOk, refl, sym, ap, subst, ◌∙◌}
 use Rattle.std.specs.Result.{IsOkAnd, is_ok}
 use Rattle.std.proofs.lemmas.Bool.{false≢true}
-use Rattle.std.proofs.lemmas.Bool.Decides.{eqb_tells}
-use Rattle.std.proofs.lemmas.List.{map-append, take_all}
+use Rattle.std.proofs.lemmas.List.{map-append}
 use Rattle.uefi_option.specs.LoadOption.{OptionParts, SpellsOption}
 use Rattle.uefi_vars.specs.Vars.{Variables, entry_of}
 use Rattle.uefi_vars.specs.Order.{HasOrder, HasNext}
 use Rattle.uefi_vars.specs.Plan.{PlanParts, plan_parts, HasPlan, AreNumbersOf}
-use Rattle.uefi_vars.specs.Choosing.{MayBeNormal, HasNormal, AreKnown, IsNextNumber, AreNormalNumbers}
+use Rattle.uefi_vars.specs.Choosing.{MayBeNormal, HasNormal, IsNextNumber, AreNormalNumbers}
 use Rattle.uefi_vars.proofs.Plans.{choice_of, choose, pass, plan_found}
-
--- ---- what stands behind the numbers that were looked at
-
-nones : (count number : ℕ) → get_or (replicate {A = Option Bool} count None) number None ≡ None
-nones zero number = refl
-nones (suc count) zero = refl
-nones (suc count) (suc number) = nones count number
-
-padded : (known : List (Option Bool)) (count number : ℕ) → get_or (known ++ replicate count None) number None ≡ get_or known number None
-padded [] count number = nones count number
-padded (one ∷ known) count zero = refl
-padded (one ∷ known) count (suc number) = padded known count number
 
 -- ---- of entries
 
@@ -38,25 +25,6 @@ module _ (entries : ℕ → Option (List ℕ)) where
         let same : has.1.0.1.bytes ≡ bytes = cc (stored, may.0) in
         absurd (only has.0.option (subst (λ (t : List ℕ). SpellsOption t has.0.option) same has.1.0.1.spelled)),
   )
-
-  -- what stands under a number is known
-  pub known_at : (known : List (Option Bool)) (number : ℕ) (one : Option Bool) → AreKnown entries known → get_or known number None ≡ one → IfSome one (λ normal. IsTrue normal ↔ HasNormal entries number)
-  known_at known number None are at = tt
-  known_at known number (Some normal) are at = are number normal at
-
-  -- longer, with nothing more known
-  pub AreKnown-longer : (known : List (Option Bool)) (size count : ℕ) → length known ≤ size → AreKnown entries known → AreKnown entries (take size known ++ replicate count None)
-  AreKnown-longer known size count short are = λ number normal at. are number normal (sym (padded known count number) ∙ subst (λ (ks : List (Option Bool)). get_or (ks ++ replicate count None) number None ≡ Some normal) (take_all size known short) at)
-
-  -- one more is known
-  pub AreKnown-set : (known : List (Option Bool)) (number : ℕ) (normal : Bool) → number < length known → AreKnown entries known → IsTrue normal ↔ HasNormal entries number → AreKnown entries (set known number (Some normal))
-  AreKnown-set known number normal within are tells = λ other answer at. ⊎_elim
-      (λ same. let here : get_or (set known number (Some normal)) number None ≡ Some normal = get_or-set_same known number (Some normal) None within in
-      let e : other ≡ number = same.1 in
-      let equal : answer ≡ normal = cc in
-      rw (e, equal) tells)
-      (λ apart. are other answer (sym (get_or-set_other known number other (Some normal) None apart.1) ∙ at))
-      (eqb_tells other number)
 
   -- ---- one number after the other
 

@@ -1,5 +1,5 @@
--- For private functions that choose the numbers of a plan: what one look at an entry tells, and what was chosen so far.
-use Rattle.std.specs.Prelude.{◌≡◌, ℕ, ◌↔◌, Bool, IsTrue, List, map, Option, Some, None, slice_index_or}
+-- For private functions that choose the options of a plan: what one look at an entry tells, and which numbers are chosen.
+use Rattle.std.specs.Prelude.{◌≡◌, ℕ, ◌↔◌, Bool, IsTrue, List, map, Option, Some, None}
 use Rattle.std.specs.Option.{option_map}
 use Rattle.uefi_option.specs.LoadOption.{OptionParts, SpellsOption}
 use Rattle.uefi_option.specs.Attributes.{IsNormal}
@@ -24,9 +24,9 @@ abbrev pub IsNormalIfAny : (ℕ → Option (List ℕ)) → ℕ → Option Choice
 IsNormalIfAny entries number (Some choice) = IsNormalChoice entries number choice
 IsNormalIfAny entries number None = HasNormal entries number → ⊥
 
--- what is known, by number, of the entries that were looked at: whether they have a normal option
-abbrev pub AreKnown : (ℕ → Option (List ℕ)) → List (Option Bool) → Type 0
-AreKnown entries known = (number : ℕ) (normal : Bool) → slice_index_or known number None ≡ Some normal → IsTrue normal ↔ HasNormal entries number
+-- this is whether a normal option stands under the number
+abbrev pub TellsNormal : (ℕ → Option (List ℕ)) → ℕ → Bool → Type 0
+TellsNormal entries number normal = IsTrue normal ↔ HasNormal entries number
 
 -- the number of BootNext's option, if there is one
 abbrev pub IsNextNumber : (ℕ → Option (List ℕ)) → Option ℕ → Option ℕ → Type 0

@@ -12,4 +12,5 @@ pub mod PlanEquality
 -- what private contracts cite
 pub mod Records
 pub mod Reading
+pub mod ByNumber
 pub mod Choosing

@@ -2,6 +2,7 @@
 use Rattle.std.specs.Prelude.{◌≡◌, ℕ, suc, ◌<◌, ◌≤◌, T, not, List, map, length, take, drop, slice_get, IsSomeAnd}
 use Rattle.std.specs.List.{AllByRecursion}
 use Rattle.std.specs.Ordering.{eq_by_cmp}
+use Rattle.std.specs.Rc.{rc_slice_items}
 use Rattle.std.specs.String.{string_bytes}
 use Rattle.std.specs.declared.cmp.Ordering.TheVariants.{Less}
 use Rattle.std.specs.FinMap.{is_sorted, from_sorted}
@@ -11,7 +12,7 @@ use Rattle.uefi_vars.specs.Vars.{Variables, name_cmp, IsVariable}
 
 -- a variable as the pair of its name and its data
 abbrev pub pair_of : Variable → List ℕ × List ℕ
-pair_of variable = (string_bytes variable.name, variable.data.items)
+pair_of variable = (string_bytes variable.name, rc_slice_items variable.data)
 
 abbrev pub pairs_of : List Variable → List (List ℕ × List ℕ)
 pairs_of variables = map pair_of variables

@@ -21,7 +21,7 @@ pub struct Choice {
 }
 
 impl Choice {
-    /// An equal choice. The one refusal is for want of memory.
+    /// An equal choice, whose option shares the lists of this one's. The one refusal is for want of memory.
     pub fn copy(&self, alloc: Global) -> Result<Choice, AllocError>
         ensures { IfOk result (λ copy. copy ≡ self.now) }
     {
@@ -106,14 +106,12 @@ impl BootPlan {
         (next, normal)
     }
 
-    /// An equal plan. The one refusal is for want of memory.
+    /// An equal plan, whose options share the lists of this one's: this takes memory for the choices alone. The one refusal
+    /// is for want of memory.
     pub fn copy(&self, alloc: Global) -> Result<BootPlan, AllocError>
         ensures { IfOk result (λ plan. plan ≡ self.now) }
     {
-        let next = match &self.next {
-            Some(choice) => Some(choice.copy(alloc)?),
-            None => None,
-        };
+        let next = copy_if_any(alloc, self.next.as_ref())?;
         let normal = copy_choices(alloc, &self.normal)?;
         Ok(BootPlan { next, normal })
     }
@@ -142,6 +140,19 @@ pub struct PlanNumbers {
     pub next: Option<u16>,
     /// The numbers of the options that are tried then, in their order, as [`BootPlan::normal`] gives them.
     pub normal: Vec<u16>,
+}
+
+/// An equal choice, if there is one, and memory for it.
+pub(crate) fn copy_if_any(
+    alloc: Global,
+    choice: Option<&Choice>,
+) -> Result<Option<Choice>, AllocError>
+    ensures { IfOk result (λ copy. copy ≡ option_map (λ c. c.now) choice.entry) }
+{
+    match choice {
+        Some(choice) => Ok(Some(choice.copy(alloc)?)),
+        None => Ok(None),
+    }
 }
 
 /// Equal choices, if there is memory for them.

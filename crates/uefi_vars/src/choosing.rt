@@ -1,14 +1,15 @@
-//! What one look at an entry tells: whether it is a normal option.
+//! What one look at an entry tells: whether it is a normal option, and which.
 
-ghost use Rattle.std.specs.Prelude.{◌≡◌, ◌↔◌, Some, IfSome, IfNone, IfOk, IsTrue};
+ghost use Rattle.std.specs.Prelude.{◌≡◌, ◌↔◌, Some, IfSome, IfNone, IfOk, OnOk, IsTrue};
 ghost use Rattle.uefi_option.specs.LoadOption.{OptionParts, SpellsOption};
 ghost use Rattle.uefi_vars.specs.Vars.{entry_of};
-ghost use Rattle.uefi_vars.specs.Choosing.{IsOptionIfAny, MayBeNormal, HasNormal, IsNormalIfAny};
+ghost use Rattle.uefi_vars.specs.ByNumber.{EachTells};
+ghost use Rattle.uefi_vars.specs.Choosing.{IsOptionIfAny, MayBeNormal, HasNormal, IsNormalIfAny, TellsNormal};
 
-use crate::boot_plan::Choice;
+use crate::boot_plan::{Choice, copy_if_any};
+use crate::by_number::ByNumber;
 use crate::vars::Vars;
 use std::alloc::{AllocError, Global};
-use std::marker::Model;
 use uefi_option::{LoadOption, OptionFault, check_option, is_normal, read_option};
 
 /// The attributes of the option that the bytes are, if they are one: they stand first (UEFI 2.10, 3.1.3).
@@ -70,91 +71,42 @@ fn read_normal_entry(alloc: Global, vars: &Vars, number: u16) -> Result<Option<C
     }
 }
 
-/// Looks at the entries of variables. BootOrder may repeat the number of a long entry, so what was seen of an entry is
-/// kept, and none is looked at twice.
-#[derive(Drop)]
-pub(crate) struct Looks<'a> {
-    vars: &'a Vars,
-    /// By number, whether the entry is a normal option, where it was looked at. This is as long as the numbers want it.
-    known: Vec<Option<bool>>,
+/// Whether the entry of this number is a normal option. BootOrder may repeat the number of a long entry, so what was seen
+/// of an entry is kept, and none is looked at twice.
+pub(crate) fn look_once(
+    vars: &Vars,
+    number: u16,
+    known: &mut ByNumber<bool>,
+) -> Result<bool, AllocError>
+    requires { EachTells (TellsNormal (entry_of vars.now)) known.old }
+    ensures answer { IfOk result (TellsNormal (entry_of vars.now) number) }
+    ensures known { OnOk result (EachTells (TellsNormal (entry_of vars.now)) known.new) }
+{
+    if let Some(normal) = known.get(number) {
+        return Ok(*normal);
+    }
+    let normal = is_normal_entry(vars, number);
+    known.keep(number, normal)?;
+    Ok(normal)
 }
 
-impl<'a> Model for Looks<'a> {
-    ghost use Rattle.std.specs.FinMap as map;
-    ghost use Rattle.std.specs.Coded.{coded_ℕ, coded_list};
-    ghost use Rattle.uefi_vars.specs.Vars.{Variables, entry_of};
-    ghost use Rattle.uefi_vars.specs.Choosing.{AreKnown};
-
-    ghost Value = { Variables };
-
-    ghost coded = { map.code (coded_list coded_ℕ) (coded_list coded_ℕ) };
-
-    ghost view = { λ looks. looks.vars.now };
-
-    ghost invariant = { λ looks. AreKnown (entry_of looks.vars.now) looks.known.items };
-}
-
-impl<'a> Looks<'a> {
-    /// No look was taken yet.
-    pub(crate) fn new(alloc: Global, vars: &'a Vars) -> Looks<'a>
-        ensures { result ≡ vars.now }
-    {
-        Looks {
-            vars,
-            known: Vec::new(alloc),
-        }
+/// The option of the entry of this number with the number, if the entry is there and is a normal option. What was read of
+/// an entry is kept, and none is read twice: where its number stands again, this gives a copy.
+pub(crate) fn read_once(
+    alloc: Global,
+    vars: &Vars,
+    number: u16,
+    known: &mut ByNumber<Option<Choice>>,
+) -> Result<Option<Choice>, AllocError>
+    requires { EachTells (IsNormalIfAny (entry_of vars.now)) known.old }
+    ensures choice { IfOk result (IsNormalIfAny (entry_of vars.now) number) }
+    ensures known { OnOk result (EachTells (IsNormalIfAny (entry_of vars.now)) known.new) }
+{
+    if let Some(choice) = known.get(number) {
+        return copy_if_any(alloc, choice.as_ref());
     }
-
-    /// Whether the entry of this number is a normal option, if it was looked at.
-    fn known(&self, number: u16) -> Option<bool>
-        ensures { IfSome result (λ normal. IsTrue normal ↔ HasNormal (entry_of self.now) number) }
-    {
-        *self.known.get(usize::from(number))?
-    }
-
-    /// Keeps whether the entry of this number is a normal option.
-    fn keep(&mut self, number: u16, normal: bool) -> Result<(), AllocError>
-        requires { IsTrue normal ↔ HasNormal (entry_of self.old) number }
-        ensures { self.new ≡ self.old }
-    {
-        let place = usize::from(number);
-        if place >= self.known.len() {
-            self.known.resize(place + 1, None)?;
-        }
-        self.known[place] = Some(normal);
-        Ok(())
-    }
-
-    /// Whether the entry of this number is a normal option.
-    pub(crate) fn is_normal(&mut self, number: u16) -> Result<bool, AllocError>
-        ensures answer { IfOk result (λ normal.
-            IsTrue normal ↔ HasNormal (entry_of self.old) number) }
-        ensures same { self.new ≡ self.old }
-    {
-        if let Some(normal) = self.known(number) {
-            return Ok(normal);
-        }
-        let normal = is_normal_entry(self.vars, number);
-        self.keep(number, normal)?;
-        Ok(normal)
-    }
-
-    /// The option of the entry of this number with the number, if the entry is there and is a normal option.
-    pub(crate) fn read_normal(
-        &mut self,
-        alloc: Global,
-        number: u16,
-    ) -> Result<Option<Choice>, AllocError>
-        ensures choice { IfOk result (λ choice. IsNormalIfAny (entry_of self.old) number choice) }
-        ensures same { self.new ≡ self.old }
-    {
-        if self.known(number) == Some(false) {
-            return Ok(None);
-        }
-        let choice = read_normal_entry(alloc, self.vars, number)?;
-        if choice.is_none() {
-            self.keep(number, false)?;
-        }
-        Ok(choice)
-    }
+    let choice = read_normal_entry(alloc, vars, number)?;
+    let copy = copy_if_any(alloc, choice.as_ref())?;
+    known.keep(number, choice)?;
+    Ok(copy)
 }

@@ -8,6 +8,7 @@
 #![tactic(auto)]
 
 mod boot_plan;
+mod by_number;
 mod choosing;
 mod fault;
 pub mod laws;

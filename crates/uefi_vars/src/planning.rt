@@ -9,7 +9,8 @@ ghost use Rattle.uefi_vars.specs.Plan.{PlanParts, IsEntryOption, IsNextChoice, A
 ghost use Rattle.uefi_vars.specs.Choosing.{IsNextNumber, AreNormalNumbers};
 
 use crate::boot_plan::{BootPlan, Choice, PlanNumbers};
-use crate::choosing::{Looks, read_bytes};
+use crate::by_number::ByNumber;
+use crate::choosing::{look_once, read_bytes, read_once};
 use crate::fault::VarFault;
 use crate::laws;
 use crate::order::{boot_next, order_bytes};
@@ -67,10 +68,10 @@ fn read_normal_choices(alloc: Global, vars: &Vars, order: &[u16]) -> Result<Vec<
     ensures { IfOk result (λ choices.
         AreNormalChoices (entry_of vars.now) order.now choices.items) }
 {
-    let mut looks = Looks::new(alloc, vars);
+    let mut known = ByNumber::new(alloc);
     let mut choices = Vec::new(alloc);
     for number in order {
-        if let Some(choice) = looks.read_normal(alloc, *number)? {
+        if let Some(choice) = read_once(alloc, vars, *number, &mut known)? {
             choices.push(choice)?;
         }
     }
@@ -82,10 +83,10 @@ fn normal_numbers(alloc: Global, vars: &Vars, order: &[u16]) -> Result<Vec<u16>,
     ensures { IfOk result (λ numbers.
         AreNormalNumbers (entry_of vars.now) order.now numbers.items) }
 {
-    let mut looks = Looks::new(alloc, vars);
+    let mut known = ByNumber::new(alloc);
     let mut numbers = Vec::new(alloc);
     for number in order {
-        if looks.is_normal(*number)? {
+        if look_once(vars, *number, &mut known)? {
             numbers.push(*number)?;
         }
     }
@@ -140,9 +141,10 @@ pub fn plan_numbers(alloc: Global, vars: &Vars) -> Result<PlanNumbers, VarFault>
 /// A number whose entry isn't there or is no load option is left out of both. The variables stay as they are: who
 /// boots by the plan deletes BootNext first.
 ///
-/// An option is held as often as its number stands there, so the plan of a small set may be large: up to
-/// [`ORDER_MAX`](crate::ORDER_MAX) times [`DATA_MAX`](crate::DATA_MAX) bytes; [`plan_numbers`] gives the numbers alone.
-/// However often a number stands in BootOrder, an entry that is left out is looked at once, and isn't copied.
+/// An option is read once however often its number stands in BootOrder, and its choices share its lists. So a plan takes a
+/// small multiple of the bytes of the variables, with some words for each number in BootOrder and, while it is made, for
+/// each up to the highest of them; [`plan_numbers`] gives the numbers alone. An entry that is left out isn't copied. The
+/// option of BootNext may be read once more.
 ///
 /// # Errors
 ///

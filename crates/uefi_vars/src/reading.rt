@@ -13,7 +13,7 @@ ghost use Rattle.uefi_vars.specs.Reading.{names_of, SplitsName, IsNameFault, Spl
 use crate::fault::SetFault;
 use crate::laws;
 use crate::name::{NAME_MAX, is_name, name_text};
-use crate::vars::{DATA_MAX, Variable, Vars, copy_variable};
+use crate::vars::{DATA_MAX, Variable, Vars};
 use crate::writing::MAGIC;
 use std::alloc::Global;
 
@@ -86,7 +86,7 @@ fn read_variables(alloc: Global, bytes: &[u8], start: usize) -> Result<Vec<Varia
             return Err(SetFault::NotRising(place));
         }
         let (data, behind) = split_data(behind, place)?;
-        variables.push(copy_variable(alloc, name, data)?)?;
+        variables.push(Variable::new(alloc, name, data)?)?;
         rest = behind;
     }
     Ok(variables)

@@ -179,6 +179,23 @@ fn keeps_variables_by_name(rt: HostRuntime) -> Result<(), Fail> {
 }
 
 #[test]
+fn changes_a_copy_and_its_set_apart(rt: HostRuntime) -> Result<(), Fail> {
+    let mut vars = set_variables(rt.alloc())?;
+    let mut copy = vars.copy(rt.alloc())?;
+    let other = copy.copy(rt.alloc())?;
+    copy.put("Boot0001", &[0x02])?;
+    copy.put("BootNext", &[0x01, 0x00])?;
+    assert!(rt; vars == set_variables(rt.alloc())?);
+    assert!(rt; vars.remove("BootOrder"));
+    assert!(rt; copy.get("Boot0001") == Some([0x02].as_slice()));
+    assert!(rt; copy.get("BootOrder") == Some([0x01, 0x00].as_slice()));
+    assert_eq!(rt; copy.len(), 4);
+    assert!(rt; vars.get("Boot0001") == Some(DISK.as_slice()) && vars.len() == 2);
+    assert!(rt; other == set_variables(rt.alloc())?);
+    Ok(())
+}
+
+#[test]
 fn keeps_entries_by_number(rt: HostRuntime) -> Result<(), Fail> {
     let most = vec![in rt.alloc(); 0u8; DATA_MAX]?;
     let too_many = vec![in rt.alloc(); 0u8; DATA_MAX + 1]?;
@@ -484,6 +501,27 @@ fn looks_once_at_an_entry_whose_number_is_repeated(rt: HostRuntime) -> Result<()
     let numbers = plan_numbers(rt.alloc(), &vars)?;
     assert_eq!(rt; numbers.normal.len(), 65_536);
     assert!(rt; numbers.normal.iter().all(|number| *number == 5));
+    Ok(())
+}
+
+/// A normal option of as many bytes as a variable can have: it has no description, the shortest path, and optional data.
+fn longest_option(alloc: Global) -> Result<Vec<u8>, Fail> {
+    let front = [1, 0, 0, 0, 4, 0, 0, 0, 0x7f, 0xff, 4, 0];
+    let mut bytes = Vec::from_slice(alloc, &front)?;
+    bytes.resize(DATA_MAX, 0x5a)?;
+    Ok(bytes)
+}
+
+#[test]
+fn reads_once_an_option_whose_number_is_repeated(rt: HostRuntime) -> Result<(), Fail> {
+    let entry = longest_option(rt.alloc())?;
+    let vars = repeated(rt.alloc(), entry.as_slice())?;
+    let choice = plan(rt.alloc(), &vars)?;
+    let normal = choice.normal();
+    assert_eq!(rt; normal.len(), 65_536);
+    for held in [normal.first(), normal.last()] {
+        assert!(rt; held.is_some_and(|held| held.number == 5 && held.option.attributes() == 1));
+    }
     Ok(())
 }
 

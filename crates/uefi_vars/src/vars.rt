@@ -12,15 +12,37 @@ use crate::fault::PutFault;
 use crate::name::{entry_name, is_name, name_text};
 use std::alloc::{AllocError, Global};
 use std::marker::Model;
+use std::rc::RcSlice;
 
 /// The most bytes that the data of a variable has.
 pub const DATA_MAX: usize = 1_048_576;
 
-/// A variable: its name, and its data.
+/// A variable: its name, and its data, which its copies share. Shared data is never written into: a variable that is set
+/// gets new data.
 #[derive(Debug, PartialEq, Eq, Drop)]
 pub(crate) struct Variable {
     pub(crate) name: String,
-    pub(crate) data: Vec<u8>,
+    pub(crate) data: RcSlice<u8>,
+}
+
+impl Variable {
+    /// A variable of this name and this data, which are copied.
+    pub(crate) fn new(alloc: Global, name: &str, value: &[u8]) -> Result<Variable, AllocError>
+        ensures { IfOk result (λ variable. pair_of variable ≡ (name.now, value.now)) }
+    {
+        let name = String::from_str(alloc, name)?;
+        let data = RcSlice::from_slice(alloc, value)?;
+        Ok(Variable { name, data })
+    }
+
+    /// An equal variable, which shares the data.
+    fn copy(&self, alloc: Global) -> Result<Variable, AllocError>
+        ensures { IfOk result (λ copy. pair_of copy ≡ pair_of self.now) }
+    {
+        let name = String::from_str(alloc, &self.name)?;
+        let data = self.data.clone()?;
+        Ok(Variable { name, data })
+    }
 }
 
 /// The variables of a machine: a finite map from names to data. A name has one to [`NAME_MAX`](crate::NAME_MAX) characters
@@ -131,7 +153,8 @@ impl Vars {
         &self.variables
     }
 
-    /// An equal value. The one refusal is for want of memory.
+    /// An equal value. The two share the data of the variables, so this takes memory for the names alone, and no later
+    /// change of one shows in the other. The one refusal is for want of memory.
     pub fn copy(&self, alloc: Global) -> Result<Vars, AllocError>
         ensures equal { IfOk result (λ vars. vars ≡ self.now) }
         ensures valid { IsVars self.now }
@@ -280,7 +303,7 @@ fn find<'a>(variables: &'a [Variable], name: &[u8]) -> Option<&'a [u8]>
     ensures { option_map (λ bytes. bytes.now) result ≡ map.find name_cmp name.now (pairs_of variables.now) }
 {
     match search(variables, name) {
-        Ok(place) => Some(&variables[place].data),
+        Ok(place) => Some(variables[place].data.as_slice()),
         Err(_) => None,
     }
 }
@@ -295,13 +318,9 @@ fn store(variables: &mut Vec<Variable>, name: &str, value: &[u8]) -> Result<(), 
     ensures held { AreVariables (pairs_of variables.new.items) }
 {
     let alloc = *variables.allocator();
-    let data = Vec::from_slice(alloc, value)?;
     match search(variables, name.as_bytes()) {
-        Ok(place) => variables[place].data = data,
-        Err(place) => {
-            let name = String::from_str(alloc, name)?;
-            variables.insert(place, Variable { name, data })?;
-        }
+        Ok(place) => variables[place].data = RcSlice::from_slice(alloc, value)?,
+        Err(place) => variables.insert(place, Variable::new(alloc, name, value)?)?,
     }
     Ok(())
 }
@@ -322,22 +341,13 @@ fn erase(variables: &mut Vec<Variable>, name: &[u8]) -> bool
     }
 }
 
-/// Equal variables, if there is memory for them.
+/// Equal variables, which share the data, if there is memory for their names.
 fn copy_variables(alloc: Global, variables: &[Variable]) -> Result<Vec<Variable>, AllocError>
     ensures { IfOk result (λ copies. pairs_of copies.items ≡ pairs_of variables.now) }
 {
     let mut copies = Vec::with_capacity(alloc, variables.len())?;
     for variable in variables {
-        copies.push(copy_variable(alloc, &variable.name, &variable.data)?)?;
+        copies.push(variable.copy(alloc)?)?;
     }
     Ok(copies)
-}
-
-/// A variable of this name and this data, which are copied.
-pub(crate) fn copy_variable(alloc: Global, name: &str, value: &[u8]) -> Result<Variable, AllocError>
-    ensures { IfOk result (λ variable. pair_of variable ≡ (name.now, value.now)) }
-{
-    let name = String::from_str(alloc, name)?;
-    let data = Vec::from_slice(alloc, value)?;
-    Ok(Variable { name, data })
 }

@@ -9,9 +9,9 @@ pub loop-number-preserved : goal.loop-number-preserved
 loop-number-preserved c =
     let entries = entry_of c.args.vars.now in
     let i = c.loop-number.number-index in
-    let tells = rw c.loop-number.invariant.same at c.in_ok-is_normal.ensures.answer in
+    let tells = c.in_ok-look_once.ensures.answer in
     record {
-      same = c.is_normal.ensures.same ∙ c.loop-number.invariant.same;
+      known = c.in_ok-look_once.ensures.known;
       chosen = elim c.if-branch.branch [
         | then-branch+in_ok-push w ↦ rw (w.numbers-is, w.in_ok-push.ensures.items) (choose_number entries c.args.order.now i c.loop-number.numbers.items (omega arith) c.loop-number.invariant.chosen (tells.0 w.if-branch.true))
         | else-branch w ↦ rw w.numbers-is (pass_number entries c.args.order.now i c.loop-number.numbers.items (omega arith) c.loop-number.invariant.chosen (λ has. false≢true (sym w.if-branch.false ∙ tells.1 has)))

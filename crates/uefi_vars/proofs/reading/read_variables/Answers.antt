@@ -19,5 +19,5 @@ returns-in_err-data-clause-fault c =
 pub loop-rest-preserved : goal.loop-rest-preserved
 loop-rest-preserved c =
     let above = rw c.deref.ensures.value at (c.rises.ensures.0 c.if-not-rises.false) in
-    one_read (drop c.args.start c.args.bytes.now) c.loop-rest.variables.items c.push.new.self.items c.in_ok-copy_variable.field-0 c.loop-rest.rest.now c.in_ok-name.name.now c.in_ok-name.behind.now c.in_ok-data.data.now c.in_ok-data.behind.now
-    c.loop-rest.invariant c.in_ok-push.ensures.items c.in_ok-copy_variable.ensures c.in_ok-name.ensures.found above c.in_ok-data.ensures.found
+    one_read (drop c.args.start c.args.bytes.now) c.loop-rest.variables.items c.push.new.self.items c.in_ok-new.field-0 c.loop-rest.rest.now c.in_ok-name.name.now c.in_ok-name.behind.now c.in_ok-data.data.now c.in_ok-data.behind.now
+    c.loop-rest.invariant c.in_ok-push.ensures.items c.in_ok-new.ensures c.in_ok-name.ensures.found above c.in_ok-data.ensures.found

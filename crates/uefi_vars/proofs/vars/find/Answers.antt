@@ -13,7 +13,7 @@ returns-in-Ok c =
     let at = c.in-Ok.ensures.found in
     let read = slice_get-get_or variables c.in-Ok.place c.index-variables-place.result (omega (arith, at.within, length-map variables pair_of)) in
     let found = find_at name_cmp nat_list_cmp_total c.args.name.now (pairs_of variables) c.in-Ok.place at.below at.named in
-    ap Some c.deref.ensures.value ∙ sym (found ∙ ap (option_map (λ e. e.1)) (slice_get-map pair_of variables c.in-Ok.place ∙ ap (option_map pair_of) read))
+    ap Some c.as_slice.ensures.value ∙ sym (found ∙ ap (option_map (λ e. e.1)) (slice_get-map pair_of variables c.in-Ok.place ∙ ap (option_map pair_of) read))
 
 pub returns-in-Err : goal.returns-in-Err
 returns-in-Err c =
