@@ -14,7 +14,7 @@ pub mod Orders
 pub mod ByteLists
 pub mod TwoBytes
 pub mod Lengths
-pub mod Cuts
+pub mod Raws
 pub mod Requests
 pub mod Reader
 pub mod Events
@@ -29,3 +29,7 @@ mod Steps
 mod OrderLists
 mod Outcomes
 pub mod Asked
+mod Headers
+mod Streams
+mod Pieces
+mod Feeding

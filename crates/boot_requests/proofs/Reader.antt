@@ -19,25 +19,25 @@ use Rattle.boot_requests.specs.declared.request.Request.TheVariants.{Add, Replac
 use Rattle.boot_requests.specs.Limits.{payload_max, no_number}
 use Rattle.boot_requests.specs.Request.{kind_of}
 use Rattle.boot_requests.specs.Frame.{magic, header_bytes, SpellsFrame}
-use Rattle.boot_requests.specs.FrameFault.{Cut, IsCut, IsKind, PassesNumber, IsFirstFault}
-use Rattle.boot_requests.specs.Reading.{byte_of, cut_of, SplitsFrame, SpellsPayload, IsPayloadFault}
+use Rattle.boot_requests.specs.FrameFault.{Raw, IsRaw, IsKind, PassesNumber, IsFirstFault}
+use Rattle.boot_requests.specs.Reading.{byte_of, raw_of, SplitsFrame, SpellsPayload, IsPayloadFault}
 use Rattle.boot_requests.proofs.ByteLists.{bytes_from_recursion}
 use Rattle.boot_requests.proofs.TwoBytes.{two_bytes, bytes_again, are_numbers}
 
 -- ---- a frame that was split
 
-abbrev cut_for : ℕ → ℕ → List ℕ → Cut
-cut_for number kind payload = cut_of magic 1 kind number (length payload) payload
+abbrev raw_for : ℕ → ℕ → List ℕ → Raw
+raw_for number kind payload = raw_of magic 1 kind number (length payload) payload
 
-split_cut : (bytes : List ℕ) (number kind : ℕ) (payload : List ℕ) → SplitsFrame bytes number kind payload → IsCut bytes (cut_for number kind payload)
-split_cut bytes number kind payload split = record {
+split_raw : (bytes : List ℕ) (number kind : ℕ) (payload : List ℕ) → SplitsFrame bytes number kind payload → IsRaw bytes (raw_for number kind payload)
+split_raw bytes number kind payload split = record {
   two_bytes = refl;
   number = let below = split.below in omega (arith, below);
   len = let len = split.len in omega (arith, len);
   parts = split.parts;
 }
 
-split_passes : (bytes : List ℕ) (number kind : ℕ) (payload : List ℕ) → SplitsFrame bytes number kind payload → IsKind kind → PassesNumber (cut_for number kind payload)
+split_passes : (bytes : List ℕ) (number kind : ℕ) (payload : List ℕ) → SplitsFrame bytes number kind payload → IsKind kind → PassesNumber (raw_for number kind payload)
 split_passes bytes number kind payload split is = (((refl, refl), split.len, refl), is, λ e. let below = split.below in omega (arith, below, e))
 
 pub frame_read : (bytes : List ℕ) (number kind : ℕ) (payload : List ℕ) (request : Request) → SplitsFrame bytes number kind payload → SpellsPayload kind payload request → SpellsFrame bytes number request
@@ -50,9 +50,9 @@ frame_read bytes number kind payload request split spelled = record {
 
 pub payload_fault_is : (bytes : List ℕ) (number kind : ℕ) (payload : List ℕ) (f : FrameFault) → SplitsFrame bytes number kind payload → IsKind kind → IsPayloadFault kind payload f → f ≢ fault.OutOfMemory → IsFirstFault bytes f
 payload_fault_is bytes number kind payload fault.BadPayload split is h cause =
-    record { cut = cut_for number kind payload; is = split_cut bytes number kind payload split; here = (split_passes bytes number kind payload split is, h) }
+    record { raw = raw_for number kind payload; is = split_raw bytes number kind payload split; here = (split_passes bytes number kind payload split is, h) }
 payload_fault_is bytes number kind payload (fault.Option x) split is h cause =
-    record { cut = cut_for number kind payload; is = split_cut bytes number kind payload split; here = (split_passes bytes number kind payload split is, h.0, h.1, h.2) }
+    record { raw = raw_for number kind payload; is = split_raw bytes number kind payload split; here = (split_passes bytes number kind payload split is, h.0, h.1, h.2) }
 payload_fault_is bytes number kind payload fault.OutOfMemory split is h cause = absurd (cause refl)
 payload_fault_is bytes number kind payload fault.Short split is h cause = absurd h
 payload_fault_is bytes number kind payload fault.BadMagic split is h cause = absurd h
@@ -141,10 +141,10 @@ abbrev pub Ends : List ℕ → Type 0
 Ends bytes = ((number : ℕ) × (request : Request) × SpellsFrame bytes number request) ⊎ ((f : FrameFault) × IsFirstFault bytes f)
 
 -- the input has a header, whose magic is right or isn't
-record HasHeader (bytes : List ℕ) (cut : Cut) : Type 0 where
-  is : IsCut bytes cut
-  decided : (cut.magic ≡ magic) ⊎ (cut.magic ≢ magic)
-  payload : AllByRecursion IsByte cut.payload
+pub record HasHeader (bytes : List ℕ) (raw : Raw) : Type 0 where
+  pub is : IsRaw bytes raw
+  pub decided : (raw.magic ≡ magic) ⊎ (raw.magic ≢ magic)
+  pub payload : AllByRecursion IsByte raw.payload
 
 magic_or_not : (a b : ℕ) → ((a ∷ b ∷ []) ≡ magic) ⊎ ((a ∷ b ∷ []) ≢ magic)
 magic_or_not a b =
@@ -158,7 +158,7 @@ four_bytes : (a b c d : ℕ) → a < 256 → b < 256 → c < 256 → d < 256 →
 four_bytes a b c d p q r s = le_bytes_4 (a ∷ b ∷ c ∷ d ∷ []) _ refl (bytes_from_recursion (a ∷ b ∷ c ∷ d ∷ []) (p, (q, (r, (s, tt))))) refl
 
 header_of : (a b v k n0 n1 n2 n3 l0 l1 l2 l3 : ℕ) (payload : List ℕ) → AllByRecursion IsByte (a ∷ b ∷ v ∷ k ∷ n0 ∷ n1 ∷ n2 ∷ n3 ∷ l0 ∷ l1 ∷ l2 ∷ l3 ∷ payload)
-    → HasHeader (a ∷ b ∷ v ∷ k ∷ n0 ∷ n1 ∷ n2 ∷ n3 ∷ l0 ∷ l1 ∷ l2 ∷ l3 ∷ payload) (cut_of (a ∷ b ∷ []) v k (from_le_bytes w32 (n0 ∷ n1 ∷ n2 ∷ n3 ∷ [])) (from_le_bytes w32 (l0 ∷ l1 ∷ l2 ∷ l3 ∷ [])) payload)
+    → HasHeader (a ∷ b ∷ v ∷ k ∷ n0 ∷ n1 ∷ n2 ∷ n3 ∷ l0 ∷ l1 ∷ l2 ∷ l3 ∷ payload) (raw_of (a ∷ b ∷ []) v k (from_le_bytes w32 (n0 ∷ n1 ∷ n2 ∷ n3 ∷ [])) (from_le_bytes w32 (l0 ∷ l1 ∷ l2 ∷ l3 ∷ [])) payload)
 header_of a b v k n0 n1 n2 n3 l0 l1 l2 l3 payload fits =
     let number = fits.1.1.1.1 in
     let len = number.1.1.1.1 in
@@ -175,7 +175,7 @@ header_of a b v k n0 n1 n2 n3 l0 l1 l2 l3 payload fits =
       payload = len.1.1.1.1;
     }
 
-heads : (bytes : List ℕ) → AllByRecursion IsByte bytes → (length bytes < 12) ⊎ ((cut : Cut) × HasHeader bytes cut)
+pub heads : (bytes : List ℕ) → AllByRecursion IsByte bytes → (length bytes < 12) ⊎ ((raw : Raw) × HasHeader bytes raw)
 heads [] fits = inl (omega arith)
 heads (a ∷ []) fits = inl (omega arith)
 heads (a ∷ b ∷ []) fits = inl (omega arith)
@@ -189,14 +189,14 @@ heads (a ∷ b ∷ v ∷ k ∷ n0 ∷ n1 ∷ n2 ∷ n3 ∷ l0 ∷ []) fits = inl
 heads (a ∷ b ∷ v ∷ k ∷ n0 ∷ n1 ∷ n2 ∷ n3 ∷ l0 ∷ l1 ∷ []) fits = inl (omega arith)
 heads (a ∷ b ∷ v ∷ k ∷ n0 ∷ n1 ∷ n2 ∷ n3 ∷ l0 ∷ l1 ∷ l2 ∷ []) fits = inl (omega arith)
 heads (a ∷ b ∷ v ∷ k ∷ n0 ∷ n1 ∷ n2 ∷ n3 ∷ l0 ∷ l1 ∷ l2 ∷ l3 ∷ payload) fits =
-    inr (cut_of (a ∷ b ∷ []) v k (from_le_bytes w32 (n0 ∷ n1 ∷ n2 ∷ n3 ∷ [])) (from_le_bytes w32 (l0 ∷ l1 ∷ l2 ∷ l3 ∷ [])) payload, header_of a b v k n0 n1 n2 n3 l0 l1 l2 l3 payload fits)
+    inr (raw_of (a ∷ b ∷ []) v k (from_le_bytes w32 (n0 ∷ n1 ∷ n2 ∷ n3 ∷ [])) (from_le_bytes w32 (l0 ∷ l1 ∷ l2 ∷ l3 ∷ [])) payload, header_of a b v k n0 n1 n2 n3 l0 l1 l2 l3 payload fits)
 
 kind_or_not : (kind : ℕ) → IsKind kind ⊎ (¬ IsKind kind)
 kind_or_not kind =
     elim (cases_lt kind 1) [ inl none ↦ inr (λ is. omega (arith, is.0, none)) | inr some ↦ elim (cases_lt 5 kind) [ inl past ↦ inr (λ is. omega (arith, is.1, past)) | inr within ↦ inl (some, within) ] ]
 
 -- where the tests of the header pass, the input is split
-split_of : (bytes : List ℕ) (c : Cut) → IsCut bytes c → PassesNumber c → SplitsFrame bytes c.number c.kind c.payload
+split_of : (bytes : List ℕ) (c : Raw) → IsRaw bytes c → PassesNumber c → SplitsFrame bytes c.number c.kind c.payload
 split_of bytes c is passes =
     let size = passes.0 in
     record {
@@ -207,7 +207,7 @@ split_of bytes c is passes =
           ∙ ap (λ (n : ℕ). magic ++ (1 ∷ c.kind ∷ []) ++ to_le_bytes w32 c.number ++ to_le_bytes w32 n ++ c.payload) (sym size.2);
     }
 
-payload_end : OptionEnds → (bytes : List ℕ) (c : Cut) → IsCut bytes c → AllByRecursion IsByte c.payload → PassesNumber c → Ends bytes
+payload_end : OptionEnds → (bytes : List ℕ) (c : Raw) → IsRaw bytes c → AllByRecursion IsByte c.payload → PassesNumber c → Ends bytes
 payload_end ends bytes c is fits passes =
     let split = split_of bytes c is passes in
     elim (payload_ends ends c.kind c.payload passes.1 fits) [
@@ -216,20 +216,20 @@ payload_end ends bytes c is fits passes =
     ]
 
 -- the tests of the header, in their order
-header_ends : OptionEnds → (bytes : List ℕ) (c : Cut) → HasHeader bytes c → Ends bytes
+header_ends : OptionEnds → (bytes : List ℕ) (c : Raw) → HasHeader bytes c → Ends bytes
 header_ends ends bytes c h =
     elim h.decided [
-      | inr other ↦ inr (fault.BadMagic, record { cut = c; is = h.is; here = other })
+      | inr other ↦ inr (fault.BadMagic, record { raw = c; is = h.is; here = other })
       | inl magic_is ↦ elim (cases_eq c.version 1) [
-        | inr other ↦ inr (fault.BadVersion, record { cut = c; is = h.is; here = (magic_is, other) })
+        | inr other ↦ inr (fault.BadVersion, record { raw = c; is = h.is; here = (magic_is, other) })
         | inl version_is ↦ elim (cases_lt payload_max c.len) [
-          | inl long ↦ inr (fault.TooLong, record { cut = c; is = h.is; here = ((magic_is, version_is), long) })
+          | inl long ↦ inr (fault.TooLong, record { raw = c; is = h.is; here = ((magic_is, version_is), long) })
           | inr within ↦ elim (cases_eq (length c.payload) c.len) [
-            | inr other ↦ inr (fault.BadSize, record { cut = c; is = h.is; here = ((magic_is, version_is), within, other) })
+            | inr other ↦ inr (fault.BadSize, record { raw = c; is = h.is; here = ((magic_is, version_is), within, other) })
             | inl size ↦ elim (kind_or_not c.kind) [
-              | inr other ↦ inr (fault.BadKind, record { cut = c; is = h.is; here = (((magic_is, version_is), within, size), other) })
+              | inr other ↦ inr (fault.BadKind, record { raw = c; is = h.is; here = (((magic_is, version_is), within, size), other) })
               | inl kind ↦ elim (cases_eq c.number no_number) [
-                | inl none ↦ inr (fault.BadNumber, record { cut = c; is = h.is; here = (((magic_is, version_is), within, size), kind, none) })
+                | inl none ↦ inr (fault.BadNumber, record { raw = c; is = h.is; here = (((magic_is, version_is), within, size), kind, none) })
                 | inr number ↦ payload_end ends bytes c h.is h.payload (((magic_is, version_is), within, size), kind, number)
               ]
             ]

@@ -11,19 +11,19 @@ use Rattle.boot_requests.specs.declared.request.Request.{Request}
 use Rattle.boot_requests.specs.declared.request.Request.TheVariants.{Add, Replace, Remove, Order, Next}
 use Rattle.boot_requests.specs.Request.{IsRequest, kind_of, payload_of}
 use Rattle.boot_requests.specs.Frame.{magic, header_bytes, frame_bytes, SpellsFrame}
-use Rattle.boot_requests.specs.FrameFault.{Cut, IsCut, IsKind, HoldsOption, IsBadPayload, IsFirstFault}
-use Rattle.boot_requests.specs.Reading.{cut_of}
+use Rattle.boot_requests.specs.FrameFault.{Raw, IsRaw, IsKind, HoldsOption, IsBadPayload, IsFirstFault}
+use Rattle.boot_requests.specs.Reading.{raw_of}
 use Rattle.boot_requests.proofs.ByteLists.{AllByRecursion-append}
 use Rattle.boot_requests.proofs.TwoBytes.{bytes_of, same_number, same_numbers, length-bytes_of, numbers_are_bytes}
-use Rattle.boot_requests.proofs.Cuts.{same_cut, cut_size, option_kind, bad_option, bad_entry, bad_order, HasOptionFault, Steps, ByTests, by_tests, Passes, no_steps}
+use Rattle.boot_requests.proofs.Raws.{same_raw, raw_size, option_kind, bad_option, bad_entry, bad_order, HasOptionFault, Steps, ByTests, by_tests, Passes, no_steps}
 
 -- ---- the header and the payload of a spelling
 
-abbrev cut_for : ℕ → Request → Cut
-cut_for number request = cut_of magic 1 (kind_of request) number (length (payload_of request)) (payload_of request)
+abbrev raw_for : ℕ → Request → Raw
+raw_for number request = raw_of magic 1 (kind_of request) number (length (payload_of request)) (payload_of request)
 
-is_cut : (bytes : List ℕ) (number : ℕ) (request : Request) → SpellsFrame bytes number request → IsCut bytes (cut_for number request)
-is_cut bytes number request spelled = record {
+is_raw : (bytes : List ℕ) (number : ℕ) (request : Request) → SpellsFrame bytes number request → IsRaw bytes (raw_for number request)
+is_raw bytes number request spelled = record {
   two_bytes = refl;
   number = let below = spelled.below in omega (arith, below);
   len = let len = spelled.len in omega (arith, len);
@@ -69,8 +69,8 @@ same_payload one (Next m) (Order ns) first second kinds e = absurd (omega (arith
 
 pub same_request : OneOption → (bytes : List ℕ) (m n : ℕ) (q r : Request) → SpellsFrame bytes m q → SpellsFrame bytes n r → (m ≡ n) × (q ≡ r)
 same_request one bytes m n q r first second =
-    let same = same_cut bytes (cut_for m q) (cut_for n r) (is_cut bytes m q first) (is_cut bytes n r second) in
-    (ap (λ (c : Cut). c.number) same, same_payload one q r first.valid second.valid (ap (λ (c : Cut). c.kind) same) (ap (λ (c : Cut). c.payload) same))
+    let same = same_raw bytes (raw_for m q) (raw_for n r) (is_raw bytes m q first) (is_raw bytes n r second) in
+    (ap (λ (c : Raw). c.number) same, same_payload one q r first.valid second.valid (ap (λ (c : Raw). c.kind) same) (ap (λ (c : Raw). c.payload) same))
 
 -- ---- each request is spelled by bytes
 
@@ -123,7 +123,7 @@ good_option none (Remove entry) f is holds first = omega (arith, option_kind 3 h
 good_option none (Order numbers) f is holds first = omega (arith, option_kind 4 holds)
 good_option none (Next entry) f is holds first = omega (arith, option_kind 5 holds)
 
-passes : (bytes : List ℕ) (number : ℕ) (request : Request) → SpellsFrame bytes number request → Passes (cut_for number request)
+passes : (bytes : List ℕ) (number : ℕ) (request : Request) → SpellsFrame bytes number request → Passes (raw_for number request)
 passes bytes number request spelled = record {
   magic = refl;
   version = refl;
@@ -135,11 +135,11 @@ passes bytes number request spelled = record {
 }
 
 no_tests : NoOptionFault → (bytes : List ℕ) (f : FrameFault) (number : ℕ) (request : Request) → ByTests bytes f → SpellsFrame bytes number request → ⊥
-no_tests none bytes f number request (inl short) spelled = omega (arith, short.0, cut_size bytes (cut_for number request) (is_cut bytes number request spelled))
+no_tests none bytes f number request (inl short) spelled = omega (arith, short.0, raw_size bytes (raw_for number request) (is_raw bytes number request spelled))
 no_tests none bytes f number request (inr (c, is, steps)) spelled =
-    let same = same_cut bytes c (cut_for number request) is (is_cut bytes number request spelled) in
-    let last : HasOptionFault (cut_for number request) f → ⊥ = λ has. good_option none request has.0 spelled.valid has.2 has.3 in
-    no_steps (cut_for number request) f (passes bytes number request spelled) last (subst (λ (cut : Cut). Steps cut f) same steps)
+    let same = same_raw bytes c (raw_for number request) is (is_raw bytes number request spelled) in
+    let last : HasOptionFault (raw_for number request) f → ⊥ = λ has. good_option none request has.0 spelled.valid has.2 has.3 in
+    no_steps (raw_for number request) f (passes bytes number request spelled) last (subst (λ (raw : Raw). Steps raw f) same steps)
 
 pub fault_leaves_none : NoOptionFault → (bytes : List ℕ) (f : FrameFault) (number : ℕ) (request : Request) → IsFirstFault bytes f → SpellsFrame bytes number request → ⊥
 fault_leaves_none none bytes f number request first spelled = no_tests none bytes f number request (by_tests bytes f first) spelled

@@ -93,7 +93,7 @@ module _ (next : ℕ) (slots : Slots) where
   below_window : (q : ℕ) → q ≤ next → get (window next slots) q ≡ None
   below_window q low = none_low reach next slots q low
 
-  beyond_window : (q : ℕ) → next + width ≤ q → get (window next slots) q ≡ None
+  pub beyond_window : (q : ℕ) → next + width ≤ q → get (window next slots) q ≡ None
   beyond_window q high = none_high reach next slots q (omega arith)
 
   module _ (is : IsWindow next slots) where
@@ -150,9 +150,6 @@ module _ (next : ℕ) (slots : Slots) where
 
     abbrev fewer : Slots
     fewer = set slots (place_of (next + 1)) None
-
-    pub taken_is : slot_at slots (place_of (next + 1)) ≡ get (window next slots) (next + 1)
-    taken_is = sym (in_window (next + 1) (omega arith) (omega arith))
 
     pub passed_is : window (next + 1) fewer ≡ remove (window next slots) (next + 1)
     passed_is = same_numbers _ _ at
@@ -267,6 +264,12 @@ pub edited_is : {X : Type 0} (v : Vec X) (old new : List X) (place at : ℕ) (x 
 edited_is v old new place at x is same here =
     let all : new ≡ set v.items at x = is ∙ ap (λ xs. set xs place x) same ∙ ap (λ p. set v.items p x) here in
     with_items_is v new (ap length all ∙ length-set v.items at x ∙ sym v.ok.0) ∙ all
+
+-- a vector of slots of which each was freed
+pub freed_is : (v : Vec (Option Request)) (old new : Slots) → new ≡ replicate (length old) None → old ≡ v.items → length v.items ≡ width → (with_items v new).items ≡ replicate width None
+freed_is v old new is same len =
+    let all : new ≡ replicate width None = is ∙ ap (λ (n : ℕ). replicate n None) (ap length same ∙ len) in
+    with_items_is v new (ap length all ∙ length-replicate width (let none : Option Request = None in none) ∙ sym len ∙ sym v.ok.0) ∙ all
 
 -- the element at a place doesn't depend on what stands for those past the end
 pub same_slot : (slots : Slots) (place : ℕ) (other : Option Request) → place < length slots → get_or slots place other ≡ slot_at slots place

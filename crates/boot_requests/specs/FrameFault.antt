@@ -8,7 +8,7 @@ use Rattle.boot_requests.specs.Limits.{payload_max, no_number}
 use Rattle.boot_requests.specs.Frame.{magic}
 
 -- The twelve bytes in front of a payload, whatever they say, and the bytes behind them.
-pub record Cut : Type 0 where
+pub record Raw : Type 0 where
   pub magic : List ℕ
   pub version : ℕ
   pub kind : ℕ
@@ -17,12 +17,12 @@ pub record Cut : Type 0 where
   pub payload : List ℕ
 
 -- the input is these
-pub record IsCut (input : List ℕ) (cut : Cut) : Type 0 where
-  pub two_bytes : length cut.magic ≡ 2
-  pub number : cut.number < 2 ^ 32
-  pub len : cut.len < 2 ^ 32
-  pub parts : input ≡ cut.magic ++ (cut.version ∷ cut.kind ∷ []) ++ to_le_bytes w32 cut.number ++ to_le_bytes w32 cut.len
-      ++ cut.payload
+pub record IsRaw (input : List ℕ) (raw : Raw) : Type 0 where
+  pub two_bytes : length raw.magic ≡ 2
+  pub number : raw.number < 2 ^ 32
+  pub len : raw.len < 2 ^ 32
+  pub parts : input ≡ raw.magic ++ (raw.version ∷ raw.kind ∷ []) ++ to_le_bytes w32 raw.number ++ to_le_bytes w32 raw.len
+      ++ raw.payload
 
 -- a kind that some request has
 abbrev pub IsKind : ℕ → Type 0
@@ -43,53 +43,53 @@ IsBadPayload kind payload =
     ⊎ ((HoldsEntry kind × (length payload ≢ 2)) ⊎ ((kind ≡ 4) × (length payload % 2 ≢ 0)))
 
 -- What each test finds, in the order of the tests: that it fails, where all before it passed.
-abbrev pub FailsMagic : Cut → Type 0
-FailsMagic cut = cut.magic ≢ magic
+abbrev pub FailsMagic : Raw → Type 0
+FailsMagic raw = raw.magic ≢ magic
 
-abbrev pub FailsVersion : Cut → Type 0
-FailsVersion cut = (cut.magic ≡ magic) × (cut.version ≢ 1)
+abbrev pub FailsVersion : Raw → Type 0
+FailsVersion raw = (raw.magic ≡ magic) × (raw.version ≢ 1)
 
-abbrev pub PassesVersion : Cut → Type 0
-PassesVersion cut = (cut.magic ≡ magic) × (cut.version ≡ 1)
+abbrev pub PassesVersion : Raw → Type 0
+PassesVersion raw = (raw.magic ≡ magic) × (raw.version ≡ 1)
 
-abbrev pub FailsLength : Cut → Type 0
-FailsLength cut = PassesVersion cut × (payload_max < cut.len)
+abbrev pub FailsLength : Raw → Type 0
+FailsLength raw = PassesVersion raw × (payload_max < raw.len)
 
-abbrev pub FailsSize : Cut → Type 0
-FailsSize cut = PassesVersion cut × (cut.len ≤ payload_max) × (length cut.payload ≢ cut.len)
+abbrev pub FailsSize : Raw → Type 0
+FailsSize raw = PassesVersion raw × (raw.len ≤ payload_max) × (length raw.payload ≢ raw.len)
 
-abbrev pub PassesSize : Cut → Type 0
-PassesSize cut = PassesVersion cut × (cut.len ≤ payload_max) × (length cut.payload ≡ cut.len)
+abbrev pub PassesSize : Raw → Type 0
+PassesSize raw = PassesVersion raw × (raw.len ≤ payload_max) × (length raw.payload ≡ raw.len)
 
-abbrev pub FailsKind : Cut → Type 0
-FailsKind cut = PassesSize cut × (¬ IsKind cut.kind)
+abbrev pub FailsKind : Raw → Type 0
+FailsKind raw = PassesSize raw × (¬ IsKind raw.kind)
 
-abbrev pub FailsNumber : Cut → Type 0
-FailsNumber cut = PassesSize cut × IsKind cut.kind × (cut.number ≡ no_number)
+abbrev pub FailsNumber : Raw → Type 0
+FailsNumber raw = PassesSize raw × IsKind raw.kind × (raw.number ≡ no_number)
 
-abbrev pub PassesNumber : Cut → Type 0
-PassesNumber cut = PassesSize cut × IsKind cut.kind × (cut.number ≢ no_number)
+abbrev pub PassesNumber : Raw → Type 0
+PassesNumber raw = PassesSize raw × IsKind raw.kind × (raw.number ≢ no_number)
 
-abbrev pub FailsPayload : Cut → Type 0
-FailsPayload cut = PassesNumber cut × IsBadPayload cut.kind cut.payload
+abbrev pub FailsPayload : Raw → Type 0
+FailsPayload raw = PassesNumber raw × IsBadPayload raw.kind raw.payload
 
--- the input is cut so that this holds
-pub record IsCutWith (input : List ℕ) (P : Cut → Type 0) : Type 0 where
-  pub cut : Cut
-  pub is : IsCut input cut
-  pub here : P cut
+-- the input is a header, whatever it says, and bytes behind it, of which this holds
+pub record IsRawWith (input : List ℕ) (P : Raw → Type 0) : Type 0 where
+  pub raw : Raw
+  pub is : IsRaw input raw
+  pub here : P raw
 
 -- The fault is the first of the input, by cases.
 abbrev pub IsFirstFault : List ℕ → FrameFault → Type 0
 IsFirstFault input fault.Short = length input < 12
-IsFirstFault input fault.BadMagic = IsCutWith input FailsMagic
-IsFirstFault input fault.BadVersion = IsCutWith input FailsVersion
-IsFirstFault input fault.TooLong = IsCutWith input FailsLength
-IsFirstFault input fault.BadSize = IsCutWith input FailsSize
-IsFirstFault input fault.BadKind = IsCutWith input FailsKind
-IsFirstFault input fault.BadNumber = IsCutWith input FailsNumber
-IsFirstFault input fault.BadPayload = IsCutWith input FailsPayload
-IsFirstFault input (fault.Option option_fault) = IsCutWith input (λ cut.
-    PassesNumber cut × HoldsOption cut.kind × (2 ≤ length cut.payload)
-    × IsFirstOptionFault (drop 2 cut.payload) option_fault)
+IsFirstFault input fault.BadMagic = IsRawWith input FailsMagic
+IsFirstFault input fault.BadVersion = IsRawWith input FailsVersion
+IsFirstFault input fault.TooLong = IsRawWith input FailsLength
+IsFirstFault input fault.BadSize = IsRawWith input FailsSize
+IsFirstFault input fault.BadKind = IsRawWith input FailsKind
+IsFirstFault input fault.BadNumber = IsRawWith input FailsNumber
+IsFirstFault input fault.BadPayload = IsRawWith input FailsPayload
+IsFirstFault input (fault.Option option_fault) = IsRawWith input (λ raw.
+    PassesNumber raw × HoldsOption raw.kind × (2 ≤ length raw.payload)
+    × IsFirstOptionFault (drop 2 raw.payload) option_fault)
 IsFirstFault input fault.OutOfMemory = ⊥

@@ -16,9 +16,12 @@ pub mod Turn
 pub mod Keeping
 pub mod Machine
 pub mod Words
+pub mod Stream
 -- for private functions
 pub mod Reading
 pub mod Writing
 pub mod Marks
 pub mod Edit
 pub mod Slots
+pub mod Update
+pub mod Pieces

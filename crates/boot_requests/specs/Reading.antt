@@ -5,13 +5,15 @@ use Rattle.uefi_option.specs.LoadOption.{OptionParts, IsOption, option_bytes}
 use Rattle.uefi_option.specs.Fault.{IsFirstFault as IsFirstOptionFault}
 use Rattle.boot_requests.specs.declared.frame.Kind.{Kind}
 use Rattle.boot_requests.specs.declared.frame.Kind.TheVariants as kind
+use Rattle.boot_requests.specs.declared.fault.FeedFault.{FeedFault}
+use Rattle.boot_requests.specs.declared.fault.FeedFault.TheVariants as feeding
 use Rattle.boot_requests.specs.declared.fault.FrameFault.{FrameFault}
 use Rattle.boot_requests.specs.declared.fault.FrameFault.TheVariants as fault
 use Rattle.boot_requests.specs.declared.request.Request.{Request}
 use Rattle.boot_requests.specs.Limits.{payload_max, no_number}
 use Rattle.boot_requests.specs.Request.{IsRequest, kind_of, payload_of}
 use Rattle.boot_requests.specs.Frame.{header_bytes}
-use Rattle.boot_requests.specs.FrameFault.{Cut, HoldsOption, IsBadPayload}
+use Rattle.boot_requests.specs.FrameFault.{Raw, HoldsOption, IsBadPayload, FailsMagic, FailsVersion, PassesVersion, FailsLength}
 
 -- the byte that stands for the kind
 abbrev pub byte_of : Kind → ℕ
@@ -21,9 +23,27 @@ byte_of kind.Remove = 3
 byte_of kind.Order = 4
 byte_of kind.Next = 5
 
-abbrev pub cut_of : List ℕ → ℕ → ℕ → ℕ → ℕ → List ℕ → Cut
-cut_of magic version kind number len payload =
+abbrev pub raw_of : List ℕ → ℕ → ℕ → ℕ → ℕ → List ℕ → Raw
+raw_of magic version kind number len payload =
     record { magic = magic; version = version; kind = kind; number = number; len = len; payload = payload }
+
+-- a header that is good, whatever stands behind it
+abbrev pub PassesLength : Raw → Type 0
+PassesLength raw = PassesVersion raw × (raw.len ≤ payload_max)
+
+-- the fault is the first of a header
+abbrev pub FailsHeader : Raw → FeedFault → Type 0
+FailsHeader raw feeding.BadMagic = FailsMagic raw
+FailsHeader raw feeding.BadVersion = FailsVersion raw
+FailsHeader raw feeding.TooLong = FailsLength raw
+FailsHeader raw feeding.OutOfMemory = ⊥
+
+-- a frame has the fault of its header
+abbrev pub frame_fault_of : FeedFault → FrameFault
+frame_fault_of feeding.BadMagic = fault.BadMagic
+frame_fault_of feeding.BadVersion = fault.BadVersion
+frame_fault_of feeding.TooLong = fault.TooLong
+frame_fault_of feeding.OutOfMemory = fault.OutOfMemory
 
 -- the bytes are those of a frame, as far as can be told without reading the payload
 pub record SplitsFrame (bytes : List ℕ) (number kind : ℕ) (payload : List ℕ) : Type 0 where

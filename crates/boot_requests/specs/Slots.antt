@@ -1,6 +1,6 @@
 -- For the private type of the window: the slots in which requests wait, and what waits in them.
-use Rattle.std.specs.Prelude.{◌≡◌, ℕ, zero, suc, ◌+◌, ◌-◌, ◌%◌, ◌<◌, List, length, slice_index_or, Option, Some, None, IfSome}
-use Rattle.std.specs.FinMap.{empty, insert}
+use Rattle.std.specs.Prelude.{◌≡◌, ℕ, zero, suc, ◌+◌, ◌-◌, ◌%◌, ◌<◌, nat_lt, List, length, slice_index_or, Option, Some, None, IfSome}
+use Rattle.std.specs.FinMap.{empty, insert, retain_keys}
 use Rattle.boot_requests.specs.declared.request.Request.{Request}
 use Rattle.boot_requests.specs.Limits.{width}
 use Rattle.boot_requests.specs.Frame.{IsSent}
@@ -13,6 +13,10 @@ pub record WindowParts : Type 0 where
 
 abbrev pub parts_of : ℕ → Requests → WindowParts
 parts_of next waiting = record { next = next; waiting = waiting }
+
+-- those of the requests that have numbers above this one
+abbrev pub above : ℕ → Requests → Requests
+above next requests = retain_keys requests (λ number. nat_lt next number)
 
 -- how many numbers above the next one are taken
 abbrev pub reach : ℕ

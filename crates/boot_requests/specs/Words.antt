@@ -4,6 +4,8 @@ use Rattle.std.specs.Prelude.{ℕ, List, ◌++◌, codes}
 use Rattle.std.specs.Fmt.{decimal}
 use Rattle.uefi_option.specs.Words.{option_fault_words}
 use Rattle.uefi_vars.specs.Words.{plan_words}
+use Rattle.boot_requests.specs.declared.fault.FeedFault.{FeedFault}
+use Rattle.boot_requests.specs.declared.fault.FeedFault.TheVariants as feeding
 use Rattle.boot_requests.specs.declared.fault.FrameFault.{FrameFault}
 use Rattle.boot_requests.specs.declared.fault.FrameFault.TheVariants as frame
 use Rattle.boot_requests.specs.declared.fault.OpenFault.{OpenFault}
@@ -24,6 +26,12 @@ frame_fault_words frame.BadNumber = codes "BadNumber"
 frame_fault_words frame.BadPayload = codes "BadPayload"
 frame_fault_words (frame.Option option_fault) = codes "Option " ++ option_fault_words option_fault
 frame_fault_words frame.OutOfMemory = codes "OutOfMemory"
+
+abbrev pub feed_fault_words : FeedFault → List ℕ
+feed_fault_words feeding.BadMagic = codes "BadMagic"
+feed_fault_words feeding.BadVersion = codes "BadVersion"
+feed_fault_words feeding.TooLong = codes "TooLong"
+feed_fault_words feeding.OutOfMemory = codes "OutOfMemory"
 
 abbrev pub open_fault_words : OpenFault → List ℕ
 open_fault_words opening.BadOrder = codes "BadOrder"

@@ -52,6 +52,13 @@ impl Bytes {
         Bytes { bytes }
     }
 
+    /// The bytes themselves, and not a copy of them.
+    pub(crate) fn into_bytes(self) -> Vec<u8>
+        ensures { result.items ≡ self }
+    {
+        self.bytes
+    }
+
     /// Equal bytes. The one refusal is for want of memory.
     pub fn copy(&self, alloc: Global) -> Result<Bytes, AllocError>
         ensures { IfOk result (λ bytes. bytes ≡ self.now) }

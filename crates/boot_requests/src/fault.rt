@@ -2,6 +2,7 @@
 
 ghost use Rattle.std.specs.Prelude.{◌≡◌, IfOk};
 ghost use Rattle.std.specs.String.{string_bytes};
+ghost use Rattle.boot_requests.specs.declared.fault.FeedFault.TheVariants as feeding;
 ghost use Rattle.boot_requests.specs.declared.fault.FrameFault.TheVariants as frame;
 ghost use Rattle.boot_requests.specs.declared.fault.OpenFault.TheVariants as opening;
 
@@ -39,6 +40,23 @@ pub enum FrameFault {
     /// The payload's load option is none. The fault's offsets count from the option's first byte.
     #[error("Option {0}")]
     Option(OptionFault),
+    /// Memory was refused.
+    #[error("OutOfMemory")]
+    OutOfMemory,
+}
+
+/// Why a stream of frames can't be cut any further.
+#[derive(Clone, Copy, Debug, PartialEq, Eq, Hash, Error)]
+pub enum FeedFault {
+    /// A header doesn't begin with 0x42 0x51.
+    #[error("BadMagic")]
+    BadMagic,
+    /// The version of a header isn't 1.
+    #[error("BadVersion")]
+    BadVersion,
+    /// A payload is to have more than [`PAYLOAD_MAX`](crate::PAYLOAD_MAX) bytes.
+    #[error("TooLong")]
+    TooLong,
     /// Memory was refused.
     #[error("OutOfMemory")]
     OutOfMemory,
@@ -87,6 +105,22 @@ impl FrameFault {
     }
 }
 
+impl FeedFault {
+    ghost use Rattle.boot_requests.specs.Words.{feed_fault_words};
+
+    /// The fault's name. The one refusal is for want of memory.
+    pub fn words(&self, alloc: Global) -> Result<String, AllocError>
+        ensures { IfOk result (λ text. string_bytes text ≡ feed_fault_words self.now) }
+    {
+        match self {
+            FeedFault::BadMagic => String::from_str(alloc, "BadMagic"),
+            FeedFault::BadVersion => String::from_str(alloc, "BadVersion"),
+            FeedFault::TooLong => String::from_str(alloc, "TooLong"),
+            FeedFault::OutOfMemory => String::from_str(alloc, "OutOfMemory"),
+        }
+    }
+}
+
 impl OpenFault {
     ghost use Rattle.boot_requests.specs.Words.{open_fault_words};
 
@@ -116,6 +150,38 @@ impl<T: Drop> From<AllocFailed<T>> for FrameFault {
 
     fn from(_refusal: AllocFailed<T>) -> FrameFault {
         FrameFault::OutOfMemory
+    }
+}
+
+impl From<FeedFault> for FrameFault {
+    ghost use Rattle.std.specs.Prelude.{◌≡◌};
+    ghost use Rattle.boot_requests.specs.Reading.{frame_fault_of};
+
+    ghost from_gives = { λ fault made. made ≡ frame_fault_of fault };
+
+    fn from(fault: FeedFault) -> FrameFault {
+        match fault {
+            FeedFault::BadMagic => FrameFault::BadMagic,
+            FeedFault::BadVersion => FrameFault::BadVersion,
+            FeedFault::TooLong => FrameFault::TooLong,
+            FeedFault::OutOfMemory => FrameFault::OutOfMemory,
+        }
+    }
+}
+
+impl From<AllocError> for FeedFault {
+    ghost from_gives = { λ _ made. made ≡ feeding.OutOfMemory };
+
+    fn from(_refusal: AllocError) -> FeedFault {
+        FeedFault::OutOfMemory
+    }
+}
+
+impl<T: Drop> From<AllocFailed<T>> for FeedFault {
+    ghost from_gives = { λ _ made. made ≡ feeding.OutOfMemory };
+
+    fn from(_refusal: AllocFailed<T>) -> FeedFault {
+        FeedFault::OutOfMemory
     }
 }
 

@@ -1,12 +1,12 @@
 //! The request of the next number, and those that follow it without a gap.
 
-ghost use Rattle.std.specs.Prelude.{◌≡◌, ◌+◌, ◌<◌, ◌≤◌, length, None, IfOk};
+ghost use Rattle.std.specs.Prelude.{◌≡◌, ◌+◌, ◌<◌, ◌≤◌, length, IfOk};
 ghost use Rattle.boot_requests.specs.Limits.{payload_max, no_number, kept_max};
 ghost use Rattle.boot_requests.specs.Request.{payload_of};
 ghost use Rattle.boot_requests.specs.Apply.{outcome_of, applied, kept_with};
 ghost use Rattle.boot_requests.specs.Turn.{plain_start, settled};
 ghost use Rattle.boot_requests.specs.Keeping.{IsStateOf};
-ghost use Rattle.boot_requests.specs.Machine.{machine_of, plain_of};
+ghost use Rattle.boot_requests.specs.Machine.{machine_of};
 
 use crate::applying::carry_out;
 use crate::outcome::{KEPT_MAX, Outcome};
@@ -41,49 +41,32 @@ pub(crate) fn apply(
     Ok((outcome, kept))
 }
 
-/// Applies those of the waiting requests that follow the next number without a gap, in the order of their numbers, and
-/// passes on to the number after them. The outcomes that are kept then. Where memory is refused, the variables and the
-/// window may be of no use any more.
+/// Applies those of the waiting requests that follow the next number without a gap, in the order of their numbers. The
+/// number after them, and the outcomes that are kept then. The requests are read where they wait, and stay there. Where
+/// memory is refused, the variables may be of no use any more.
 pub(crate) fn apply_followers(
     alloc: Global,
     vars: &mut Vars,
-    window: &mut Window,
+    window: &Window,
     kept: Vec<Outcome>,
-) -> Result<Vec<Outcome>, AllocError>
-    requires stands { IsStateOf (machine_of vars.old (window.old.next + 1) kept.items) vars.old }
-    requires room { window.old.next < no_number }
-    ensures settled { IfOk result (λ all.
-        plain_of (machine_of vars.new window.new.next all.items) window.new.waiting None
-        ≡ settled (plain_start (machine_of vars.old (window.old.next + 1) kept.items))
-        window.old.waiting) }
+) -> Result<(u32, Vec<Outcome>), AllocError>
+    requires stands { IsStateOf (machine_of vars.old (window.now.next + 1) kept.items) vars.old }
+    requires room { window.now.next < no_number }
+    ensures number { IfOk result (λ all. window.now.next < all.0) }
+    ensures state { IfOk result (λ all. machine_of vars.new all.0 all.1.items
+        ≡ (settled (plain_start (machine_of vars.old (window.now.next + 1) kept.items))
+        window.now.waiting).machine) }
     ensures stands { IfOk result (λ all.
-        IsStateOf (machine_of vars.new window.new.next all.items) vars.new) }
+        IsStateOf (machine_of vars.new all.0 all.1.items) vars.new) }
 {
+    let mut number = window.next() + 1;
     let mut now = kept;
-    while let Some(request) = window.pass() {
-        now = apply_follower(alloc, vars, window.next(), now, request)?;
+    while let Some(request) = window.get(number) {
+        let (_outcome, all) = apply(alloc, vars, number, &now, request)?;
+        now = all;
+        number += 1;
     }
-    Ok(now)
-}
-
-/// Applies a request that waited, as [`apply`] does. The outcomes that are kept then.
-fn apply_follower(
-    alloc: Global,
-    vars: &mut Vars,
-    next: u32,
-    kept: Vec<Outcome>,
-    request: Request,
-) -> Result<Vec<Outcome>, AllocError>
-    requires stands { IsStateOf (machine_of vars.old next kept.items) vars.old }
-    requires room { next < no_number }
-    requires fits { length (payload_of request) ≤ payload_max }
-    ensures state { IfOk result (λ all. machine_of vars.new (next + 1) all.items
-        ≡ applied (machine_of vars.old next kept.items) request) }
-    ensures stands { IfOk result (λ all.
-        IsStateOf (machine_of vars.new (next + 1) all.items) vars.new) }
-{
-    let (_outcome, all) = apply(alloc, vars, next, &kept, &request)?;
-    Ok(all)
+    Ok((number, now))
 }
 
 /// The outcomes with one more behind them, of which the last ones are kept.

@@ -1,6 +1,6 @@
 //! What keeps the boot entries of a machine.
 
-ghost use Rattle.std.specs.Prelude.{◌≡◌, ◌≢◌, ◌↔◌, ℕ, ◌+◌, ◌<◌, ◌≤◌, List, ◌∷◌, length, unwrap_or, IfOk, IsTrue};
+ghost use Rattle.std.specs.Prelude.{◌≡◌, ◌≢◌, ◌↔◌, ℕ, ◌+◌, ◌<◌, ◌≤◌, List, ◌∷◌, length, IfOk, IsTrue};
 ghost use Rattle.std.specs.FinMap as map;
 ghost use Rattle.boot_requests.specs.declared.request.Request.{Request};
 ghost use Rattle.boot_requests.specs.declared.reply.Reply.{Reply};
@@ -16,7 +16,7 @@ ghost use Rattle.boot_requests.specs.Answer.{kept_outcome, again, choice_count};
 ghost use Rattle.boot_requests.specs.Reply.{IsReply};
 ghost use Rattle.boot_requests.specs.Turn.{settled, Turn};
 ghost use Rattle.boot_requests.specs.Keeping.{IsStateOf, IsPlain, StandsFor};
-ghost use Rattle.boot_requests.specs.Machine.{plain_of};
+ghost use Rattle.boot_requests.specs.Update.{Fits, updated};
 
 use crate::event::Event;
 use crate::fault::FrameFault;
@@ -26,7 +26,7 @@ use crate::outcome::Outcome;
 use crate::reading::read_frame;
 use crate::reply::Reply;
 use crate::request::Request;
-use crate::storing::delete_next;
+use crate::update::Update;
 use crate::window::{WIDTH, Window};
 use std::alloc::{AllocError, Global};
 use std::marker::Model;
@@ -122,47 +122,47 @@ impl Keeper {
             StandsFor answer.0 start (seen ∷ run) × IsReply start run seen answer.1) }
     {
         laws::a_turn_goes_on_with_the_run();
-        let (next, reply) = self.take_turn(alloc, event)?;
-        match next {
-            Some(keeper) => Ok((keeper, reply)),
-            None => Ok((self.copy(alloc)?, reply)),
-        }
+        let (update, reply) = self.take_turn(alloc, event)?;
+        let keeper = self.updated(alloc, update)?;
+        Ok((keeper, reply))
     }
 
-    /// What becomes of the keeper with this event, by the table of turns: `None` where it stays as it was.
+    /// What this event changes, by the table of turns, and the answer to it.
     pub(crate) fn take_turn(
         &self,
         alloc: Global,
         event: &Event,
-    ) -> Result<(Option<Keeper>, Reply), AllocError>
-        ensures { IfOk result (λ answer. (seen : Seen) → IsSeen event.now seen →
-            Turn self.now seen (unwrap_or answer.0 self.now) answer.1) }
+    ) -> Result<(Update, Reply), AllocError>
+        ensures fits { IfOk result (λ answer. Fits self.now answer.0) }
+        ensures turn { IfOk result (λ answer. (seen : Seen) → IsSeen event.now seen →
+            Turn self.now seen (updated self.now answer.0) answer.1) }
     {
         match event {
             Event::Deliver(bytes) => self.receive(alloc, bytes.bytes()),
             Event::Prepare => self.prepare(alloc),
             Event::Hand => self.hand(alloc),
-            Event::Restart => self.restart(alloc),
+            Event::Restart => Ok(self.restart()),
         }
     }
 
     /// These bytes came.
-    fn receive(&self, alloc: Global, bytes: &[u8]) -> Result<(Option<Keeper>, Reply), AllocError>
+    fn receive(&self, alloc: Global, bytes: &[u8]) -> Result<(Update, Reply), AllocError>
+        ensures fits { IfOk result (λ answer. Fits self.now answer.0) }
         ensures came { IfOk result (λ answer. (number : ℕ) (request : Request) →
             SpellsFrame bytes.now number request →
-            Turn self.now (Came number request) (unwrap_or answer.0 self.now) answer.1) }
+            Turn self.now (Came number request) (updated self.now answer.0) answer.1) }
         ensures garbled { IfOk result (λ answer. (fault : FrameFault) →
             IsFirstFault bytes.now fault →
-            Turn self.now (Garbled fault) (unwrap_or answer.0 self.now) answer.1) }
+            Turn self.now (Garbled fault) (updated self.now answer.0) answer.1) }
     {
         match read_frame(alloc, bytes) {
             Ok((number, request)) => {
-                let answer = self.deliver(alloc, number, &request)?;
+                let answer = self.deliver(alloc, number, request)?;
                 Ok(answer)
             }
             Err(fault) => {
                 let reply = refusal(fault)?;
-                Ok((None, reply))
+                Ok((Update::Nothing, reply))
             }
         }
     }
@@ -172,32 +172,30 @@ impl Keeper {
         &self,
         alloc: Global,
         number: u32,
-        request: &Request,
-    ) -> Result<(Option<Keeper>, Reply), AllocError>
-        requires { IsSent number request.now }
-        ensures { IfOk result (λ answer.
-            Turn self.now (Came number request.now) (unwrap_or answer.0 self.now) answer.1) }
+        request: Request,
+    ) -> Result<(Update, Reply), AllocError>
+        requires { IsSent number request }
+        ensures fits { IfOk result (λ answer. Fits self.now answer.0) }
+        ensures turn { IfOk result (λ answer.
+            Turn self.now (Came number request) (updated self.now answer.0) answer.1) }
     {
         laws::requests_compare_as_values();
         let next = self.window.next();
         if number < next {
-            return Ok((None, self.again(number)));
+            return Ok((Update::Nothing, self.again(number)));
         }
         let is_ahead = number - next >= WIDTH;
         if is_ahead {
-            return Ok((None, Reply::Ahead(next)));
+            return Ok((Update::Nothing, Reply::Ahead(next)));
         }
         if number == next {
-            let (keeper, reply) = self.fill(alloc, request)?;
-            return Ok((Some(keeper), reply));
+            let answer = self.fill(alloc, &request)?;
+            return Ok(answer);
         }
         match self.window.get(number) {
-            Some(other) if *other == *request => Ok((None, Reply::Waiting(next))),
-            Some(_) => Ok((None, Reply::Conflict)),
-            None => {
-                let keeper = self.keep(alloc, number, request)?;
-                Ok((Some(keeper), Reply::Waiting(next)))
-            }
+            Some(other) if *other == request => Ok((Update::Nothing, Reply::Waiting(next))),
+            Some(_) => Ok((Update::Nothing, Reply::Conflict)),
+            None => Ok((Update::Waits(number, request), Reply::Waiting(next))),
         }
     }
 
@@ -216,122 +214,59 @@ impl Keeper {
         }
     }
 
-    /// A request waits under this number, under which none does.
-    fn keep(&self, alloc: Global, number: u32, request: &Request) -> Result<Keeper, AllocError>
-        requires above { self.now.machine.count < number }
-        requires near { number < self.now.machine.count + width }
-        requires sent { IsSent number request.now }
-        ensures { IfOk result (λ keeper. keeper ≡ plain_of self.now.machine
-            (map.insert self.now.waiting number request.now) self.now.plan) }
-    {
-        let mut window = self.window.copy(alloc)?;
-        window.keep(number, request.copy(alloc)?);
-        let plan = copy_plan(alloc, &self.plan)?;
-        let keeper = self.with(alloc, window, plan)?;
-        Ok(keeper)
-    }
-
     /// The request of the next number is applied, and then those that follow it without a gap.
-    fn fill(&self, alloc: Global, request: &Request) -> Result<(Keeper, Reply), AllocError>
+    fn fill(&self, alloc: Global, request: &Request) -> Result<(Update, Reply), AllocError>
         requires room { self.now.machine.count < no_number }
         requires fits { length (payload_of request.now) ≤ payload_max }
-        ensures state { IfOk result (λ answer. answer.0
+        ensures fits { IfOk result (λ answer. Fits self.now answer.0) }
+        ensures state { IfOk result (λ answer. updated self.now answer.0
             ≡ settled self.now (map.insert self.now.waiting self.now.machine.count request.now)) }
         ensures answer { IfOk result (λ answer. answer.1
-            ≡ Reply.Applied (outcome_of self.now.machine request.now) answer.0.machine.count) }
+            ≡ Reply.Applied (outcome_of self.now.machine request.now)
+            (updated self.now answer.0).machine.count) }
     {
         let mut vars = self.vars.copy(alloc)?;
-        let mut window = self.window.copy(alloc)?;
-        let (outcome, first) = apply(alloc, &mut vars, window.next(), &self.kept, request)?;
-        let kept = apply_followers(alloc, &mut vars, &mut window, first)?;
-        let plan = copy_plan(alloc, &self.plan)?;
-        let next = window.next();
-        let keeper = Keeper {
-            vars,
-            window,
-            kept,
-            plan,
-        };
-        Ok((keeper, Reply::Applied(outcome, next)))
+        let next = self.window.next();
+        let (outcome, first) = apply(alloc, &mut vars, next, &self.kept, request)?;
+        let (after, kept) = apply_followers(alloc, &mut vars, &self.window, first)?;
+        Ok((
+            Update::Applied(vars, after, kept),
+            Reply::Applied(outcome, after),
+        ))
     }
 
     /// A boot is prepared.
-    fn prepare(&self, alloc: Global) -> Result<(Option<Keeper>, Reply), AllocError>
-        ensures { IfOk result (λ answer.
-            Turn self.now Prepare (unwrap_or answer.0 self.now) answer.1) }
+    fn prepare(&self, alloc: Global) -> Result<(Update, Reply), AllocError>
+        ensures fits { IfOk result (λ answer. Fits self.now answer.0) }
+        ensures turn { IfOk result (λ answer.
+            Turn self.now Prepare (updated self.now answer.0) answer.1) }
     {
         if self.plan.is_some() {
-            return Ok((None, Reply::AlreadyPrepared));
+            return Ok((Update::Nothing, Reply::AlreadyPrepared));
         }
         let plan = make_plan(alloc, &self.vars)?;
         let count = choice_count(&plan);
-        let mut vars = self.vars.copy(alloc)?;
-        delete_next(&mut vars);
-        let window = self.window.copy(alloc)?;
-        let kept = copy_outcomes(alloc, &self.kept)?;
-        let keeper = Keeper {
-            vars,
-            window,
-            kept,
-            plan: Some(plan),
-        };
-        Ok((Some(keeper), Reply::Prepared(count)))
+        Ok((Update::Prepared(plan), Reply::Prepared(count)))
     }
 
     /// The plan that is prepared is to be handed out.
-    fn hand(&self, alloc: Global) -> Result<(Option<Keeper>, Reply), AllocError>
-        ensures { IfOk result (λ answer.
-            Turn self.now Hand (unwrap_or answer.0 self.now) answer.1) }
+    fn hand(&self, alloc: Global) -> Result<(Update, Reply), AllocError>
+        ensures fits { IfOk result (λ answer. Fits self.now answer.0) }
+        ensures turn { IfOk result (λ answer.
+            Turn self.now Hand (updated self.now answer.0) answer.1) }
     {
         match copy_plan(alloc, &self.plan)? {
-            Some(plan) => {
-                let window = self.window.copy(alloc)?;
-                let keeper = self.with(alloc, window, None)?;
-                Ok((Some(keeper), Reply::Plan(plan)))
-            }
-            None => Ok((None, Reply::NothingPrepared)),
+            Some(plan) => Ok((Update::HandedOut, Reply::Plan(plan))),
+            None => Ok((Update::Nothing, Reply::NothingPrepared)),
         }
     }
 
     /// The keeper starts anew.
-    fn restart(&self, alloc: Global) -> Result<(Option<Keeper>, Reply), AllocError>
-        ensures { IfOk result (λ answer.
-            Turn self.now Restart (unwrap_or answer.0 self.now) answer.1) }
+    fn restart(&self) -> (Update, Reply)
+        ensures fits { Fits self.now result.0 }
+        ensures turn { Turn self.now Restart (updated self.now result.0) result.1 }
     {
-        let next = self.window.next();
-        let window = Window::new(alloc, next)?;
-        let fresh = self.with(alloc, window, None)?;
-        Ok((Some(fresh), Reply::Restarted(next)))
-    }
-
-    /// An equal keeper.
-    fn copy(&self, alloc: Global) -> Result<Keeper, AllocError>
-        ensures { IfOk result (λ keeper. keeper ≡ self.now) }
-    {
-        let window = self.window.copy(alloc)?;
-        let plan = copy_plan(alloc, &self.plan)?;
-        let keeper = self.with(alloc, window, plan)?;
-        Ok(keeper)
-    }
-
-    /// A keeper of the same state, with this window of its next number, and with this plan, or none.
-    fn with(
-        &self,
-        alloc: Global,
-        window: Window,
-        plan: Option<BootPlan>,
-    ) -> Result<Keeper, AllocError>
-        requires { window.next ≡ self.now.machine.count }
-        ensures { IfOk result (λ keeper. keeper ≡ plain_of self.now.machine window.waiting plan) }
-    {
-        let vars = self.vars.copy(alloc)?;
-        let kept = copy_outcomes(alloc, &self.kept)?;
-        Ok(Keeper {
-            vars,
-            window,
-            kept,
-            plan,
-        })
+        (Update::Restarted, Reply::Restarted(self.window.next()))
     }
 }
 
@@ -353,15 +288,11 @@ fn is_memory(fault: FrameFault) -> bool
     matches!(fault, FrameFault::OutOfMemory)
 }
 
-/// Equal outcomes.
-fn copy_outcomes(alloc: Global, kept: &[Outcome]) -> Result<Vec<Outcome>, AllocError>
-    ensures { IfOk result (λ copy. copy.items ≡ kept.now) }
-{
-    Vec::from_slice(alloc, kept)
-}
-
 /// An equal plan, or none.
-fn copy_plan(alloc: Global, plan: &Option<BootPlan>) -> Result<Option<BootPlan>, AllocError>
+pub(crate) fn copy_plan(
+    alloc: Global,
+    plan: &Option<BootPlan>,
+) -> Result<Option<BootPlan>, AllocError>
     ensures { IfOk result (λ copy. copy ≡ plan.now) }
 {
     match plan {

@@ -6,6 +6,7 @@ ghost use Rattle.std.specs.FinMap as map;
 ghost use Rattle.uefi_path.specs.Row.{IsByte};
 ghost use Rattle.uefi_vars.specs.Vars.{Variables, IsVars};
 ghost use Rattle.boot_requests.specs.declared.event.Event.{Event};
+ghost use Rattle.boot_requests.specs.declared.fault.FeedFault.{FeedFault};
 ghost use Rattle.boot_requests.specs.declared.fault.FrameFault.{FrameFault};
 ghost use Rattle.boot_requests.specs.declared.fault.OpenFault.{OpenFault};
 ghost use Rattle.boot_requests.specs.declared.outcome.Outcome.{Outcome};
@@ -23,10 +24,11 @@ ghost use Rattle.boot_requests.specs.Reply.{IsReply, AreReplies, AreAnswers, han
 ghost use Rattle.boot_requests.specs.Turn.{Plain, plain_start, Turn};
 ghost use Rattle.boot_requests.specs.Keeping.{StandsFor, IsPlain, AreRead, IsLeft, IsStored, IsLast};
 ghost use Rattle.boot_requests.specs.Opening.{IsOpenFault};
+ghost use Rattle.boot_requests.specs.Stream.{Cut, IsCut};
 
 use crate::bytes::Bytes;
 use crate::event::Event;
-use crate::fault::{FrameFault, OpenFault};
+use crate::fault::{FeedFault, FrameFault, OpenFault};
 use crate::frame::PAYLOAD_MAX;
 use crate::outcome::{KEPT_MAX, Outcome};
 use crate::reply::Reply;
@@ -193,6 +195,17 @@ pub fn no_frame_begins_another()
         SpellsFrame bytes m q → SpellsFrame (bytes ++ rest) n r → rest ≡ [] }
 {}
 
+/// A stream has at most one cut into deliveries and a rest.
+pub fn a_stream_has_one_cut()
+    ensures { (stream : List ℕ) (a b : Cut) → IsCut stream a → IsCut stream b → a ≡ b }
+{}
+
+/// Each stream of bytes has a cut.
+pub fn each_stream_has_a_cut()
+    ensures { (stream : List ℕ) → AllByRecursion IsByte stream →
+        (cut : Cut) × IsCut stream cut }
+{}
+
 /// An event is seen in at most one way.
 pub fn an_event_is_seen_as_one()
     ensures { (event : Event) (a b : Seen) → IsSeen event a → IsSeen event b → a ≡ b }
@@ -239,6 +252,11 @@ pub fn outcomes_compare_as_values()
 /// `==` on the faults of frames tells whether they are equal.
 pub fn frame_faults_compare_as_values()
     ensures { (a b : FrameFault) → IsTrue (⟦<FrameFault as PartialEq>⟧.eq a b) ↔ (a ≡ b) }
+{}
+
+/// `==` on the faults of streams tells whether they are equal.
+pub fn feed_faults_compare_as_values()
+    ensures { (a b : FeedFault) → IsTrue (⟦<FeedFault as PartialEq>⟧.eq a b) ↔ (a ≡ b) }
 {}
 
 /// `==` on the faults of opening tells whether they are equal.

@@ -2,7 +2,8 @@
 //! the boots between them (UEFI specification, version 2.10, chapter 3).
 //!
 //! A [`Request`] with its number is sent as a frame: [`read_frame`] reads one from its bytes, all of them, and
-//! [`write_frame`] gives its one spelling.
+//! [`write_frame`] gives its one spelling. An [`Inbox`] cuts a stream of frames, in pieces of any length, into the bytes
+//! of each.
 #![tactic(auto)]
 
 mod applying;
@@ -11,6 +12,7 @@ mod event;
 mod fault;
 mod filling;
 mod frame;
+mod inbox;
 mod keeper;
 pub mod laws;
 mod line;
@@ -21,13 +23,15 @@ mod reply;
 mod request;
 mod running;
 mod storing;
+mod update;
 mod window;
 mod writing;
 
 pub use bytes::Bytes;
 pub use event::Event;
-pub use fault::{FrameFault, OpenFault};
+pub use fault::{FeedFault, FrameFault, OpenFault};
 pub use frame::PAYLOAD_MAX;
+pub use inbox::Inbox;
 pub use keeper::Keeper;
 pub use line::reply_line;
 pub use opening::OpenRefused;

@@ -1,6 +1,6 @@
 //! Bytes to requests.
 
-ghost use Rattle.std.specs.Prelude.{◌≡◌, ◌≢◌, ◌+◌, ◌<◌, ◌^◌, ◌%◌, ◌++◌, ℕ, List, length, IfOk, IfErr, IfSome, IfNone, Ok, Err};
+ghost use Rattle.std.specs.Prelude.{◌≡◌, ◌≢◌, ◌+◌, ◌<◌, ◌^◌, ◌%◌, ◌++◌, ℕ, List, length, IfOk, IfErr, OnOk, IfSome, IfNone, Ok, Err};
 ghost use Rattle.std.specs.List.{AllByRecursion, flat_map};
 ghost use Rattle.std.specs.Int.{w16, w32, to_le_bytes};
 ghost use Rattle.uefi_path.specs.declared.fault.PathFault.{PathFault};
@@ -10,10 +10,10 @@ ghost use Rattle.uefi_vars.specs.Order.{IsEntryNumber};
 ghost use Rattle.boot_requests.specs.declared.fault.FrameFault.{FrameFault};
 ghost use Rattle.boot_requests.specs.declared.request.Request.{Request};
 ghost use Rattle.boot_requests.specs.Frame.{SpellsFrame};
-ghost use Rattle.boot_requests.specs.FrameFault.{IsCut, IsFirstFault};
-ghost use Rattle.boot_requests.specs.Reading.{byte_of, cut_of, SplitsFrame, SpellsPayload, IsPayloadFault, SpellsEntry, IsEntryFault};
+ghost use Rattle.boot_requests.specs.FrameFault.{IsRaw, IsFirstFault};
+ghost use Rattle.boot_requests.specs.Reading.{byte_of, raw_of, PassesLength, FailsHeader, SplitsFrame, SpellsPayload, IsPayloadFault, SpellsEntry, IsEntryFault};
 
-use crate::fault::FrameFault;
+use crate::fault::{FeedFault, FrameFault};
 use crate::frame::{ENTRY_LEN, Kind, MAGIC, NO_NUMBER, PAYLOAD_MAX, VERSION};
 use crate::laws;
 use crate::request::{OrderList, Request};
@@ -23,13 +23,13 @@ use uefi_path::{PathFault, read_units};
 
 /// The header of a frame as it stands in the bytes, and the bytes behind it.
 #[derive(Clone, Copy)]
-struct RawFrame<'a> {
+pub(crate) struct RawFrame<'a> {
     magic: [u8; 2],
     version: u8,
     kind: u8,
     number: u32,
     len: u32,
-    payload: &'a [u8],
+    pub(crate) payload: &'a [u8],
 }
 
 /// What a frame says: the number and the kind of its request, and its payload.
@@ -53,9 +53,9 @@ fn split_number(bytes: &[u8]) -> Option<(u32, &[u8])>
 }
 
 /// The header, if there are the twelve bytes of one.
-fn split_header(bytes: &[u8]) -> Option<RawFrame<'_>>
-    ensures found { IfSome result (λ raw. IsCut bytes.now
-        (cut_of raw.magic raw.version raw.kind raw.number raw.len raw.payload.now)) }
+pub(crate) fn split_header(bytes: &[u8]) -> Option<RawFrame<'_>>
+    ensures found { IfSome result (λ raw. IsRaw bytes.now
+        (raw_of raw.magic raw.version raw.kind raw.number raw.len raw.payload.now)) }
     ensures none { IfNone result (length bytes.now < 12) }
 {
     let [first, second, version, kind, rest @ ..] = bytes else {
@@ -73,6 +73,27 @@ fn split_header(bytes: &[u8]) -> Option<RawFrame<'_>>
     })
 }
 
+/// How many bytes the header states behind it, if it passes its tests.
+pub(crate) fn stated_len(raw: RawFrame<'_>) -> Result<usize, FeedFault>
+    ensures len { IfOk result (λ len. len ≡ raw.entry.len) }
+    ensures good { OnOk result (PassesLength (raw_of raw.entry.magic raw.entry.version
+        raw.entry.kind raw.entry.number raw.entry.len raw.entry.payload.now)) }
+    ensures fault { IfErr result (FailsHeader (raw_of raw.entry.magic raw.entry.version
+        raw.entry.kind raw.entry.number raw.entry.len raw.entry.payload.now)) }
+{
+    if raw.magic != MAGIC {
+        return Err(FeedFault::BadMagic);
+    }
+    if raw.version != VERSION {
+        return Err(FeedFault::BadVersion);
+    }
+    let len = raw.len as usize;
+    if len > PAYLOAD_MAX {
+        return Err(FeedFault::TooLong);
+    }
+    Ok(len)
+}
+
 /// The frame that the bytes are, if they are one as far as can be told without reading its payload.
 fn split_frame(bytes: &[u8]) -> Result<Frame<'_>, FrameFault>
     ensures found { IfOk result (λ frame.
@@ -82,16 +103,7 @@ fn split_frame(bytes: &[u8]) -> Result<Frame<'_>, FrameFault>
     let Some(raw) = split_header(bytes) else {
         return Err(FrameFault::Short);
     };
-    if raw.magic != MAGIC {
-        return Err(FrameFault::BadMagic);
-    }
-    if raw.version != VERSION {
-        return Err(FrameFault::BadVersion);
-    }
-    let len = raw.len as usize;
-    if len > PAYLOAD_MAX {
-        return Err(FrameFault::TooLong);
-    }
+    let len = stated_len(raw)?;
     if raw.payload.len() != len {
         return Err(FrameFault::BadSize);
     }

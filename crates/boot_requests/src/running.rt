@@ -16,7 +16,8 @@ use std::alloc::{AllocError, Global};
 
 /// What becomes of the keeper with these events, one after the other, as [`Keeper::step`] has it. The reply to each is
 /// appended to those that are there. False says that memory was refused: the keeper is then the one after as many of the
-/// events, the first ones, as replies were appended. An event that changes nothing copies nothing.
+/// events, the first ones, as replies were appended. The variables are copied where a request is applied, and nowhere
+/// else.
 pub fn run(
     alloc: Global,
     keeper: Keeper,
@@ -51,7 +52,7 @@ pub fn run(
 }
 
 /// The keeper takes this event, and the reply is appended. Where memory is refused, nothing changes. The keeper is lent and
-/// not handed on: it is large, and most events may leave it as it is.
+/// not handed on: it is large, and an event changes little of it.
 fn take_event(
     alloc: Global,
     keeper: &mut Keeper,
@@ -64,10 +65,8 @@ fn take_event(
     ensures refused { OnErr result
         ((replies.new.items ≡ replies.old.items) × (keeper.new ≡ keeper.old)) }
 {
-    let (next, reply) = keeper.take_turn(alloc, event)?;
+    let (update, reply) = keeper.take_turn(alloc, event)?;
     replies.push(reply)?;
-    if let Some(next) = next {
-        *keeper = next;
-    }
+    keeper.update(update);
     Ok(())
 }

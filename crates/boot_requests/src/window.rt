@@ -1,11 +1,11 @@
 //! The requests that wait for one of a lower number.
 
-ghost use Rattle.std.specs.Prelude.{◌≡◌, ◌+◌, ◌%◌, ◌<◌, ◌≤◌, length, replicate, slice_set, option_copied, Some, None, IfOk, IfSome};
+ghost use Rattle.std.specs.Prelude.{◌≡◌, ◌+◌, ◌%◌, ◌<◌, ◌≤◌, length, replicate, slice_set, option_copied, Some, None, IfOk};
 ghost use Rattle.std.specs.FinMap as map;
 ghost use Rattle.boot_requests.specs.Limits.{width, no_number};
 ghost use Rattle.boot_requests.specs.Frame.{IsSent};
 ghost use Rattle.boot_requests.specs.Keeping.{AreWaiting};
-ghost use Rattle.boot_requests.specs.Slots.{parts_of, place_of, slot_at};
+ghost use Rattle.boot_requests.specs.Slots.{parts_of, place_of, above};
 
 use crate::request::Request;
 use std::alloc::{AllocError, Global};
@@ -58,10 +58,12 @@ impl Window {
 
     /// The request that waits under this number, if one does.
     pub(crate) fn get(&self, number: u32) -> Option<&Request>
-        requires above { self.now.next < number }
-        requires near { number < self.now.next + width }
+        requires { self.now.next < number }
         ensures { option_copied result ≡ map.get self.now.waiting number }
     {
+        if number - self.next >= WIDTH {
+            return None;
+        }
         self.slots[place_of(number as usize)].as_ref()
     }
 
@@ -92,17 +94,31 @@ impl Window {
         set_slot(&mut self.slots, place_of(number as usize), request);
     }
 
+    /// Makes this the next number. What waits under numbers that are not above it waits no longer.
+    pub(crate) fn pass_to(&mut self, next: u32)
+        requires { self.old.next ≤ next }
+        ensures { self.new ≡ parts_of next (above next self.old.waiting) }
+    {
+        for _number in self.next..next {
+            self.pass();
+        }
+    }
+
     /// Passes on to the number after the next one. The request that waits under it, if one does, waits no longer.
-    pub(crate) fn pass(&mut self) -> Option<Request>
+    fn pass(&mut self)
         requires { self.old.next < no_number }
-        ensures window { let next = self.old.next + 1 in
+        ensures { let next = self.old.next + 1 in
             self.new ≡ parts_of next (map.remove self.old.waiting next) }
-        ensures request { result ≡ map.get self.old.waiting (self.old.next + 1) }
-        ensures sent { IfSome result (IsSent (self.old.next + 1)) }
-        ensures valid { AreWaiting self.new.next self.new.waiting }
     {
         self.next += 1;
-        take_slot(&mut self.slots, place_of(self.next as usize))
+        free_slot(&mut self.slots, place_of(self.next as usize));
+    }
+
+    /// Nothing waits any longer.
+    pub(crate) fn clear(&mut self)
+        ensures { self.new ≡ parts_of self.old.next map.empty }
+    {
+        free_all(&mut self.slots);
     }
 
     /// An equal window.
@@ -144,13 +160,21 @@ fn set_slot(slots: &mut [Option<Request>], place: usize, request: Request)
     slots[place] = Some(request);
 }
 
-/// What stands in this slot, which is free from then on.
-fn take_slot(slots: &mut [Option<Request>], place: usize) -> Option<Request>
+/// Nothing stands in this slot from then on.
+fn free_slot(slots: &mut [Option<Request>], place: usize)
     requires { place < length slots.old }
-    ensures taken { result ≡ slot_at slots.old place }
-    ensures rest { slots.new ≡ slice_set slots.old place None }
+    ensures { slots.new ≡ slice_set slots.old place None }
 {
-    slots[place].take()
+    slots[place] = None;
+}
+
+/// Nothing stands in any of these slots from then on.
+fn free_all(slots: &mut [Option<Request>])
+    ensures { slots.new ≡ replicate (length slots.old) None }
+{
+    for place in 0..slots.len() {
+        free_slot(slots, place);
+    }
 }
 
 /// Equal slots.

@@ -3,21 +3,71 @@
 use super::frames::{DISK, disk, order};
 use crate::{Bytes, Event, Keeper, OpenFault, Reply, Request, reply_line, run, write_frame};
 use std::alloc::Global;
+use std::process::Abort;
 use std::test::Fail;
+use uefi_option::read_option;
 use uefi_vars::{Vars, write_set};
+
+/// What happens to a keeper: a request with its number is delivered, or these bytes, or another event comes. The option of
+/// an entry is that of the disk.
+#[derive(Clone, Copy)]
+enum Sent<'a> {
+    Add(u32, u16),
+    Replace(u32, u16),
+    Remove(u32, u16),
+    Order(u32, &'a [u16]),
+    Next(u32, u16),
+    Raw(&'a [u8]),
+    Prepare,
+    Hand,
+    Restart,
+}
+
+/// Variables, each by its name and its data.
+type Table<'a> = &'a [(&'a str, &'a [u8])];
+
+/// Events over variables, with the lines of the replies and the variables after them.
+#[derive(Clone, Copy)]
+struct Case<'a> {
+    before: Table<'a>,
+    sent: &'a [Sent<'a>],
+    lines: &'a str,
+    after: Table<'a>,
+}
 
 /// The delivery of this request with this number.
 fn deliver(alloc: Global, number: u32, request: Request) -> Result<Event, Fail> {
     Ok(Event::Deliver(Bytes::new(write_frame(alloc, number, &request)?)))
 }
 
-/// The delivery of these bytes.
-fn raw(alloc: Global, bytes: &[u8]) -> Result<Event, Fail> {
-    Ok(Event::Deliver(Bytes::new(Vec::from_slice(alloc, bytes)?)))
+/// The event.
+fn event_of(alloc: Global, sent: Sent<'_>) -> Result<Event, Fail> {
+    match sent {
+        Sent::Add(number, entry) => deliver(alloc, number, Request::Add(entry, disk(alloc)?)),
+        Sent::Replace(number, entry) => {
+            deliver(alloc, number, Request::Replace(entry, disk(alloc)?))
+        }
+        Sent::Remove(number, entry) => deliver(alloc, number, Request::Remove(entry)),
+        Sent::Order(number, numbers) => deliver(alloc, number, order(alloc, numbers)?),
+        Sent::Next(number, entry) => deliver(alloc, number, Request::Next(entry)),
+        Sent::Raw(bytes) => Ok(Event::Deliver(Bytes::new(Vec::from_slice(alloc, bytes)?))),
+        Sent::Prepare => Ok(Event::Prepare),
+        Sent::Hand => Ok(Event::Hand),
+        Sent::Restart => Ok(Event::Restart),
+    }
+}
+
+/// The events.
+fn events_of(alloc: Global, all: &[Sent<'_>]) -> Result<Vec<Event>, Fail> {
+    let mut events = Vec::new(alloc);
+    for sent in all {
+        events.push(event_of(alloc, *sent)?)?;
+    }
+    Ok(events)
 }
 
 /// Variables of these names and this data.
-fn vars(alloc: Global, table: &[(&str, &[u8])]) -> Result<Vars, Fail> {
+fn vars(alloc: Global, table: Table<'_>) -> Result<Vars, Fail> {
     let mut vars = Vars::new(alloc);
     for (name, value) in table {
         vars.put(name, value)?;
@@ -25,32 +75,13 @@ fn vars(alloc: Global, table: &[(&str, &[u8])]) -> Result<Vars, Fail> {
     Ok(vars)
 }
 
-/// So many zero bytes.
-fn zeros(alloc: Global, len: usize) -> Result<Vec<u8>, Fail> {
-    Ok(vec![in alloc; 0; len]?)
-}
-
-/// The keeper after the event, and the line of the reply.
-fn told(alloc: Global, keeper: &Keeper, event: &Event) -> Result<(Keeper, String), Fail> {
-    let (next, reply) = keeper.step(alloc, event)?;
-    Ok((next, reply_line(alloc, &reply)?))
-}
-
-/// The keeper after the events, step by step, and the lines of the replies, each ended by a line feed.
-fn steps(alloc: Global, keeper: Keeper, events: &[Event]) -> Result<(Keeper, String), Fail> {
-    let mut now = keeper;
-    let mut lines = String::new(alloc);
-    for event in events {
-        let (next, line) = told(alloc, &now, event)?;
-        lines.push_str(&line)?;
-        lines.push('\n')?;
-        now = next;
-    }
-    Ok((now, lines))
+/// A keeper of these variables.
+fn opened(alloc: Global, table: Table<'_>) -> Result<Keeper, Fail> {
+    Ok(Keeper::open(alloc, vars(alloc, table)?)?)
 }
 
 /// The lines of the replies, each ended by a line feed.
-fn told_by(alloc: Global, replies: &[Reply]) -> Result<String, Fail> {
+fn lines_of(alloc: Global, replies: &[Reply]) -> Result<String, Fail> {
     let mut lines = String::new(alloc);
     for reply in replies {
         lines.push_str(&reply_line(alloc, reply)?)?;
@@ -59,380 +90,356 @@ fn told_by(alloc: Global, replies: &[Reply]) -> Result<String, Fail> {
     Ok(lines)
 }
 
+/// The keeper after the events, step by step, and the lines of the replies.
+fn steps(alloc: Global, keeper: Keeper, events: &[Event]) -> Result<(Keeper, String), Fail> {
+    let mut now = keeper;
+    let mut replies = Vec::new(alloc);
+    for event in events {
+        let (next, reply) = now.step(alloc, event)?;
+        replies.push(reply)?;
+        now = next;
+    }
+    let lines = lines_of(alloc, &replies)?;
+    Ok((now, lines))
+}
+
 /// The keeper after the events, in one run, and the lines of the replies.
 fn all(alloc: Global, keeper: Keeper, events: &[Event]) -> Result<(Keeper, String), Fail> {
     let mut replies = Vec::new(alloc);
     let (now, _whole) = run(alloc, keeper, events, &mut replies);
-    let lines = told_by(alloc, &replies)?;
+    let lines = lines_of(alloc, &replies)?;
     Ok((now, lines))
 }
 
-/// A keeper of no variables.
-fn empty(alloc: Global) -> Result<Keeper, Fail> {
-    Ok(Keeper::open(alloc, Vars::new(alloc))?)
+/// Takes the events step by step, and in one run, and tells the keeper after them.
+fn check(rt: &impl Abort, alloc: Global, case: &Case<'_>) -> Result<Keeper, Fail> {
+    let events = events_of(alloc, case.sent)?;
+    let after = vars(alloc, case.after)?;
+    let (keeper, lines) = steps(alloc, opened(alloc, case.before)?, &events)?;
+    assert_eq!(rt; lines.as_str(), case.lines);
+    assert!(rt; *keeper.vars() == after, "behind {}", case.lines);
+    let (other, lines) = all(alloc, opened(alloc, case.before)?, &events)?;
+    assert_eq!(rt; lines.as_str(), case.lines);
+    assert!(rt; *other.vars() == after, "behind {}", case.lines);
+    assert_eq!(rt;
+        (other.waiting(), other.next_number()),
+        (keeper.waiting(), keeper.next_number())
+    );
+    Ok(keeper)
 }
 
-#[test]
-fn first_add(rt: HostRuntime) -> Result<(), Fail> {
-    let alloc = rt.alloc();
-    let keeper = Keeper::open(alloc, Vars::new(alloc))?;
-    let mut frame = Vec::from_slice(
-        alloc,
-        &[
-            0x42, 0x51, 0x01, 0x01, 0x00, 0x00, 0x00, 0x00, 0x2c, 0x00, 0x00, 0x00, 0x01, 0x00,
-        ],
-    )?;
-    frame.extend_from_slice(&DISK)?;
-    let (keeper, line) = told(alloc, &keeper, &raw(alloc, &frame)?)?;
-    assert_eq!(rt; line.as_str(), "applied Done 1");
-    assert_eq!(rt; keeper.next_number(), 1);
-    assert_eq!(rt; keeper.waiting(), 0);
-    let wanted = vars(
-        alloc,
-        &[
-            ("Boot0001", &DISK),
-            ("BootOrder", &[0x01, 0x00]),
-            ("BootKeepState", &[0x01, 0x01, 0, 0, 0, 0x01, 0x00]),
-        ],
-    )?;
-    assert!(rt; *keeper.vars() == wanted);
-    assert_eq!(rt; write_set(alloc, &keeper.into_vars())?.len(), 100);
+/// Runs all cases.
+fn check_all(rt: &impl Abort, alloc: Global, cases: &[Case<'_>]) -> Result<(), Fail> {
+    for case in cases {
+        check(rt, alloc, case)?;
+    }
     Ok(())
 }
 
-/// Requests for the removal of an entry, so many, from number 0 on.
-fn removals(alloc: Global, count: u32) -> Result<Vec<Event>, Fail> {
-    let mut events = Vec::new(alloc);
-    for number in 0..count {
-        events.push(deliver(alloc, number, Request::Remove(9))?)?;
-    }
-    Ok(events)
-}
+/// The state after seventeen removals of an entry that isn't there.
+const SEVENTEEN_MISSING: [u8; 22] = [
+    0x01, 0x11, 0, 0, 0, 0x10, 2, 2, 2, 2, 2, 2, 2, 2, 2, 2, 2, 2, 2, 2, 2, 2,
+];
 
-/// The lines of the replies to them where the entry isn't there.
-fn removal_lines(alloc: Global, count: u32) -> Result<String, Fail> {
-    let mut lines = String::new(alloc);
-    for number in 0..count {
-        let line = format!(in alloc; "applied Missing {}\n", number + 1)?;
-        lines.push_str(&line)?;
-    }
-    Ok(lines)
+#[test]
+fn first_add(rt: HostRuntime) -> Result<(), Fail> {
+    let mut frame = Vec::from_slice(
+        rt.alloc(),
+        b"\x42\x51\x01\x01\x00\x00\x00\x00\x2c\x00\x00\x00\x01\x00",
+    )?;
+    frame.extend_from_slice(&DISK)?;
+    let case = Case {
+        before: &[],
+        sent: &[Sent::Raw(&frame)],
+        lines: "applied Done 1\n",
+        after: &[
+            ("Boot0001", &DISK),
+            ("BootOrder", &[1, 0]),
+            ("BootKeepState", &[1, 1, 0, 0, 0, 1, 0]),
+        ],
+    };
+    let keeper = check(&rt, rt.alloc(), &case)?;
+    assert_eq!(rt; (keeper.next_number(), keeper.waiting()), (1, 0));
+    assert_eq!(rt; write_set(rt.alloc(), &keeper.into_vars())?.len(), 100);
+    Ok(())
 }
 
 #[test]
 fn seventeen_removals(rt: HostRuntime) -> Result<(), Fail> {
-    let alloc = rt.alloc();
-    let events = removals(alloc, 17)?;
-    let (keeper, lines) = steps(alloc, empty(alloc)?, &events)?;
-    let wanted = removal_lines(alloc, 17)?;
-    assert_eq!(rt; lines.as_str(), wanted.as_str());
-    let state = keeper.vars().get("BootKeepState").unwrap_or(&[]);
-    assert_eq!(rt; state.len(), 22);
-    let (front, outcomes) = state.split_at(6);
-    assert_eq!(rt; front, &[0x01, 0x11, 0, 0, 0, 0x10][..]);
-    assert_eq!(rt; outcomes, &[0x02; 16][..]);
-    Ok(())
-}
-
-#[test]
-fn sixteen_outcomes_are_kept(rt: HostRuntime) -> Result<(), Fail> {
-    let alloc = rt.alloc();
-    let (keeper, _) = steps(alloc, empty(alloc)?, &removals(alloc, 17)?)?;
-    let events = [
-        deliver(alloc, 0, Request::Remove(9))?,
-        deliver(alloc, 1, Request::Next(3))?,
-        deliver(alloc, 32, Request::Remove(9))?,
-        deliver(alloc, 33, Request::Remove(9))?,
-    ];
-    let (_, lines) = steps(alloc, keeper, &events)?;
-    assert_eq!(rt;
-        lines.as_str(),
-        "old\nrepeat Missing\nwaiting 17\nahead 17\n"
-    );
+    let mut sent = Vec::new(rt.alloc());
+    let mut lines = String::new(rt.alloc());
+    for number in 0..17u32 {
+        sent.push(Sent::Remove(number, 9))?;
+        writeln!(lines, "applied Missing {}", number + 1)?;
+    }
+    let case = Case {
+        before: &[],
+        sent: &sent,
+        lines: &lines,
+        after: &[("BootKeepState", &SEVENTEEN_MISSING)],
+    };
+    check(&rt, rt.alloc(), &case)?;
     Ok(())
 }
 
 /// The variables after two entries were added and BootNext was set to the second.
-fn three_applied(alloc: Global) -> Result<Vars, Fail> {
-    vars(
-        alloc,
-        &[
-            ("Boot0001", &DISK),
-            ("Boot0002", &DISK),
-            ("BootOrder", &[1, 0, 2, 0]),
-            ("BootNext", &[2, 0]),
-            ("BootKeepState", &[1, 3, 0, 0, 0, 3, 0, 0, 0]),
+const THREE_APPLIED: Table<'static> = &[
+    ("Boot0001", &DISK),
+    ("Boot0002", &DISK),
+    ("BootOrder", &[1, 0, 2, 0]),
+    ("BootNext", &[2, 0]),
+    ("BootKeepState", &[1, 3, 0, 0, 0, 3, 0, 0, 0]),
+];
+
+#[test]
+fn requests_are_applied_in_the_order_of_their_numbers(rt: HostRuntime) -> Result<(), Fail> {
+    let cases = [
+        Case {
+            before: &[],
+            sent: &[Sent::Next(2, 2), Sent::Add(1, 2), Sent::Add(0, 1)],
+            lines: "waiting 0\nwaiting 0\napplied Done 3\n",
+            after: THREE_APPLIED,
+        },
+        Case {
+            before: &[],
+            sent: &[Sent::Add(0, 1), Sent::Add(1, 2), Sent::Next(2, 2)],
+            lines: "applied Done 1\napplied Done 2\napplied Done 3\n",
+            after: THREE_APPLIED,
+        },
+        // what waits is neither replaced nor kept over a restart
+        Case {
+            before: &[],
+            sent: &[
+                Sent::Remove(1, 9),
+                Sent::Remove(1, 8),
+                Sent::Remove(1, 9),
+                Sent::Restart,
+                Sent::Remove(1, 8),
+                Sent::Remove(0, 7),
+            ],
+            lines: "waiting 0\nconflict\nwaiting 0\nrestarted 0\nwaiting 0\napplied Missing 2\n",
+            after: &[("BootKeepState", &[1, 2, 0, 0, 0, 2, 2, 2])],
+        },
+    ];
+    check_all(&rt, rt.alloc(), &cases)
+}
+
+#[test]
+fn sixteen_outcomes_are_kept(rt: HostRuntime) -> Result<(), Fail> {
+    let state: Table<'_> = &[("BootKeepState", &SEVENTEEN_MISSING)];
+    let case = Case {
+        before: state,
+        sent: &[
+            Sent::Remove(0, 9),
+            Sent::Next(1, 3),
+            Sent::Remove(32, 9),
+            Sent::Remove(33, 9),
         ],
-    )
-}
-
-#[test]
-fn out_of_order(rt: HostRuntime) -> Result<(), Fail> {
-    let alloc = rt.alloc();
-    let events = [
-        deliver(alloc, 2, Request::Next(2))?,
-        deliver(alloc, 1, Request::Add(2, disk(alloc)?))?,
-        deliver(alloc, 0, Request::Add(1, disk(alloc)?))?,
-    ];
-    let (keeper, lines) = all(alloc, empty(alloc)?, &events)?;
-    assert_eq!(rt; lines.as_str(), "waiting 0\nwaiting 0\napplied Done 3\n");
-    assert!(rt; *keeper.vars() == three_applied(alloc)?);
+        lines: "old\nrepeat Missing\nwaiting 17\nahead 17\n",
+        after: state,
+    };
+    check(&rt, rt.alloc(), &case)?;
     Ok(())
 }
 
 #[test]
-fn in_order(rt: HostRuntime) -> Result<(), Fail> {
-    let alloc = rt.alloc();
-    let events = [
-        deliver(alloc, 0, Request::Add(1, disk(alloc)?))?,
-        deliver(alloc, 1, Request::Add(2, disk(alloc)?))?,
-        deliver(alloc, 2, Request::Next(2))?,
-    ];
-    let (keeper, lines) = all(alloc, empty(alloc)?, &events)?;
-    assert_eq!(rt;
-        lines.as_str(),
-        "applied Done 1\napplied Done 2\napplied Done 3\n"
-    );
-    assert!(rt; *keeper.vars() == three_applied(alloc)?);
+fn the_window_has_sixteen_numbers(rt: HostRuntime) -> Result<(), Fail> {
+    let case = Case {
+        before: &[],
+        sent: &[Sent::Remove(15, 9), Sent::Remove(16, 9), Sent::Raw(&[])],
+        lines: "waiting 0\nahead 0\nmalformed Short\n",
+        after: &[],
+    };
+    let keeper = check(&rt, rt.alloc(), &case)?;
+    assert_eq!(rt; keeper.waiting(), 1);
     Ok(())
 }
 
-/// A keeper in which requests wait that need the request 0.
-fn two_wait(alloc: Global) -> Result<Keeper, Fail> {
-    let events = [
-        deliver(alloc, 1, Request::Remove(9))?,
-        deliver(alloc, 2, Request::Remove(9))?,
+#[test]
+fn the_last_numbers_are_applied(rt: HostRuntime) -> Result<(), Fail> {
+    let cases = [
+        Case {
+            before: &[(
+                "BootKeepState",
+                b"\x01\xfe\xff\xff\xff\x10\0\0\0\0\0\0\0\0\0\0\0\0\0\0\0\0",
+            )],
+            sent: &[
+                Sent::Remove(0xffff_fffe, 9),
+                Sent::Raw(b"\x42\x51\x01\x03\xff\xff\xff\xff\x02\x00\x00\x00\x09\x00"),
+                Sent::Remove(0xffff_fffe, 9),
+                Sent::Remove(0, 9),
+            ],
+            lines: "applied Missing 4294967295\nmalformed BadNumber\nrepeat Missing\nold\n",
+            after: &[(
+                "BootKeepState",
+                b"\x01\xff\xff\xff\xff\x10\0\0\0\0\0\0\0\0\0\0\0\0\0\0\0\x02",
+            )],
+        },
+        Case {
+            before: &[(
+                "BootKeepState",
+                b"\x01\xfd\xff\xff\xff\x10\0\0\0\0\0\0\0\0\0\0\0\0\0\0\0\0",
+            )],
+            sent: &[
+                Sent::Remove(0xffff_fffe, 9),
+                Sent::Next(0xffff_fffd, 9),
+                Sent::Next(0xffff_fffe, 9),
+            ],
+            lines: "waiting 4294967293\napplied Missing 4294967295\nrepeat Missing\n",
+            after: &[(
+                "BootKeepState",
+                b"\x01\xff\xff\xff\xff\x10\0\0\0\0\0\0\0\0\0\0\0\0\0\0\x02\x02",
+            )],
+        },
     ];
-    let (keeper, _lines) = steps(alloc, empty(alloc)?, &events)?;
-    Ok(keeper)
+    check_all(&rt, rt.alloc(), &cases)
 }
 
 #[test]
 fn an_old_keeper_stays(rt: HostRuntime) -> Result<(), Fail> {
     let alloc = rt.alloc();
-    let old = two_wait(alloc)?;
-    let event = deliver(alloc, 0, Request::Remove(9))?;
-    let (next, line) = told(alloc, &old, &event)?;
-    assert_eq!(rt; line.as_str(), "applied Missing 3");
+    let waiting = events_of(alloc, &[Sent::Remove(1, 9), Sent::Remove(2, 9)])?;
+    let (old, _lines) = steps(alloc, opened(alloc, &[])?, &waiting)?;
+    let event = event_of(alloc, Sent::Remove(0, 9))?;
+    let (next, reply) = old.step(alloc, &event)?;
+    assert_eq!(rt; reply_line(alloc, &reply)?.as_str(), "applied Missing 3");
     assert!(rt; next.waiting() == 0 && next.next_number() == 3);
     assert!(rt; old.waiting() == 2 && old.next_number() == 0 && old.vars().is_empty());
     Ok(())
 }
 
 #[test]
-fn the_window_has_sixteen_numbers(rt: HostRuntime) -> Result<(), Fail> {
+fn an_old_keeper_has_its_entry(rt: HostRuntime) -> Result<(), Fail> {
     let alloc = rt.alloc();
-    let events = [
-        deliver(alloc, 15, Request::Remove(9))?,
-        deliver(alloc, 16, Request::Remove(9))?,
-        raw(alloc, &[])?,
-    ];
-    let (keeper, lines) = steps(alloc, empty(alloc)?, &events)?;
-    assert_eq!(rt; lines.as_str(), "waiting 0\nahead 0\nmalformed Short\n");
-    assert_eq!(rt; keeper.waiting(), 1);
+    let mut longer = Vec::from_slice(alloc, &DISK)?;
+    longer.push(0x5a)?;
+    let old = opened(alloc, ONE_ENTRY)?;
+    let event = deliver(alloc, 0, Request::Replace(1, read_option(alloc, &longer)?))?;
+    let (next, reply) = old.step(alloc, &event)?;
+    assert_eq!(rt; reply_line(alloc, &reply)?.as_str(), "applied Done 1");
+    assert_eq!(rt; longer.len(), 43);
+    assert!(rt; next.vars().entry(1) == Some(longer.as_slice()));
+    assert!(rt; old.vars().entry(1) == Some(&DISK[..]));
     Ok(())
 }
 
 #[test]
-fn what_waits_is_neither_replaced_nor_kept_over_a_restart(rt: HostRuntime) -> Result<(), Fail> {
+fn the_window_goes_round(rt: HostRuntime) -> Result<(), Fail> {
     let alloc = rt.alloc();
-    let events = [
-        deliver(alloc, 1, Request::Remove(9))?,
-        deliver(alloc, 1, Request::Remove(8))?,
-        deliver(alloc, 1, Request::Remove(9))?,
-        Event::Restart,
-        deliver(alloc, 1, Request::Remove(8))?,
-        deliver(alloc, 0, Request::Remove(7))?,
+    let before: Table<'_> = &[(
+        "BootKeepState",
+        b"\x01\x0f\0\0\0\x0f\x02\x02\x02\x02\x02\x02\x02\x02\x02\x02\x02\x02\x02\x02\x02",
+    )];
+    let sent = [
+        Sent::Remove(30, 9),
+        Sent::Remove(31, 9),
+        Sent::Remove(16, 9),
+        Sent::Remove(15, 9),
     ];
-    let (keeper, lines) = steps(alloc, empty(alloc)?, &events)?;
-    assert_eq!(rt;
-        lines.as_str(),
-        "waiting 0\nconflict\nwaiting 0\nrestarted 0\nwaiting 0\napplied Missing 2\n"
-    );
-    let wanted = vars(alloc, &[("BootKeepState", &[1, 2, 0, 0, 0, 2, 2, 2])])?;
-    assert!(rt; *keeper.vars() == wanted);
+    let case = Case {
+        before,
+        sent: &sent,
+        lines: "waiting 15\nahead 15\nwaiting 15\napplied Missing 17\n",
+        after: &[("BootKeepState", &SEVENTEEN_MISSING)],
+    };
+    check(&rt, alloc, &case)?;
+    let mut keeper = opened(alloc, before)?;
+    for (sent, waiting) in sent.into_iter().zip([1usize, 1, 2, 1]) {
+        let (next, _reply) = keeper.step(alloc, &event_of(alloc, sent)?)?;
+        assert_eq!(rt; next.waiting(), waiting);
+        keeper = next;
+    }
     Ok(())
 }
 
-/// The keeper of an entry and nothing else.
-fn one_entry(alloc: Global) -> Result<Keeper, Fail> {
-    Ok(Keeper::open(alloc, vars(alloc, &[("Boot0001", &DISK)])?)?)
-}
-
-#[test]
-fn a_restart_loses_the_plan(rt: HostRuntime) -> Result<(), Fail> {
-    let alloc = rt.alloc();
-    let events = [
-        deliver(alloc, 0, Request::Next(1))?,
-        Event::Prepare,
-        Event::Restart,
-        Event::Hand,
-    ];
-    let (keeper, lines) = steps(alloc, one_entry(alloc)?, &events)?;
-    assert_eq!(rt;
-        lines.as_str(),
-        "applied Done 1\nprepared 1\nrestarted 1\nnothing prepared\n"
-    );
-    assert!(rt; keeper.vars().get("BootNext").is_none());
-    Ok(())
-}
+/// The entry 1 and nothing else.
+const ONE_ENTRY: Table<'static> = &[("Boot0001", &DISK)];
 
 #[test]
 fn a_plan_is_handed_out_once(rt: HostRuntime) -> Result<(), Fail> {
-    let alloc = rt.alloc();
-    let events = [
-        deliver(alloc, 0, Request::Next(1))?,
-        Event::Prepare,
-        Event::Prepare,
-        Event::Hand,
-        Event::Hand,
+    let after: Table<'_> = &[
+        ("Boot0001", &DISK),
+        ("BootKeepState", &[1, 1, 0, 0, 0, 1, 0]),
     ];
-    let (_, lines) = steps(alloc, one_entry(alloc)?, &events)?;
-    assert_eq!(rt;
-        lines.as_str(),
-        "applied Done 1\nprepared 1\nalready prepared\nplan next 0001 normal -\nnothing prepared\n"
-    );
-    Ok(())
-}
-
-#[test]
-fn a_plan_stays_what_it_was_made(rt: HostRuntime) -> Result<(), Fail> {
-    let alloc = rt.alloc();
-    let events = [
-        deliver(alloc, 0, Request::Next(1))?,
-        Event::Prepare,
-        deliver(alloc, 1, Request::Remove(1))?,
-        Event::Hand,
-    ];
-    let (_, lines) = steps(alloc, one_entry(alloc)?, &events)?;
-    assert_eq!(rt;
-        lines.as_str(),
-        "applied Done 1\nprepared 1\napplied Done 2\nplan next 0001 normal -\n"
-    );
-    Ok(())
-}
-
-#[test]
-fn a_removal_leaves_no_trace(rt: HostRuntime) -> Result<(), Fail> {
-    let alloc = rt.alloc();
-    let start = vars(
-        alloc,
-        &[
-            ("Boot0001", &DISK),
-            ("BootOrder", &[0x01, 0x00]),
-            ("BootNext", &[0x01, 0x00]),
-        ],
-    )?;
-    let events = [deliver(alloc, 0, Request::Remove(1))?];
-    let (keeper, lines) = steps(alloc, Keeper::open(alloc, start)?, &events)?;
-    assert_eq!(rt; lines.as_str(), "applied Done 1\n");
-    let wanted = vars(
-        alloc,
-        &[("BootKeepState", &[0x01, 0x01, 0, 0, 0, 0x01, 0x00])],
-    )?;
-    assert!(rt; *keeper.vars() == wanted);
-    Ok(())
-}
-
-#[test]
-fn orders_are_of_entries_that_are_there(rt: HostRuntime) -> Result<(), Fail> {
-    let alloc = rt.alloc();
-    let events = [
-        deliver(alloc, 0, Request::Add(1, disk(alloc)?))?,
-        deliver(alloc, 1, order(alloc, &[1, 1, 9])?)?,
-        deliver(alloc, 2, order(alloc, &[1, 9])?)?,
-        deliver(alloc, 3, order(alloc, &[])?)?,
-    ];
-    let (keeper, lines) = steps(alloc, empty(alloc)?, &events)?;
-    assert_eq!(rt;
-        lines.as_str(),
-        "applied Done 1\napplied OrderRepeats 2\napplied OrderUnknown 3\napplied Done 4\n"
-    );
-    let wanted = vars(
-        alloc,
-        &[
-            ("Boot0001", &DISK),
-            ("BootKeepState", &[0x01, 0x04, 0, 0, 0, 0x04, 0, 3, 4, 0]),
-        ],
-    )?;
-    assert!(rt; *keeper.vars() == wanted);
-    Ok(())
-}
-
-#[test]
-fn entries_are_added_once_and_replaced(rt: HostRuntime) -> Result<(), Fail> {
-    let alloc = rt.alloc();
-    let start = vars(alloc, &[("Boot0001", &[0x00])])?;
-    let events = [
-        deliver(alloc, 0, Request::Add(1, disk(alloc)?))?,
-        deliver(alloc, 1, Request::Replace(9, disk(alloc)?))?,
-        deliver(alloc, 2, Request::Replace(1, disk(alloc)?))?,
-        deliver(alloc, 3, order(alloc, &[1])?)?,
-    ];
-    let (keeper, lines) = steps(alloc, Keeper::open(alloc, start)?, &events)?;
-    assert_eq!(rt;
-        lines.as_str(),
-        "applied Exists 1\napplied Missing 2\napplied Done 3\napplied Done 4\n"
-    );
-    let wanted = vars(
-        alloc,
-        &[
-            ("Boot0001", &DISK),
-            ("BootOrder", &[0x01, 0x00]),
-            ("BootKeepState", &[0x01, 0x04, 0, 0, 0, 0x04, 1, 2, 0, 0]),
-        ],
-    )?;
-    assert!(rt; *keeper.vars() == wanted);
-    Ok(())
-}
-
-#[test]
-fn last_number(rt: HostRuntime) -> Result<(), Fail> {
-    let alloc = rt.alloc();
-    let mut state = Vec::from_slice(alloc, &[0x01, 0xfe, 0xff, 0xff, 0xff, 0x10])?;
-    state.extend_from_slice(&[0; 16])?;
-    let start = vars(alloc, &[("BootKeepState", &state)])?;
-    let events = [
-        deliver(alloc, 0xffff_fffe, Request::Remove(9))?,
-        raw(
-            alloc,
-            &[
-                0x42, 0x51, 0x01, 0x03, 0xff, 0xff, 0xff, 0xff, 0x02, 0x00, 0x00, 0x00, 0x09, 0x00,
+    let cases = [
+        Case {
+            before: ONE_ENTRY,
+            sent: &[Sent::Next(0, 1), Sent::Prepare, Sent::Restart, Sent::Hand],
+            lines: "applied Done 1\nprepared 1\nrestarted 1\nnothing prepared\n",
+            after,
+        },
+        Case {
+            before: ONE_ENTRY,
+            sent: &[
+                Sent::Next(0, 1),
+                Sent::Prepare,
+                Sent::Prepare,
+                Sent::Hand,
+                Sent::Hand,
             ],
-        )?,
-        deliver(alloc, 0xffff_fffe, Request::Remove(9))?,
-        deliver(alloc, 0, Request::Remove(9))?,
+            lines: "applied Done 1\nprepared 1\nalready prepared\nplan next 0001 normal -\nnothing prepared\n",
+            after,
+        },
+        // a plan stays what it was made
+        Case {
+            before: ONE_ENTRY,
+            sent: &[
+                Sent::Next(0, 1),
+                Sent::Prepare,
+                Sent::Remove(1, 1),
+                Sent::Hand,
+            ],
+            lines: "applied Done 1\nprepared 1\napplied Done 2\nplan next 0001 normal -\n",
+            after: &[("BootKeepState", &[1, 2, 0, 0, 0, 2, 0, 0])],
+        },
     ];
-    let (keeper, lines) = steps(alloc, Keeper::open(alloc, start)?, &events)?;
-    assert_eq!(rt;
-        lines.as_str(),
-        "applied Missing 4294967295\nmalformed BadNumber\nrepeat Missing\nold\n"
-    );
-    let mut state = Vec::from_slice(alloc, &[0x01, 0xff, 0xff, 0xff, 0xff, 0x10])?;
-    state.extend_from_slice(&[0; 15])?;
-    state.push(2)?;
-    assert!(rt; keeper.vars().get("BootKeepState") == Some(state.as_slice()));
-    Ok(())
+    check_all(&rt, rt.alloc(), &cases)
 }
 
 #[test]
-fn the_window_reaches_the_last_number(rt: HostRuntime) -> Result<(), Fail> {
-    let alloc = rt.alloc();
-    let mut state = Vec::from_slice(alloc, &[0x01, 0xfd, 0xff, 0xff, 0xff, 0x10])?;
-    state.extend_from_slice(&[0; 16])?;
-    let start = vars(alloc, &[("BootKeepState", &state)])?;
-    let events = [
-        deliver(alloc, 0xffff_fffe, Request::Remove(9))?,
-        deliver(alloc, 0xffff_fffd, Request::Next(9))?,
-        deliver(alloc, 0xffff_fffe, Request::Next(9))?,
+fn entries_and_orders_are_changed(rt: HostRuntime) -> Result<(), Fail> {
+    let cases = [
+        Case {
+            before: &[
+                ("Boot0001", &DISK),
+                ("BootOrder", &[1, 0]),
+                ("BootNext", &[1, 0]),
+            ],
+            sent: &[Sent::Remove(0, 1)],
+            lines: "applied Done 1\n",
+            after: &[("BootKeepState", &[1, 1, 0, 0, 0, 1, 0])],
+        },
+        Case {
+            before: &[],
+            sent: &[
+                Sent::Add(0, 1),
+                Sent::Order(1, &[1, 1, 9]),
+                Sent::Order(2, &[1, 9]),
+                Sent::Order(3, &[]),
+            ],
+            lines: "applied Done 1\napplied OrderRepeats 2\napplied OrderUnknown 3\napplied Done 4\n",
+            after: &[
+                ("Boot0001", &DISK),
+                ("BootKeepState", &[1, 4, 0, 0, 0, 4, 0, 3, 4, 0]),
+            ],
+        },
+        Case {
+            before: &[("Boot0001", &[0])],
+            sent: &[
+                Sent::Add(0, 1),
+                Sent::Replace(1, 9),
+                Sent::Replace(2, 1),
+                Sent::Order(3, &[1]),
+            ],
+            lines: "applied Exists 1\napplied Missing 2\napplied Done 3\napplied Done 4\n",
+            after: &[
+                ("Boot0001", &DISK),
+                ("BootOrder", &[1, 0]),
+                ("BootKeepState", &[1, 4, 0, 0, 0, 4, 1, 2, 0, 0]),
+            ],
+        },
     ];
-    let (keeper, lines) = steps(alloc, Keeper::open(alloc, start)?, &events)?;
-    assert_eq!(rt;
-        lines.as_str(),
-        "waiting 4294967293\napplied Missing 4294967295\nrepeat Missing\n"
-    );
-    assert_eq!(rt; keeper.next_number(), 0xffff_ffff);
-    Ok(())
+    check_all(&rt, rt.alloc(), &cases)
 }
 
 #[test]
@@ -446,15 +453,15 @@ fn choice(rt: HostRuntime) -> Result<(), Fail> {
             ("Boot0003", &[0]),
         ],
     )?;
-    for (number, low, high) in [
-        (1u16, 0x00u8, 0x00u8),
-        (2, 0x01, 0x01),
-        (4, 0x01, 0x00),
-        (6, 0x09, 0x00),
-        (7, 0x01, 0x02),
+    let (_, rest) = DISK.split_at(2);
+    for (number, attributes) in [
+        (1u16, [0x00u8, 0x00]),
+        (2, [0x01, 0x01]),
+        (4, [0x01, 0x00]),
+        (6, [0x09, 0x00]),
+        (7, [0x01, 0x02]),
     ] {
-        let mut bytes = Vec::from_slice(alloc, &[low, high])?;
-        let (_, rest) = DISK.split_at(2);
+        let mut bytes = Vec::from_slice(alloc, &attributes)?;
         bytes.extend_from_slice(rest)?;
         start.put_entry(number, &bytes)?;
     }
@@ -471,15 +478,25 @@ fn choice(rt: HostRuntime) -> Result<(), Fail> {
 }
 
 #[test]
-fn limits_at_open(rt: HostRuntime) -> Result<(), Fail> {
+fn a_full_order_stays(rt: HostRuntime) -> Result<(), Fail> {
+    let full = vec![in rt.alloc(); 0; 131_072]?;
+    let case = Case {
+        before: &[("BootOrder", &full)],
+        sent: &[Sent::Add(0, 1)],
+        lines: "applied Done 1\n",
+        after: &[
+            ("Boot0001", &DISK),
+            ("BootOrder", &full),
+            ("BootKeepState", &[1, 1, 0, 0, 0, 1, 0]),
+        ],
+    };
+    check(&rt, rt.alloc(), &case)?;
+    Ok(())
+}
+
+#[test]
+fn bad_variables_are_handed_back(rt: HostRuntime) -> Result<(), Fail> {
     let alloc = rt.alloc();
-    let full = zeros(alloc, 131_072)?;
-    let start = vars(alloc, &[("BootOrder", &full)])?;
-    let events = [deliver(alloc, 0, Request::Add(1, disk(alloc)?))?];
-    let (keeper, lines) = steps(alloc, Keeper::open(alloc, start)?, &events)?;
-    assert_eq!(rt; lines.as_str(), "applied Done 1\n");
-    assert!(rt; keeper.vars().entry(1) == Some(&DISK[..]));
-    assert!(rt; keeper.vars().get("BootOrder") == Some(full.as_slice()));
     let table: [(&str, &[u8], OpenFault); 6] = [
         ("BootOrder", &[0, 0, 0], OpenFault::BadOrder),
         ("BootNext", &[0], OpenFault::BadNext),

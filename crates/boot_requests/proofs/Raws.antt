@@ -9,28 +9,28 @@ use Rattle.boot_requests.specs.declared.fault.FrameFault.{FrameFault}
 use Rattle.boot_requests.specs.declared.fault.FrameFault.TheVariants as fault
 use Rattle.boot_requests.specs.Limits.{payload_max, no_number}
 use Rattle.boot_requests.specs.Frame.{magic}
-use Rattle.boot_requests.specs.FrameFault.{Cut, IsCut, IsKind, HoldsOption, HoldsEntry, IsBadPayload, IsFirstFault}
-use Rattle.boot_requests.specs.Reading.{cut_of}
+use Rattle.boot_requests.specs.FrameFault.{Raw, IsRaw, IsKind, HoldsOption, HoldsEntry, IsBadPayload, IsFirstFault}
+use Rattle.boot_requests.specs.Reading.{raw_of}
 
 -- ---- one header and one payload
 
-same_size : (a b x y : List ℕ) → length a ≡ length b → a ++ x ≡ b ++ y → (a ≡ b) × (x ≡ y)
+pub same_size : (a b x y : List ℕ) → length a ≡ length b → a ++ x ≡ b ++ y → (a ≡ b) × (x ≡ y)
 same_size a b x y size e =
     (sym (take_at a x (length b) size) ∙ ap (take (length b)) e ∙ take_at b y (length b) refl, sym (drop_at a x (length b) size) ∙ ap (drop (length b)) e ∙ drop_at b y (length b) refl)
 
 -- what stands behind the magic
-abbrev behind_magic : Cut → List ℕ
+abbrev behind_magic : Raw → List ℕ
 behind_magic c = c.version ∷ c.kind ∷ (to_le_bytes w32 c.number ++ (to_le_bytes w32 c.len ++ c.payload))
 
-regroup : (input : List ℕ) (c : Cut) → IsCut input c → input ≡ c.magic ++ behind_magic c
+regroup : (input : List ℕ) (c : Raw) → IsRaw input c → input ≡ c.magic ++ behind_magic c
 regroup input c is =
     let two = c.version ∷ c.kind ∷ [] in
     let number = to_le_bytes w32 c.number in
     let len = to_le_bytes w32 c.len in
     is.parts ∙ append_assoc ((c.magic ++ two) ++ number) len c.payload ∙ append_assoc (c.magic ++ two) number (len ++ c.payload) ∙ append_assoc c.magic two (number ++ (len ++ c.payload))
 
-pub same_cut : (input : List ℕ) (c d : Cut) → IsCut input c → IsCut input d → c ≡ d
-same_cut input c d first second =
+pub same_raw : (input : List ℕ) (c d : Raw) → IsRaw input c → IsRaw input d → c ≡ d
+same_raw input c d first second =
     let split = same_size c.magic d.magic (behind_magic c) (behind_magic d) (first.two_bytes ∙ sym second.two_bytes) (sym (regroup input c first) ∙ regroup input d second) in
     let version : c.version ≡ d.version = ap (λ (t : List ℕ). get_or t 0 0) split.1 in
     let kind : c.kind ≡ d.kind = ap (λ (t : List ℕ). get_or t 1 0) split.1 in
@@ -39,12 +39,12 @@ same_cut input c d first second =
     let number : c.number ≡ d.number = sym (from_le_bytes-to_le_bytes_4 c.number first.number) ∙ read_number ∙ from_le_bytes-to_le_bytes_4 d.number second.number in
     let len : c.len ≡ d.len = sym (from_le_bytes-to_le_bytes_4 c.len first.len) ∙ read_len ∙ from_le_bytes-to_le_bytes_4 d.len second.len in
     let payload : c.payload ≡ d.payload = ap (drop 10) split.1 in
-    ap (λ (t : List ℕ). cut_of t c.version c.kind c.number c.len c.payload) split.0 ∙ ap (λ (n : ℕ). cut_of d.magic n c.kind c.number c.len c.payload) version
-    ∙ ap (λ (n : ℕ). cut_of d.magic d.version n c.number c.len c.payload) kind ∙ ap (λ (n : ℕ). cut_of d.magic d.version d.kind n c.len c.payload) number
-    ∙ ap (λ (n : ℕ). cut_of d.magic d.version d.kind d.number n c.payload) len ∙ ap (λ (t : List ℕ). cut_of d.magic d.version d.kind d.number d.len t) payload
+    ap (λ (t : List ℕ). raw_of t c.version c.kind c.number c.len c.payload) split.0 ∙ ap (λ (n : ℕ). raw_of d.magic n c.kind c.number c.len c.payload) version
+    ∙ ap (λ (n : ℕ). raw_of d.magic d.version n c.number c.len c.payload) kind ∙ ap (λ (n : ℕ). raw_of d.magic d.version d.kind n c.len c.payload) number
+    ∙ ap (λ (n : ℕ). raw_of d.magic d.version d.kind d.number n c.payload) len ∙ ap (λ (t : List ℕ). raw_of d.magic d.version d.kind d.number d.len t) payload
 
-pub cut_size : (input : List ℕ) (c : Cut) → IsCut input c → 12 ≤ length input
-cut_size input c is = omega (arith, is.two_bytes, simp length-append at (ap length (regroup input c is)))
+pub raw_size : (input : List ℕ) (c : Raw) → IsRaw input c → 12 ≤ length input
+raw_size input c is = omega (arith, is.two_bytes, simp length-append at (ap length (regroup input c is)))
 
 -- ---- kinds
 
@@ -90,54 +90,54 @@ no_step Test bad Rest f passes none (inl x) = x.0 passes
 no_step Test bad Rest f passes none (inr x) = none x.1
 
 -- the fault is that of the option
-abbrev pub HasOptionFault : Cut → FrameFault → Type 0
+abbrev pub HasOptionFault : Raw → FrameFault → Type 0
 HasOptionFault c f = (x : OptionFault) × (f ≡ fault.Option x) × HoldsOption c.kind × IsFirstOptionFault (drop 2 c.payload) x
 
-abbrev AfterNumber : Cut → FrameFault → Type 0
+abbrev AfterNumber : Raw → FrameFault → Type 0
 AfterNumber c = Step (IsBadPayload c.kind c.payload → ⊥) fault.BadPayload (HasOptionFault c)
 
-abbrev AfterKind : Cut → FrameFault → Type 0
+abbrev AfterKind : Raw → FrameFault → Type 0
 AfterKind c = Step (c.number ≢ no_number) fault.BadNumber (AfterNumber c)
 
-abbrev AfterSize : Cut → FrameFault → Type 0
+abbrev AfterSize : Raw → FrameFault → Type 0
 AfterSize c = Step (IsKind c.kind) fault.BadKind (AfterKind c)
 
-abbrev AfterLength : Cut → FrameFault → Type 0
+abbrev AfterLength : Raw → FrameFault → Type 0
 AfterLength c = Step (length c.payload ≡ c.len) fault.BadSize (AfterSize c)
 
-abbrev AfterVersion : Cut → FrameFault → Type 0
+abbrev AfterVersion : Raw → FrameFault → Type 0
 AfterVersion c = Step (c.len ≤ payload_max) fault.TooLong (AfterLength c)
 
-abbrev AfterMagic : Cut → FrameFault → Type 0
+abbrev AfterMagic : Raw → FrameFault → Type 0
 AfterMagic c = Step (c.version ≡ 1) fault.BadVersion (AfterVersion c)
 
-abbrev pub Steps : Cut → FrameFault → Type 0
+abbrev pub Steps : Raw → FrameFault → Type 0
 Steps c = Step (c.magic ≡ magic) fault.BadMagic (AfterMagic c)
 
 -- ---- the first fault, by these tests
 
 abbrev pub ByTests : List ℕ → FrameFault → Type 0
-ByTests input f = ((length input < 12) × (f ≡ fault.Short)) ⊎ ((c : Cut) × IsCut input c × Steps c f)
+ByTests input f = ((length input < 12) × (f ≡ fault.Short)) ⊎ ((c : Raw) × IsRaw input c × Steps c f)
 
 pub by_tests : (input : List ℕ) (f : FrameFault) → IsFirstFault input f → ByTests input f
 by_tests input fault.Short h = inl (h, refl)
-by_tests input fault.BadMagic h = inr (h.cut, h.is, inl (h.here, refl))
-by_tests input fault.BadVersion h = inr (h.cut, h.is, inr (h.here.0, inl (h.here.1, refl)))
-by_tests input fault.TooLong h = inr (h.cut, h.is, inr (h.here.0.0, inr (h.here.0.1, inl (λ within. omega (arith, within, h.here.1), refl))))
-by_tests input fault.BadSize h = inr (h.cut, h.is, inr (h.here.0.0, inr (h.here.0.1, inr (h.here.1, inl (h.here.2, refl)))))
+by_tests input fault.BadMagic h = inr (h.raw, h.is, inl (h.here, refl))
+by_tests input fault.BadVersion h = inr (h.raw, h.is, inr (h.here.0, inl (h.here.1, refl)))
+by_tests input fault.TooLong h = inr (h.raw, h.is, inr (h.here.0.0, inr (h.here.0.1, inl (λ within. omega (arith, within, h.here.1), refl))))
+by_tests input fault.BadSize h = inr (h.raw, h.is, inr (h.here.0.0, inr (h.here.0.1, inr (h.here.1, inl (h.here.2, refl)))))
 by_tests input fault.BadKind h =
-    let size = h.here.0 in inr (h.cut, h.is, inr (size.0.0, inr (size.0.1, inr (size.1, inr (size.2, inl (h.here.1, refl))))))
+    let size = h.here.0 in inr (h.raw, h.is, inr (size.0.0, inr (size.0.1, inr (size.1, inr (size.2, inl (h.here.1, refl))))))
 by_tests input fault.BadNumber h =
-    let size = h.here.0 in inr (h.cut, h.is, inr (size.0.0, inr (size.0.1, inr (size.1, inr (size.2, inr (h.here.1, inl (λ other. other h.here.2, refl)))))))
+    let size = h.here.0 in inr (h.raw, h.is, inr (size.0.0, inr (size.0.1, inr (size.1, inr (size.2, inr (h.here.1, inl (λ other. other h.here.2, refl)))))))
 by_tests input fault.BadPayload h =
     let number = h.here.0 in
     let size = number.0 in
-    inr (h.cut, h.is, inr (size.0.0, inr (size.0.1, inr (size.1, inr (size.2, inr (number.1, inr (number.2, inl (λ good. good h.here.1, refl))))))))
+    inr (h.raw, h.is, inr (size.0.0, inr (size.0.1, inr (size.1, inr (size.2, inr (number.1, inr (number.2, inl (λ good. good h.here.1, refl))))))))
 by_tests input (fault.Option x) h =
     let number = h.here.0 in
     let size = number.0 in
-    let good : IsBadPayload h.cut.kind h.cut.payload → ⊥ = λ bad. omega (arith, h.here.2, bad_option h.cut.kind h.cut.payload h.here.1 bad) in
-    inr (h.cut, h.is, inr (size.0.0, inr (size.0.1, inr (size.1, inr (size.2, inr (number.1, inr (number.2, inr (good, (x, refl, h.here.1, h.here.3)))))))))
+    let good : IsBadPayload h.raw.kind h.raw.payload → ⊥ = λ bad. omega (arith, h.here.2, bad_option h.raw.kind h.raw.payload h.here.1 bad) in
+    inr (h.raw, h.is, inr (size.0.0, inr (size.0.1, inr (size.1, inr (size.2, inr (number.1, inr (number.2, inr (good, (x, refl, h.here.1, h.here.3)))))))))
 by_tests input fault.OutOfMemory h = absurd h
 
 -- ---- one first fault
@@ -145,10 +145,10 @@ by_tests input fault.OutOfMemory h = absurd h
 abbrev pub OneOptionFault : Type 0
 OneOptionFault = (bytes : List ℕ) (f g : OptionFault) → IsFirstOptionFault bytes f → IsFirstOptionFault bytes g → f ≡ g
 
-one_option_fault : OneOptionFault → (c : Cut) → OnlyOne (HasOptionFault c)
+one_option_fault : OneOptionFault → (c : Raw) → OnlyOne (HasOptionFault c)
 one_option_fault one c f g x y = x.1 ∙ ap (λ (h : OptionFault). fault.Option h) (one (drop 2 c.payload) x.0 y.0 x.3 y.3) ∙ sym y.1
 
-one_of_steps : OneOptionFault → (c : Cut) → OnlyOne (Steps c)
+one_of_steps : OneOptionFault → (c : Raw) → OnlyOne (Steps c)
 one_of_steps one c =
     one_step (c.magic ≡ magic) fault.BadMagic (AfterMagic c) (one_step (c.version ≡ 1) fault.BadVersion (AfterVersion c) (one_step (c.len ≤ payload_max) fault.TooLong (AfterLength c)
     (one_step (length c.payload ≡ c.len) fault.BadSize (AfterSize c) (one_step (IsKind c.kind) fault.BadKind (AfterKind c) (one_step (c.number ≢ no_number) fault.BadNumber (AfterNumber c)
@@ -156,9 +156,9 @@ one_of_steps one c =
 
 same_by_tests : OneOptionFault → (input : List ℕ) (f g : FrameFault) → ByTests input f → ByTests input g → f ≡ g
 same_by_tests one input f g (inl x) (inl y) = x.1 ∙ sym y.1
-same_by_tests one input f g (inl x) (inr (c, is, steps)) = absurd (omega (arith, x.0, cut_size input c is))
-same_by_tests one input f g (inr (c, is, steps)) (inl y) = absurd (omega (arith, y.0, cut_size input c is))
-same_by_tests one input f g (inr (c, is, steps)) (inr (d, are, others)) = one_of_steps one d f g (subst (λ (cut : Cut). Steps cut f) (same_cut input c d is are) steps) others
+same_by_tests one input f g (inl x) (inr (c, is, steps)) = absurd (omega (arith, x.0, raw_size input c is))
+same_by_tests one input f g (inr (c, is, steps)) (inl y) = absurd (omega (arith, y.0, raw_size input c is))
+same_by_tests one input f g (inr (c, is, steps)) (inr (d, are, others)) = one_of_steps one d f g (subst (λ (raw : Raw). Steps raw f) (same_raw input c d is are) steps) others
 
 pub same_first_fault : OneOptionFault → (input : List ℕ) (f g : FrameFault) → IsFirstFault input f → IsFirstFault input g → f ≡ g
 same_first_fault one input f g first second = same_by_tests one input f g (by_tests input f first) (by_tests input g second)
@@ -166,7 +166,7 @@ same_first_fault one input f g first second = same_by_tests one input f g (by_te
 -- ---- none
 
 -- the header and the payload pass each test
-pub record Passes (c : Cut) : Type 0 where
+pub record Passes (c : Raw) : Type 0 where
   pub magic : c.magic ≡ magic
   pub version : c.version ≡ 1
   pub len : c.len ≤ payload_max
@@ -175,7 +175,7 @@ pub record Passes (c : Cut) : Type 0 where
   pub number : c.number ≢ no_number
   pub payload : IsBadPayload c.kind c.payload → ⊥
 
-pub no_steps : (c : Cut) (f : FrameFault) → Passes c → (HasOptionFault c f → ⊥) → Steps c f → ⊥
+pub no_steps : (c : Raw) (f : FrameFault) → Passes c → (HasOptionFault c f → ⊥) → Steps c f → ⊥
 no_steps c f passes none =
     no_step (c.magic ≡ magic) fault.BadMagic (AfterMagic c) f passes.magic (no_step (c.version ≡ 1) fault.BadVersion (AfterVersion c) f passes.version (no_step (c.len ≤ payload_max) fault.TooLong (AfterLength c) f passes.len
     (no_step (length c.payload ≡ c.len) fault.BadSize (AfterSize c) f passes.size (no_step (IsKind c.kind) fault.BadKind (AfterKind c) f passes.kind (no_step (c.number ≢ no_number) fault.BadNumber (AfterNumber c) f passes.number

@@ -1,0 +1,5 @@
+use Rattle.boot_requests.proofs.Streams.{one_cut}
+use Rattle.boot_requests.proofs.laws.a_stream_has_one_cut.Goals as goal
+
+pub returns : goal.returns
+returns c = one_cut

@@ -1,0 +1,181 @@
+//! Streams to deliveries.
+
+ghost use Rattle.std.specs.Prelude.{◌≡◌, ◌≢◌, ℕ, ◌+◌, ◌≤◌, ◌<◌, List, [], ◌∷◌, ◌++◌, length, Err, IfOk, IfErr, OnOk, vec_len};
+ghost use Rattle.boot_requests.specs.declared.fault.FeedFault.{FeedFault};
+ghost use Rattle.boot_requests.specs.Limits.{payload_max};
+ghost use Rattle.boot_requests.specs.Stream.{Cut, IsCut, IsKept, Feeds, IsHeaderFault, kept_of, nothing_cut};
+ghost use Rattle.boot_requests.specs.Pieces.{IsMissing, IsOpen, Cuts, Begins};
+
+use crate::bytes::Bytes;
+use crate::fault::FeedFault;
+use crate::frame::HEADER_LEN;
+use crate::reading::{split_header, stated_len};
+use std::alloc::{AllocError, Global};
+use std::marker::Model;
+use std::mem;
+
+/// Cuts a stream of frames, which comes in pieces of any length, into the bytes of each: a header of twelve bytes, and as
+/// many bytes behind it as it states. What isn't whole yet is held until the rest of it comes.
+#[derive(Debug, Drop)]
+pub struct Inbox {
+    /// The bytes of the delivery that isn't whole yet.
+    held: Vec<u8>,
+    /// The fault of a header, behind which nothing is cut any more.
+    fault: Option<FeedFault>,
+}
+
+impl Model for Inbox {
+    ghost use Rattle.boot_requests.specs.Stream.{Kept, kept_in};
+    ghost use Rattle.boot_requests.specs.Pieces.{IsHeld};
+
+    ghost Value = { Kept };
+
+    ghost view = { λ inbox. kept_in inbox.held.items inbox.fault };
+
+    ghost invariant = { λ inbox. IsHeld inbox.held.items inbox.fault };
+}
+
+impl Inbox {
+    /// An inbox that no bytes were fed to.
+    pub fn new(alloc: Global) -> Inbox
+        ensures start { IsCut [] nothing_cut × (result ≡ kept_of nothing_cut) }
+    {
+        Inbox {
+            held: Vec::new(alloc),
+            fault: None,
+        }
+    }
+
+    /// Takes the next bytes of the stream. The bytes of each delivery that they bring to its end are appended to the frames,
+    /// in order; whether they are a frame is found where they are delivered. A header is tested once its twelve bytes are
+    /// there. Behind a header that is at fault nothing is cut: each later call answers the same fault and appends nothing.
+    ///
+    /// # Errors
+    ///
+    /// The first of these faults of the first header that has one: [`FeedFault::BadMagic`] where it doesn't begin with 0x42
+    /// 0x51; [`FeedFault::BadVersion`] where its version isn't 1; [`FeedFault::TooLong`] where it states more than
+    /// [`PAYLOAD_MAX`](crate::PAYLOAD_MAX) bytes. The deliveries in front of it are appended. [`FeedFault::OutOfMemory`]
+    /// where memory was refused: the inbox and the frames are then as they were.
+    pub fn feed(&mut self, bytes: &[u8], frames: &mut Vec<Bytes>) -> Result<(), FeedFault>
+        // From an inbox that stands for a stream, to one that stands for it and these bytes.
+        ensures fed { result ≢ Err FeedFault.OutOfMemory → (stream : List ℕ) (cut : Cut) →
+            IsCut stream cut → self.old ≡ kept_of cut →
+            Feeds stream cut bytes.now self.new frames.old.items frames.new.items result }
+        ensures unchanged { result ≡ Err FeedFault.OutOfMemory →
+            (self.new ≡ self.old) × (frames.new.items ≡ frames.old.items) }
+        ensures valid { IsKept self.new }
+    {
+        if let Some(fault) = self.fault {
+            return Err(fault);
+        }
+        match take_piece(&mut self.held, bytes, frames) {
+            Ok(()) => Ok(()),
+            Err(fault) if fault == FeedFault::OutOfMemory => Err(fault),
+            Err(fault) => {
+                self.held.clear();
+                self.fault = Some(fault);
+                Err(fault)
+            }
+        }
+    }
+
+    /// How many bytes are held of a delivery that isn't whole yet: none behind a fault.
+    pub fn held(&self) -> usize
+        ensures len { result ≡ length self.now.rest }
+        ensures bound { result < 12 + payload_max }
+        ensures valid { IsKept self.now }
+    {
+        self.held.len()
+    }
+}
+
+/// Cuts the piece, as [`cut_piece`] does, but leaves what is held and the frames as they were where memory is refused.
+fn take_piece(held: &mut Vec<u8>, piece: &[u8], frames: &mut Vec<Bytes>) -> Result<(), FeedFault>
+    requires { IsOpen held.old.items }
+    ensures cuts { OnOk result (IsOpen held.new.items
+        × Cuts (held.old.items ++ piece.now) frames.old.items frames.new.items held.new.items) }
+    ensures fault { IfErr result (λ fault. fault ≢ FeedFault.OutOfMemory →
+        (rest : List ℕ) × IsHeaderFault rest fault
+        × Cuts (held.old.items ++ piece.now) frames.old.items frames.new.items rest) }
+    ensures refused { result ≡ Err FeedFault.OutOfMemory →
+        (held.new.items ≡ held.old.items) × (frames.new.items ≡ frames.old.items) }
+{
+    let held_len = held.len();
+    let frames_len = frames.len();
+    let taken = cut_piece(held, piece, frames);
+    if let Err(FeedFault::OutOfMemory) = taken {
+        take_back(held, held_len, frames, frames_len);
+    }
+    taken
+}
+
+/// Appends the piece to what is held, and each delivery that it brings to its end to the frames. Where memory is refused,
+/// what was done until then stays.
+fn cut_piece(held: &mut Vec<u8>, piece: &[u8], frames: &mut Vec<Bytes>) -> Result<(), FeedFault>
+    requires { IsOpen held.old.items }
+    ensures cuts { OnOk result (IsOpen held.new.items
+        × Cuts (held.old.items ++ piece.now) frames.old.items frames.new.items held.new.items) }
+    ensures fault { IfErr result (λ fault. fault ≢ FeedFault.OutOfMemory →
+        (rest : List ℕ) × IsHeaderFault rest fault
+        × Cuts (held.old.items ++ piece.now) frames.old.items frames.new.items rest) }
+    ensures begins { Begins held.old.items frames.old.items frames.new.items held.new.items }
+{
+    let mut rest = piece;
+    while !rest.is_empty() {
+        let (front, behind) = rest.split_at(missing(held)?.min(rest.len()));
+        held.extend_from_slice(front)?;
+        rest = behind;
+        if missing(held)? == 0 {
+            give(held, frames)?;
+        }
+    }
+    Ok(())
+}
+
+/// How many bytes are missing: of a header, where its twelve aren't held, else of those that it states.
+fn missing(held: &[u8]) -> Result<usize, FeedFault>
+    ensures count { IfOk result (IsMissing held.now) }
+    ensures fault { IfErr result (IsHeaderFault held.now) }
+{
+    let Some(raw) = split_header(held) else {
+        return Ok(HEADER_LEN - held.len());
+    };
+    let len = stated_len(raw)?;
+    Ok(len.saturating_sub(raw.payload.len()))
+}
+
+/// What is held becomes the last of the frames, and nothing is held. Where memory is refused, both are as they were.
+fn give(held: &mut Vec<u8>, frames: &mut Vec<Bytes>) -> Result<(), FeedFault>
+    ensures given { OnOk result ((held.new.items ≡ [])
+        × (frames.new.items ≡ frames.old.items ++ held.old.items ∷ [])) }
+    ensures refused { IfErr result (λ fault. (fault ≡ FeedFault.OutOfMemory)
+        × (held.new.items ≡ held.old.items) × (frames.new.items ≡ frames.old.items)) }
+{
+    let alloc = *held.allocator();
+    let whole = mem::replace(held, Vec::new(alloc));
+    match frames.push(Bytes::new(whole)) {
+        Ok(()) => Ok(()),
+        Err(refusal) => {
+            *held = refusal.value.into_bytes();
+            Err(FeedFault::OutOfMemory)
+        }
+    }
+}
+
+/// Takes back what was cut since so many bytes were held, and since there were so many frames. It needs no memory: the
+/// bytes that were held stand at the front of the first frame since, or of what is held.
+fn take_back(held: &mut Vec<u8>, held_len: usize, frames: &mut Vec<Bytes>, frames_len: usize)
+    requires { frames_len ≤ vec_len frames.old }
+    ensures { (before : List ℕ) (old : List (List ℕ)) →
+        Begins before old frames.old.items held.old.items →
+        held_len ≡ length before → frames_len ≡ length old →
+        (held.new.items ≡ before) × (frames.new.items ≡ old) }
+{
+    frames.truncate(frames_len + 1);
+    if frames.len() > frames_len {
+        if let Some(first) = frames.pop() {
+            *held = first.into_bytes();
+        }
+    }
+    held.truncate(held_len);
+}
