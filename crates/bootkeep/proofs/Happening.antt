@@ -1,4 +1,4 @@
--- Events that happen to variables, and what is answered where a text is a script.
+-- Events that happen to variables, and what is answered where bytes are read as events.
 use Rattle.std.proofs.Common.{◌≡◌, ◌≢◌, ◌≤◌, ◌+◌, ℕ, List, [], ◌∷◌, ◌++◌, length, take, drop, Option, Some, None, Result, Ok, Err, refl, ap, sym, subst, ◌∙◌, inl, inr, arith, append-nil}
 use Rattle.std.specs.Prelude.{IfOk, IfErr, IfSome}
 use Rattle.std.specs.List.{AllByRecursion}
@@ -18,11 +18,15 @@ use Rattle.boot_requests.specs.Turn.{Plain, plain_start}
 use Rattle.boot_requests.specs.Keeping.{StandsFor, IsStateOf}
 use Rattle.bootkeep.specs.declared.fault.ScriptFault.{ScriptFault}
 use Rattle.bootkeep.specs.declared.fault.ScriptFault.TheVariants as fault
-use Rattle.bootkeep.specs.Running.{answer_lines, Happens, Runs}
-use Rattle.bootkeep.specs.ScriptFault.{script_max, IsFirstFault, IsFaultUnless}
+use Rattle.boot_requests.specs.Stream.{Cut, IsCut}
+use Rattle.bootkeep.specs.Running.{answer_lines, Happens, RunsBy}
+use Rattle.bootkeep.specs.ScriptFault.{script_max, IsLineFault, IsFirstFaultBy, IsFirstFault, IsFirstStreamFault, IsFaultUnless}
+use Rattle.bootkeep.specs.Script.{IsScript}
+use Rattle.bootkeep.specs.Stream.{IsStream, IsStreamFault}
 use Rattle.bootkeep.specs.Source.{ReadsAll, AppendsFront}
 use Rattle.bootkeep.specs.Answering.{IsAnswer}
 use Rattle.bootkeep.proofs.Scripts.{no_script, one_bad_line}
+use Rattle.bootkeep.proofs.Streams.{no_stream, one_stream_fault}
 
 -- ---- events
 
@@ -79,81 +83,121 @@ one_open_fault vars opening.BadState opening.BadState p q = refl
 one_open_fault vars opening.BadState opening.OutOfMemory p q = absurd q
 one_open_fault vars opening.OutOfMemory b p q = absurd p
 
--- a text and variables have one first fault
-pub one_first_fault : (text : List ℕ) (vars : Variables) (a b : ScriptFault) → IsFirstFault text vars a → IsFirstFault text vars b → a ≡ b
-one_first_fault text vars fault.TooMuch fault.TooMuch p q = refl
-one_first_fault text vars fault.TooMuch (fault.BadLine n) p q = absurd (omega arith)
-one_first_fault text vars fault.TooMuch (fault.Open g) p q = absurd (omega arith)
-one_first_fault text vars (fault.BadLine m) fault.TooMuch p q = absurd (omega arith)
-one_first_fault text vars (fault.BadLine m) (fault.BadLine n) p q = ap (λ (k : ℕ). fault.BadLine k) (one_bad_line text m n p.1 q.1)
-one_first_fault text vars (fault.BadLine m) (fault.Open g) p q = absurd (no_script text m q.1 p.1 q.2)
-one_first_fault text vars (fault.Open f) fault.TooMuch p q = absurd (omega arith)
-one_first_fault text vars (fault.Open f) (fault.BadLine n) p q = absurd (no_script text n p.1 q.1 p.2)
-one_first_fault text vars (fault.Open f) (fault.Open g) p q = ap (λ (h : OpenFault). fault.Open h) (one_open_fault vars f g p.3 q.3)
-one_first_fault text vars a fault.Read p q = absurd q
-one_first_fault text vars a fault.Write p q = absurd q
-one_first_fault text vars a fault.OutOfMemory p q = absurd q
-one_first_fault text vars fault.Read b p q = absurd p
-one_first_fault text vars fault.Write b p q = absurd p
-one_first_fault text vars fault.OutOfMemory b p q = absurd p
+-- Faults that bytes have of their own, where others are read as events: there is one at most, and none of what is read.
+pub record AreFaults (Reads : List ℕ → List Event → Type 0) (IsFaultOf : List ℕ → ScriptFault → Type 0) : Type 0 where
+  pub first : (bytes : List ℕ) (vars : Variables) (f : ScriptFault) → length bytes ≤ script_max → IsFaultOf bytes f → IsFirstFaultBy Reads IsFaultOf bytes vars f
+  pub one : (bytes : List ℕ) (f g : ScriptFault) → IsFaultOf bytes f → IsFaultOf bytes g → f ≡ g
+  pub none : (bytes : List ℕ) (f : ScriptFault) (events : List Event) → IsFaultOf bytes f → Reads bytes events → ⊥
 
--- what is run has none
-no_fault : ((m : State) (vars : Variables) (f : OpenFault) → IsState m → IsImage m vars → IsOpenFault vars f → ⊥)
-    → (text : List ℕ) (vars after : Variables) (answers : List Reply) (f : ScriptFault) → length text ≤ script_max → Runs text vars after answers → IsFirstFault text vars f → ⊥
-no_fault kept text vars after answers fault.TooMuch len runs p = omega arith
-no_fault kept text vars after answers (fault.BadLine n) len runs p = no_script text n runs.events p.1 runs.script
-no_fault kept text vars after answers (fault.Open f) len runs p =
-    let opened = runs.happens.opened in
-    kept runs.happens.start vars f opened.is opened.image p.3
-no_fault kept text vars after answers fault.Read len runs p = p
-no_fault kept text vars after answers fault.Write len runs p = p
-no_fault kept text vars after answers fault.OutOfMemory len runs p = p
+module _ (Reads : List ℕ → List Event → Type 0) (IsFaultOf : List ℕ → ScriptFault → Type 0) (are : AreFaults Reads IsFaultOf) (bytes : List ℕ) (vars : Variables) where
+  -- bytes and variables have one first fault
+  pub one_first : (a b : ScriptFault) → IsFirstFaultBy Reads IsFaultOf bytes vars a → IsFirstFaultBy Reads IsFaultOf bytes vars b → a ≡ b
+  one_first fault.TooMuch fault.TooMuch p q = refl
+  one_first fault.TooMuch (fault.Open g) p q = absurd (omega arith)
+  one_first fault.TooMuch b p q = absurd (omega arith)
+  one_first (fault.Open f) fault.TooMuch p q = absurd (omega arith)
+  one_first (fault.Open f) (fault.Open g) p q = ap (λ (h : OpenFault). fault.Open h) (one_open_fault vars f g p.3 q.3)
+  one_first (fault.Open f) b p q = absurd (are.none bytes b p.1 q.1 p.2)
+  one_first a fault.TooMuch p q = absurd (omega arith)
+  one_first a (fault.Open g) p q = absurd (are.none bytes a q.1 p.1 q.2)
+  one_first a b p q = are.one bytes a b p.1 q.1
+
+  -- what is run has none
+  no_first : ((m : State) (vars : Variables) (f : OpenFault) → IsState m → IsImage m vars → IsOpenFault vars f → ⊥)
+      → (after : Variables) (answers : List Reply) (f : ScriptFault) → length bytes ≤ script_max → RunsBy Reads bytes vars after answers → IsFirstFaultBy Reads IsFaultOf bytes vars f → ⊥
+  no_first kept after answers fault.TooMuch len runs p = omega arith
+  no_first kept after answers (fault.Open f) len runs p =
+      let opened = runs.happens.opened in
+      kept runs.happens.start vars f opened.is opened.image p.3
+  no_first kept after answers f len runs p = are.none bytes f runs.events p.1 runs.read
+
+-- ---- scripts and streams
+
+first_of_script : (text : List ℕ) (vars : Variables) (f : ScriptFault) → length text ≤ script_max → IsLineFault text f → IsFirstFault text vars f
+first_of_script text vars (fault.BadLine n) len h = (len, h)
+first_of_script text vars f len h = absurd h
+
+one_of_script : (text : List ℕ) (f g : ScriptFault) → IsLineFault text f → IsLineFault text g → f ≡ g
+one_of_script text (fault.BadLine m) (fault.BadLine n) p q = ap (λ (k : ℕ). fault.BadLine k) (one_bad_line text m n p q)
+one_of_script text (fault.BadLine m) g p q = absurd q
+one_of_script text f g p q = absurd p
+
+none_of_script : (text : List ℕ) (f : ScriptFault) (events : List Event) → IsLineFault text f → IsScript text events → ⊥
+none_of_script text (fault.BadLine n) events p q = no_script text n events p q
+none_of_script text f events p q = absurd p
+
+pub of_script : AreFaults IsScript IsLineFault
+of_script = record { first = first_of_script; one = one_of_script; none = none_of_script }
+
+first_of_stream : (stream : List ℕ) (vars : Variables) (f : ScriptFault) → length stream ≤ script_max → IsStreamFault stream f → IsFirstStreamFault stream vars f
+first_of_stream stream vars (fault.Stream f) len h = (len, h)
+first_of_stream stream vars (fault.Rest n) len h = (len, h)
+first_of_stream stream vars f len h = absurd h
+
+pub of_stream : ((stream : List ℕ) (a b : Cut) → IsCut stream a → IsCut stream b → a ≡ b) → AreFaults IsStream IsStreamFault
+of_stream one_cut = record { first = first_of_stream; one = one_stream_fault one_cut; none = no_stream one_cut }
 
 -- ---- the clauses of an answer to what was read
 
-at_text : (remaining left : Option (List ℕ)) (text : List ℕ) (P : List ℕ → Type 0) → ReadsAll remaining left text → P text → IfSome remaining P
-at_text None left text P all h = tt
-at_text (Some known) None text P all h = absurd all.0
-at_text (Some known) (Some rest) text P all h =
-    subst P (sym (all.0 ∙ ap (λ (l : List ℕ). text ++ l) all.1 ∙ append-nil text)) h
+at_bytes : (remaining left : Option (List ℕ)) (bytes : List ℕ) (P : List ℕ → Type 0) → ReadsAll remaining left bytes → P bytes → IfSome remaining P
+at_bytes None left bytes P all h = tt
+at_bytes (Some known) None bytes P all h = absurd all.0
+at_bytes (Some known) (Some rest) bytes P all h =
+    subst P (sym (all.0 ∙ ap (λ (l : List ℕ). bytes ++ l) all.1 ∙ append-nil bytes)) h
 
-module _ (remaining left : Option (List ℕ)) (text : List ℕ) (vars : Variables) (old new : Option (List ℕ)) (all : ReadsAll remaining left text) (len : length text ≤ script_max) where
-  pub answer_done : (r : Result Variables ScriptFault) → IsAnswer text vars old new r
-      → IfOk r (λ after. IfSome remaining (λ t. (answers : List Reply) × Runs t vars after answers × Appends old new (answer_lines answers)))
-  answer_done (Ok after) h = at_text remaining left text (λ t. (answers : List Reply) × Runs t vars after answers × Appends old new (answer_lines answers)) all h
-  answer_done (Err f) h = tt
+module _ (Reads : List ℕ → List Event → Type 0) (IsFaultOf : List ℕ → ScriptFault → Type 0) (are : AreFaults Reads IsFaultOf) (remaining left : Option (List ℕ)) (bytes : List ℕ) (vars : Variables) (all : ReadsAll remaining left bytes) (len : length bytes ≤ script_max) where
+  told : (f : ScriptFault) → (f ≢ fault.Read → f ≢ fault.Write → f ≢ fault.OutOfMemory → IsFirstFaultBy Reads IsFaultOf bytes vars f)
+      → IfSome remaining (λ b. f ≢ fault.Read → f ≢ fault.Write → f ≢ fault.OutOfMemory → IsFirstFaultBy Reads IsFaultOf b vars f)
+  told f h = at_bytes remaining left bytes (λ b. f ≢ fault.Read → f ≢ fault.Write → f ≢ fault.OutOfMemory → IsFirstFaultBy Reads IsFaultOf b vars f) all h
 
-  told : (f : ScriptFault) → (f ≢ fault.Read → f ≢ fault.Write → f ≢ fault.OutOfMemory → IsFirstFault text vars f)
-      → IfSome remaining (λ t. f ≢ fault.Read → f ≢ fault.Write → f ≢ fault.OutOfMemory → IsFirstFault t vars f)
-  told f h = at_text remaining left text (λ t. f ≢ fault.Read → f ≢ fault.Write → f ≢ fault.OutOfMemory → IsFirstFault t vars f) all h
+  -- the bytes have a fault of their own, or memory was refused
+  pub refused_fault : (f : ScriptFault) → (f ≢ fault.OutOfMemory → IsFaultOf bytes f)
+      → IfSome remaining (λ b. f ≢ fault.Read → f ≢ fault.Write → f ≢ fault.OutOfMemory → IsFirstFaultBy Reads IsFaultOf b vars f)
+  refused_fault f own = told f (λ read write memory. are.first bytes vars f len (own memory))
 
-  pub answer_fault : (r : Result Variables ScriptFault) → IsAnswer text vars old new r
-      → IfErr r (λ f. IfSome remaining (λ t. f ≢ fault.Read → f ≢ fault.Write → f ≢ fault.OutOfMemory → IsFirstFault t vars f))
-  answer_fault (Ok after) h = tt
-  answer_fault (Err fault.Read) h = told fault.Read (λ no other another. absurd (no refl))
-  answer_fault (Err fault.Write) h = told fault.Write (λ other no another. absurd (no refl))
-  answer_fault (Err fault.OutOfMemory) h = told fault.OutOfMemory (λ other another no. absurd (no refl))
-  answer_fault (Err fault.TooMuch) h = told fault.TooMuch (λ one two three. h.0)
-  answer_fault (Err (fault.BadLine n)) h = told (fault.BadLine n) (λ one two three. h.0)
-  answer_fault (Err (fault.Open f)) h = told (fault.Open f) (λ one two three. h.0)
+  refused_unless : (f : ScriptFault) → (f ≢ fault.OutOfMemory → IsFaultOf bytes f) → (g : ScriptFault) → IsFirstFaultBy Reads IsFaultOf bytes vars g → IsFaultUnless {T = Variables} (Err f) g
+  refused_unless fault.OutOfMemory own g first = inr (inr refl)
+  refused_unless f own g first = inl (ap (λ (h : ScriptFault). Err h) (one_first Reads IsFaultOf are bytes vars f g (are.first bytes vars f len (own (λ e. cc))) first))
 
-  pub answer_write : (r : Result Variables ScriptFault) → IsAnswer text vars old new r → r ≡ Err fault.Write
-      → IfSome remaining (λ t. (length t ≤ script_max) × (after : Variables) × (answers : List Reply) × Runs t vars after answers × AppendsFront old new (answer_lines answers))
-  answer_write r h is =
-      let wrote = subst (IsAnswer text vars old new) is h in
-      at_text remaining left text (λ t. (length t ≤ script_max) × (after : Variables) × (answers : List Reply) × Runs t vars after answers × AppendsFront old new (answer_lines answers)) all
-      (len, wrote.0, wrote.1, wrote.2, wrote.3)
+  pub refused_only : (f : ScriptFault) → (f ≢ fault.OutOfMemory → IsFaultOf bytes f)
+      → IfSome remaining (λ b. (g : ScriptFault) → IsFirstFaultBy Reads IsFaultOf b vars g → IsFaultUnless {T = Variables} (Err f) g)
+  refused_only f own = at_bytes remaining left bytes (λ b. (g : ScriptFault) → IsFirstFaultBy Reads IsFaultOf b vars g → IsFaultUnless {T = Variables} (Err f) g) all (refused_unless f own)
 
-  only : ((m : State) (vars : Variables) (f : OpenFault) → IsState m → IsImage m vars → IsOpenFault vars f → ⊥)
-      → (r : Result Variables ScriptFault) → IsAnswer text vars old new r → (f : ScriptFault) → IsFirstFault text vars f → IsFaultUnless r f
-  only kept (Ok after) h f first = absurd (no_fault kept text vars after h.0 f len h.1 first)
-  only kept (Err fault.Write) h f first = absurd (no_fault kept text vars h.0 h.1 f len h.2 first)
-  only kept (Err fault.OutOfMemory) h f first = inr (inr refl)
-  only kept (Err fault.Read) h f first = absurd h.0
-  only kept (Err fault.TooMuch) h f first = inl (ap (λ (g : ScriptFault). Err g) (one_first_fault text vars fault.TooMuch f h.0 first))
-  only kept (Err (fault.BadLine n)) h f first = inl (ap (λ (g : ScriptFault). Err g) (one_first_fault text vars (fault.BadLine n) f h.0 first))
-  only kept (Err (fault.Open g)) h f first = inl (ap (λ (g : ScriptFault). Err g) (one_first_fault text vars (fault.Open g) f h.0 first))
+  -- the bytes are read as events, which were answered
+  module _ (old new : Option (List ℕ)) (events : List Event) (read : Reads bytes events) where
+    by : (after : Variables) (answers : List Reply) → Happens vars events after answers → RunsBy Reads bytes vars after answers
+    by after answers happens = record { events = events; read = read; happens = happens }
 
-  pub answer_only : ((m : State) (vars : Variables) (f : OpenFault) → IsState m → IsImage m vars → IsOpenFault vars f → ⊥)
-      → (r : Result Variables ScriptFault) → IsAnswer text vars old new r → IfSome remaining (λ t. (f : ScriptFault) → IsFirstFault t vars f → IsFaultUnless r f)
-  answer_only kept r h = at_text remaining left text (λ t. (f : ScriptFault) → IsFirstFault t vars f → IsFaultUnless r f) all (only kept r h)
+    pub answer_done : (r : Result Variables ScriptFault) → IsAnswer events vars old new r
+        → IfOk r (λ after. IfSome remaining (λ b. (answers : List Reply) × RunsBy Reads b vars after answers × Appends old new (answer_lines answers)))
+    answer_done (Ok after) h =
+        at_bytes remaining left bytes (λ b. (answers : List Reply) × RunsBy Reads b vars after answers × Appends old new (answer_lines answers)) all
+        (h.0, by after h.0 h.1, h.2)
+    answer_done (Err f) h = tt
+
+    pub answer_fault : (r : Result Variables ScriptFault) → IsAnswer events vars old new r
+        → IfErr r (λ f. IfSome remaining (λ b. f ≢ fault.Read → f ≢ fault.Write → f ≢ fault.OutOfMemory → IsFirstFaultBy Reads IsFaultOf b vars f))
+    answer_fault (Ok after) h = tt
+    answer_fault (Err fault.Write) h = told fault.Write (λ other no another. absurd (no refl))
+    answer_fault (Err fault.OutOfMemory) h = told fault.OutOfMemory (λ other another no. absurd (no refl))
+    answer_fault (Err (fault.Open f)) h = told (fault.Open f) (λ one two three. (len, events, read, h.0))
+    answer_fault (Err f) h = absurd h.0
+
+    pub answer_write : (r : Result Variables ScriptFault) → IsAnswer events vars old new r → r ≡ Err fault.Write
+        → IfSome remaining (λ b. (length b ≤ script_max) × (after : Variables) × (answers : List Reply) × RunsBy Reads b vars after answers × AppendsFront old new (answer_lines answers))
+    answer_write r h is =
+        let wrote = subst (IsAnswer events vars old new) is h in
+        at_bytes remaining left bytes (λ b. (length b ≤ script_max) × (after : Variables) × (answers : List Reply) × RunsBy Reads b vars after answers × AppendsFront old new (answer_lines answers)) all
+        (len, wrote.0, wrote.1, by wrote.0 wrote.1 wrote.2, wrote.3)
+
+    only : ((m : State) (vars : Variables) (f : OpenFault) → IsState m → IsImage m vars → IsOpenFault vars f → ⊥)
+        → (r : Result Variables ScriptFault) → IsAnswer events vars old new r → (f : ScriptFault) → IsFirstFaultBy Reads IsFaultOf bytes vars f → IsFaultUnless r f
+    only kept (Ok after) h f first = absurd (no_first Reads IsFaultOf are bytes vars kept after h.0 f len (by after h.0 h.1) first)
+    only kept (Err fault.Write) h f first = absurd (no_first Reads IsFaultOf are bytes vars kept h.0 h.1 f len (by h.0 h.1 h.2) first)
+    only kept (Err fault.OutOfMemory) h f first = inr (inr refl)
+    only kept (Err (fault.Open g)) h f first = inl (ap (λ (g : ScriptFault). Err g) (one_first Reads IsFaultOf are bytes vars (fault.Open g) f (len, events, read, h.0) first))
+    only kept (Err g) h f first = absurd h.0
+
+    pub answer_only : ((m : State) (vars : Variables) (f : OpenFault) → IsState m → IsImage m vars → IsOpenFault vars f → ⊥)
+        → (r : Result Variables ScriptFault) → IsAnswer events vars old new r → IfSome remaining (λ b. (f : ScriptFault) → IsFirstFaultBy Reads IsFaultOf b vars f → IsFaultUnless r f)
+    answer_only kept r h = at_bytes remaining left bytes (λ b. (f : ScriptFault) → IsFirstFaultBy Reads IsFaultOf b vars f → IsFaultUnless r f) all (only kept r h)

@@ -64,7 +64,7 @@ one_event line event.Restart event.Hand p q = let m : ℕ = 114 in let n : ℕ =
 one_event line event.Restart event.Restart p q = refl
 
 -- lines tell of one list of events
-pub one_list : (lines : List (List ℕ)) (a b : List Event) → TellOf lines a → TellOf lines b → a ≡ b
+one_list : (lines : List (List ℕ)) (a b : List Event) → TellOf lines a → TellOf lines b → a ≡ b
 one_list [] a b p q = p ∙ sym q
 one_list ([] ∷ lines) a b p q = one_list lines a b p q
 one_list ((c ∷ line) ∷ lines) [] b p q = absurd p
@@ -73,6 +73,9 @@ one_list ((c ∷ line) ∷ lines) (x ∷ a) (y ∷ b) p q =
     let head = one_event (c ∷ line) x y p.0 q.0 in
     let tail = one_list lines a b p.1 q.1 in
     cc
+
+pub one_script : (text : List ℕ) (a b : List Event) → IsScript text a → IsScript text b → a ≡ b
+one_script text a b p q = one_list (lines_of text) a b p q
 
 -- lines that tell of events are those of a script
 told_lines : (lines : List (List ℕ)) (events : List Event) → TellOf lines events → AllByRecursion IsScriptLine lines
@@ -199,7 +202,7 @@ no_line (c ∷ line) some none (inr told) = none told.0 told.1
 
 -- ---- what a line tells of
 
-bytes_from : (xs : List ℕ) → IsBytes xs → AllByRecursion IsByte xs
+pub bytes_from : (xs : List ℕ) → IsBytes xs → AllByRecursion IsByte xs
 bytes_from [] each = tt
 bytes_from (x ∷ xs) each = (each 0, bytes_from xs (λ i. each (suc i)))
 
@@ -229,8 +232,5 @@ pub only_bad_line : {T : Type 0} (text : List ℕ) (r : Result T ScriptFault) (i
 only_bad_line text (Ok found) items number script told bad = absurd (no_script text number (items found) bad script)
 only_bad_line text (Err (fault.BadLine other)) items number script told bad =
     inl (ap (λ (n : ℕ). Err (fault.BadLine n)) (one_bad_line text other number (told (λ e. cc)) bad))
-only_bad_line text (Err (fault.Open f)) items number script told bad = absurd (told (λ e. cc))
-only_bad_line text (Err fault.Read) items number script told bad = absurd (told (λ e. cc))
-only_bad_line text (Err fault.Write) items number script told bad = absurd (told (λ e. cc))
-only_bad_line text (Err fault.TooMuch) items number script told bad = absurd (told (λ e. cc))
 only_bad_line text (Err fault.OutOfMemory) items number script told bad = inr refl
+only_bad_line text (Err other) items number script told bad = absurd (told (λ e. cc))

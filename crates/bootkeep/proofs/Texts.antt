@@ -1,4 +1,4 @@
--- Each text is a script or has a first bad line, and a script has one run.
+-- Each text is a script or has a first bad line, and bytes that are read as events have one run.
 use Rattle.std.proofs.Common.{◌≡◌, ◌≢◌, ◌+◌, ℕ, true, false, true≢false, List, [], ◌∷◌, ◌++◌, length, take, drop, Result, Ok, Err, refl, ap, sym, subst, ◌∙◌, inl, inr, take-append-drop}
 use Rattle.std.specs.Prelude.{◌⊎◌, codes}
 use Rattle.std.specs.Bool.{Decides}
@@ -15,9 +15,9 @@ use Rattle.boot_requests.specs.State.{State, IsState, IsImage}
 use Rattle.boot_requests.specs.Seen.{Seen, IsSeen, AreSeen}
 use Rattle.boot_requests.specs.Run.{followed, state_at}
 use Rattle.boot_requests.specs.Reply.{IsReply, AreAnswers}
-use Rattle.bootkeep.specs.Running.{Runs}
+use Rattle.bootkeep.specs.Running.{RunsBy}
 use Rattle.bootkeep.specs.Script.{lines_of, Tells, TellOf, IsScript, IsScriptLine, IsFirstBadLine}
-use Rattle.bootkeep.proofs.Scripts.{no_event, one_list}
+use Rattle.bootkeep.proofs.Scripts.{no_event}
 
 -- ---- what a line tells of is decided
 
@@ -116,7 +116,7 @@ script_or_bad text =
       | inr h ↦ inr (length h.before + 1, record { before = h.before; bad = h.bad; after = h.after; lines = h.parts; good = h.good; is_bad = h.is_bad; at = refl })
     ]
 
--- ---- a script has one run
+-- ---- bytes that are read as events have one run
 
 one_seen : ((event : Event) (a b : Seen) → IsSeen event a → IsSeen event b → a ≡ b)
     → (events : List Event) (x y : List Seen) → AreSeen events x → AreSeen events y → x ≡ y
@@ -140,15 +140,16 @@ one_list_of_answers law start run (s ∷ seen) (a ∷ x) (b ∷ y) p q =
     let tail = one_list_of_answers law start (s ∷ run) seen x y p.1 q.1 in
     cc
 
-module _ (as_one : (event : Event) (a b : Seen) → IsSeen event a → IsSeen event b → a ≡ b)
+module _ (Reads : List ℕ → List Event → Type 0) (one : (bytes : List ℕ) (a b : List Event) → Reads bytes a → Reads bytes b → a ≡ b)
+    (as_one : (event : Event) (a b : Seen) → IsSeen event a → IsSeen event b → a ≡ b)
     (one_state : (m n : State) (vars : Variables) → IsState m → IsState n → IsImage m vars → IsImage n vars → m ≡ n)
-    (text : List ℕ) (before a b : Variables) (x y : List Reply) (p : Runs text before a x) (q : Runs text before b y) where
+    (bytes : List ℕ) (before a b : Variables) (x y : List Reply) (p : RunsBy Reads bytes before a x) (q : RunsBy Reads bytes before b y) where
   same_start : p.happens.start ≡ q.happens.start
   same_start = one_state p.happens.start q.happens.start before p.happens.opened.is q.happens.opened.is p.happens.opened.image q.happens.opened.image
 
   same_seen : p.happens.seen ≡ q.happens.seen
   same_seen =
-      let same = one_list (lines_of text) p.events q.events p.script q.script in
+      let same = one bytes p.events q.events p.read q.read in
       one_seen as_one q.events p.happens.seen q.happens.seen (subst (λ (events : List Event). AreSeen events p.happens.seen) same p.happens.read) q.happens.read
 
   pub one_run_answers : ((start : State) (run : List Seen) (seen : Seen) (a b : Reply) → IsReply start run seen a → IsReply start run seen b → a ≡ b) → x ≡ y

@@ -1,18 +1,19 @@
--- For private functions that answer a text: what the answer is, and what was written, by cases.
+-- For private functions that answer events: what the answer is, and what was written, by cases.
 use Rattle.std.specs.Prelude.{ℕ, List, Option, Result, Ok, Err}
 use Rattle.std.specs.Io.KnownBytes.{Keeps, Appends}
 use Rattle.uefi_vars.specs.Vars.{Variables}
+use Rattle.boot_requests.specs.declared.event.Event.{Event}
 use Rattle.boot_requests.specs.declared.reply.Reply.{Reply}
 use Rattle.bootkeep.specs.declared.fault.ScriptFault.{ScriptFault}
 use Rattle.bootkeep.specs.declared.fault.ScriptFault.TheVariants as fault
-use Rattle.bootkeep.specs.Running.{Runs, answer_lines}
-use Rattle.bootkeep.specs.ScriptFault.{IsFirstFault}
+use Rattle.bootkeep.specs.Running.{Happens, answer_lines}
+use Rattle.bootkeep.specs.ScriptFault.{IsVarsFault}
 use Rattle.bootkeep.specs.Source.{AppendsFront}
 
-abbrev pub IsAnswer : List ℕ → Variables → Option (List ℕ) → Option (List ℕ) → Result Variables ScriptFault → Type 0
-IsAnswer text vars old new (Ok after) =
-    (answers : List Reply) × Runs text vars after answers × Appends old new (answer_lines answers)
-IsAnswer text vars old new (Err fault.Write) =
-    (after : Variables) × (answers : List Reply) × Runs text vars after answers × AppendsFront old new (answer_lines answers)
-IsAnswer text vars old new (Err fault.OutOfMemory) = Keeps old new
-IsAnswer text vars old new (Err other) = IsFirstFault text vars other × Keeps old new
+abbrev pub IsAnswer : List Event → Variables → Option (List ℕ) → Option (List ℕ) → Result Variables ScriptFault → Type 0
+IsAnswer events vars old new (Ok after) =
+    (answers : List Reply) × Happens vars events after answers × Appends old new (answer_lines answers)
+IsAnswer events vars old new (Err fault.Write) =
+    (after : Variables) × (answers : List Reply) × Happens vars events after answers × AppendsFront old new (answer_lines answers)
+IsAnswer events vars old new (Err fault.OutOfMemory) = Keeps old new
+IsAnswer events vars old new (Err other) = IsVarsFault vars other × Keeps old new

@@ -2,6 +2,7 @@
 use Rattle.std.specs.Prelude.{◌≡◌, ℕ, List, ⊤}
 use Rattle.std.specs.String.{string_bytes}
 use Rattle.uefi_vars.specs.Vars.{Variables}
+use Rattle.bootkeep.specs.declared.command_line.Form.{Form}
 use Rattle.bootkeep.specs.declared.failure.Failure.{Failure}
 use Rattle.bootkeep.specs.declared.failure.Failure.TheVariants as failure
 use Rattle.bootkeep.specs.declared.fault.ScriptFault.{ScriptFault}
@@ -12,7 +13,7 @@ use Rattle.bootkeep.specs.declared.output.OutputFault.{OutputFault}
 use Rattle.bootkeep.specs.declared.output.OutputFault.TheVariants as output
 use Rattle.bootkeep.specs.declared.refusal.Refusal.{Refusal}
 use Rattle.bootkeep.specs.declared.refusal.Refusal.TheVariants as refusal
-use Rattle.bootkeep.specs.ScriptFault.{IsFirstFault}
+use Rattle.bootkeep.specs.Form.{IsFirstFaultIn}
 use Rattle.bootkeep.specs.Words.{script_fault_words}
 
 -- the status that the program ends with
@@ -58,9 +59,11 @@ IsFailureOf script.Write made = made ≡ failure.Write
 IsFailureOf script.TooMuch made = made ≡ failure.TooMuch
 IsFailureOf script.OutOfMemory made = made ≡ failure.Memory
 IsFailureOf (script.BadLine number) made = IsRefusedBy (script_fault_words (script.BadLine number)) made
+IsFailureOf (script.Stream fault) made = IsRefusedBy (script_fault_words (script.Stream fault)) made
+IsFailureOf (script.Rest count) made = IsRefusedBy (script_fault_words (script.Rest count)) made
 IsFailureOf (script.Open fault) made = IsRefusedBy (script_fault_words (script.Open fault)) made
 
--- the words tell the first fault of a script and of the variables that it is to be run over
-abbrev pub TellsScriptFault : List ℕ → Variables → List ℕ → Type 0
-TellsScriptFault text vars words =
-    (fault : ScriptFault) × IsFirstFault text vars fault × (words ≡ script_fault_words fault)
+-- the words tell the first fault of a script or a stream and of the variables that it is to be run over
+abbrev pub TellsScriptFault : Form → List ℕ → Variables → List ℕ → Type 0
+TellsScriptFault form bytes vars words =
+    (fault : ScriptFault) × IsFirstFaultIn form bytes vars fault × (words ≡ script_fault_words fault)

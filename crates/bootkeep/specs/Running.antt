@@ -1,4 +1,4 @@
--- What a script does to variables, and what is written of it.
+-- What a script or a stream does to variables, and what is written of it.
 use Rattle.std.specs.Prelude.{ℕ, List, [], ◌∷◌, ◌++◌}
 use Rattle.std.specs.List.{flat_map}
 use Rattle.uefi_vars.specs.Vars.{Variables}
@@ -26,8 +26,12 @@ pub record Happens (before : Variables) (events : List Event) (after : Variables
   pub answered : AreAnswers start [] seen answers
   pub left : IsStateOf (state_at start (followed [] seen)) after
 
--- the text is a script, whose events lead from the one variables to the others and are answered so
-pub record Runs (text : List ℕ) (before after : Variables) (answers : List Reply) : Type 0 where
+-- the bytes are read as events, which lead from the one variables to the others and are answered so
+pub record RunsBy (Reads : List ℕ → List Event → Type 0) (bytes : List ℕ) (before after : Variables) (answers : List Reply) : Type 0 where
   pub events : List Event
-  pub script : IsScript text events
+  pub read : Reads bytes events
   pub happens : Happens before events after answers
+
+-- the text is a script, whose events lead from the one variables to the others and are answered so
+abbrev pub Runs : List ℕ → Variables → Variables → List Reply → Type 0
+Runs = RunsBy IsScript

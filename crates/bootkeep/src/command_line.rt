@@ -2,7 +2,7 @@
 
 use crate::failure::Failure;
 use clap::error::ErrorKind;
-use clap::{Arg, ArgMatches, Command};
+use clap::{Arg, ArgAction, ArgMatches, Command};
 use std::alloc::{AllocError, Global};
 
 /// How the program is called, on one line.
@@ -31,8 +31,19 @@ const SET_VALUE: &str = "SET";
 
 const SCRIPT_VALUE: &str = "SCRIPT";
 
-// The option of `run`, without the hyphens in front.
+// The options of `run`, without the hyphens in front.
 const OUT_OPTION: &str = "out";
+
+const STREAM_OPTION: &str = "stream";
+
+/// What the events of a run are told by.
+#[derive(Clone, Copy, Debug, PartialEq, Eq)]
+pub enum Form {
+    /// By the lines of a script.
+    Script,
+    /// By a stream of frames, each of which is delivered.
+    Stream,
+}
 
 /// What the words ask for.
 #[derive(Clone, Copy, Debug, PartialEq, Eq)]
@@ -59,11 +70,13 @@ pub enum Request<'a> {
         /// The path of the set file.
         set: &'a str,
     },
-    /// What becomes of the boot variables of a set file by the events of a script.
+    /// What becomes of the boot variables of a set file by the events of a script or a stream.
     Run {
+        /// Which of both it is.
+        form: Form,
         /// The path of the set file.
         set: &'a str,
-        /// The path of the script.
+        /// The path of the script or the stream.
         script: &'a str,
         /// The path of the file that the new set is written to.
         file: &'a str,
@@ -105,12 +118,16 @@ fn subcommand<'a>(alloc: Global, name: &'a str, value: &'a str) -> Result<Comman
     Command::new(alloc, name).arg(Arg::new(alloc, value).required(true))
 }
 
-/// The subcommand that runs a script, which takes two values and an option with one.
+/// The subcommand that runs a script, which takes two values, an option with one, and a flag.
 fn run_subcommand<'a>(alloc: Global) -> Result<Command<'a>, AllocError> {
     let file = Arg::new(alloc, FILE_VALUE).long(OUT_OPTION).required(true);
+    let stream = Arg::new(alloc, STREAM_OPTION)
+        .long(STREAM_OPTION)
+        .action(ArgAction::SetTrue);
     subcommand(alloc, RUN_COMMAND, SET_VALUE)?
         .arg(Arg::new(alloc, SCRIPT_VALUE).required(true))?
-        .arg(file)
+        .arg(file)?
+        .arg(stream)
 }
 
 fn request_of<'a>(matches: &ArgMatches<'a>) -> Option<Request<'a>> {
@@ -128,10 +145,19 @@ fn request_of<'a>(matches: &ArgMatches<'a>) -> Option<Request<'a>> {
             set: matches.get_str(SET_VALUE)?,
         }),
         (RUN_COMMAND, matches) => Some(Request::Run {
+            form: form_of(matches),
             set: matches.get_str(SET_VALUE)?,
             script: matches.get_str(SCRIPT_VALUE)?,
             file: matches.get_str(FILE_VALUE)?,
         }),
         _ => None,
+    }
+}
+
+fn form_of(matches: &ArgMatches<'_>) -> Form {
+    if matches.get_flag(STREAM_OPTION) {
+        Form::Stream
+    } else {
+        Form::Script
     }
 }

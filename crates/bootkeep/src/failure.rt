@@ -53,7 +53,7 @@ impl Failure {
         }
     }
 
-    /// What a fault of a script is to the program. Where there is no memory for its words it is want of memory.
+    /// What a fault of a script or a stream is to the program. Where there is no memory for its words it is want of memory.
     pub fn of_script(alloc: Global, fault: ScriptFault) -> Failure
         ensures fault { IsFailureOf fault result }
         ensures status { (result ≡ failure.Memory) ⊎ (status_of result ≡ script_status_of fault) }
@@ -63,7 +63,10 @@ impl Failure {
             ScriptFault::Write => Failure::Write,
             ScriptFault::TooMuch => Failure::TooMuch,
             ScriptFault::OutOfMemory => Failure::Memory,
-            ScriptFault::BadLine(_) | ScriptFault::Open(_) => match fault.words(alloc) {
+            ScriptFault::BadLine(_)
+            | ScriptFault::Stream(_)
+            | ScriptFault::Rest(_)
+            | ScriptFault::Open(_) => match fault.words(alloc) {
                 Ok(words) => Failure::Refused(words),
                 Err(AllocError) => Failure::Memory,
             },

@@ -1,20 +1,26 @@
-//! What scripts are refused for.
+//! What scripts and streams are refused for.
 
 ghost use Rattle.std.specs.Prelude.{◌≡◌, IfOk};
 ghost use Rattle.std.specs.String.{string_bytes};
-ghost use Rattle.bootkeep.specs.ScriptFault.{script_fault_of, script_status_of};
+ghost use Rattle.bootkeep.specs.ScriptFault.{script_fault_of, script_fault_of_stream, script_status_of};
 ghost use Rattle.bootkeep.specs.declared.fault.ScriptFault.TheVariants as script;
 
-use boot_requests::OpenFault;
+use boot_requests::{FeedFault, OpenFault};
 use std::alloc::{AllocError, AllocFailed, Global};
 use thiserror::Error;
 
-/// Why a script isn't run, or its answers aren't written.
+/// Why a script or a stream isn't run, or its answers aren't written.
 #[derive(Clone, Copy, Debug, PartialEq, Eq, Hash, Error)]
 pub enum ScriptFault {
     /// The line of this number, counted from 1, is none of a script.
     #[error("BadLine {0}")]
     BadLine(usize),
+    /// A header of the stream is at fault.
+    #[error("Stream {0}")]
+    Stream(FeedFault),
+    /// So many bytes are left of a frame that isn't whole.
+    #[error("Rest {0}")]
+    Rest(usize),
     /// The variables can't be kept.
     #[error("Open {0}")]
     Open(OpenFault),
@@ -24,7 +30,7 @@ pub enum ScriptFault {
     /// A write failed, or took no byte.
     #[error("Write")]
     Write,
-    /// The script has more bytes than [`LIMIT`](crate::input::LIMIT).
+    /// The script or the stream has more bytes than [`LIMIT`](crate::input::LIMIT).
     #[error("TooMuch")]
     TooMuch,
     /// Memory was refused.
@@ -35,13 +41,18 @@ pub enum ScriptFault {
 impl ScriptFault {
     ghost use Rattle.bootkeep.specs.Words.{script_fault_words};
 
-    /// The fault's name, and after a blank the number of the line or the words of the fault that it holds. The one refusal
-    /// is for want of memory.
+    /// The fault's name, and after a blank the number or the words of the fault that it holds. The one refusal is for want
+    /// of memory.
     pub fn words(&self, alloc: Global) -> Result<String, AllocError>
         ensures { IfOk result (λ text. string_bytes text ≡ script_fault_words self.now) }
     {
         match self {
             ScriptFault::BadLine(number) => format!(in alloc; "BadLine {number}"),
+            ScriptFault::Stream(fault) => {
+                let words = fault.words(alloc)?;
+                format!(in alloc; "Stream {words}")
+            }
+            ScriptFault::Rest(count) => format!(in alloc; "Rest {count}"),
             ScriptFault::Open(fault) => {
                 let words = fault.words(alloc)?;
                 format!(in alloc; "Open {words}")
@@ -50,6 +61,19 @@ impl ScriptFault {
             ScriptFault::Write => String::from_str(alloc, "Write"),
             ScriptFault::TooMuch => String::from_str(alloc, "TooMuch"),
             ScriptFault::OutOfMemory => String::from_str(alloc, "OutOfMemory"),
+        }
+    }
+}
+
+impl From<FeedFault> for ScriptFault {
+    ghost from_gives = { λ fault made. made ≡ script_fault_of_stream fault };
+
+    fn from(fault: FeedFault) -> ScriptFault {
+        match fault {
+            FeedFault::OutOfMemory => ScriptFault::OutOfMemory,
+            FeedFault::BadMagic | FeedFault::BadVersion | FeedFault::TooLong => {
+                ScriptFault::Stream(fault)
+            }
         }
     }
 }
@@ -83,14 +107,18 @@ impl<T: Drop> From<AllocFailed<T>> for ScriptFault {
     }
 }
 
-/// The status that a program ends with whose script is refused: 3 where reading or writing failed, 4 where memory was
-/// refused, and 1 where the script or the variables are at fault.
+/// The status that a program ends with whose script or stream is refused: 3 where reading or writing failed, 4 where memory
+/// was refused, and 1 where the script, the stream or the variables are at fault.
 pub fn script_status(fault: &ScriptFault) -> u8
     ensures { result ≡ script_status_of fault.now }
 {
     match fault {
         ScriptFault::Read | ScriptFault::Write => 3,
         ScriptFault::OutOfMemory => 4,
-        ScriptFault::BadLine(_) | ScriptFault::Open(_) | ScriptFault::TooMuch => 1,
+        ScriptFault::BadLine(_)
+        | ScriptFault::Stream(_)
+        | ScriptFault::Rest(_)
+        | ScriptFault::Open(_)
+        | ScriptFault::TooMuch => 1,
     }
 }

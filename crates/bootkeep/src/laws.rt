@@ -1,13 +1,16 @@
 //! Laws of the definitions. Each function's contract is one law; calling it does nothing.
 
 ghost use Rattle.std.specs.Prelude.{◌≡◌, ◌⊎◌, ℕ, List};
+ghost use Rattle.std.specs.List.{AllByRecursion};
+ghost use Rattle.uefi_path.specs.Row.{IsByte};
 ghost use Rattle.uefi_vars.specs.Vars.{Variables};
 ghost use Rattle.boot_requests.specs.declared.event.Event.{Event};
 ghost use Rattle.boot_requests.specs.declared.reply.Reply.{Reply};
 ghost use Rattle.bootkeep.specs.declared.fault.ScriptFault.{ScriptFault};
-ghost use Rattle.bootkeep.specs.Running.{Runs};
+ghost use Rattle.bootkeep.specs.Running.{Runs, RunsBy};
 ghost use Rattle.bootkeep.specs.Script.{IsScript, IsFirstBadLine};
-ghost use Rattle.bootkeep.specs.ScriptFault.{IsFirstFault};
+ghost use Rattle.bootkeep.specs.ScriptFault.{IsFirstFault, IsFirstStreamFault};
+ghost use Rattle.bootkeep.specs.Stream.{IsStream, IsStreamFault};
 
 use boot_requests::laws;
 
@@ -46,6 +49,45 @@ pub fn a_script_has_one_run()
     ensures answers { (text : List ℕ) (before a b : Variables) (x y : List Reply) →
         Runs text before a x → Runs text before b y → x ≡ y }
 {
+    laws::an_event_is_seen_as_one();
+    laws::variables_have_one_state();
+    laws::an_event_has_one_reply();
+    laws::a_state_has_one_image();
+}
+
+/// Bytes are a stream, or have a fault of one.
+pub fn bytes_are_a_stream_or_have_a_fault()
+    ensures { (stream : List ℕ) → AllByRecursion IsByte stream →
+        ((events : List Event) × IsStream stream events)
+        ⊎ ((fault : ScriptFault) × IsStreamFault stream fault) }
+{
+    laws::each_stream_has_a_cut();
+}
+
+/// Bytes that have a fault are no stream.
+pub fn a_fault_leaves_no_stream()
+    ensures { (stream : List ℕ) (fault : ScriptFault) (events : List Event) →
+        IsStreamFault stream fault → IsStream stream events → ⊥ }
+{
+    laws::a_stream_has_one_cut();
+}
+
+/// A stream and variables have one first fault at most.
+pub fn a_stream_has_one_first_fault()
+    ensures { (stream : List ℕ) (vars : Variables) (f g : ScriptFault) →
+        IsFirstStreamFault stream vars f → IsFirstStreamFault stream vars g → f ≡ g }
+{
+    laws::a_stream_has_one_cut();
+}
+
+/// A stream leads from variables to others in one way at most, with one list of answers.
+pub fn a_stream_has_one_run()
+    ensures variables { (stream : List ℕ) (before a b : Variables) (x y : List Reply) →
+        RunsBy IsStream stream before a x → RunsBy IsStream stream before b y → a ≡ b }
+    ensures answers { (stream : List ℕ) (before a b : Variables) (x y : List Reply) →
+        RunsBy IsStream stream before a x → RunsBy IsStream stream before b y → x ≡ y }
+{
+    laws::a_stream_has_one_cut();
     laws::an_event_is_seen_as_one();
     laws::variables_have_one_state();
     laws::an_event_has_one_reply();

@@ -4,8 +4,9 @@
 //! bytes of the device path that a text stands for, `bootkeep option FILE` the load option that a
 //! file holds, and `bootkeep show SET` the boot variables of a set file. `bootkeep run SET SCRIPT --out FILE`
 //! runs the events of a script over the variables of a set file, shows the reply to each, and writes the
-//! new set file. The program ends with status 0 where it did what it was asked to, and otherwise with
-//! the status and the line on standard error of its [`Failure`].
+//! new set file; with `--stream` the script is a stream of frames, each of which is delivered. The program
+//! ends with status 0 where it did what it was asked to, and otherwise with the status and the line on
+//! standard error of its [`Failure`].
 //!
 //! [`Failure`]: failure::Failure
 #![tactic(auto)]
@@ -22,6 +23,7 @@ mod report;
 mod running;
 mod script;
 mod source;
+mod stream;
 #[cfg(test)]
 mod tests;
 mod transfer;

@@ -3,11 +3,11 @@
 ghost use Rattle.std.specs.Prelude.{◌≡◌, ◌<◌, List, length, Err, IfOk, IfErr, IfSome, MatchResult};
 ghost use Rattle.boot_requests.specs.declared.reply.Reply.{Reply};
 ghost use Rattle.bootkeep.specs.Failure.{status_of, IfRefused, TellsScriptFault};
-ghost use Rattle.bootkeep.specs.Running.{Runs};
+ghost use Rattle.bootkeep.specs.Form.{RunsIn};
 ghost use Rattle.bootkeep.specs.ScriptFault.{script_max};
 ghost use Rattle.bootkeep.specs.declared.failure.Failure.TheVariants as failure;
 
-use crate::command_line::{self, Request, USAGE};
+use crate::command_line::{self, Form, Request, USAGE};
 use crate::failure::Failure;
 use crate::input::{self, InputFault};
 use crate::refusal::refuse;
@@ -55,36 +55,44 @@ fn answer<R: Env + Files + Print + AllocGlobal>(rt: &R) -> Result<(), Failure> {
             let bytes = input::read_file(rt, set)?;
             rt.print(report::set_report(rt.alloc(), bytes.as_slice())?)
         }
-        Request::Run { set, script, file } => return run_script(rt, set, script, file),
+        Request::Run {
+            form,
+            set,
+            script,
+            file,
+        } => return run_file(rt, form, set, script, file),
     }
     .map_err(|_| Failure::Write)
 }
 
-/// Runs the script of the one file over the set of another, prints the replies, and then writes the new set to a third.
-fn run_script<R: Files + Print + AllocGlobal>(
+/// Runs the script or the stream of the one file over the set of another, prints the replies, and then writes the new set to
+/// a third.
+fn run_file<R: Files + Print + AllocGlobal>(
     rt: &R,
+    form: Form,
     set: &str,
     script: &str,
     file: &str,
 ) -> Result<(), Failure> {
     let vars = read_vars(rt, set)?;
     let script = fs::open(rt, script).map_err(InputFault::from)?;
-    let vars = run_events(rt.alloc(), script, io::writer(rt), vars)?;
+    let vars = run_events(rt.alloc(), form, script, io::writer(rt), vars)?;
     let bytes = write_set(rt.alloc(), &vars)?;
     Ok(output::write_file(rt, file, &bytes)?)
 }
 
-/// The variables after the events of a script, whose replies are written, a line for each.
+/// The variables after the events of a script or a stream, whose replies are written, a line for each.
 fn run_events<R: Read + Drop, W: Write + Drop>(
     alloc: Global,
+    form: Form,
     script: R,
     replies: W,
     vars: Vars,
 ) -> Result<Vars, Failure>
     ensures done { IfOk result (λ after. IfSome (R.remaining script) (λ text.
-        (answers : List Reply) × Runs text vars after answers)) }
+        (answers : List Reply) × RunsIn form text vars after answers)) }
     ensures refused { IfErr result (λ failure. IfSome (R.remaining script) (λ text.
-        IfRefused failure (TellsScriptFault text vars))) }
+        IfRefused failure (TellsScriptFault form text vars))) }
     ensures too_much { result ≡ Err failure.TooMuch → IfSome (R.remaining script) (λ text.
         script_max < length text) }
 {
@@ -96,7 +104,11 @@ fn run_events<R: Read + Drop, W: Write + Drop>(
         inner: replies,
         failed: false,
     };
-    match running::run_script(alloc, &mut reader, &mut writer, vars) {
+    let ran = match form {
+        Form::Script => running::run_script(alloc, &mut reader, &mut writer, vars),
+        Form::Stream => running::run_stream(alloc, &mut reader, &mut writer, vars),
+    };
+    match ran {
         Ok(vars) => Ok(vars),
         Err(fault) => Err(Failure::of_script(alloc, fault)),
     }

@@ -1,4 +1,4 @@
-//! Scripts, run over variables.
+//! Scripts and streams, run over variables.
 
 ghost use Rattle.std.specs.Prelude.{◌≡◌, ◌≢◌, ◌≤◌, List, length, Err, IfOk, IfErr, IfSome, OnOk, false};
 ghost use Rattle.std.specs.List.{AllByRecursion};
@@ -6,19 +6,22 @@ ghost use Rattle.std.specs.String.{string_bytes};
 ghost use Rattle.std.specs.Io.KnownBytes.{Keeps, Appends, IsAtEnd};
 ghost use Rattle.uefi_vars.specs.Vars.{Variables};
 ghost use Rattle.boot_requests.specs.declared.reply.Reply.{Reply};
+ghost use Rattle.boot_requests.specs.declared.fault.FeedFault.{FeedFault};
 ghost use Rattle.boot_requests.specs.declared.fault.OpenFault.{OpenFault};
 ghost use Rattle.boot_requests.specs.Seen.{IsEvent};
 ghost use Rattle.boot_requests.specs.Turn.{plain_start};
 ghost use Rattle.boot_requests.specs.Keeping.{IsStateOf};
 ghost use Rattle.bootkeep.specs.declared.fault.ScriptFault.{ScriptFault};
-ghost use Rattle.bootkeep.specs.Running.{answer_lines, Happens, Runs};
-ghost use Rattle.bootkeep.specs.ScriptFault.{script_max, IsVarsFault, IsFirstFault, IsFaultUnless, failed_read, failed_write};
+ghost use Rattle.bootkeep.specs.Running.{answer_lines, Happens, Runs, RunsBy};
+ghost use Rattle.bootkeep.specs.ScriptFault.{script_max, IsVarsFault, IsFirstFault, IsFirstStreamFault, IsFaultUnless, failed_read, failed_write};
 ghost use Rattle.bootkeep.specs.Source.{AppendsFront};
 ghost use Rattle.bootkeep.specs.Answering.{IsAnswer};
+ghost use Rattle.bootkeep.specs.Stream.{IsStream};
 
 use crate::fault::ScriptFault;
 use crate::script::read_script;
 use crate::source::{Sink, Source};
+use crate::stream::read_stream;
 use crate::transfer::{read_all, write_all};
 use boot_requests::{Event, Keeper, Reply, laws, reply_line, run};
 use std::alloc::{AllocError, Global};
@@ -70,35 +73,87 @@ pub fn run_script<R: Source, W: Sink>(
 {
     laws::an_image_can_be_kept();
     let text = read_all(alloc, reader)?;
-    answer(alloc, &text, writer, vars)
+    let events = read_script(alloc, &text)?;
+    answer(alloc, &events, writer, vars)
 }
 
-/// Runs the script that a text is over variables, and writes the answers.
-fn answer<W: Sink>(
+/// Runs a stream of frames over variables, as [`run_script`] runs a script: each frame is delivered, and answered on a line of
+/// its own. The stream is all that the reader gives, up to its end, and is cut as [`read_stream`] has it.
+///
+/// # Errors
+///
+/// In this order: [`ScriptFault::TooMuch`] where the reader gives more than [`LIMIT`](crate::input::LIMIT) bytes, and
+/// [`ScriptFault::Read`] where a read fails before that; [`ScriptFault::Stream`] with the fault of the first header that has
+/// one; [`ScriptFault::Rest`] with the number of bytes that are left of a frame that isn't whole; [`ScriptFault::Open`] where
+/// the variables can't be kept; [`ScriptFault::Write`] where a write fails or takes no byte. [`ScriptFault::OutOfMemory`]
+/// comes where memory was refused. Nothing is written but at [`ScriptFault::Write`], where it is a front of the lines, and
+/// what was read stays read. The variables are given up.
+pub fn run_stream<R: Source, W: Sink>(
     alloc: Global,
-    text: &[u8],
+    reader: &mut R,
     writer: &mut W,
     vars: Vars,
 ) -> Result<Vars, ScriptFault>
-    requires len { length text.now ≤ script_max }
+    requires reads { R.failed reader.old ≡ false }
     requires writes { W.failed writer.old ≡ false }
-    ensures answer { IsAnswer text.now vars (W.contents writer.old) (W.contents writer.new) result }
+    // The stream is what the reader had left, the variables are those after it, and its answers are what was written.
+    ensures done { IfOk result (λ after. IfSome (R.remaining reader.old) (λ stream.
+        (answers : List Reply) × RunsBy IsStream stream vars after answers
+        × Appends (W.contents writer.old) (W.contents writer.new) (answer_lines answers))) }
+    ensures all_read { OnOk result (IsAtEnd (R.remaining reader.new)) }
+    ensures all_read_before { IfErr result (λ fault.
+        fault ≢ ScriptFault.Read → fault ≢ ScriptFault.TooMuch → fault ≢ ScriptFault.OutOfMemory →
+        IsAtEnd (R.remaining reader.new)) }
+    // The first fault of what the reader had left and of the variables.
+    ensures fault { IfErr result (λ fault. IfSome (R.remaining reader.old) (λ stream.
+        fault ≢ ScriptFault.Read → fault ≢ ScriptFault.Write → fault ≢ ScriptFault.OutOfMemory →
+        IsFirstStreamFault stream vars fault)) }
+    ensures only_fault { IfSome (R.remaining reader.old) (λ stream. (fault : ScriptFault) →
+        IsFirstStreamFault stream vars fault → IsFaultUnless result fault) }
+    // A failed write: the stream was run.
+    ensures write { result ≡ Err ScriptFault.Write → IfSome (R.remaining reader.old) (λ stream.
+        (length stream ≤ script_max) × (after : Variables) × (answers : List Reply)
+        × RunsBy IsStream stream vars after answers
+        × AppendsFront (W.contents writer.old) (W.contents writer.new) (answer_lines answers)) }
+    ensures unwritten { IfErr result (λ fault. fault ≢ ScriptFault.Write →
+        Keeps (W.contents writer.old) (W.contents writer.new)) }
+    ensures memory { result ≢ Err (ScriptFault.Open OpenFault.OutOfMemory) }
+    ensures stream_memory { result ≢ Err (ScriptFault.Stream FeedFault.OutOfMemory) }
+    ensures read_flag { R.failed reader.new ≡ failed_read result }
+    ensures write_flag { W.failed writer.new ≡ failed_write result }
+{
+    laws::an_image_can_be_kept();
+    laws::a_stream_has_one_cut();
+    let stream = read_all(alloc, reader)?;
+    let events = read_stream(alloc, &stream)?;
+    answer(alloc, &events, writer, vars)
+}
+
+/// Runs the events over variables, and writes the answers.
+fn answer<W: Sink>(
+    alloc: Global,
+    events: &[Event],
+    writer: &mut W,
+    vars: Vars,
+) -> Result<Vars, ScriptFault>
+    requires events { AllByRecursion IsEvent events.now }
+    requires writes { W.failed writer.old ≡ false }
+    ensures answer { IsAnswer events.now vars (W.contents writer.old) (W.contents writer.new) result }
     ensures flag { W.failed writer.new ≡ failed_write result }
 {
-    let (vars, lines) = answers_to(alloc, text, vars)?;
+    let (vars, lines) = answers_to(alloc, events, vars)?;
     write_all(writer, lines.as_bytes())?;
     Ok(vars)
 }
 
-/// The variables after the script that a text is, and the lines that answer it.
-fn answers_to(alloc: Global, text: &[u8], vars: Vars) -> Result<(Vars, String), ScriptFault>
-    requires { length text.now ≤ script_max }
-    ensures done { IfOk result (λ done. (answers : List Reply) × Runs text.now vars done.0 answers
+/// The variables after these events, and the lines that answer them.
+fn answers_to(alloc: Global, events: &[Event], vars: Vars) -> Result<(Vars, String), ScriptFault>
+    requires { AllByRecursion IsEvent events.now }
+    ensures done { IfOk result (λ done. (answers : List Reply) × Happens vars events.now done.0 answers
         × (string_bytes done.1 ≡ answer_lines answers)) }
-    ensures fault { IfErr result (λ fault. fault ≢ ScriptFault.OutOfMemory → IsFirstFault text.now vars fault) }
+    ensures fault { IfErr result (λ fault. fault ≢ ScriptFault.OutOfMemory → IsVarsFault vars fault) }
 {
-    let events = read_script(alloc, text)?;
-    let (vars, replies) = happen(alloc, &events, vars)?;
+    let (vars, replies) = happen(alloc, events, vars)?;
     let lines = answer_lines(alloc, &replies)?;
     Ok((vars, lines))
 }

@@ -2,6 +2,7 @@
 
 mod files;
 mod folder;
+mod frame_streams;
 mod outputs;
 mod real_files;
 mod run_command;
@@ -410,7 +411,7 @@ fn ends_with_one_answer(rt: HostRuntime) -> Result<(), Fail> {
 }
 
 /// Words that ask for nothing that the program does.
-const OTHER_CALLS: [&[&str]; 40] = [
+const OTHER_CALLS: [&[&str]; 43] = [
     &[],
     &["bootkeep"],
     &["bootkeep", ""],
@@ -439,7 +440,20 @@ const OTHER_CALLS: [&[&str]; 40] = [
         "bootkeep", "run", "set", "script", "--out", "new", "--out", "new",
     ],
     &[
-        "bootkeep", "run", "--stream", "set", "script", "--out", "new",
+        "bootkeep", "run", "--stream", "--stream", "set", "script", "--out", "new",
+    ],
+    &[
+        "bootkeep",
+        "run",
+        "--stream=1",
+        "set",
+        "script",
+        "--out",
+        "new",
+    ],
+    &["bootkeep", "run", "--stream", "set", "--out", "new"],
+    &[
+        "bootkeep", "--stream", "run", "set", "script", "--out", "new",
     ],
     &["bootkeep", "help"],
     &["bootkeep", "help", "path"],

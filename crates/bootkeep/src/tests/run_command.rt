@@ -1,11 +1,14 @@
-//! Scripts that are run over set files of the system.
+//! Scripts and streams that are run over set files of the system.
 
+use super::frame_streams::{LINES, TOO_LONG, out_of_order};
 use super::real_files::Scratch;
 use super::runtime::{FakeRuntime, Run, Stream, Words};
+use super::scripts::{TWO_ENTRIES, vars_of};
 use super::{DRIVE_OPTION, SET};
 use std::fs::{self, File, Permissions};
 use std::os::unix::fs::{PermissionsExt, symlink};
 use std::test::Fail;
+use uefi_vars::write_set;
 
 /// A set file without a variable.
 const EMPTY_SET: &[u8] = b"BVS1";
@@ -36,6 +39,10 @@ fn scratch<'a>(rt: &'a HostRuntime) -> Result<Scratch<'a>, Fail> {
     )?;
     fs::write(&scratch, "script", add_script(rt)?)?;
     fs::write(&scratch, "bad script", "prepare\nboot")?;
+    let stream = out_of_order(rt.alloc())?;
+    let (cut, _) = stream.split_at_checked(125).ok_or("short")?;
+    fs::write(&scratch, "stream", stream.as_slice())?;
+    fs::write(&scratch, "cut stream", cut)?;
     fs::write(&scratch, "long", [0x5a; 1000].as_slice())?;
     fs::create_dir(&scratch, "folder")?;
     Ok(scratch)
@@ -172,5 +179,82 @@ fn keeps_the_rights_of_a_file(rt: HostRuntime) -> Result<(), Fail> {
         let rights = fs::metadata(&scratch, "long")?.permissions().mode() & 0o777;
         assert_eq!(rt; rights, mode);
     }
+    scratch.remove()
+}
+
+#[test]
+fn runs_a_stream(rt: HostRuntime) -> Result<(), Fail> {
+    let scratch = scratch(&rt)?;
+    let wanted = write_set(rt.alloc(), &vars_of(rt.alloc(), TWO_ENTRIES)?)?;
+    let calls: [[&str; 7]; 3] = [
+        [
+            "bootkeep", "run", "--stream", "set", "stream", "--out", "new",
+        ],
+        [
+            "bootkeep", "run", "set", "--stream", "stream", "--out", "new",
+        ],
+        [
+            "bootkeep", "run", "set", "stream", "--out", "new", "--stream",
+        ],
+    ];
+    for words in calls {
+        fs::write(&scratch, "new", b"".as_slice())?;
+        let run = Run::with(rt.alloc(), Words::Given(&words), &scratch);
+        assert_eq!(rt; run.stderr.as_str(), "", "at {words:?}");
+        assert_eq!(rt; run.stdout.as_str(), LINES, "at {words:?}");
+        assert_eq!(rt; run.status, 0, "at {words:?}");
+        let bytes = fs::read(&(&scratch, rt.alloc()), "new")?;
+        assert_eq!(rt; bytes.as_slice(), wanted.as_slice(), "at {words:?}");
+    }
+    scratch.remove()
+}
+
+#[test]
+fn runs_streams_that_change_nothing(rt: HostRuntime) -> Result<(), Fail> {
+    let scratch = scratch(&rt)?;
+    let words = [
+        "bootkeep", "run", "--stream", "set", "stream", "--out", "set",
+    ];
+    // the stream; status, standard output and standard error
+    for (digits, status, stdout, stderr) in [
+        ("", 0, "", ""),
+        ("425101060000000000000000", 0, "malformed BadKind\n", ""),
+        ("4251010300", 1, "", "refused: Rest 5\n"),
+        (TOO_LONG, 1, "", "refused: Stream TooLong\n"),
+    ] {
+        fs::write(&scratch, "stream", hex::decode(rt.alloc(), digits)?)?;
+        let run = Run::with(rt.alloc(), Words::Given(&words), &scratch);
+        assert_eq!(rt; run.stderr.as_str(), stderr, "of {digits}");
+        assert_eq!(rt; run.stdout.as_str(), stdout, "of {digits}");
+        assert_eq!(rt; run.status, status, "of {digits}");
+        let bytes = fs::read(&(&scratch, rt.alloc()), "set")?;
+        assert_eq!(rt; bytes.as_slice(), EMPTY_SET, "of {digits}");
+    }
+    scratch.remove()
+}
+
+#[test]
+fn refuses_streams(rt: HostRuntime) -> Result<(), Fail> {
+    let scratch = scratch(&rt)?;
+    let names = scratch.count()?;
+    // set, script; status and standard error
+    for (set, script, status, stderr) in [
+        ("set", "cut stream", 1, "refused: Rest 55\n"),
+        ("set", "script", 1, "refused: Stream BadMagic\n"),
+        ("bad order", "stream", 1, "refused: Open BadOrder\n"),
+        ("bad order", "cut stream", 1, "refused: Rest 55\n"),
+        ("set", "/dev/zero", 1, "refused: TooMuch\n"),
+        ("set", "folder", 3, "fault: read\n"),
+    ] {
+        let words = ["bootkeep", "run", "--stream", set, script, "--out", "new"];
+        let run = Run::with(rt.alloc(), Words::Given(&words), &scratch);
+        assert_eq!(rt; run.stderr.as_str(), stderr, "at {words:?}");
+        assert_eq!(rt; run.stdout.as_str(), "", "at {words:?}");
+        assert_eq!(rt; run.status, status, "at {words:?}");
+    }
+    // without the flag the bytes are those of a script
+    let run = run_on(&rt, &scratch, "set", "stream", "new");
+    assert_eq!(rt; run.stderr.as_str(), "refused: BadLine 1\n");
+    assert_eq!(rt; scratch.count()?, names);
     scratch.remove()
 }

@@ -1,4 +1,4 @@
-//! What scripts are refused for.
+//! What scripts are refused for, and the words of faults.
 
 use super::files::Fed;
 use super::scripts::{Table, vars_of};
@@ -7,7 +7,7 @@ use crate::fault::{ScriptFault, script_status};
 use crate::input::LIMIT;
 use crate::running::run_script;
 use crate::source::Watched;
-use boot_requests::OpenFault;
+use boot_requests::{FeedFault, OpenFault};
 use std::alloc::Global;
 use std::cell::Cell;
 use std::test::Fail;
@@ -85,28 +85,47 @@ fn variables_that_cannot_be_kept_are_told(rt: HostRuntime) -> Result<(), Fail> {
     Ok(())
 }
 
+/// What a script of so many zero bytes, of which reading fails behind so many, is refused for.
+fn refused_for(alloc: Global, bytes: u64, fails_at: Option<u64>) -> Result<ScriptFault, Fail> {
+    let given = Cell::new(0);
+    let mut reader = Watched {
+        inner: Fed::new(bytes, 1_000_000, fails_at, &given),
+        failed: false,
+    };
+    let mut sink = Taken::new(alloc);
+    let answer = run_script(alloc, &mut reader, &mut sink, vars_of(alloc, &[])?);
+    let fault = answer.err().ok_or("no fault")?;
+    if reader.failed != (fault == ScriptFault::Read) || !sink.bytes.is_empty() {
+        return Err("the wrong flag, or something was written".into());
+    }
+    if given.get() > LIMIT as u64 + 1 {
+        return Err("more was read than there may be".into());
+    }
+    Ok(fault)
+}
+
 #[test]
 fn a_failed_read_is_told(rt: HostRuntime) -> Result<(), Fail> {
-    let alloc = rt.alloc();
-    for (bytes, fails_at, fault) in [
-        (10, Some(0), ScriptFault::Read),
-        (10, Some(10), ScriptFault::Read),
-        (LIMIT as u64, None, ScriptFault::BadLine(1)),
-        (LIMIT as u64 + 1, None, ScriptFault::TooMuch),
-        (u64::MAX, None, ScriptFault::TooMuch),
-        (u64::MAX, Some(LIMIT as u64), ScriptFault::Read),
-    ] {
-        let given = Cell::new(0);
-        let mut reader = Watched {
-            inner: Fed::new(bytes, 1_000_000, fails_at, &given),
-            failed: false,
-        };
-        let mut sink = Taken::new(alloc);
-        let answer = run_script(alloc, &mut reader, &mut sink, vars_of(alloc, &[])?);
-        assert_eq!(rt; answer.err(), Some(fault));
-        assert!(rt; reader.failed == (fault == ScriptFault::Read) && sink.bytes.is_empty());
-        assert!(rt; given.get() <= LIMIT as u64 + 1);
+    for (bytes, fails_at) in [(10, 0), (10, 10), (u64::MAX, LIMIT as u64)] {
+        let fault = refused_for(rt.alloc(), bytes, Some(fails_at))?;
+        assert_eq!(rt; fault, ScriptFault::Read);
     }
+    Ok(())
+}
+
+#[test]
+fn a_script_of_too_many_bytes_is_told(rt: HostRuntime) -> Result<(), Fail> {
+    let longest = refused_for(rt.alloc(), LIMIT as u64, None)?;
+    assert_eq!(rt; longest, ScriptFault::BadLine(1));
+    let longer = refused_for(rt.alloc(), LIMIT as u64 + 1, None)?;
+    assert_eq!(rt; longer, ScriptFault::TooMuch);
+    Ok(())
+}
+
+#[test]
+fn a_script_without_an_end_is_told(rt: HostRuntime) -> Result<(), Fail> {
+    let endless = refused_for(rt.alloc(), u64::MAX, None)?;
+    assert_eq!(rt; endless, ScriptFault::TooMuch);
     Ok(())
 }
 
@@ -140,6 +159,13 @@ fn a_failed_write_is_told(rt: HostRuntime) -> Result<(), Fail> {
 fn faults_have_words_and_statuses(rt: HostRuntime) -> Result<(), Fail> {
     for (fault, words, status) in [
         (ScriptFault::BadLine(2), "BadLine 2", 1),
+        (
+            ScriptFault::Stream(FeedFault::BadMagic),
+            "Stream BadMagic",
+            1,
+        ),
+        (ScriptFault::Stream(FeedFault::TooLong), "Stream TooLong", 1),
+        (ScriptFault::Rest(5), "Rest 5", 1),
         (ScriptFault::Open(OpenFault::BadOrder), "Open BadOrder", 1),
         (ScriptFault::Open(OpenFault::BadState), "Open BadState", 1),
         (ScriptFault::TooMuch, "TooMuch", 1),

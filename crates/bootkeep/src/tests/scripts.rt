@@ -13,15 +13,15 @@ const OPTION: &str =
     "0100000020004100000002010c00d041030a0000000001010600021f03120a000000ffff00007fff0400";
 
 /// The delivery that adds that option as entry 1, by number 0.
-const ADD_1: &str =
+pub const ADD_1: &str =
     "deliver 42510101000000002c00000001000100000020004100000002010c00d041030a0000000001010600021f03120a000000ffff00007fff0400\n";
 
 /// The delivery that adds it as entry 2, by number 1.
-const ADD_2: &str =
+pub const ADD_2: &str =
     "deliver 42510101010000002c00000002000100000020004100000002010c00d041030a0000000001010600021f03120a000000ffff00007fff0400\n";
 
 /// The delivery that makes entry 2 the next one, by number 2.
-const NEXT_2: &str = "deliver 4251010502000000020000000200\n";
+pub const NEXT_2: &str = "deliver 4251010502000000020000000200\n";
 
 /// Variables, each by its name and its bytes in hexadecimal digits.
 pub type Table<'a> = &'a [(&'a str, &'a str)];
@@ -112,7 +112,7 @@ fn an_entry_is_added(rt: HostRuntime) -> Result<(), Fail> {
 }
 
 /// Both entries, of which the second is the next one.
-const TWO_ENTRIES: Table<'static> = &[
+pub const TWO_ENTRIES: Table<'static> = &[
     ("Boot0001", OPTION),
     ("Boot0002", OPTION),
     ("BootOrder", "01000200"),
@@ -175,7 +175,7 @@ fn conflicts_and_a_restart(rt: HostRuntime) -> Result<(), Fail> {
 const NEXT_1: &str = "deliver 4251010500000000020000000100\n";
 
 /// Entry 1 alone.
-const ONE_ENTRY: Table<'static> = &[("Boot0001", OPTION)];
+pub const ONE_ENTRY: Table<'static> = &[("Boot0001", OPTION)];
 
 #[test]
 fn a_plan_is_handed_out_once(rt: HostRuntime) -> Result<(), Fail> {

@@ -1,0 +1,215 @@
+//! What streams of frames over variables are answered.
+
+use super::files::Fed;
+use super::scripts::{ADD_1, ADD_2, NEXT_2, ONE_ENTRY, TWO_ENTRIES, Table, vars_of};
+use super::streams::{Given, Narrow, NoRoom, Taken};
+use crate::fault::ScriptFault;
+use crate::input::LIMIT;
+use crate::running::run_stream;
+use crate::source::Watched;
+use boot_requests::{FeedFault, OpenFault};
+use std::alloc::Global;
+use std::cell::Cell;
+use std::test::Fail;
+use uefi_vars::Vars;
+
+/// The lines that answer [`out_of_order`].
+pub const LINES: &str = "waiting 0\nwaiting 0\napplied Done 3\n";
+
+/// The header of a frame that is to have 131,073 bytes behind it.
+pub const TOO_LONG: &str = "425101030000000001000200";
+
+/// The frames of three requests, the last of which comes first.
+pub fn out_of_order(alloc: Global) -> Result<Vec<u8>, Fail> {
+    let mut stream = Vec::new(alloc);
+    for line in [NEXT_2, ADD_2, ADD_1] {
+        let digits = line.strip_prefix("deliver ").ok_or("no delivery")?;
+        stream.extend_from_slice(&hex::decode(alloc, digits.trim_end())?)?;
+    }
+    Ok(stream)
+}
+
+/// What a stream over variables is answered, and what was written.
+fn answered(
+    alloc: Global,
+    before: Table<'_>,
+    stream: &[u8],
+) -> Result<(Result<Vars, ScriptFault>, Vec<u8>), Fail> {
+    let mut source = Given { rest: stream };
+    let mut sink = Taken::new(alloc);
+    let answer = run_stream(alloc, &mut source, &mut sink, vars_of(alloc, before)?);
+    let Taken { bytes, failed: _ } = sink;
+    Ok((answer, bytes))
+}
+
+#[test]
+fn frames_come_out_of_order(rt: HostRuntime) -> Result<(), Fail> {
+    let alloc = rt.alloc();
+    let (answer, written) = answered(alloc, &[], &out_of_order(alloc)?)?;
+    assert_eq!(rt; written.as_slice(), LINES.as_bytes());
+    assert!(rt; answer? == vars_of(alloc, TWO_ENTRIES)?);
+    Ok(())
+}
+
+#[test]
+fn a_stream_comes_by_a_reader(rt: HostRuntime) -> Result<(), Fail> {
+    let alloc = rt.alloc();
+    let stream = out_of_order(alloc)?;
+    let mut reader = Watched {
+        inner: stream.as_slice(),
+        failed: false,
+    };
+    let mut writer = Watched {
+        inner: Vec::new(alloc),
+        failed: false,
+    };
+    let vars = run_stream(alloc, &mut reader, &mut writer, vars_of(alloc, &[])?)?;
+    assert_eq!(rt; writer.inner.as_slice(), LINES.as_bytes());
+    assert!(rt; vars == vars_of(alloc, TWO_ENTRIES)?);
+    assert!(rt; !reader.failed && !writer.failed);
+    Ok(())
+}
+
+#[test]
+fn no_bytes_change_nothing(rt: HostRuntime) -> Result<(), Fail> {
+    let alloc = rt.alloc();
+    let (answer, written) = answered(alloc, ONE_ENTRY, b"")?;
+    assert!(rt; written.is_empty());
+    assert!(rt; answer? == vars_of(alloc, ONE_ENTRY)?);
+    Ok(())
+}
+
+#[test]
+fn a_malformed_frame_is_answered(rt: HostRuntime) -> Result<(), Fail> {
+    let alloc = rt.alloc();
+    let stream = hex::decode(alloc, "425101060000000000000000")?;
+    let (answer, written) = answered(alloc, ONE_ENTRY, &stream)?;
+    assert_eq!(rt; written.as_slice(), b"malformed BadKind\n".as_slice());
+    assert!(rt; answer? == vars_of(alloc, ONE_ENTRY)?);
+    Ok(())
+}
+
+#[test]
+fn bytes_that_are_left_are_told(rt: HostRuntime) -> Result<(), Fail> {
+    let alloc = rt.alloc();
+    let stream = out_of_order(alloc)?;
+    assert_eq!(rt; stream.len(), 126);
+    // where each frame begins and ends
+    for (start, end) in [(0usize, 14), (14, 70), (70, 126)] {
+        for count in 1..end - start {
+            let (front, _) = stream.split_at_checked(start + count).ok_or("short")?;
+            let (answer, written) = answered(alloc, &[], front)?;
+            assert_eq!(rt;
+                answer.err(),
+                Some(ScriptFault::Rest(count)),
+                "behind {start}"
+            );
+            assert!(rt; written.is_empty(), "behind {start}");
+        }
+    }
+    Ok(())
+}
+
+#[test]
+fn headers_at_fault_are_told(rt: HostRuntime) -> Result<(), Fail> {
+    let alloc = rt.alloc();
+    for (digits, fault) in [
+        (TOO_LONG, ScriptFault::Stream(FeedFault::TooLong)),
+        (
+            "42510103000000000100020000",
+            ScriptFault::Stream(FeedFault::TooLong),
+        ),
+        (
+            "425201030000000000000000",
+            ScriptFault::Stream(FeedFault::BadMagic),
+        ),
+        (
+            "425102030000000001000200",
+            ScriptFault::Stream(FeedFault::BadVersion),
+        ),
+        ("4252010300000000000000", ScriptFault::Rest(11)),
+        ("4251010300", ScriptFault::Rest(5)),
+    ] {
+        let bad = hex::decode(alloc, digits)?;
+        let mut stream = out_of_order(alloc)?;
+        stream.extend_from_slice(&bad)?;
+        for stream in [&bad, &stream] {
+            let (answer, written) = answered(alloc, &[], stream)?;
+            assert_eq!(rt; answer.err(), Some(fault), "of {digits}");
+            assert!(rt; written.is_empty(), "of {digits}");
+        }
+    }
+    Ok(())
+}
+
+#[test]
+fn variables_are_told_last(rt: HostRuntime) -> Result<(), Fail> {
+    let alloc = rt.alloc();
+    let before: [(&str, &str); 1] = [("BootOrder", "000000")];
+    for (digits, fault) in [
+        ("", ScriptFault::Open(OpenFault::BadOrder)),
+        (
+            "425101060000000000000000",
+            ScriptFault::Open(OpenFault::BadOrder),
+        ),
+        ("4251010300", ScriptFault::Rest(5)),
+        (TOO_LONG, ScriptFault::Stream(FeedFault::TooLong)),
+    ] {
+        let (answer, written) = answered(alloc, &before, &hex::decode(alloc, digits)?)?;
+        assert_eq!(rt; answer.err(), Some(fault), "of {digits}");
+        assert!(rt; written.is_empty(), "of {digits}");
+    }
+    Ok(())
+}
+
+#[test]
+fn a_failed_read_of_a_stream_is_told(rt: HostRuntime) -> Result<(), Fail> {
+    let alloc = rt.alloc();
+    for (bytes, fails_at, fault) in [
+        (10, Some(0), ScriptFault::Read),
+        (10, Some(5), ScriptFault::Read),
+        (10, Some(10), ScriptFault::Read),
+        (10, None, ScriptFault::Rest(10)),
+        (12, None, ScriptFault::Stream(FeedFault::BadMagic)),
+        (LIMIT as u64 + 1, None, ScriptFault::TooMuch),
+    ] {
+        let given = Cell::new(0);
+        let mut reader = Watched {
+            inner: Fed::new(bytes, 1_000_000, fails_at, &given),
+            failed: false,
+        };
+        let mut sink = Taken::new(alloc);
+        let answer = run_stream(alloc, &mut reader, &mut sink, vars_of(alloc, &[])?);
+        assert_eq!(rt; answer.err(), Some(fault));
+        assert!(rt; reader.failed == (fault == ScriptFault::Read) && sink.bytes.is_empty());
+        assert!(rt; given.get() <= LIMIT as u64 + 1);
+    }
+    Ok(())
+}
+
+#[test]
+fn a_failed_write_behind_a_stream_is_told(rt: HostRuntime) -> Result<(), Fail> {
+    let alloc = rt.alloc();
+    let stream = out_of_order(alloc)?;
+    for room in 0..LINES.len() {
+        for no_room in [NoRoom::Error, NoRoom::Nothing] {
+            let mut source = Given { rest: &stream };
+            let mut writer = Watched {
+                inner: Narrow {
+                    bytes: Vec::new(alloc),
+                    room,
+                    no_room,
+                },
+                failed: false,
+            };
+            let answer = run_stream(alloc, &mut source, &mut writer, vars_of(alloc, &[])?);
+            assert_eq!(rt; answer.err(), Some(ScriptFault::Write));
+            assert!(rt; writer.failed);
+            assert_eq!(rt;
+                Some(writer.inner.bytes.as_slice()),
+                LINES.as_bytes().get(..room)
+            );
+        }
+    }
+    Ok(())
+}
