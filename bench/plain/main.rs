@@ -3,16 +3,19 @@
 //! requests, without proofs, in the Rust of `rustc` and its standard library alone. It also makes the
 //! values that both sides are timed on.
 //!
-//! `plain make KIND COUNT FILE` writes a value to a file: a `path` of so many nodes, the same for a
-//! `view`, an `option` of so many paths, a `set` of so many entries, the same for a `step` or a `run`,
-//! an `idle` one, of which no entry is active, or a `frame` with a payload of so many bytes. `plain time KIND FILE` times the value in a file and prints one line: what the value
-//! has, and, behind a colon, the shortest time of each call in nanoseconds. The file `KIND_tasks` says
-//! what these are. The times have the growth of what is made in them, and not its drop. Each answer is
-//! compared outside of them, and a wrong one ends the program.
+//! `plain make KIND SIZE FILE` writes a value to a file: a `path` of so many nodes, the same for a
+//! `view`, an `option` of so many paths, a `set` of so many entries, the same for a `copy`, a `step` or
+//! a `run`, an `idle` one, of which no entry is active, one whose BootOrder has `repeat`s, a `frame`
+//! with a payload of so many bytes, or a `stream` of so many bytes at least. Behind the number of entries may stand an `x` and how many bytes
+//! they have, all but the first. `plain time KIND FILE` times the value in a file and prints one line:
+//! what the value has, and, behind a colon, the shortest time of each call in nanoseconds. The files
+//! `.._tasks` say what these are. The times have the growth of what is made in them, and not its drop.
+//! Each answer is compared outside of them, and a wrong one ends the program.
 
+mod copy_tasks;
 mod frame;
 mod frame_tasks;
-mod idle_tasks;
+mod inbox;
 mod keeper;
 mod mixed;
 mod node;
@@ -21,12 +24,14 @@ mod option_tasks;
 mod parsing;
 mod path_tasks;
 mod plan;
+mod plan_tasks;
 mod printing;
 mod reading;
 mod run_tasks;
 mod set;
 mod set_tasks;
 mod step_tasks;
+mod stream_tasks;
 mod view_tasks;
 mod writing;
 
@@ -40,9 +45,9 @@ const ENOUGH: Duration = Duration::from_millis(500);
 fn main() -> Result<(), Box<dyn Error>> {
     let words: Vec<String> = env::args().skip(1).collect();
     match words.iter().map(String::as_str).collect::<Vec<_>>()[..] {
-        ["make", kind, count, file] => fs::write(file, mixed::value_of(kind, count.parse()?)?)?,
+        ["make", kind, size, file] => fs::write(file, mixed::value_of(kind, size)?)?,
         ["time", kind, file] => time_value(kind, &fs::read(file)?)?,
-        _ => return Err("usage: plain make KIND COUNT FILE | time KIND FILE".into()),
+        _ => return Err("usage: plain make KIND SIZE FILE | time KIND FILE".into()),
     }
     Ok(())
 }
@@ -56,11 +61,15 @@ fn time_value(kind: &str, bytes: &[u8]) -> Result<(), Box<dyn Error>> {
         "view" => print_times(&view_tasks::held(bytes)?, || view_tasks::times(bytes)),
         "option" => print_times(&option_tasks::held(bytes)?, || option_tasks::times(bytes)),
         "set" => print_times(&set_tasks::held(bytes)?, || set_tasks::times(bytes)),
-        "idle" => print_times(&idle_tasks::held(bytes)?, || idle_tasks::times(bytes)),
+        "copy" => print_times(&copy_tasks::held(bytes)?, || copy_tasks::times(bytes)),
+        "idle" | "repeat" => print_times(&plan_tasks::held(bytes)?, || plan_tasks::times(bytes)),
         "frame" => print_times(&frame_tasks::held(bytes)?, || frame_tasks::times(bytes)),
         "step" => print_times(&step_tasks::held(bytes)?, || step_tasks::times(bytes)),
+        "stream" => print_times(&stream_tasks::held(bytes)?, || stream_tasks::times(bytes)),
         "run" => print_times(&run_tasks::held(bytes)?, || run_tasks::times(bytes)),
-        _ => Err("the kinds are path, view, option, set, idle, frame, step and run".into()),
+        _ => Err(
+            "the kinds are path, view, option, set, copy, idle, repeat, frame, stream, step and run".into(),
+        ),
     }
 }
 

@@ -44,15 +44,25 @@ const DISK: [u8; 32] = [
     0x02, 0x1f, 0x03, 0x12, 0x0a, 0x00, 0x00, 0x00, 0xff, 0xff, 0x00, 0x00, 0x7f, 0xff, 0x04, 0x00,
 ];
 
-/// The bytes of a value of this kind and size.
-pub fn value_of(kind: &str, count: usize) -> Result<Vec<u8>, Box<dyn Error>> {
+/// How many numbers a BootOrder has that repeats them.
+const REPEATED: usize = 65_536;
+
+/// The bytes of a value of this kind and size: a number and, for a set, perhaps an `x` and how many bytes its entries
+/// have.
+pub fn value_of(kind: &str, size: &str) -> Result<Vec<u8>, Box<dyn Error>> {
+    let (count, len) = size.split_once('x').unwrap_or((size, "0"));
+    let (count, len) = (count.parse()?, len.parse()?);
     match kind {
         "path" | "view" => Ok(path_of(count)),
         "option" => option_of(ACTIVE, count),
-        "set" | "step" | "run" => set_of(ACTIVE, count),
-        "idle" => set_of(INACTIVE, count),
+        "set" | "copy" | "step" | "run" => set_of(ACTIVE, count, len, count),
+        "idle" => set_of(INACTIVE, count, len, count),
+        "repeat" => set_of(ACTIVE, count, len, REPEATED),
         "frame" => frame_of(count),
-        _ => Err("the kinds are path, view, option, set, idle, frame, step and run".into()),
+        "stream" => stream_of(count),
+        _ => Err(
+            "the kinds are path, view, option, set, copy, idle, repeat, frame, stream, step and run".into(),
+        ),
     }
 }
 
@@ -68,16 +78,25 @@ fn option_of(attributes: u32, paths: usize) -> Result<Vec<u8>, Box<dyn Error>> {
     Ok(option)
 }
 
-/// The bytes of a set of so many entries of the option of one path with these attributes, and of a
-/// BootOrder that names each of them once, in another order than that of their numbers.
-fn set_of(attributes: u32, entries: usize) -> Result<Vec<u8>, Box<dyn Error>> {
+/// The bytes of a set of so many entries of the option of one path with these attributes, each but the first with as much
+/// optional data as makes it so many bytes, and of a BootOrder of so many numbers that names each of them in turn, in
+/// another order than that of their numbers.
+fn set_of(
+    attributes: u32,
+    entries: usize,
+    len: usize,
+    numbers: usize,
+) -> Result<Vec<u8>, Box<dyn Error>> {
     let mut set = b"BVS1".to_vec();
     for index in 0..entries {
-        let option = option_of(attributes, 1)?;
+        let mut option = option_of(attributes, 1)?;
+        if index > 0 {
+            option.resize(len.max(option.len()), 0x5a);
+        }
         append_variable(&entry_name(u16::try_from(index)?), &option, &mut set)?;
     }
     let mut order = Vec::new();
-    for index in 0..entries {
+    for index in 0..numbers {
         order.extend(u16::try_from(index * STRIDE % entries)?.to_le_bytes());
     }
     append_variable(b"BootOrder", &order, &mut set)?;
@@ -93,6 +112,18 @@ fn frame_of(payload: usize) -> Result<Vec<u8>, Box<dyn Error>> {
     frame.extend(option_of(ACTIVE, 1)?);
     frame.resize(12 + payload, 0x5a);
     Ok(frame)
+}
+
+/// The bytes of frames whose payloads have 44 to 1,044 bytes, one after the other, so many bytes at least.
+fn stream_of(len: usize) -> Result<Vec<u8>, Box<dyn Error>> {
+    let mut stream = Vec::new();
+    for payload in (44..1_045).step_by(100).cycle() {
+        if stream.len() >= len {
+            break;
+        }
+        stream.extend(frame_of(payload)?);
+    }
+    Ok(stream)
 }
 
 fn append_variable(name: &[u8], data: &[u8], set: &mut Vec<u8>) -> Result<(), Box<dyn Error>> {

@@ -253,7 +253,9 @@ fn file(name: &[u8], place: usize) -> Result<Node, Fault> {
     if name.len() > 32_764 {
         return Err(Fault::Range(place));
     }
-    Ok(Node::FilePath(name.iter().map(|byte| u16::from(*byte)).collect()))
+    Ok(Node::FilePath(
+        name.iter().map(|byte| u16::from(*byte)).collect(),
+    ))
 }
 
 fn named(name: &[u8], arguments: Arguments<'_>) -> Result<Node, Fault> {

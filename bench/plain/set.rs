@@ -2,6 +2,7 @@
 
 use std::error::Error;
 use std::fmt;
+use std::rc::Rc;
 
 const MAGIC: &[u8] = b"BVS1";
 
@@ -9,9 +10,9 @@ const NAME_MAX: usize = 64;
 
 const DATA_MAX: usize = 1_048_576;
 
-/// Names and data, in the order of the names.
+/// Names and data, in the order of the names. Copies share the data.
 #[derive(Clone)]
-pub struct Vars(Vec<(String, Vec<u8>)>);
+pub struct Vars(Vec<(String, Rc<[u8]>)>);
 
 /// Why bytes are no set, and the offset of the record with the fault.
 #[derive(Debug)]
@@ -50,8 +51,8 @@ impl Vars {
     /// Sets the variable of this name to this data.
     pub fn put(&mut self, name: &str, data: Vec<u8>) {
         match self.place(name) {
-            Ok(place) => self.0[place].1 = data,
-            Err(place) => self.0.insert(place, (name.to_owned(), data)),
+            Ok(place) => self.0[place].1 = data.into(),
+            Err(place) => self.0.insert(place, (name.to_owned(), data.into())),
         }
     }
 
@@ -73,7 +74,7 @@ impl Vars {
 /// The variables whose set the bytes are, all of them.
 pub fn read_set(bytes: &[u8]) -> Result<Vars, Fault> {
     let mut rest = bytes.strip_prefix(MAGIC).ok_or(Fault::BadMagic(0))?;
-    let mut variables: Vec<(String, Vec<u8>)> = Vec::new();
+    let mut variables: Vec<(String, Rc<[u8]>)> = Vec::new();
     while !rest.is_empty() {
         let offset = bytes.len() - rest.len();
         let (name, behind) = split_name(rest, offset)?;
@@ -84,7 +85,7 @@ pub fn read_set(bytes: &[u8]) -> Result<Vars, Fault> {
             return Err(Fault::NotRising(offset));
         }
         let (data, behind) = split_data(behind, offset)?;
-        variables.push((name.to_owned(), data.to_vec()));
+        variables.push((name.to_owned(), data.into()));
         rest = behind;
     }
     Ok(Vars(variables))
@@ -118,7 +119,10 @@ fn split_data(bytes: &[u8], offset: usize) -> Result<(&[u8], &[u8]), Fault> {
 
 /// The bytes of a set.
 pub fn write_set(vars: &Vars) -> Vec<u8> {
-    let records = vars.0.iter().map(|(name, data)| name.len() + data.len() + 5);
+    let records = vars
+        .0
+        .iter()
+        .map(|(name, data)| name.len() + data.len() + 5);
     let mut out = Vec::with_capacity(MAGIC.len() + records.sum::<usize>());
     out.extend_from_slice(MAGIC);
     for (name, data) in &vars.0 {
