@@ -19,6 +19,7 @@ use files::{Contents, Fed, NamedFile, Shelf};
 use runtime::{FakeRuntime, Run, Stream, Words};
 use std::alloc::Global;
 use std::cell::Cell;
+use std::process::Abort;
 use std::test::Fail;
 use uefi_vars::{Vars, write_set};
 
@@ -96,9 +97,20 @@ const FILES: [NamedFile<'static>; 7] = [
     },
 ];
 
-/// A run with these words, which finds [`FILES`].
-fn run_on_shelf(alloc: Global, words: Words<'_>) -> Run {
-    Run::with(alloc, words, Shelf(&FILES))
+/// A run with these words, which finds [`FILES`], ends with this status and this text on standard output and standard
+/// error.
+fn check_call<'a>(rt: &impl Abort, alloc: Global, words: &'a [&'a str], answer: (u8, &str, &str)) {
+    let run = Run::with(alloc, Words::Given(words), Shelf(&FILES));
+    assert_eq!(rt; run.answer(), answer, "at {words:?}");
+}
+
+/// A report is this text, or its input is refused with these words.
+fn check_report(rt: &impl Abort, report: Result<String, Refusal>, wanted: Result<&str, &str>) {
+    match (&report, wanted) {
+        (Ok(shown), Ok(text)) => assert_eq!(rt; shown.as_str(), text),
+        (Err(Refusal::Input(fault)), Err(words)) => assert_eq!(rt; fault.as_str(), words),
+        _ => panic!(rt; "{report:?} in the place of {wanted:?}"),
+    }
 }
 
 #[test]
@@ -121,10 +133,7 @@ fn shows_a_path(rt: HostRuntime) -> Result<(), Fail> {
             "instances 1\nnodes 1\nrest 0\ntext Path(0x1,0x1,0205aa)\n",
         ),
     ] {
-        match report::path_report(rt.alloc(), hex) {
-            Ok(shown) => assert_eq!(rt; shown.as_str(), report, "at {hex}"),
-            Err(refusal) => panic!(rt; "{hex} is refused: {refusal:?}"),
-        }
+        check_report(&rt, report::path_report(rt.alloc(), hex), Ok(report));
     }
     Ok(())
 }
@@ -144,10 +153,7 @@ fn refuses_what_is_no_path(rt: HostRuntime) -> Result<(), Fail> {
         ("7fff04zz", "BadHex"),
         ("7f ff0400", "BadHex"),
     ] {
-        match report::path_report(rt.alloc(), hex) {
-            Err(Refusal::Input(fault)) => assert_eq!(rt; fault.as_str(), words, "at {hex}"),
-            answer => panic!(rt; "{hex} gives {answer:?}"),
-        }
+        check_report(&rt, report::path_report(rt.alloc(), hex), Err(words));
     }
     Ok(())
 }
@@ -166,15 +172,14 @@ fn shows_the_bytes_of_a_text(rt: HostRuntime) -> Result<(), Fail> {
         ("\\A", "04040a005c00410000007fff0400"),
         ("Path(0x1,0x1,021f)", "01010600021f7fff0400"),
     ] {
-        match report::text_report(rt.alloc(), text) {
-            Ok(shown) => assert_eq!(rt;
-                shown.as_str().strip_suffix('\n'),
-                Some(bytes),
-                "at {text}"
-            ),
-            Err(refusal) => panic!(rt; "{text} is refused: {refusal:?}"),
-        }
+        let line = format!(in rt.alloc(); "{bytes}\n")?;
+        check_report(&rt, report::text_report(rt.alloc(), text), Ok(&line));
     }
+    Ok(())
+}
+
+#[test]
+fn refuses_what_is_no_text_of_a_path(rt: HostRuntime) -> Result<(), Fail> {
     for (text, words) in [
         ("Pci(0x1f)", "BadSegment 0"),
         ("PciRoot(0x0)/Pci(,0x2)", "BadNumber 17"),
@@ -182,10 +187,7 @@ fn shows_the_bytes_of_a_text(rt: HostRuntime) -> Result<(), Fail> {
         ("Path(0x7f,0xff)", "BadEnd 0"),
         ("Pci(0x1,0x2)/", "BadSegment 13"),
     ] {
-        match report::text_report(rt.alloc(), text) {
-            Err(Refusal::Input(fault)) => assert_eq!(rt; fault.as_str(), words, "at {text}"),
-            answer => panic!(rt; "{text} gives {answer:?}"),
-        }
+        check_report(&rt, report::text_report(rt.alloc(), text), Err(words));
     }
     Ok(())
 }
@@ -218,10 +220,7 @@ fn shows_an_option(rt: HostRuntime) -> Result<(), Fail> {
         (&no_name, no_name_lines),
     ];
     for (bytes, report) in table {
-        match report::option_report(rt.alloc(), bytes) {
-            Ok(shown) => assert_eq!(rt; shown.as_str(), report, "at {bytes:?}"),
-            Err(refusal) => panic!(rt; "{bytes:?} is refused: {refusal:?}"),
-        }
+        check_report(&rt, report::option_report(rt.alloc(), bytes), Ok(report));
     }
     Ok(())
 }
@@ -240,16 +239,13 @@ fn refuses_what_is_no_option(rt: HostRuntime) -> Result<(), Fail> {
         (short_header.as_slice(), "Path 10 ShortHeader 28"),
     ];
     for (bytes, words) in table {
-        match report::option_report(rt.alloc(), bytes) {
-            Err(Refusal::Input(fault)) => assert_eq!(rt; fault.as_str(), words, "at {bytes:?}"),
-            answer => panic!(rt; "{bytes:?} gives {answer:?}"),
-        }
+        check_report(&rt, report::option_report(rt.alloc(), bytes), Err(words));
     }
     Ok(())
 }
 
-/// A set file in which entries of most kinds are ordered, and another is to be tried first.
-fn choice_set(alloc: Global) -> Result<Vec<u8>, Fail> {
+/// Variables in which entries of most kinds are ordered, and another is to be tried first.
+fn choice(alloc: Global) -> Result<Vars, Fail> {
     let mut vars = Vars::new(alloc);
     let order = hex::decode(alloc, "0500010002000300040006000700")?;
     vars.put("BootOrder", order.as_slice())?;
@@ -267,12 +263,12 @@ fn choice_set(alloc: Global) -> Result<Vec<u8>, Fail> {
         option[1] = high;
         vars.put(name, &option)?;
     }
-    Ok(write_set(alloc, &vars)?)
+    Ok(vars)
 }
 
 #[test]
 fn shows_a_set(rt: HostRuntime) -> Result<(), Fail> {
-    let choice = choice_set(rt.alloc())?;
+    let choice = write_set(rt.alloc(), &choice(rt.alloc())?)?;
     let choice_lines = concat!(
         "variables 8\n",
         "Boot0001 other A\nBoot0002 other A\nBoot0003 undecodable\n",
@@ -296,10 +292,7 @@ fn shows_a_set(rt: HostRuntime) -> Result<(), Fail> {
         (choice.as_slice(), choice_lines),
     ];
     for (bytes, report) in table {
-        match report::set_report(rt.alloc(), bytes) {
-            Ok(shown) => assert_eq!(rt; shown.as_str(), report, "at {bytes:?}"),
-            Err(refusal) => panic!(rt; "{bytes:?} is refused: {refusal:?}"),
-        }
+        check_report(&rt, report::set_report(rt.alloc(), bytes), Ok(report));
     }
     Ok(())
 }
@@ -318,10 +311,7 @@ fn refuses_what_is_no_set(rt: HostRuntime) -> Result<(), Fail> {
         (b"BVS1\x08BootNext\x01\x00\x00\x00\x00", "BadNext"),
     ];
     for (bytes, words) in table {
-        match report::set_report(rt.alloc(), bytes) {
-            Err(Refusal::Input(fault)) => assert_eq!(rt; fault.as_str(), words, "at {bytes:?}"),
-            answer => panic!(rt; "{bytes:?} gives {answer:?}"),
-        }
+        check_report(&rt, report::set_report(rt.alloc(), bytes), Err(words));
     }
     Ok(())
 }
@@ -402,10 +392,7 @@ const CALLS: [(&[&str], u8, &str, &str); 24] = [
 #[test]
 fn ends_with_one_answer(rt: HostRuntime) -> Result<(), Fail> {
     for (words, status, stdout, stderr) in CALLS {
-        let run = run_on_shelf(rt.alloc(), Words::Given(words));
-        assert_eq!(rt; run.status, status, "at {words:?}");
-        assert_eq!(rt; run.stdout.as_str(), stdout, "at {words:?}");
-        assert_eq!(rt; run.stderr.as_str(), stderr, "at {words:?}");
+        check_call(&rt, rt.alloc(), words, (status, stdout, stderr));
     }
     Ok(())
 }
@@ -474,20 +461,15 @@ const OTHER_CALLS: [&[&str]; 43] = [
 #[test]
 fn tells_how_it_is_called(rt: HostRuntime) -> Result<(), Fail> {
     for words in OTHER_CALLS {
-        let run = run_on_shelf(rt.alloc(), Words::Given(words));
-        assert_eq!(rt; run.status, 2, "at {words:?}");
-        assert_eq!(rt; run.stdout.as_str(), "", "at {words:?}");
-        assert_eq!(rt; run.stderr.as_str(), USAGE_LINE, "at {words:?}");
+        check_call(&rt, rt.alloc(), words, (2, "", USAGE_LINE));
     }
     Ok(())
 }
 
 #[test]
 fn refuses_words_that_are_no_text(rt: HostRuntime) -> Result<(), Fail> {
-    let run = run_on_shelf(rt.alloc(), Words::NotText);
-    assert_eq!(rt; run.status, 3);
-    assert_eq!(rt; run.stdout.as_str(), "");
-    assert_eq!(rt; run.stderr.as_str(), "fault: read\n");
+    let run = Run::with(rt.alloc(), Words::NotText, Shelf(&FILES));
+    assert_eq!(rt; run.answer(), (3, "", "fault: read\n"));
     Ok(())
 }
 
@@ -506,8 +488,7 @@ fn ends_where_standard_output_refuses(rt: HostRuntime) -> Result<(), Fail> {
             stdout: Stream::refusing(rt.alloc()),
             stderr: Stream::new(rt.alloc()),
         });
-        assert_eq!(rt; run.status, 3, "at {words:?}");
-        assert_eq!(rt; run.stderr.as_str(), "fault: write\n", "at {words:?}");
+        assert_eq!(rt; run.answer(), (3, "", "fault: write\n"), "at {words:?}");
     }
     Ok(())
 }

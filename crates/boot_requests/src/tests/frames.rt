@@ -1,14 +1,16 @@
 //! Frames, and what is told of them.
 
+use super::keeper::{Sent, THREE_APPLIED, Table, request_of, vars_of};
 use crate::{
     Bytes, Event, FrameFault, OpenFault, OrderList, Outcome, PAYLOAD_MAX, Reply, Request,
     read_frame, reply_line, write_frame,
 };
 use std::alloc::Global;
+use std::process::Abort;
 use std::test::Fail;
 use uefi_option::{LoadOption, OptionFault, read_option};
 use uefi_path::PathFault;
-use uefi_vars::{Vars, plan};
+use uefi_vars::plan;
 
 /// The option `A` of a disk: active, and with one path of three nodes.
 pub(super) const DISK: [u8; 42] = [
@@ -34,64 +36,73 @@ fn joined(alloc: Global, front: &[u8], rest: &[u8]) -> Result<Vec<u8>, Fail> {
     Ok(bytes)
 }
 
-/// Requests of each kind with their numbers and their frames.
-fn requests(alloc: Global) -> Result<Vec<(u32, Request, Vec<u8>)>, Fail> {
-    let add: [u8; 14] = [
-        0x42, 0x51, 0x01, 0x01, 0x00, 0x00, 0x00, 0x00, 0x2c, 0x00, 0x00, 0x00, 0x01, 0x00,
-    ];
-    let replace: [u8; 14] = [
-        0x42, 0x51, 0x01, 0x02, 0x05, 0x00, 0x00, 0x00, 0x2c, 0x00, 0x00, 0x00, 0x09, 0x00,
-    ];
-    let remove: [u8; 14] = [
-        0x42, 0x51, 0x01, 0x03, 0xfe, 0xff, 0xff, 0xff, 0x02, 0x00, 0x00, 0x00, 0x09, 0x00,
-    ];
-    let some: [u8; 18] = [
-        0x42, 0x51, 0x01, 0x04, 0x01, 0x00, 0x00, 0x00, 0x06, 0x00, 0x00, 0x00, 0x01, 0x00, 0x01,
-        0x00, 0x09, 0x00,
-    ];
-    let none: [u8; 12] = [
-        0x42, 0x51, 0x01, 0x04, 0x03, 0x00, 0x00, 0x00, 0x00, 0x00, 0x00, 0x00,
-    ];
-    let next: [u8; 14] = [
-        0x42, 0x51, 0x01, 0x05, 0x02, 0x01, 0x00, 0x00, 0x02, 0x00, 0x00, 0x00, 0xcd, 0xab,
-    ];
-    let mut all = Vec::new(alloc);
-    all.push((
-        0,
-        Request::Add(1, disk(alloc)?),
-        joined(alloc, &add, &DISK)?,
-    ))?;
-    all.push((
-        5,
-        Request::Replace(9, disk(alloc)?),
-        joined(alloc, &replace, &DISK)?,
-    ))?;
-    all.push((
-        4_294_967_294,
-        Request::Remove(9),
-        Vec::from_slice(alloc, &remove)?,
-    ))?;
-    all.push((1, order(alloc, &[1, 1, 9])?, Vec::from_slice(alloc, &some)?))?;
-    all.push((3, order(alloc, &[])?, Vec::from_slice(alloc, &none)?))?;
-    all.push((0x102, Request::Next(0xabcd), Vec::from_slice(alloc, &next)?))?;
-    Ok(all)
+/// Requests of each kind, and each one's frame in two parts.
+const FRAMES: [(Sent<'static>, &[u8], &[u8]); 6] = [
+    (
+        Sent::Add(0, 1),
+        b"\x42\x51\x01\x01\x00\x00\x00\x00\x2c\x00\x00\x00\x01\x00",
+        &DISK,
+    ),
+    (
+        Sent::Replace(5, 9),
+        b"\x42\x51\x01\x02\x05\x00\x00\x00\x2c\x00\x00\x00\x09\x00",
+        &DISK,
+    ),
+    (
+        Sent::Remove(4_294_967_294, 9),
+        b"\x42\x51\x01\x03\xfe\xff\xff\xff\x02\x00\x00\x00",
+        &[0x09, 0x00],
+    ),
+    (
+        Sent::Order(1, &[1, 1, 9]),
+        b"\x42\x51\x01\x04\x01\x00\x00\x00\x06\x00\x00\x00",
+        &[0x01, 0x00, 0x01, 0x00, 0x09, 0x00],
+    ),
+    (
+        Sent::Order(3, &[]),
+        b"\x42\x51\x01\x04\x03\x00\x00\x00\x00\x00\x00\x00",
+        &[],
+    ),
+    (
+        Sent::Next(0x102, 0xabcd),
+        b"\x42\x51\x01\x05\x02\x01\x00\x00\x02\x00\x00\x00",
+        &[0xcd, 0xab],
+    ),
+];
+
+/// The frame is read as this request, and written of it.
+fn is_frame_of(
+    rt: &impl Abort,
+    alloc: Global,
+    (number, request): &(u32, Request),
+    bytes: &[u8],
+) -> Result<(), Fail> {
+    let (found, read) = read_frame(alloc, bytes)?;
+    assert_eq!(rt; found, *number, "of {bytes:?}");
+    assert!(rt; read == *request, "of {bytes:?}");
+    let written = write_frame(alloc, *number, request)?;
+    assert_eq!(rt; written.as_slice(), bytes);
+    Ok(())
 }
 
 #[test]
-fn reads_writes_and_copies_requests(rt: HostRuntime) -> Result<(), Fail> {
-    let all = requests(rt.alloc())?;
-    for (index, (number, request, bytes)) in all.iter().enumerate() {
-        let (found, read) = read_frame(rt.alloc(), bytes)?;
-        assert_eq!(rt; found, *number, "of {bytes:?}");
-        assert!(rt; read == *request, "of {bytes:?}");
-        assert!(rt; request.copy(rt.alloc())? == read, "of {bytes:?}");
-        assert_eq!(rt;
-            write_frame(rt.alloc(), *number, request)?.as_slice(),
-            bytes.as_slice()
-        );
-        for (other, (_, another, _)) in all.iter().enumerate() {
+fn reads_and_writes_requests(rt: HostRuntime) -> Result<(), Fail> {
+    for (sent, front, rest) in FRAMES {
+        let bytes = joined(rt.alloc(), front, rest)?;
+        is_frame_of(&rt, rt.alloc(), &request_of(rt.alloc(), sent)?, &bytes)?;
+    }
+    Ok(())
+}
+
+#[test]
+fn copies_and_compares_requests(rt: HostRuntime) -> Result<(), Fail> {
+    for (index, (sent, _, _)) in FRAMES.iter().enumerate() {
+        let (_, request) = request_of(rt.alloc(), *sent)?;
+        for (other, (sent, _, _)) in FRAMES.iter().enumerate() {
+            let (_, another) = request_of(rt.alloc(), *sent)?;
+            let copy = another.copy(rt.alloc())?;
             assert!(rt;
-                (request == another) == (index == other),
+                (request == copy) == (index == other),
                 "{index} and {other}"
             );
         }
@@ -101,7 +112,8 @@ fn reads_writes_and_copies_requests(rt: HostRuntime) -> Result<(), Fail> {
 
 #[test]
 fn tells_a_frame_that_was_cut(rt: HostRuntime) -> Result<(), Fail> {
-    for (_, _, bytes) in &requests(rt.alloc())? {
+    for (_, front, rest) in FRAMES {
+        let mut bytes = joined(rt.alloc(), front, rest)?;
         for len in 0..bytes.len() {
             let fault = if len < 12 {
                 FrameFault::Short
@@ -109,13 +121,14 @@ fn tells_a_frame_that_was_cut(rt: HostRuntime) -> Result<(), Fail> {
                 FrameFault::BadSize
             };
             let (cut, _) = bytes.split_at(len);
-            assert!(rt;
-                read_frame(rt.alloc(), cut).err() == Some(fault),
-                "{len} of {bytes:?}"
-            );
+            let found = read_frame(rt.alloc(), cut).err();
+            assert_eq!(rt; found, Some(fault), "{len} of {bytes:?}");
         }
-        let longer = joined(rt.alloc(), bytes, &[0x00])?;
-        assert!(rt; read_frame(rt.alloc(), &longer).err() == Some(FrameFault::BadSize));
+        bytes.push(0x00)?;
+        assert_eq!(rt;
+            read_frame(rt.alloc(), &bytes).err(),
+            Some(FrameFault::BadSize)
+        );
     }
     Ok(())
 }
@@ -212,71 +225,60 @@ fn tells_the_first_fault_of_a_frame(rt: HostRuntime) -> Result<(), Fail> {
         ),
     ];
     for (bytes, words) in table {
-        match read_frame(rt.alloc(), bytes) {
-            Ok(_) => assert!(rt; false, "{bytes:?} is read"),
-            Err(fault) => {
-                assert_eq!(rt; fault.words(rt.alloc())?.as_str(), words, "of {bytes:?}");
-                assert_eq!(rt;
-                    format!(in rt.alloc(); "{fault}")?.as_str(),
-                    words,
-                    "of {bytes:?}"
-                );
-            }
-        }
+        let fault = read_frame(rt.alloc(), bytes).err().ok_or("no fault")?;
+        assert_eq!(rt; fault.words(rt.alloc())?.as_str(), words, "of {bytes:?}");
+        let shown = format!(in rt.alloc(); "{fault}")?;
+        assert_eq!(rt; shown.as_str(), words, "of {bytes:?}");
+    }
+    Ok(())
+}
+
+/// The request is written and read, and refused with the last number, which no request has.
+fn is_taken(rt: &impl Abort, alloc: Global, request: &Request) -> Result<(), Fail> {
+    let bytes = write_frame(alloc, 7, request)?;
+    let (number, read) = read_frame(alloc, &bytes)?;
+    assert!(rt; number == 7 && read == *request);
+    let refused = write_frame(alloc, u32::MAX, request).err();
+    assert_eq!(rt; refused, Some(FrameFault::BadNumber));
+    Ok(())
+}
+
+#[test]
+fn takes_a_large_option(rt: HostRuntime) -> Result<(), Fail> {
+    let mut large = vec![in rt.alloc(); 0x5a; 131_000]?;
+    large[..42].copy_from_slice(&DISK);
+    let add = Request::Add(1, read_option(rt.alloc(), &large)?);
+    is_taken(&rt, rt.alloc(), &add)
+}
+
+#[test]
+fn takes_an_order_of_all_entries(rt: HostRuntime) -> Result<(), Fail> {
+    let mut numbers = Vec::new(rt.alloc());
+    for number in 0..=u16::MAX {
+        numbers.push(number)?;
+    }
+    is_taken(&rt, rt.alloc(), &order(rt.alloc(), &numbers)?)?;
+    numbers.push(0)?;
+    let longer = order(rt.alloc(), &numbers)?;
+    for number in [0, u32::MAX] {
+        let refused = write_frame(rt.alloc(), number, &longer).err();
+        assert_eq!(rt; refused, Some(FrameFault::TooLong));
     }
     Ok(())
 }
 
 #[test]
-fn takes_payloads_up_to_the_limit(rt: HostRuntime) -> Result<(), Fail> {
-    let mut large = Vec::from_slice(rt.alloc(), &DISK)?;
-    for _ in DISK.len()..131_000 {
-        large.push(0x5a)?;
-    }
-    let add = Request::Add(1, read_option(rt.alloc(), &large)?);
-    let mut numbers = Vec::new(rt.alloc());
-    for number in 0..=u16::MAX {
-        numbers.push(number)?;
-    }
-    let most = order(rt.alloc(), &numbers)?;
-    for request in [&add, &most] {
-        let bytes = write_frame(rt.alloc(), 7, request)?;
-        let (number, read) = read_frame(rt.alloc(), &bytes)?;
-        assert!(rt; number == 7 && read == *request);
-        assert!(rt; request.copy(rt.alloc())? == read);
-        assert_eq!(rt;
-            write_frame(rt.alloc(), u32::MAX, request).err(),
-            Some(FrameFault::BadNumber)
-        );
-    }
-    numbers.push(0)?;
-    let longer = order(rt.alloc(), &numbers)?;
-    for number in [0, u32::MAX] {
-        assert_eq!(rt;
-            write_frame(rt.alloc(), number, &longer).err(),
-            Some(FrameFault::TooLong)
-        );
-    }
-    let header: [u8; 12] = [
-        0x42, 0x51, 0x01, 0x04, 0x00, 0x00, 0x00, 0x00, 0x01, 0x00, 0x02, 0x00,
-    ];
-    let payload = vec![in rt.alloc(); 0u8; PAYLOAD_MAX + 1]?;
-    let bytes = joined(rt.alloc(), &header, &payload)?;
-    assert_eq!(rt;
-        read_frame(rt.alloc(), &bytes).err(),
-        Some(FrameFault::TooLong)
-    );
+fn tells_a_payload_past_the_limit(rt: HostRuntime) -> Result<(), Fail> {
+    let header = b"\x42\x51\x01\x04\x00\x00\x00\x00\x01\x00\x02\x00";
+    let mut bytes = Vec::from_slice(rt.alloc(), header)?;
+    bytes.resize(12 + PAYLOAD_MAX + 1, 0)?;
+    let refused = read_frame(rt.alloc(), &bytes).err();
+    assert_eq!(rt; refused, Some(FrameFault::TooLong));
     Ok(())
 }
 
 #[test]
 fn tells_replies_in_lines(rt: HostRuntime) -> Result<(), Fail> {
-    let mut vars = Vars::new(rt.alloc());
-    let nothing = plan(rt.alloc(), &vars)?;
-    vars.put("Boot0001", &DISK)?;
-    vars.put("Boot0002", &DISK)?;
-    vars.put("BootOrder", &[0x01, 0x00, 0x02, 0x00])?;
-    vars.put("BootNext", &[0x01, 0x00])?;
     let path_fault = OptionFault::Path(10, PathFault::ShortHeader(28));
     let table = [
         (Reply::Malformed(FrameFault::Short), "malformed Short"),
@@ -305,11 +307,6 @@ fn tells_replies_in_lines(rt: HostRuntime) -> Result<(), Fail> {
         ),
         (Reply::Prepared(2), "prepared 2"),
         (Reply::AlreadyPrepared, "already prepared"),
-        (
-            Reply::Plan(plan(rt.alloc(), &vars)?),
-            "plan next 0001 normal 0001 0002",
-        ),
-        (Reply::Plan(nothing), "plan next - normal -"),
         (Reply::NothingPrepared, "nothing prepared"),
         (Reply::Restarted(1), "restarted 1"),
     ];
@@ -319,6 +316,27 @@ fn tells_replies_in_lines(rt: HostRuntime) -> Result<(), Fail> {
             assert!(rt; (reply == another) == (index == other), "{line}");
         }
     }
+    Ok(())
+}
+
+/// The reply that hands out the plan of these variables.
+fn plan_reply(alloc: Global, table: Table<'_>) -> Result<Reply, Fail> {
+    Ok(Reply::Plan(plan(alloc, &vars_of(alloc, table)?)?))
+}
+
+#[test]
+fn tells_plans_in_lines(rt: HostRuntime) -> Result<(), Fail> {
+    let nothing = plan_reply(rt.alloc(), &[])?;
+    let three = plan_reply(rt.alloc(), THREE_APPLIED)?;
+    assert!(rt; three != nothing && nothing != Reply::NothingPrepared);
+    assert_eq!(rt;
+        reply_line(rt.alloc(), &nothing)?.as_str(),
+        "plan next - normal -"
+    );
+    assert_eq!(rt;
+        reply_line(rt.alloc(), &three)?.as_str(),
+        "plan next 0002 normal 0001 0002"
+    );
     Ok(())
 }
 

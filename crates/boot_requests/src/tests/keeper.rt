@@ -11,7 +11,7 @@ use uefi_vars::{Vars, write_set};
 /// What happens to a keeper: a request with its number is delivered, or these bytes, or another event comes. The option of
 /// an entry is that of the disk.
 #[derive(Clone, Copy)]
-enum Sent<'a> {
+pub(super) enum Sent<'a> {
     Add(u32, u16),
     Replace(u32, u16),
     Remove(u32, u16),
@@ -24,7 +24,7 @@ enum Sent<'a> {
 }
 
 /// Variables, each by its name and its data.
-type Table<'a> = &'a [(&'a str, &'a [u8])];
+pub(super) type Table<'a> = &'a [(&'a str, &'a [u8])];
 
 /// Events over variables, with the lines of the replies and the variables after them.
 #[derive(Clone, Copy)]
@@ -35,25 +35,31 @@ struct Case<'a> {
     after: Table<'a>,
 }
 
+/// The number and the request, where the event delivers one.
+pub(super) fn request_of(alloc: Global, sent: Sent<'_>) -> Result<(u32, Request), Fail> {
+    match sent {
+        Sent::Add(number, entry) => Ok((number, Request::Add(entry, disk(alloc)?))),
+        Sent::Replace(number, entry) => Ok((number, Request::Replace(entry, disk(alloc)?))),
+        Sent::Remove(number, entry) => Ok((number, Request::Remove(entry))),
+        Sent::Order(number, numbers) => Ok((number, order(alloc, numbers)?)),
+        Sent::Next(number, entry) => Ok((number, Request::Next(entry))),
+        Sent::Raw(_) | Sent::Prepare | Sent::Hand | Sent::Restart => Err("no request".into()),
+    }
+}
+
 /// The delivery of this request with this number.
-fn deliver(alloc: Global, number: u32, request: Request) -> Result<Event, Fail> {
-    Ok(Event::Deliver(Bytes::new(write_frame(alloc, number, &request)?)))
+fn deliver(alloc: Global, (number, request): &(u32, Request)) -> Result<Event, Fail> {
+    Ok(Event::Deliver(Bytes::new(write_frame(alloc, *number, request)?)))
 }
 
 /// The event.
 fn event_of(alloc: Global, sent: Sent<'_>) -> Result<Event, Fail> {
     match sent {
-        Sent::Add(number, entry) => deliver(alloc, number, Request::Add(entry, disk(alloc)?)),
-        Sent::Replace(number, entry) => {
-            deliver(alloc, number, Request::Replace(entry, disk(alloc)?))
-        }
-        Sent::Remove(number, entry) => deliver(alloc, number, Request::Remove(entry)),
-        Sent::Order(number, numbers) => deliver(alloc, number, order(alloc, numbers)?),
-        Sent::Next(number, entry) => deliver(alloc, number, Request::Next(entry)),
         Sent::Raw(bytes) => Ok(Event::Deliver(Bytes::new(Vec::from_slice(alloc, bytes)?))),
         Sent::Prepare => Ok(Event::Prepare),
         Sent::Hand => Ok(Event::Hand),
         Sent::Restart => Ok(Event::Restart),
+        asked => deliver(alloc, &request_of(alloc, asked)?),
     }
 }
 
@@ -67,7 +73,7 @@ fn events_of(alloc: Global, all: &[Sent<'_>]) -> Result<Vec<Event>, Fail> {
 }
 
 /// Variables of these names and this data.
-fn vars(alloc: Global, table: Table<'_>) -> Result<Vars, Fail> {
+pub(super) fn vars_of(alloc: Global, table: Table<'_>) -> Result<Vars, Fail> {
     let mut vars = Vars::new(alloc);
     for (name, value) in table {
         vars.put(name, value)?;
@@ -77,7 +83,7 @@ fn vars(alloc: Global, table: Table<'_>) -> Result<Vars, Fail> {
 
 /// A keeper of these variables.
 fn opened(alloc: Global, table: Table<'_>) -> Result<Keeper, Fail> {
-    Ok(Keeper::open(alloc, vars(alloc, table)?)?)
+    Ok(Keeper::open(alloc, vars_of(alloc, table)?)?)
 }
 
 /// The lines of the replies, each ended by a line feed.
@@ -114,7 +120,7 @@ fn all(alloc: Global, keeper: Keeper, events: &[Event]) -> Result<(Keeper, Strin
 /// Takes the events step by step, and in one run, and tells the keeper after them.
 fn check(rt: &impl Abort, alloc: Global, case: &Case<'_>) -> Result<Keeper, Fail> {
     let events = events_of(alloc, case.sent)?;
-    let after = vars(alloc, case.after)?;
+    let after = vars_of(alloc, case.after)?;
     let (keeper, lines) = steps(alloc, opened(alloc, case.before)?, &events)?;
     assert_eq!(rt; lines.as_str(), case.lines);
     assert!(rt; *keeper.vars() == after, "behind {}", case.lines);
@@ -126,6 +132,19 @@ fn check(rt: &impl Abort, alloc: Global, case: &Case<'_>) -> Result<Keeper, Fail
         (keeper.waiting(), keeper.next_number())
     );
     Ok(keeper)
+}
+
+/// Takes one event, tells its reply in this line, and gives the keeper after it.
+fn step_to(
+    rt: &impl Abort,
+    alloc: Global,
+    keeper: &Keeper,
+    event: &Event,
+    line: &str,
+) -> Result<Keeper, Fail> {
+    let (next, reply) = keeper.step(alloc, event)?;
+    assert_eq!(rt; reply_line(alloc, &reply)?.as_str(), line);
+    Ok(next)
 }
 
 /// Runs all cases.
@@ -183,7 +202,7 @@ fn seventeen_removals(rt: HostRuntime) -> Result<(), Fail> {
 }
 
 /// The variables after two entries were added and BootNext was set to the second.
-const THREE_APPLIED: Table<'static> = &[
+pub(super) const THREE_APPLIED: Table<'static> = &[
     ("Boot0001", &DISK),
     ("Boot0002", &DISK),
     ("BootOrder", &[1, 0, 2, 0]),
@@ -301,11 +320,18 @@ fn an_old_keeper_stays(rt: HostRuntime) -> Result<(), Fail> {
     let waiting = events_of(alloc, &[Sent::Remove(1, 9), Sent::Remove(2, 9)])?;
     let (old, _lines) = steps(alloc, opened(alloc, &[])?, &waiting)?;
     let event = event_of(alloc, Sent::Remove(0, 9))?;
-    let (next, reply) = old.step(alloc, &event)?;
-    assert_eq!(rt; reply_line(alloc, &reply)?.as_str(), "applied Missing 3");
+    let next = step_to(&rt, alloc, &old, &event, "applied Missing 3")?;
     assert!(rt; next.waiting() == 0 && next.next_number() == 3);
     assert!(rt; old.waiting() == 2 && old.next_number() == 0 && old.vars().is_empty());
     Ok(())
+}
+
+/// The delivery by which entry 1 becomes this option.
+fn replacement(alloc: Global, option: &[u8]) -> Result<Event, Fail> {
+    deliver(
+        alloc,
+        &(0, Request::Replace(1, read_option(alloc, option)?)),
+    )
 }
 
 #[test]
@@ -313,41 +339,49 @@ fn an_old_keeper_has_its_entry(rt: HostRuntime) -> Result<(), Fail> {
     let alloc = rt.alloc();
     let mut longer = Vec::from_slice(alloc, &DISK)?;
     longer.push(0x5a)?;
-    let old = opened(alloc, ONE_ENTRY)?;
-    let event = deliver(alloc, 0, Request::Replace(1, read_option(alloc, &longer)?))?;
-    let (next, reply) = old.step(alloc, &event)?;
-    assert_eq!(rt; reply_line(alloc, &reply)?.as_str(), "applied Done 1");
     assert_eq!(rt; longer.len(), 43);
+    let old = opened(alloc, ONE_ENTRY)?;
+    let event = replacement(alloc, &longer)?;
+    let next = step_to(&rt, alloc, &old, &event, "applied Done 1")?;
     assert!(rt; next.vars().entry(1) == Some(longer.as_slice()));
     assert!(rt; old.vars().entry(1) == Some(&DISK[..]));
     Ok(())
 }
 
+/// The state after fifteen removals of an entry that isn't there.
+const FIFTEEN_MISSING: [u8; 21] = [
+    0x01, 0x0f, 0, 0, 0, 0x0f, 2, 2, 2, 2, 2, 2, 2, 2, 2, 2, 2, 2, 2, 2, 2,
+];
+
 #[test]
 fn the_window_goes_round(rt: HostRuntime) -> Result<(), Fail> {
-    let alloc = rt.alloc();
-    let before: Table<'_> = &[(
-        "BootKeepState",
-        b"\x01\x0f\0\0\0\x0f\x02\x02\x02\x02\x02\x02\x02\x02\x02\x02\x02\x02\x02\x02\x02",
-    )];
-    let sent = [
-        Sent::Remove(30, 9),
-        Sent::Remove(31, 9),
-        Sent::Remove(16, 9),
-        Sent::Remove(15, 9),
-    ];
     let case = Case {
-        before,
-        sent: &sent,
+        before: &[("BootKeepState", &FIFTEEN_MISSING)],
+        sent: &[
+            Sent::Remove(30, 9),
+            Sent::Remove(31, 9),
+            Sent::Remove(16, 9),
+            Sent::Remove(15, 9),
+        ],
         lines: "waiting 15\nahead 15\nwaiting 15\napplied Missing 17\n",
         after: &[("BootKeepState", &SEVENTEEN_MISSING)],
     };
-    check(&rt, alloc, &case)?;
-    let mut keeper = opened(alloc, before)?;
-    for (sent, waiting) in sent.into_iter().zip([1usize, 1, 2, 1]) {
-        let (next, _reply) = keeper.step(alloc, &event_of(alloc, sent)?)?;
-        assert_eq!(rt; next.waiting(), waiting);
-        keeper = next;
+    check(&rt, rt.alloc(), &case)?;
+    Ok(())
+}
+
+#[test]
+fn the_window_counts_what_waits(rt: HostRuntime) -> Result<(), Fail> {
+    let mut keeper = opened(rt.alloc(), &[("BootKeepState", &FIFTEEN_MISSING)])?;
+    for (number, line, waiting) in [
+        (30, "waiting 15", 1),
+        (31, "ahead 15", 1),
+        (16, "waiting 15", 2),
+        (15, "applied Missing 17", 1),
+    ] {
+        let event = event_of(rt.alloc(), Sent::Remove(number, 9))?;
+        keeper = step_to(&rt, rt.alloc(), &keeper, &event, line)?;
+        assert_eq!(rt; keeper.waiting(), waiting);
     }
     Ok(())
 }
@@ -442,10 +476,9 @@ fn entries_and_orders_are_changed(rt: HostRuntime) -> Result<(), Fail> {
     check_all(&rt, rt.alloc(), &cases)
 }
 
-#[test]
-fn choice(rt: HostRuntime) -> Result<(), Fail> {
-    let alloc = rt.alloc();
-    let mut start = vars(
+/// Variables in which entries of most kinds are ordered, and another is to be tried first.
+fn entries_of_most_kinds(alloc: Global) -> Result<Vars, Fail> {
+    let mut vars = vars_of(
         alloc,
         &[
             ("BootOrder", &[5, 0, 1, 0, 2, 0, 3, 0, 4, 0, 6, 0, 7, 0]),
@@ -453,27 +486,29 @@ fn choice(rt: HostRuntime) -> Result<(), Fail> {
             ("Boot0003", &[0]),
         ],
     )?;
-    let (_, rest) = DISK.split_at(2);
-    for (number, attributes) in [
-        (1u16, [0x00u8, 0x00]),
-        (2, [0x01, 0x01]),
-        (4, [0x01, 0x00]),
-        (6, [0x09, 0x00]),
-        (7, [0x01, 0x02]),
+    for (number, low, high) in [
+        (1, 0x00, 0x00),
+        (2, 0x01, 0x01),
+        (4, 0x01, 0x00),
+        (6, 0x09, 0x00),
+        (7, 0x01, 0x02),
     ] {
-        let mut bytes = Vec::from_slice(alloc, &attributes)?;
-        bytes.extend_from_slice(rest)?;
-        start.put_entry(number, &bytes)?;
+        let mut option = DISK;
+        option[0] = low;
+        option[1] = high;
+        vars.put_entry(number, &option)?;
     }
-    let mut wanted = start.copy(alloc)?;
-    wanted.remove("BootNext");
-    let events = [Event::Prepare, Event::Hand];
-    let (keeper, lines) = steps(alloc, Keeper::open(alloc, start)?, &events)?;
-    assert_eq!(rt;
-        lines.as_str(),
-        "prepared 3\nplan next 0007 normal 0004 0006\n"
-    );
-    assert!(rt; *keeper.vars() == wanted);
+    Ok(vars)
+}
+
+#[test]
+fn choice(rt: HostRuntime) -> Result<(), Fail> {
+    let mut wanted = entries_of_most_kinds(rt.alloc())?;
+    let keeper = Keeper::open(rt.alloc(), wanted.copy(rt.alloc())?)?;
+    let (keeper, lines) = steps(rt.alloc(), keeper, &[Event::Prepare, Event::Hand])?;
+    let both = "prepared 3\nplan next 0007 normal 0004 0006\n";
+    assert_eq!(rt; lines.as_str(), both);
+    assert!(rt; wanted.remove("BootNext") && *keeper.vars() == wanted);
     Ok(())
 }
 
@@ -494,9 +529,26 @@ fn a_full_order_stays(rt: HostRuntime) -> Result<(), Fail> {
     Ok(())
 }
 
+/// These variables are refused so, and handed back.
+fn is_handed_back(
+    rt: &impl Abort,
+    alloc: Global,
+    table: Table<'_>,
+    fault: OpenFault,
+) -> Result<(), Fail> {
+    let bad = vars_of(alloc, table)?;
+    match Keeper::open(alloc, vars_of(alloc, table)?) {
+        Ok(_) => Err("variables that can't be kept".into()),
+        Err(refused) => {
+            assert_eq!(rt; refused.fault, fault);
+            assert!(rt; refused.vars == bad);
+            Ok(())
+        }
+    }
+}
+
 #[test]
 fn bad_variables_are_handed_back(rt: HostRuntime) -> Result<(), Fail> {
-    let alloc = rt.alloc();
     let table: [(&str, &[u8], OpenFault); 6] = [
         ("BootOrder", &[0, 0, 0], OpenFault::BadOrder),
         ("BootNext", &[0], OpenFault::BadNext),
@@ -510,14 +562,7 @@ fn bad_variables_are_handed_back(rt: HostRuntime) -> Result<(), Fail> {
         ),
     ];
     for (name, value, fault) in table {
-        let bad = vars(alloc, &[(name, value), ("Other", &[1])])?;
-        match Keeper::open(alloc, bad.copy(alloc)?) {
-            Ok(_) => assert!(rt; false, "{name} {value:?}"),
-            Err(refused) => assert!(rt;
-                refused.fault == fault && refused.vars == bad,
-                "{name} {value:?}"
-            ),
-        }
+        is_handed_back(&rt, rt.alloc(), &[(name, value), ("Other", &[1])], fault)?;
     }
     Ok(())
 }

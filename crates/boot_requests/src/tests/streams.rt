@@ -58,6 +58,17 @@ fn feed(
     fed
 }
 
+/// The deliveries of a stream that comes in these pieces, and ends with a whole one.
+fn cut(rt: &impl Abort, alloc: Global, pieces: &[&[u8]]) -> Result<Vec<Bytes>, Fail> {
+    let mut inbox = Inbox::new(alloc);
+    let mut found = Vec::new(alloc);
+    for piece in pieces {
+        feed(rt, &mut inbox, piece, &mut found)?;
+    }
+    assert_eq!(rt; inbox.held(), 0, "of {pieces:?}");
+    Ok(found)
+}
+
 #[test]
 fn cuts_a_stream_in_two_pieces(rt: HostRuntime) -> Result<(), Fail> {
     let alloc = rt.alloc();
@@ -66,12 +77,8 @@ fn cuts_a_stream_in_two_pieces(rt: HostRuntime) -> Result<(), Fail> {
     assert_eq!(rt; bytes.len(), 126);
     for at in 0..=bytes.len() {
         let (front, behind) = bytes.split_at(at);
-        let mut inbox = Inbox::new(alloc);
-        let mut found = Vec::new(alloc);
-        feed(&rt, &mut inbox, front, &mut found)?;
-        feed(&rt, &mut inbox, behind, &mut found)?;
+        let found = cut(&rt, alloc, &[front, behind])?;
         assert!(rt; found == frames, "cut at {at}");
-        assert_eq!(rt; inbox.held(), 0, "cut at {at}");
     }
     Ok(())
 }
@@ -207,11 +214,8 @@ fn cuts_ten_thousand_frames(rt: HostRuntime) -> Result<(), Fail> {
     for number in 0..10_000 {
         bytes.extend_from_slice(&write_frame(alloc, number, &Request::Remove(9))?)?;
     }
-    let mut inbox = Inbox::new(alloc);
-    let mut found = Vec::new(alloc);
-    feed(&rt, &mut inbox, &bytes, &mut found)?;
+    let found = cut(&rt, alloc, &[&bytes])?;
     assert_eq!(rt; found.len(), 10_000);
-    assert_eq!(rt; inbox.held(), 0);
     assert!(rt; stream(alloc, &found)? == bytes);
     Ok(())
 }

@@ -10,6 +10,7 @@ use crate::source::Watched;
 use boot_requests::{FeedFault, OpenFault};
 use std::alloc::Global;
 use std::cell::Cell;
+use std::process::Abort;
 use std::test::Fail;
 use uefi_vars::Vars;
 
@@ -42,13 +43,41 @@ fn answered(
     Ok((answer, bytes))
 }
 
+/// A stream over variables is answered with these lines, and leaves these variables.
+fn check(
+    rt: &impl Abort,
+    alloc: Global,
+    (before, after): (Table<'_>, Table<'_>),
+    stream: &[u8],
+    lines: &str,
+) -> Result<(), Fail> {
+    let (answer, written) = answered(alloc, before, stream)?;
+    assert_eq!(rt; written.as_slice(), lines.as_bytes());
+    assert!(rt; answer? == vars_of(alloc, after)?, "behind {lines}");
+    Ok(())
+}
+
+/// A stream over variables is refused so, and nothing is written.
+fn check_refused(
+    rt: &impl Abort,
+    alloc: Global,
+    before: Table<'_>,
+    stream: &[u8],
+    fault: ScriptFault,
+) -> Result<(), Fail> {
+    let (answer, written) = answered(alloc, before, stream)?;
+    assert_eq!(rt;
+        (answer.err(), written.len()),
+        (Some(fault), 0),
+        "of {stream:?}"
+    );
+    Ok(())
+}
+
 #[test]
 fn frames_come_out_of_order(rt: HostRuntime) -> Result<(), Fail> {
-    let alloc = rt.alloc();
-    let (answer, written) = answered(alloc, &[], &out_of_order(alloc)?)?;
-    assert_eq!(rt; written.as_slice(), LINES.as_bytes());
-    assert!(rt; answer? == vars_of(alloc, TWO_ENTRIES)?);
-    Ok(())
+    let stream = out_of_order(rt.alloc())?;
+    check(&rt, rt.alloc(), (&[], TWO_ENTRIES), &stream, LINES)
 }
 
 #[test]
@@ -71,21 +100,14 @@ fn a_stream_comes_by_a_reader(rt: HostRuntime) -> Result<(), Fail> {
 }
 
 #[test]
-fn no_bytes_change_nothing(rt: HostRuntime) -> Result<(), Fail> {
-    let alloc = rt.alloc();
-    let (answer, written) = answered(alloc, ONE_ENTRY, b"")?;
-    assert!(rt; written.is_empty());
-    assert!(rt; answer? == vars_of(alloc, ONE_ENTRY)?);
-    Ok(())
-}
-
-#[test]
-fn a_malformed_frame_is_answered(rt: HostRuntime) -> Result<(), Fail> {
-    let alloc = rt.alloc();
-    let stream = hex::decode(alloc, "425101060000000000000000")?;
-    let (answer, written) = answered(alloc, ONE_ENTRY, &stream)?;
-    assert_eq!(rt; written.as_slice(), b"malformed BadKind\n".as_slice());
-    assert!(rt; answer? == vars_of(alloc, ONE_ENTRY)?);
+fn some_streams_change_nothing(rt: HostRuntime) -> Result<(), Fail> {
+    for (digits, lines) in [
+        ("", ""),
+        ("425101060000000000000000", "malformed BadKind\n"),
+    ] {
+        let stream = hex::decode(rt.alloc(), digits)?;
+        check(&rt, rt.alloc(), (ONE_ENTRY, ONE_ENTRY), &stream, lines)?;
+    }
     Ok(())
 }
 
@@ -98,13 +120,7 @@ fn bytes_that_are_left_are_told(rt: HostRuntime) -> Result<(), Fail> {
     for (start, end) in [(0usize, 14), (14, 70), (70, 126)] {
         for count in 1..end - start {
             let (front, _) = stream.split_at_checked(start + count).ok_or("short")?;
-            let (answer, written) = answered(alloc, &[], front)?;
-            assert_eq!(rt;
-                answer.err(),
-                Some(ScriptFault::Rest(count)),
-                "behind {start}"
-            );
-            assert!(rt; written.is_empty(), "behind {start}");
+            check_refused(&rt, alloc, &[], front, ScriptFault::Rest(count))?;
         }
     }
     Ok(())
@@ -134,9 +150,7 @@ fn headers_at_fault_are_told(rt: HostRuntime) -> Result<(), Fail> {
         let mut stream = out_of_order(alloc)?;
         stream.extend_from_slice(&bad)?;
         for stream in [&bad, &stream] {
-            let (answer, written) = answered(alloc, &[], stream)?;
-            assert_eq!(rt; answer.err(), Some(fault), "of {digits}");
-            assert!(rt; written.is_empty(), "of {digits}");
+            check_refused(&rt, alloc, &[], stream, fault)?;
         }
     }
     Ok(())
@@ -155,9 +169,8 @@ fn variables_are_told_last(rt: HostRuntime) -> Result<(), Fail> {
         ("4251010300", ScriptFault::Rest(5)),
         (TOO_LONG, ScriptFault::Stream(FeedFault::TooLong)),
     ] {
-        let (answer, written) = answered(alloc, &before, &hex::decode(alloc, digits)?)?;
-        assert_eq!(rt; answer.err(), Some(fault), "of {digits}");
-        assert!(rt; written.is_empty(), "of {digits}");
+        let stream = hex::decode(alloc, digits)?;
+        check_refused(&rt, alloc, &before, &stream, fault)?;
     }
     Ok(())
 }

@@ -41,6 +41,12 @@ impl<'a> Scratch<'a> {
         Ok(count)
     }
 
+    /// Whether the file of this name has these bytes.
+    pub fn has(&self, path: &str, bytes: &[u8]) -> Result<bool, Fail> {
+        let found = fs::read(&(self, self.rt.alloc()), path)?;
+        Ok(found.as_slice() == bytes)
+    }
+
     /// Removes the folder and all that is in it.
     pub fn remove(self) -> Result<(), Fail> {
         Ok(fs::remove_dir_all(self.rt, self.folder.as_path())?)

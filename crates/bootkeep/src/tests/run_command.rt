@@ -7,6 +7,7 @@ use super::scripts::{TWO_ENTRIES, vars_of};
 use super::{DRIVE_OPTION, SET};
 use std::fs::{self, File, Permissions};
 use std::os::unix::fs::{PermissionsExt, symlink};
+use std::process::Abort;
 use std::test::Fail;
 use uefi_vars::write_set;
 
@@ -48,10 +49,15 @@ fn scratch<'a>(rt: &'a HostRuntime) -> Result<Scratch<'a>, Fail> {
     Ok(scratch)
 }
 
-/// A run of these files.
-fn run_on(rt: &HostRuntime, scratch: &Scratch<'_>, set: &str, script: &str, file: &str) -> Run {
-    let words = ["bootkeep", "run", set, script, "--out", file];
-    Run::with(rt.alloc(), Words::Given(&words), scratch)
+/// A run with these words ends with this status and this text on standard output and standard error.
+fn check<'a>(
+    rt: &(impl Abort + AllocGlobal),
+    scratch: &Scratch<'_>,
+    words: &'a [&'a str],
+    answer: (u8, &str, &str),
+) {
+    let run = Run::with(rt.alloc(), Words::Given(words), scratch);
+    assert_eq!(rt; run.answer(), answer, "at {words:?}");
 }
 
 #[test]
@@ -69,12 +75,9 @@ fn writes_the_new_set(rt: HostRuntime) -> Result<(), Fail> {
         (".bootkeep-0", ".bootkeep-0"),
         ("set", "set"),
     ] {
-        let run = run_on(&rt, &scratch, "set", "script", file);
-        assert_eq!(rt; run.stderr.as_str(), "", "at {file}");
-        assert_eq!(rt; run.stdout.as_str(), ADD_LINES, "at {file}");
-        assert_eq!(rt; run.status, 0, "at {file}");
-        let bytes = fs::read(&(&scratch, rt.alloc()), found)?;
-        assert_eq!(rt; bytes.as_slice(), SET.as_slice(), "at {file}");
+        let words = ["bootkeep", "run", "set", "script", "--out", file];
+        check(&rt, &scratch, &words, (0, ADD_LINES, ""));
+        assert!(rt; scratch.has(found, &SET)?, "at {file}");
     }
     assert!(rt; fs::symlink_metadata(&scratch, "link")?.is_symlink());
     assert_eq!(rt; Some(scratch.count()?), names.checked_add(2));
@@ -85,7 +88,6 @@ fn writes_the_new_set(rt: HostRuntime) -> Result<(), Fail> {
 fn refuses_scripts_and_files(rt: HostRuntime) -> Result<(), Fail> {
     let scratch = scratch(&rt)?;
     let names = scratch.count()?;
-    let long = [0x5a; 1000];
     // set, script and file; status, standard output and standard error
     let table: [(&str, &str, &str, u8, &str, &str); 12] = [
         (
@@ -130,24 +132,10 @@ fn refuses_scripts_and_files(rt: HostRuntime) -> Result<(), Fail> {
         ("set", "script", "/dev/null", 0, ADD_LINES, ""),
     ];
     for (set, script, file, status, stdout, stderr) in table {
-        let run = run_on(&rt, &scratch, set, script, file);
-        assert_eq!(rt;
-            run.stderr.as_str(),
-            stderr,
-            "at {set}, {script} and {file}"
-        );
-        assert_eq!(rt;
-            run.stdout.as_str(),
-            stdout,
-            "at {set}, {script} and {file}"
-        );
-        assert_eq!(rt; run.status, status, "at {set}, {script} and {file}");
-        let bytes = fs::read(&(&scratch, rt.alloc()), "long")?;
-        assert!(rt;
-            bytes.as_slice() == long.as_slice(),
-            "at {set}, {script} and {file}"
-        );
+        let words = ["bootkeep", "run", set, script, "--out", file];
+        check(&rt, &scratch, &words, (status, stdout, stderr));
     }
+    assert!(rt; scratch.has("long", &[0x5a; 1000])?);
     assert_eq!(rt; scratch.count()?, names);
     scratch.remove()
 }
@@ -162,20 +150,18 @@ fn writes_no_file_where_standard_output_refuses(rt: HostRuntime) -> Result<(), F
         stdout: Stream::refusing(rt.alloc()),
         stderr: Stream::new(rt.alloc()),
     });
-    assert_eq!(rt; run.status, 3);
-    assert_eq!(rt; run.stderr.as_str(), "fault: write\n");
-    let bytes = fs::read(&(&scratch, rt.alloc()), "set")?;
-    assert_eq!(rt; bytes.as_slice(), EMPTY_SET);
+    assert_eq!(rt; run.answer(), (3, "", "fault: write\n"));
+    assert!(rt; scratch.has("set", EMPTY_SET)?);
     scratch.remove()
 }
 
 #[test]
 fn keeps_the_rights_of_a_file(rt: HostRuntime) -> Result<(), Fail> {
     let scratch = scratch(&rt)?;
+    let words = ["bootkeep", "run", "set", "script", "--out", "long"];
     for mode in [0o600, 0o640, 0o666, 0o755] {
         File::open(&scratch, "long")?.set_permissions(Permissions::from_mode(mode))?;
-        let run = run_on(&rt, &scratch, "set", "script", "long");
-        assert_eq!(rt; run.status, 0);
+        check(&rt, &scratch, &words, (0, ADD_LINES, ""));
         let rights = fs::metadata(&scratch, "long")?.permissions().mode() & 0o777;
         assert_eq!(rt; rights, mode);
     }
@@ -199,12 +185,8 @@ fn runs_a_stream(rt: HostRuntime) -> Result<(), Fail> {
     ];
     for words in calls {
         fs::write(&scratch, "new", b"".as_slice())?;
-        let run = Run::with(rt.alloc(), Words::Given(&words), &scratch);
-        assert_eq!(rt; run.stderr.as_str(), "", "at {words:?}");
-        assert_eq!(rt; run.stdout.as_str(), LINES, "at {words:?}");
-        assert_eq!(rt; run.status, 0, "at {words:?}");
-        let bytes = fs::read(&(&scratch, rt.alloc()), "new")?;
-        assert_eq!(rt; bytes.as_slice(), wanted.as_slice(), "at {words:?}");
+        check(&rt, &scratch, &words, (0, LINES, ""));
+        assert!(rt; scratch.has("new", &wanted)?, "at {words:?}");
     }
     scratch.remove()
 }
@@ -223,12 +205,8 @@ fn runs_streams_that_change_nothing(rt: HostRuntime) -> Result<(), Fail> {
         (TOO_LONG, 1, "", "refused: Stream TooLong\n"),
     ] {
         fs::write(&scratch, "stream", hex::decode(rt.alloc(), digits)?)?;
-        let run = Run::with(rt.alloc(), Words::Given(&words), &scratch);
-        assert_eq!(rt; run.stderr.as_str(), stderr, "of {digits}");
-        assert_eq!(rt; run.stdout.as_str(), stdout, "of {digits}");
-        assert_eq!(rt; run.status, status, "of {digits}");
-        let bytes = fs::read(&(&scratch, rt.alloc()), "set")?;
-        assert_eq!(rt; bytes.as_slice(), EMPTY_SET, "of {digits}");
+        check(&rt, &scratch, &words, (status, stdout, stderr));
+        assert!(rt; scratch.has("set", EMPTY_SET)?, "of {digits}");
     }
     scratch.remove()
 }
@@ -247,14 +225,11 @@ fn refuses_streams(rt: HostRuntime) -> Result<(), Fail> {
         ("set", "folder", 3, "fault: read\n"),
     ] {
         let words = ["bootkeep", "run", "--stream", set, script, "--out", "new"];
-        let run = Run::with(rt.alloc(), Words::Given(&words), &scratch);
-        assert_eq!(rt; run.stderr.as_str(), stderr, "at {words:?}");
-        assert_eq!(rt; run.stdout.as_str(), "", "at {words:?}");
-        assert_eq!(rt; run.status, status, "at {words:?}");
+        check(&rt, &scratch, &words, (status, "", stderr));
     }
     // without the flag the bytes are those of a script
-    let run = run_on(&rt, &scratch, "set", "stream", "new");
-    assert_eq!(rt; run.stderr.as_str(), "refused: BadLine 1\n");
+    let words = ["bootkeep", "run", "set", "stream", "--out", "new"];
+    check(&rt, &scratch, &words, (1, "", "refused: BadLine 1\n"));
     assert_eq!(rt; scratch.count()?, names);
     scratch.remove()
 }

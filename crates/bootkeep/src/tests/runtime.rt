@@ -196,6 +196,11 @@ impl Run {
         })
     }
 
+    /// The status, and what stands on standard output and on standard error.
+    pub fn answer(&self) -> (u8, &str, &str) {
+        (self.status, self.stdout.as_str(), self.stderr.as_str())
+    }
+
     pub fn over<F: Files + Drop>(runtime: FakeRuntime<'_, F>) -> Run {
         let status = program::run(&runtime);
         let FakeRuntime {

@@ -1,5 +1,6 @@
 //! What scripts over variables are answered.
 
+use super::choice;
 use super::streams::{Given, Taken};
 use crate::running::run_script;
 use crate::source::Watched;
@@ -35,78 +36,81 @@ pub fn vars_of(alloc: Global, table: Table<'_>) -> Result<Vars, Fail> {
     Ok(vars)
 }
 
-/// The delivery of the removal of an entry, by this number.
-fn removal(alloc: Global, number: u8, entry: u8) -> Result<String, Fail> {
-    Ok(format!(in alloc; "deliver 42510103{number:02x}00000002000000{entry:02x}00\n")?)
-}
-
-/// A script over variables, with the lines that answer it and the variables after it.
+/// A script over variables, in parts, with the lines that answer it and the variables after it.
 #[derive(Clone, Copy)]
 struct Case<'a> {
     before: Table<'a>,
-    script: &'a str,
+    script: &'a [&'a str],
     lines: &'a str,
     after: Table<'a>,
 }
 
-/// Runs the script twice: by a source and a sink, and by a reader and a writer of the standard library.
-fn check(rt: &impl Abort, alloc: Global, case: &Case<'_>) -> Result<(), Fail> {
-    let wanted = vars_of(alloc, case.after)?;
+/// The variables after a script and what was written, by a source and a sink.
+fn run_by_parts(alloc: Global, script: &str, vars: Vars) -> Result<(Vars, Vec<u8>), Fail> {
     let mut source = Given {
-        rest: case.script.as_bytes(),
+        rest: script.as_bytes(),
     };
     let mut sink = Taken::new(alloc);
-    let vars = run_script(alloc, &mut source, &mut sink, vars_of(alloc, case.before)?)?;
-    assert_eq!(rt;
-        sink.bytes.as_slice(),
-        case.lines.as_bytes(),
-        "at {}",
-        case.script
-    );
-    assert!(rt; vars == wanted, "at {}", case.script);
+    let vars = run_script(alloc, &mut source, &mut sink, vars)?;
+    let Taken { bytes, failed: _ } = sink;
+    Ok((vars, bytes))
+}
+
+/// The variables after a script and what was written, by a reader and a writer of the standard library.
+fn run_by_traits(alloc: Global, script: &str, vars: Vars) -> Result<(Vars, Vec<u8>), Fail> {
     let mut reader = Watched {
-        inner: case.script.as_bytes(),
+        inner: script.as_bytes(),
         failed: false,
     };
     let mut writer = Watched {
         inner: Vec::new(alloc),
         failed: false,
     };
-    let vars = run_script(
-        alloc,
-        &mut reader,
-        &mut writer,
-        vars_of(alloc, case.before)?,
-    )?;
-    assert_eq!(rt;
-        writer.inner.as_slice(),
-        case.lines.as_bytes(),
-        "at {}",
-        case.script
+    let vars = run_script(alloc, &mut reader, &mut writer, vars)?;
+    if reader.failed || writer.failed {
+        return Err("a flag is set".into());
+    }
+    let Watched { inner, failed: _ } = writer;
+    Ok((vars, inner))
+}
+
+/// Runs the script in both ways.
+fn check(rt: &impl Abort, alloc: Global, case: &Case<'_>) -> Result<(), Fail> {
+    let mut script = String::new(alloc);
+    for part in case.script {
+        script.push_str(part)?;
+    }
+    let wanted = (
+        vars_of(alloc, case.after)?,
+        Vec::from_slice(alloc, case.lines.as_bytes())?,
     );
-    assert!(rt;
-        vars == wanted && !reader.failed && !writer.failed,
-        "at {}",
-        case.script
-    );
+    let answer = run_by_parts(alloc, &script, vars_of(alloc, case.before)?)?;
+    assert!(rt; answer == wanted, "at {script}");
+    let answer = run_by_traits(alloc, &script, vars_of(alloc, case.before)?)?;
+    assert!(rt; answer == wanted, "at {script}");
     Ok(())
 }
 
+/// Runs the scripts of all cases.
+fn check_all(rt: &impl Abort, alloc: Global, cases: &[Case<'_>]) -> Result<(), Fail> {
+    for case in cases {
+        check(rt, alloc, case)?;
+    }
+    Ok(())
+}
+
+/// Entry 1, and the order and the state after it was added.
+const ENTRY_ADDED: Table<'static> = &[
+    ("Boot0001", OPTION),
+    ("BootOrder", "0100"),
+    ("BootKeepState", "01010000000100"),
+];
+
 #[test]
 fn an_entry_is_added(rt: HostRuntime) -> Result<(), Fail> {
-    let alloc = rt.alloc();
-    let case = Case {
-        before: &[],
-        script: ADD_1,
-        lines: "applied Done 1\n",
-        after: &[
-            ("Boot0001", OPTION),
-            ("BootOrder", "0100"),
-            ("BootKeepState", "01010000000100"),
-        ],
-    };
-    check(&rt, alloc, &case)?;
-    let set = write_set(alloc, &vars_of(alloc, case.after)?)?;
+    let (vars, written) = run_by_parts(rt.alloc(), ADD_1, Vars::new(rt.alloc()))?;
+    assert_eq!(rt; written.as_slice(), b"applied Done 1\n".as_slice());
+    let set = write_set(rt.alloc(), &vars)?;
     assert_eq!(rt; set.as_slice(), super::SET.as_slice());
     Ok(())
 }
@@ -120,269 +124,196 @@ pub const TWO_ENTRIES: Table<'static> = &[
     ("BootKeepState", "010300000003000000"),
 ];
 
+/// The removals of entries, by numbers.
+const REMOVE_7_AS_0: &str = "deliver 4251010300000000020000000700\n";
+
+const REMOVE_8_AS_1: &str = "deliver 4251010301000000020000000800\n";
+
+const REMOVE_9_AS_1: &str = "deliver 4251010301000000020000000900\n";
+
+const REMOVE_9_AS_15: &str = "deliver 425101030f000000020000000900\n";
+
+const REMOVE_9_AS_16: &str = "deliver 4251010310000000020000000900\n";
+
 #[test]
-fn requests_come_out_of_order(rt: HostRuntime) -> Result<(), Fail> {
-    let script = format!(in rt.alloc(); "{NEXT_2}{ADD_2}{ADD_1}")?;
-    check(
-        &rt,
-        rt.alloc(),
-        &Case {
+fn requests_are_applied_in_the_order_of_their_numbers(rt: HostRuntime) -> Result<(), Fail> {
+    let cases = [
+        Case {
             before: &[],
-            script: &script,
+            script: &[ADD_1],
+            lines: "applied Done 1\n",
+            after: ENTRY_ADDED,
+        },
+        Case {
+            before: &[],
+            script: &[NEXT_2, ADD_2, ADD_1],
             lines: "waiting 0\nwaiting 0\napplied Done 3\n",
             after: TWO_ENTRIES,
         },
-    )
-}
-
-#[test]
-fn requests_come_in_order(rt: HostRuntime) -> Result<(), Fail> {
-    let script = format!(in rt.alloc(); "{ADD_1}\n{ADD_2}\n{NEXT_2}")?;
-    check(
-        &rt,
-        rt.alloc(),
-        &Case {
+        Case {
             before: &[],
-            script: &script,
+            script: &[ADD_1, "\n", ADD_2, "\n", NEXT_2],
             lines: "applied Done 1\napplied Done 2\napplied Done 3\n",
             after: TWO_ENTRIES,
         },
-    )
-}
-
-#[test]
-fn conflicts_and_a_restart(rt: HostRuntime) -> Result<(), Fail> {
-    let alloc = rt.alloc();
-    let (nine, eight, seven) = (
-        removal(alloc, 1, 9)?,
-        removal(alloc, 1, 8)?,
-        removal(alloc, 0, 7)?,
-    );
-    let script = format!(in alloc; "{nine}{eight}{nine}restart\n{eight}{seven}")?;
-    check(
-        &rt,
-        alloc,
-        &Case {
+        Case {
             before: &[],
-            script: &script,
+            script: &[
+                REMOVE_9_AS_1,
+                REMOVE_8_AS_1,
+                REMOVE_9_AS_1,
+                "restart\n",
+                REMOVE_8_AS_1,
+                REMOVE_7_AS_0,
+            ],
             lines: "waiting 0\nconflict\nwaiting 0\nrestarted 0\nwaiting 0\napplied Missing 2\n",
             after: &[("BootKeepState", "0102000000020202")],
         },
-    )
+        Case {
+            before: &[],
+            script: &[REMOVE_9_AS_15, REMOVE_9_AS_16, "deliver "],
+            lines: "waiting 0\nahead 0\nmalformed Short\n",
+            after: &[],
+        },
+    ];
+    check_all(&rt, rt.alloc(), &cases)
+}
+
+#[test]
+fn the_last_number_is_applied(rt: HostRuntime) -> Result<(), Fail> {
+    let case = Case {
+        before: &[(
+            "BootKeepState",
+            "01feffffff1000000000000000000000000000000000",
+        )],
+        script: &[
+            "deliver 42510103feffffff020000000900\n",
+            "deliver 42510103ffffffff020000000900\n",
+        ],
+        lines: "applied Missing 4294967295\nmalformed BadNumber\n",
+        after: &[(
+            "BootKeepState",
+            "01ffffffff1000000000000000000000000000000002",
+        )],
+    };
+    check(&rt, rt.alloc(), &case)
 }
 
 /// The delivery that makes entry 1 the next one, by number 0.
 const NEXT_1: &str = "deliver 4251010500000000020000000100\n";
+
+/// The delivery that removes entry 1, by number 0.
+const REMOVE_1_AS_0: &str = "deliver 4251010300000000020000000100\n";
+
+/// The delivery that removes entry 1, by number 1.
+const REMOVE_1_AS_1: &str = "deliver 4251010301000000020000000100\n";
 
 /// Entry 1 alone.
 pub const ONE_ENTRY: Table<'static> = &[("Boot0001", OPTION)];
 
 #[test]
 fn a_plan_is_handed_out_once(rt: HostRuntime) -> Result<(), Fail> {
-    let alloc = rt.alloc();
-    let after: [(&str, &str); 2] = [("Boot0001", OPTION), ("BootKeepState", "01010000000100")];
-    let removed: [(&str, &str); 1] = [("BootKeepState", "0102000000020000")];
-    let removal = removal(alloc, 1, 1)?;
-    let table: [(&str, &str, Table<'_>); 3] = [
-        (
-            "prepare\nrestart\nhand",
-            "prepared 1\nrestarted 1\nnothing prepared\n",
-            &after,
-        ),
-        (
-            "prepare\nprepare\nhand\nhand\n",
-            "prepared 1\nalready prepared\nplan next 0001 normal -\nnothing prepared\n",
-            &after,
-        ),
-        (
-            "prepare\n{removal}hand\n",
-            "prepared 1\napplied Done 2\nplan next 0001 normal -\n",
-            &removed,
-        ),
+    let after: Table<'_> = &[("Boot0001", OPTION), ("BootKeepState", "01010000000100")];
+    let cases = [
+        Case {
+            before: ONE_ENTRY,
+            script: &[NEXT_1, "prepare\nrestart\nhand"],
+            lines: "applied Done 1\nprepared 1\nrestarted 1\nnothing prepared\n",
+            after,
+        },
+        Case {
+            before: ONE_ENTRY,
+            script: &[NEXT_1, "prepare\nprepare\nhand\nhand\n"],
+            lines: "applied Done 1\nprepared 1\nalready prepared\nplan next 0001 normal -\nnothing prepared\n",
+            after,
+        },
+        Case {
+            before: ONE_ENTRY,
+            script: &[NEXT_1, "prepare\n", REMOVE_1_AS_1, "hand\n"],
+            lines: "applied Done 1\nprepared 1\napplied Done 2\nplan next 0001 normal -\n",
+            after: &[("BootKeepState", "0102000000020000")],
+        },
     ];
-    for (events, answers, after) in table {
-        let mut script = format!(in alloc; "{NEXT_1}{events}")?;
-        if let Some((front, behind)) = events.split_once("{removal}") {
-            script = format!(in alloc; "{NEXT_1}{front}{removal}{behind}")?;
-        }
-        let lines = format!(in alloc; "applied Done 1\n{answers}")?;
-        check(
-            &rt,
-            alloc,
-            &Case {
-                before: ONE_ENTRY,
-                script: &script,
-                lines: &lines,
-                after,
-            },
-        )?;
-    }
-    Ok(())
+    check_all(&rt, rt.alloc(), &cases)
+}
+
+/// The delivery of the removal of entry 9, by this number.
+fn removal(alloc: Global, number: u8) -> Result<String, Fail> {
+    Ok(format!(in alloc; "deliver 42510103{number:02x}000000020000000900\n")?)
 }
 
 #[test]
 fn seventeen_removals(rt: HostRuntime) -> Result<(), Fail> {
-    let alloc = rt.alloc();
-    let mut script = String::new(alloc);
-    let mut lines = String::new(alloc);
+    let mut script = String::new(rt.alloc());
+    let mut lines = String::new(rt.alloc());
     for number in 0u8..17 {
-        script.push_str(&removal(alloc, number, 9)?)?;
+        script.push_str(&removal(rt.alloc(), number)?)?;
         writeln!(lines, "applied Missing {}", u32::from(number) + 1)?;
     }
-    script.push_str(&removal(alloc, 0, 9)?)?;
-    script.push_str(&removal(alloc, 1, 9)?)?;
-    script.push_str(&removal(alloc, 1, 8)?)?;
+    for line in [REMOVE_7_AS_0, REMOVE_9_AS_1, REMOVE_8_AS_1] {
+        script.push_str(line)?;
+    }
     lines.push_str("old\nrepeat Missing\nrepeat Missing\n")?;
-    check(
-        &rt,
-        alloc,
-        &Case {
-            before: &[],
-            script: &script,
-            lines: &lines,
-            after: &[(
-                "BootKeepState",
-                "01110000001002020202020202020202020202020202",
-            )],
-        },
-    )
+    let case = Case {
+        before: &[],
+        script: &[&script],
+        lines: &lines,
+        after: &[(
+            "BootKeepState",
+            "01110000001002020202020202020202020202020202",
+        )],
+    };
+    check(&rt, rt.alloc(), &case)
 }
 
 #[test]
 fn requests_have_their_effects(rt: HostRuntime) -> Result<(), Fail> {
-    let alloc = rt.alloc();
-    let removal = removal(alloc, 0, 1)?;
-    check(
-        &rt,
-        alloc,
-        &Case {
+    let cases = [
+        Case {
             before: &[
                 ("Boot0001", OPTION),
                 ("BootOrder", "0100"),
                 ("BootNext", "0100"),
             ],
-            script: &removal,
+            script: &[REMOVE_1_AS_0],
             lines: "applied Done 1\n",
             after: &[("BootKeepState", "01010000000100")],
         },
-    )?;
-    let orders = "deliver 425101040100000006000000010001000900\n\
-        deliver 42510104020000000400000001000900\n\
-        deliver 425101040300000000000000\n";
-    let adds_again = "deliver 42510101040000002c0000000100";
-    let replaces = "deliver 42510102050000002c0000000900";
-    let script = format!(in alloc; "{orders}{adds_again}{OPTION}\n{replaces}{OPTION}\n")?;
-    check(
-        &rt,
-        alloc,
-        &Case {
-            before: &[
-                ("Boot0001", OPTION),
-                ("BootOrder", "0100"),
-                ("BootKeepState", "01010000000100"),
+        Case {
+            before: ENTRY_ADDED,
+            script: &[
+                "deliver 425101040100000006000000010001000900\n",
+                "deliver 42510104020000000400000001000900\n",
+                "deliver 425101040300000000000000\n",
+                "deliver 42510101040000002c0000000100",
+                OPTION,
+                "\ndeliver 42510102050000002c0000000900",
+                OPTION,
             ],
-            script: &script,
             lines: "applied OrderRepeats 2\napplied OrderUnknown 3\napplied Done 4\napplied Exists 5\napplied Missing 6\n",
             after: &[
                 ("Boot0001", OPTION),
                 ("BootKeepState", "010600000006000304000102"),
             ],
         },
-    )
-}
-
-#[test]
-fn the_window_ends_at_fifteen_ahead(rt: HostRuntime) -> Result<(), Fail> {
-    let alloc = rt.alloc();
-    let (last, ahead) = (removal(alloc, 15, 9)?, removal(alloc, 16, 9)?);
-    let script = format!(in alloc; "{last}{ahead}deliver ")?;
-    check(
-        &rt,
-        alloc,
-        &Case {
-            before: &[],
-            script: &script,
-            lines: "waiting 0\nahead 0\nmalformed Short\n",
-            after: &[],
-        },
-    )
-}
-
-#[test]
-fn malformed_frames_change_nothing(rt: HostRuntime) -> Result<(), Fail> {
-    check(
-        &rt,
-        rt.alloc(),
-        &Case {
-            before: ONE_ENTRY,
-            script: "deliver 425201\n\
-                deliver 425201030000000000000000\n\
-                deliver 425102030000000000000000\n\
-                deliver 425101030000000001000200\n\
-                deliver 425101030000000002000000\n\
-                deliver 425101060000000000000000\n\
-                deliver 42510103000000000100000009\n\
-                deliver 42510101000000000700000001000000000000",
-            lines: "malformed Short\nmalformed BadMagic\nmalformed BadVersion\nmalformed TooLong\nmalformed BadSize\nmalformed BadKind\nmalformed BadPayload\nmalformed Option Short\n",
-            after: ONE_ENTRY,
-        },
-    )
-}
-
-#[test]
-fn the_last_number_is_applied(rt: HostRuntime) -> Result<(), Fail> {
-    check(
-        &rt,
-        rt.alloc(),
-        &Case {
-            before: &[(
-                "BootKeepState",
-                "01feffffff1000000000000000000000000000000000",
-            )],
-            script: "deliver 42510103feffffff020000000900\ndeliver 42510103ffffffff020000000900\n",
-            lines: "applied Missing 4294967295\nmalformed BadNumber\n",
-            after: &[(
-                "BootKeepState",
-                "01ffffffff1000000000000000000000000000000002",
-            )],
-        },
-    )
-}
-
-#[test]
-fn the_choice_is_handed_out(rt: HostRuntime) -> Result<(), Fail> {
-    let alloc = rt.alloc();
-    let (_, rest) = OPTION.split_at_checked(8).ok_or("short")?;
-    let inactive = format!(in alloc; "00000000{rest}")?;
-    let app = format!(in alloc; "01010000{rest}")?;
-    let hidden = format!(in alloc; "09000000{rest}")?;
-    let reserved = format!(in alloc; "01020000{rest}")?;
-    let after: [(&str, &str); 7] = [
-        ("Boot0001", &inactive),
-        ("Boot0002", &app),
-        ("Boot0003", "00"),
-        ("Boot0004", OPTION),
-        ("Boot0006", &hidden),
-        ("Boot0007", &reserved),
-        ("BootOrder", "0500010002000300040006000700"),
     ];
-    let mut before = Vec::from_slice(alloc, &after)?;
-    before.push(("BootNext", "0700"))?;
-    check(
-        &rt,
-        alloc,
-        &Case {
-            before: &before,
-            script: "prepare\nhand\n",
-            lines: "prepared 3\nplan next 0007 normal 0004 0006\n",
-            after: &after,
-        },
-    )
+    check_all(&rt, rt.alloc(), &cases)
 }
 
 #[test]
-fn empty_lines_are_skipped(rt: HostRuntime) -> Result<(), Fail> {
+fn some_lines_change_nothing(rt: HostRuntime) -> Result<(), Fail> {
     for (script, lines) in [
+        (
+            "deliver 425201\n\
+            deliver 425201030000000000000000\n\
+            deliver 425102030000000000000000\n\
+            deliver 425101030000000001000200\n\
+            deliver 425101030000000002000000\n\
+            deliver 425101060000000000000000\n\
+            deliver 42510103000000000100000009\n\
+            deliver 42510101000000000700000001000000000000",
+            "malformed Short\nmalformed BadMagic\nmalformed BadVersion\nmalformed TooLong\nmalformed BadSize\nmalformed BadKind\nmalformed BadPayload\nmalformed Option Short\n",
+        ),
         ("", ""),
         ("\n\n", ""),
         ("hand", "nothing prepared\n"),
@@ -392,53 +323,51 @@ fn empty_lines_are_skipped(rt: HostRuntime) -> Result<(), Fail> {
             "malformed Short\nmalformed Short\n",
         ),
     ] {
-        check(
-            &rt,
-            rt.alloc(),
-            &Case {
-                before: ONE_ENTRY,
-                script,
-                lines,
-                after: ONE_ENTRY,
-            },
-        )?;
+        let case = Case {
+            before: ONE_ENTRY,
+            script: &[script],
+            lines,
+            after: ONE_ENTRY,
+        };
+        check(&rt, rt.alloc(), &case)?;
     }
     Ok(())
 }
 
 #[test]
+fn the_choice_is_handed_out(rt: HostRuntime) -> Result<(), Fail> {
+    let mut wanted = choice(rt.alloc())?;
+    let (vars, written) = run_by_parts(rt.alloc(), "prepare\nhand\n", wanted.copy(rt.alloc())?)?;
+    let lines = "prepared 3\nplan next 0007 normal 0004 0006\n";
+    assert_eq!(rt; written.as_slice(), lines.as_bytes());
+    assert!(rt; wanted.remove("BootNext") && vars == wanted);
+    Ok(())
+}
+
+#[test]
 fn a_full_order_stays(rt: HostRuntime) -> Result<(), Fail> {
-    let alloc = rt.alloc();
-    let order = vec![in alloc; 0; 131_072]?;
-    let mut vars = Vars::new(alloc);
+    let order = vec![in rt.alloc(); 0; 131_072]?;
+    let mut vars = Vars::new(rt.alloc());
     vars.put("BootOrder", &order)?;
-    let mut source = Given {
-        rest: ADD_1.as_bytes(),
-    };
-    let mut sink = Taken::new(alloc);
-    let vars = run_script(alloc, &mut source, &mut sink, vars)?;
-    assert_eq!(rt; sink.bytes.as_slice(), b"applied Done 1\n".as_slice());
+    let (vars, written) = run_by_parts(rt.alloc(), ADD_1, vars)?;
+    assert_eq!(rt; written.as_slice(), b"applied Done 1\n".as_slice());
     assert!(rt; vars.get("BootOrder") == Some(order.as_slice()) && vars.len() == 3);
     Ok(())
 }
 
 #[test]
 fn a_long_script_is_run(rt: HostRuntime) -> Result<(), Fail> {
-    let alloc = rt.alloc();
-    let mut script = String::new(alloc);
-    let mut lines = String::new(alloc);
+    let mut script = String::new(rt.alloc());
+    let mut lines = String::new(rt.alloc());
     for _ in 0..25_000 {
         script.push_str("prepare\nhand\n\nrestart\n")?;
         lines.push_str("prepared 0\nplan next - normal -\nrestarted 0\n")?;
     }
-    check(
-        &rt,
-        alloc,
-        &Case {
-            before: ONE_ENTRY,
-            script: &script,
-            lines: &lines,
-            after: ONE_ENTRY,
-        },
-    )
+    let case = Case {
+        before: ONE_ENTRY,
+        script: &[&script],
+        lines: &lines,
+        after: ONE_ENTRY,
+    };
+    check(&rt, rt.alloc(), &case)
 }
