@@ -3,7 +3,8 @@
 //!
 //! A [`Request`] with its number is sent as a frame: [`read_frame`] reads one from its bytes, all of them, and
 //! [`write_frame`] gives its one spelling. An [`Inbox`] cuts a stream of frames, in pieces of any length, into the bytes
-//! of each.
+//! of each. A [`Keeper`] holds the variables, what waits and what is prepared: [`Keeper::step`] gives the one after an
+//! [`Event`] and the [`Reply`], and [`run`] goes over many events.
 #![tactic(auto)]
 
 mod applying;

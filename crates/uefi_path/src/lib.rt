@@ -3,7 +3,8 @@
 //! A [`Path`] is one or more instances, each a list of [`Node`]s. [`read_path`] reads a path off
 //! the front of some bytes and [`write_path`] appends the one spelling of a path. What no case of
 //! [`Node`] stands for is kept as bytes, as [`OtherNode`], so a path that was read is written as it
-//! was.
+//! was. [`check_path`] and [`nodes`] tell how long a path is and which nodes it has where it stands in
+//! the bytes, each as a [`NodeView`], and take no memory.
 #![tactic(auto)]
 
 mod fault;

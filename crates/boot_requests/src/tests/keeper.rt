@@ -8,8 +8,8 @@ use std::test::Fail;
 use uefi_option::read_option;
 use uefi_vars::{Vars, write_set};
 
-/// What happens to a keeper: a request with its number is delivered, or these bytes, or another event comes. The option of
-/// an entry is that of the disk.
+/// What happens to a keeper: a request with its number is delivered, or these bytes, or another event comes. The option
+/// of an entry is that of the disk.
 #[derive(Clone, Copy)]
 pub(super) enum Sent<'a> {
     Add(u32, u16),
