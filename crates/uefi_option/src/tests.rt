@@ -1,5 +1,6 @@
 use super::*;
 use std::alloc::{AllocError, Global};
+use std::process::Abort;
 use std::test::Fail;
 use uefi_path::{BODY_MAX, Path, PathFault, append_units, make_path, read_path};
 
@@ -32,54 +33,82 @@ fn empty_paths(alloc: Global, count: usize) -> Result<Vec<Path>, Fail> {
     Ok(paths)
 }
 
+/// [`DISK`] with a byte of optional data.
+const WITH_DATA: [u8; 43] = [
+    0x01, 0x00, 0x00, 0x00, 0x20, 0x00, 0x41, 0x00, 0x00, 0x00, 0x02, 0x01, 0x0c, 0x00, 0xd0, 0x41,
+    0x03, 0x0a, 0x00, 0x00, 0x00, 0x00, 0x01, 0x01, 0x06, 0x00, 0x02, 0x1f, 0x03, 0x12, 0x0a, 0x00,
+    0x00, 0x00, 0xff, 0xff, 0x00, 0x00, 0x7f, 0xff, 0x04, 0x00, 0x5a,
+];
+
+/// A list of two paths, and all attribute bits.
+const TWO_PATHS: [u8; 18] = [
+    0xff, 0xff, 0xff, 0xff, 0x08, 0x00, 0x00, 0x00, 0x7f, 0xff, 0x04, 0x00, 0x7f, 0xff, 0x04, 0x00,
+    0x01, 0x02,
+];
+
+/// A list of three paths: a node that is kept as bytes, a USB device, and two empty instances.
+const THREE_PATHS: [u8; 41] = [
+    0x01, 0x01, 0x00, 0x00, 0x1d, 0x00, 0x42, 0x00, 0x00, 0xd8, 0x00, 0x00, 0x01, 0x01, 0x07, 0x00,
+    0x02, 0x05, 0xaa, 0x7f, 0xff, 0x04, 0x00, 0x03, 0x05, 0x06, 0x00, 0x01, 0x00, 0x7f, 0xff, 0x04,
+    0x00, 0x7f, 0x01, 0x04, 0x00, 0x7f, 0xff, 0x04, 0x00,
+];
+
+/// Options, each with its attributes, its units, how many paths it has, and its optional data.
+const OPTIONS: [(&[u8], u32, &[u16], usize, &[u8]); 4] = [
+    (&DISK, 0x0000_0001, &[0x41], 1, &[]),
+    (&WITH_DATA, 0x0000_0001, &[0x41], 1, &[0x5a]),
+    (&TWO_PATHS, 0xffff_ffff, &[], 2, &[0x01, 0x02]),
+    (&THREE_PATHS, 0x0000_0101, &[0x42, 0xd800], 3, &[]),
+];
+
 #[test]
-fn reads_writes_makes_and_copies_options(rt: HostRuntime) -> Result<(), Fail> {
-    // the bytes, and what is read: attributes, units, how many paths and which optional data
-    let with_data: [u8; 43] = [
-        0x01, 0x00, 0x00, 0x00, 0x20, 0x00, 0x41, 0x00, 0x00, 0x00, 0x02, 0x01, 0x0c, 0x00, 0xd0,
-        0x41, 0x03, 0x0a, 0x00, 0x00, 0x00, 0x00, 0x01, 0x01, 0x06, 0x00, 0x02, 0x1f, 0x03, 0x12,
-        0x0a, 0x00, 0x00, 0x00, 0xff, 0xff, 0x00, 0x00, 0x7f, 0xff, 0x04, 0x00, 0x5a,
-    ];
-    // a list of two paths, and all attribute bits
-    let two: [u8; 18] = [
-        0xff, 0xff, 0xff, 0xff, 0x08, 0x00, 0x00, 0x00, 0x7f, 0xff, 0x04, 0x00, 0x7f, 0xff, 0x04,
-        0x00, 0x01, 0x02,
-    ];
-    // a list of three paths: a node that is kept as bytes, a USB device, and two empty instances
-    let three: [u8; 41] = [
-        0x01, 0x01, 0x00, 0x00, 0x1d, 0x00, 0x42, 0x00, 0x00, 0xd8, 0x00, 0x00, 0x01, 0x01, 0x07,
-        0x00, 0x02, 0x05, 0xaa, 0x7f, 0xff, 0x04, 0x00, 0x03, 0x05, 0x06, 0x00, 0x01, 0x00, 0x7f,
-        0xff, 0x04, 0x00, 0x7f, 0x01, 0x04, 0x00, 0x7f, 0xff, 0x04, 0x00,
-    ];
-    let table: [(&[u8], u32, &[u16], usize, &[u8]); 4] = [
-        (&DISK, 0x0000_0001, &[0x41], 1, &[]),
-        (&with_data, 0x0000_0001, &[0x41], 1, &[0x5a]),
-        (&two, 0xffff_ffff, &[], 2, &[0x01, 0x02]),
-        (&three, 0x0000_0101, &[0x42, 0xd800], 3, &[]),
-    ];
-    for (bytes, attributes, description, paths, optional) in table {
+fn reads_and_writes_options(rt: HostRuntime) -> Result<(), Fail> {
+    for (bytes, attributes, description, paths, optional) in OPTIONS {
         let option = read_option(rt.alloc(), bytes)?;
-        assert_eq!(rt; option.attributes(), attributes, "of {bytes:?}");
-        assert_eq!(rt; option.description(), description, "of {bytes:?}");
-        assert_eq!(rt; option.paths().len(), paths, "of {bytes:?}");
-        assert_eq!(rt; option.optional(), optional, "of {bytes:?}");
+        assert_eq!(rt;
+            (
+                option.attributes(),
+                option.description(),
+                option.paths().len(),
+                option.optional()
+            ),
+            (attributes, description, paths, optional)
+        );
         assert_eq!(rt; write_option(rt.alloc(), &option)?.as_slice(), bytes);
+    }
+    Ok(())
+}
+
+#[test]
+fn copies_and_makes_options(rt: HostRuntime) -> Result<(), Fail> {
+    for (bytes, attributes, description, _, optional) in OPTIONS {
+        let option = read_option(rt.alloc(), bytes)?;
         assert!(rt; option.copy(rt.alloc())? == option, "of {bytes:?}");
-        let made = make_option(
-            rt.alloc(),
-            attributes,
-            description,
-            option.paths(),
-            optional,
-        )?;
+        let paths = option.paths();
+        let made = make_option(rt.alloc(), attributes, description, paths, optional)?;
         assert!(rt; made == option, "of {bytes:?}");
-        let (bits, units, list, data) = made.into_parts(rt.alloc()).ok().ok_or(AllocError)?;
-        assert_eq!(rt; bits, attributes, "of {bytes:?}");
-        assert_eq!(rt; units.as_slice(), description, "of {bytes:?}");
-        assert_eq!(rt; list.len(), paths, "of {bytes:?}");
-        assert_eq!(rt; data.as_slice(), optional, "of {bytes:?}");
+    }
+    Ok(())
+}
+
+/// The parts of an option that is read from these bytes.
+type Parts = (u32, Vec<u16>, Vec<Path>, Vec<u8>);
+
+fn parts_of(alloc: Global, bytes: &[u8]) -> Result<Parts, Fail> {
+    let option = read_option(alloc, bytes)?;
+    Ok(option.into_parts(alloc).ok().ok_or(AllocError)?)
+}
+
+#[test]
+fn gives_parts_away_and_takes_them_back(rt: HostRuntime) -> Result<(), Fail> {
+    for (bytes, attributes, description, paths, optional) in OPTIONS {
+        let (bits, units, list, data) = parts_of(rt.alloc(), bytes)?;
+        assert_eq!(rt;
+            (bits, units.as_slice(), list.len(), data.as_slice()),
+            (attributes, description, paths, optional)
+        );
         match LoadOption::from_parts(rt.alloc(), bits, units, list, data) {
-            Ok(again) => assert!(rt; again == option, "of {bytes:?}"),
+            Ok(again) => assert!(rt; again == read_option(rt.alloc(), bytes)?, "of {bytes:?}"),
             Err(refused) => assert!(rt; false, "{refused:?}"),
         }
     }
@@ -205,15 +234,16 @@ fn shows_options_where_they_stand(rt: HostRuntime) -> Result<(), Fail> {
 fn compares_every_part(rt: HostRuntime) -> Result<(), Fail> {
     let (one, two) = (empty_paths(rt.alloc(), 1)?, empty_paths(rt.alloc(), 2)?);
     let option = make_option(rt.alloc(), 1, &[0x41], one.as_slice(), &[0x5a])?;
-    let others = [
-        make_option(rt.alloc(), 3, &[0x41], one.as_slice(), &[0x5a])?,
-        make_option(rt.alloc(), 1, &[0x42], one.as_slice(), &[0x5a])?,
-        make_option(rt.alloc(), 1, &[0x41], two.as_slice(), &[0x5a])?,
-        make_option(rt.alloc(), 1, &[0x41], one.as_slice(), &[])?,
+    // the parts of options, each of which differs from it in one
+    let table: [(u32, &[u16], &[Path], &[u8]); 4] = [
+        (3, &[0x41], one.as_slice(), &[0x5a]),
+        (1, &[0x42], one.as_slice(), &[0x5a]),
+        (1, &[0x41], two.as_slice(), &[0x5a]),
+        (1, &[0x41], one.as_slice(), &[]),
     ];
-    for other in &others {
-        assert!(rt; *other != option, "{other:?}");
-        assert!(rt; *other == *other, "{other:?}");
+    for (attributes, description, paths, optional) in table {
+        let other = make_option(rt.alloc(), attributes, description, paths, optional)?;
+        assert!(rt; other != option && other == other, "{other:?}");
     }
     Ok(())
 }
@@ -291,43 +321,55 @@ fn tells_the_first_fault_of_an_option(rt: HostRuntime) -> Result<(), Fail> {
     Ok(())
 }
 
+/// These parts are refused so, and those that are given away come back.
+fn are_refused(
+    rt: &impl Abort,
+    alloc: Global,
+    (description, paths): (&[u16], &[Path]),
+    fault: OptionFault,
+) -> Result<(), Fail> {
+    let found = make_option(alloc, 1, description, paths, &[]).err();
+    assert_eq!(rt; found, Some(fault));
+    let units = Vec::from_slice(alloc, description)?;
+    let list = empty_paths(alloc, paths.len())?;
+    let data = Vec::from_slice(alloc, &[0x5a])?;
+    match LoadOption::from_parts(alloc, 1, units, list, data) {
+        Ok(_) => assert!(rt; false, "{fault:?} is no fault"),
+        Err(refused) => {
+            assert_eq!(rt; refused.fault, fault);
+            assert_eq!(rt; refused.description.as_slice(), description);
+            assert_eq!(rt; refused.paths.len(), paths.len());
+            assert_eq!(rt; refused.optional.as_slice(), [0x5a].as_slice());
+        }
+    }
+    Ok(())
+}
+
 #[test]
 fn refuses_parts_in_order(rt: HostRuntime) -> Result<(), Fail> {
-    let none = empty_paths(rt.alloc(), 0)?;
-    // spelled by 65,532 and by 65,536 bytes
-    let longest = empty_paths(rt.alloc(), 16_383)?;
+    // spelled by 65,536 bytes
     let too_long = empty_paths(rt.alloc(), 16_384)?;
-    let made = make_option(rt.alloc(), 1, &[0x41], longest.as_slice(), &[0x5a])?;
-    let bytes = write_option(rt.alloc(), &made)?;
-    assert_eq!(rt; bytes.len(), 65_543);
-    assert!(rt; read_option(rt.alloc(), bytes.as_slice())? == made);
-
     let table: [(&[u16], &[Path], OptionFault); 5] = [
-        (&[0x00], none.as_slice(), OptionFault::ZeroUnit),
+        (&[0x00], &[], OptionFault::ZeroUnit),
         (&[0x41, 0x00], too_long.as_slice(), OptionFault::ZeroUnit),
-        (&[0x41], none.as_slice(), OptionFault::EmptyList),
-        (&[], none.as_slice(), OptionFault::EmptyList),
+        (&[0x41], &[], OptionFault::EmptyList),
+        (&[], &[], OptionFault::EmptyList),
         (&[0x41], too_long.as_slice(), OptionFault::ListTooLong),
     ];
     for (description, paths, fault) in table {
-        match make_option(rt.alloc(), 1, description, paths, &[]) {
-            Ok(_) => assert!(rt; false, "{fault:?} is no fault"),
-            Err(found) => assert_eq!(rt; found, fault),
-        }
-        // parts that are given away come back
-        let units = Vec::from_slice(rt.alloc(), description)?;
-        let list = empty_paths(rt.alloc(), paths.len())?;
-        let data = Vec::from_slice(rt.alloc(), &[0x5a])?;
-        match LoadOption::from_parts(rt.alloc(), 1, units, list, data) {
-            Ok(_) => assert!(rt; false, "{fault:?} is no fault"),
-            Err(refused) => {
-                assert_eq!(rt; refused.fault, fault);
-                assert_eq!(rt; refused.description.as_slice(), description);
-                assert_eq!(rt; refused.paths.len(), paths.len());
-                assert_eq!(rt; refused.optional.as_slice(), [0x5a].as_slice());
-            }
-        }
+        are_refused(&rt, rt.alloc(), (description, paths), fault)?;
     }
+    Ok(())
+}
+
+#[test]
+fn takes_the_longest_list(rt: HostRuntime) -> Result<(), Fail> {
+    // spelled by 65,532 bytes
+    let paths = empty_paths(rt.alloc(), 16_383)?;
+    let made = make_option(rt.alloc(), 1, &[0x41], paths.as_slice(), &[0x5a])?;
+    let bytes = write_option(rt.alloc(), &made)?;
+    assert_eq!(rt; bytes.len(), 65_543);
+    assert!(rt; read_option(rt.alloc(), bytes.as_slice())? == made);
     Ok(())
 }
 
@@ -372,13 +414,16 @@ fn tells_what_attributes_mean(rt: HostRuntime) -> Result<(), Fail> {
         (0xffff_fffe, false, 0x1f00, false),
     ];
     for (attributes, active, bits, normal) in table {
-        assert_eq!(rt; is_active(attributes), active, "of {attributes:x}");
-        assert_eq!(rt; category(attributes), bits, "of {attributes:x}");
-        assert_eq!(rt; is_normal(attributes), normal, "of {attributes:x}");
+        let meant = (active, bits, normal);
+        let found = (
+            is_active(attributes),
+            category(attributes),
+            is_normal(attributes),
+        );
+        assert_eq!(rt; found, meant, "of {attributes:x}");
         let option = make_option(rt.alloc(), attributes, &[], paths.as_slice(), &[])?;
-        assert_eq!(rt; option.is_active(), active, "of {attributes:x}");
-        assert_eq!(rt; option.category(), bits, "of {attributes:x}");
-        assert_eq!(rt; option.is_normal(), normal, "of {attributes:x}");
+        let found = (option.is_active(), option.category(), option.is_normal());
+        assert_eq!(rt; found, meant, "of {attributes:x}");
     }
     Ok(())
 }

@@ -1,5 +1,6 @@
 use super::*;
 use std::alloc::Global;
+use std::process::Abort;
 use std::test::Fail;
 
 /// The option `A` of a disk: active, and with one path of three nodes.
@@ -91,6 +92,20 @@ fn reads_each_cut_of_a_set(rt: HostRuntime) -> Result<(), Fail> {
     Ok(())
 }
 
+/// A set file of these records is refused with this word and this place.
+fn is_refused(
+    rt: &impl Abort,
+    alloc: Global,
+    records: &[&[u8]],
+    (word, place): (&str, usize),
+) -> Result<(), Fail> {
+    let bytes = set_file(alloc, records)?;
+    let fault = read_set(alloc, bytes.as_slice()).err().ok_or("no fault")?;
+    let words = format!(in alloc; "{word} {place}")?;
+    assert_eq!(rt; fault.words(alloc)?, words, "of {records:?}");
+    Ok(())
+}
+
 #[test]
 fn tells_the_first_fault_of_a_record(rt: HostRuntime) -> Result<(), Fail> {
     let first: &[u8] = &[0x01, 0x41, 0x01, 0x00, 0x00, 0x00, 0x00];
@@ -127,22 +142,8 @@ fn tells_the_first_fault_of_a_record(rt: HostRuntime) -> Result<(), Fail> {
         ),
     ];
     for (record, alone, behind) in table {
-        let inputs = [
-            (
-                set_file(rt.alloc(), &[record])?,
-                format!(in rt.alloc(); "{alone} 4")?,
-            ),
-            (
-                set_file(rt.alloc(), &[first, record])?,
-                format!(in rt.alloc(); "{behind} 11")?,
-            ),
-        ];
-        for (bytes, words) in &inputs {
-            match read_set(rt.alloc(), bytes.as_slice()) {
-                Ok(_) => assert!(rt; false, "{record:?} is read"),
-                Err(fault) => assert_eq!(rt; fault.words(rt.alloc())?, *words, "of {record:?}"),
-            }
-        }
+        is_refused(&rt, rt.alloc(), &[record], (alone, 4))?;
+        is_refused(&rt, rt.alloc(), &[first, record], (behind, 11))?;
     }
     assert_eq!(rt;
         read_set(rt.alloc(), b"BVS0").err(),
@@ -151,28 +152,56 @@ fn tells_the_first_fault_of_a_record(rt: HostRuntime) -> Result<(), Fail> {
     Ok(())
 }
 
+/// The variables are these, in this order.
+fn are(rt: &impl Abort, vars: &Vars, table: &[(&str, &[u8])]) {
+    assert_eq!(rt; vars.len(), table.len());
+    for (index, (name, value)) in table.iter().enumerate() {
+        assert!(rt; vars.item(index) == Some((*name, *value)), "{name}");
+        assert!(rt; vars.get(name) == Some(*value), "{name}");
+    }
+    assert!(rt; vars.item(table.len()).is_none());
+}
+
+/// What [`SET`] holds as the state of a keeper.
+const STATE: [u8; 7] = [0x01, 0x01, 0x00, 0x00, 0x00, 0x01, 0x00];
+
 #[test]
 fn keeps_variables_by_name(rt: HostRuntime) -> Result<(), Fail> {
     let mut vars = set_variables(rt.alloc())?;
-    assert_eq!(rt; vars.len(), 3);
-    assert!(rt; vars.get("Boot0001") == Some(DISK.as_slice()));
+    let before: [(&str, &[u8]); 3] = [
+        ("Boot0001", &DISK),
+        ("BootKeepState", &STATE),
+        ("BootOrder", &[0x01, 0x00]),
+    ];
+    are(&rt, &vars, &before);
     assert!(rt; vars.get("Boot").is_none() && vars.get("Boot0002").is_none());
     assert!(rt; vars.entry(1) == Some(DISK.as_slice()) && vars.entry(2).is_none());
-    assert!(rt; vars.item(0) == Some(("Boot0001", DISK.as_slice())));
-    assert!(rt; vars.item(2) == Some(("BootOrder", [0x01, 0x00].as_slice())));
-    assert!(rt; vars.item(3).is_none());
     vars.put("BootOrder", &[0x02, 0x00])?;
     vars.put("BootNext", &[0x02, 0x00])?;
-    assert!(rt; vars != set_variables(rt.alloc())?);
-    assert!(rt; vars.item(2) == Some(("BootNext", [0x02, 0x00].as_slice())));
-    assert!(rt; vars.item(3) == Some(("BootOrder", [0x02, 0x00].as_slice())));
-    assert!(rt; vars.remove("BootNext"));
-    assert!(rt; !vars.remove("BootNext"));
-    assert!(rt; vars != set_variables(rt.alloc())?);
+    let after: [(&str, &[u8]); 4] = [
+        ("Boot0001", &DISK),
+        ("BootKeepState", &STATE),
+        ("BootNext", &[0x02, 0x00]),
+        ("BootOrder", &[0x02, 0x00]),
+    ];
+    are(&rt, &vars, &after);
+    assert!(rt; vars.remove("BootNext") && !vars.remove("BootNext"));
     vars.put("BootOrder", &[0x01, 0x00])?;
-    assert!(rt; vars == set_variables(rt.alloc())?);
+    are(&rt, &vars, &before);
+    Ok(())
+}
+
+#[test]
+fn compares_variables(rt: HostRuntime) -> Result<(), Fail> {
+    let mut vars = set_variables(rt.alloc())?;
+    let same = set_variables(rt.alloc())?;
+    assert!(rt; vars == same);
+    vars.put("BootOrder", &[0x02, 0x00])?;
+    assert!(rt; vars != same);
+    vars.put("BootOrder", &[0x01, 0x00])?;
+    assert!(rt; vars == same);
     for name in ["Boot0001", "BootKeepState", "BootOrder"] {
-        assert!(rt; vars.remove(name), "{name}");
+        assert!(rt; vars.remove(name) && vars != same, "{name}");
     }
     assert!(rt; vars.is_empty() && vars == Vars::new(rt.alloc()));
     Ok(())
@@ -184,13 +213,16 @@ fn changes_a_copy_and_its_set_apart(rt: HostRuntime) -> Result<(), Fail> {
     let mut copy = vars.copy(rt.alloc())?;
     let other = copy.copy(rt.alloc())?;
     copy.put("Boot0001", &[0x02])?;
-    copy.put("BootNext", &[0x01, 0x00])?;
-    assert!(rt; vars == set_variables(rt.alloc())?);
+    assert!(rt; vars == other);
     assert!(rt; vars.remove("BootOrder"));
-    assert!(rt; copy.get("Boot0001") == Some([0x02].as_slice()));
-    assert!(rt; copy.get("BootOrder") == Some([0x01, 0x00].as_slice()));
-    assert_eq!(rt; copy.len(), 4);
-    assert!(rt; vars.get("Boot0001") == Some(DISK.as_slice()) && vars.len() == 2);
+    let removed: [(&str, &[u8]); 2] = [("Boot0001", &DISK), ("BootKeepState", &STATE)];
+    are(&rt, &vars, &removed);
+    let replaced: [(&str, &[u8]); 3] = [
+        ("Boot0001", &[0x02]),
+        ("BootKeepState", &STATE),
+        ("BootOrder", &[0x01, 0x00]),
+    ];
+    are(&rt, &copy, &replaced);
     assert!(rt; other == set_variables(rt.alloc())?);
     Ok(())
 }
@@ -235,18 +267,20 @@ fn goes_over_variables_by_name(rt: HostRuntime) -> Result<(), Fail> {
     Ok(())
 }
 
+const LONGEST_NAME: &str = "0123456789abcdef0123456789abcdef0123456789abcdef0123456789abcdef";
+
+const TOO_LONG_NAME: &str = "0123456789abcdef0123456789abcdef0123456789abcdef0123456789abcdef0";
+
 #[test]
 fn puts_what_may_stand_in_a_set(rt: HostRuntime) -> Result<(), Fail> {
-    let longest = "0123456789abcdef0123456789abcdef0123456789abcdef0123456789abcdef";
-    let too_long = "0123456789abcdef0123456789abcdef0123456789abcdef0123456789abcdef0";
     let most = vec![in rt.alloc(); 0u8; DATA_MAX]?;
     let too_many = vec![in rt.alloc(); 0u8; DATA_MAX + 1]?;
     let mut vars = Vars::new(rt.alloc());
-    vars.put(longest, most.as_slice())?;
+    vars.put(LONGEST_NAME, most.as_slice())?;
     vars.put("!~", &[0x00])?;
     let table: [(&str, &[u8], PutFault); 10] = [
         ("", &[0x00], PutFault::BadName),
-        (too_long, &[0x00], PutFault::BadName),
+        (TOO_LONG_NAME, &[0x00], PutFault::BadName),
         ("A B", &[0x00], PutFault::BadName),
         ("A\u{7f}", &[0x00], PutFault::BadName),
         ("\u{e9}", &[0x00], PutFault::BadName),
@@ -254,29 +288,30 @@ fn puts_what_may_stand_in_a_set(rt: HostRuntime) -> Result<(), Fail> {
         ("A B", too_many.as_slice(), PutFault::BadName),
         ("A", &[], PutFault::EmptyData),
         ("A", too_many.as_slice(), PutFault::DataTooLong),
-        (longest, too_many.as_slice(), PutFault::DataTooLong),
+        (LONGEST_NAME, too_many.as_slice(), PutFault::DataTooLong),
     ];
     for (name, value, fault) in table {
         assert_eq!(rt; vars.put(name, value).err(), Some(fault), "of {name}");
     }
-    assert_eq!(rt; vars.len(), 2);
-    assert!(rt; vars.get(longest) == Some(most.as_slice()));
-    // the same limits in a set file
+    are(
+        &rt,
+        &vars,
+        &[("!~", &[0x00]), (LONGEST_NAME, most.as_slice())],
+    );
     let bytes = write_set(rt.alloc(), &vars)?;
     assert!(rt; read_set(rt.alloc(), bytes.as_slice())? == vars);
-    assert_eq!(rt;
-        read_set(rt.alloc(), set_of_one(rt.alloc(), 1_048_576)?.as_slice())?.len(),
-        1
-    );
-    let fault = read_set(rt.alloc(), set_of_one(rt.alloc(), 1_048_577)?.as_slice()).err();
-    assert_eq!(rt; fault, Some(SetFault::BadData(4)));
-    let mut long_name = set_file(rt.alloc(), &[&[0x41], too_long.as_bytes()])?;
-    long_name.extend_from_slice(&[0x01, 0x00, 0x00, 0x00, 0x00])?;
-    assert_eq!(rt;
-        read_set(rt.alloc(), long_name.as_slice()).err(),
-        Some(SetFault::BadName(4))
-    );
     Ok(())
+}
+
+#[test]
+fn reads_what_may_stand_in_a_set(rt: HostRuntime) -> Result<(), Fail> {
+    let most = set_of_one(rt.alloc(), 1_048_576)?;
+    assert_eq!(rt; read_set(rt.alloc(), most.as_slice())?.len(), 1);
+    let too_many = set_of_one(rt.alloc(), 1_048_577)?;
+    let fault = read_set(rt.alloc(), too_many.as_slice()).err();
+    assert_eq!(rt; fault, Some(SetFault::BadData(4)));
+    let records: [&[u8]; 3] = [&[0x41], TOO_LONG_NAME.as_bytes(), &[0x01, 0, 0, 0, 0]];
+    is_refused(&rt, rt.alloc(), &records, ("BadName", 4))
 }
 
 #[test]
@@ -311,45 +346,50 @@ fn names_entries(rt: HostRuntime) -> Result<(), Fail> {
 
 #[test]
 fn reads_order_and_next(rt: HostRuntime) -> Result<(), Fail> {
-    let full = vec![in rt.alloc(); 0u8; 2 * ORDER_MAX]?;
-    let too_long = vec![in rt.alloc(); 0u8; 2 * ORDER_MAX + 2]?;
     let mut vars = Vars::new(rt.alloc());
     assert!(rt; boot_order(rt.alloc(), &vars)?.is_empty());
-    assert_eq!(rt; boot_next(&vars)?, None);
+    assert_eq!(rt; boot_next(&vars), Ok(None));
     vars.put("BootOrder", &[0x02, 0x01, 0x02, 0x01, 0xff, 0x00])?;
     vars.put("BootNext", &[0xab, 0x00])?;
+    let numbers: [u16; 3] = [0x0102, 0x0102, 0x00ff];
     assert_eq!(rt;
         boot_order(rt.alloc(), &vars)?.as_slice(),
-        [0x0102u16, 0x0102, 0x00ff].as_slice()
+        numbers.as_slice()
     );
-    assert_eq!(rt; boot_next(&vars)?, Some(0x00ab));
+    assert_eq!(rt; boot_next(&vars), Ok(Some(0x00ab)));
+    let full = vec![in rt.alloc(); 0u8; 2 * ORDER_MAX]?;
     vars.put("BootOrder", full.as_slice())?;
     assert_eq!(rt; boot_order(rt.alloc(), &vars)?.len(), 65_536);
+    Ok(())
+}
+
+/// Why there is no plan.
+fn plan_fault(alloc: Global, vars: &Vars) -> (Option<VarFault>, Option<VarFault>) {
+    (plan(alloc, vars).err(), plan_numbers(alloc, vars).err())
+}
+
+const BAD_ORDER: Option<VarFault> = Some(VarFault::BadOrder);
+
+const BAD_NEXT: Option<VarFault> = Some(VarFault::BadNext);
+
+#[test]
+fn tells_bad_orders_and_nexts(rt: HostRuntime) -> Result<(), Fail> {
+    let too_long = vec![in rt.alloc(); 0u8; 2 * ORDER_MAX + 2]?;
+    let mut vars = Vars::new(rt.alloc());
     let orders: [&[u8]; 3] = [&[0x00], &[0x00, 0x01, 0x00], too_long.as_slice()];
     for order in orders {
         vars.put("BootOrder", order)?;
-        assert_eq!(rt;
-            boot_order(rt.alloc(), &vars).err(),
-            Some(VarFault::BadOrder)
-        );
+        assert_eq!(rt; boot_order(rt.alloc(), &vars).err(), BAD_ORDER);
     }
     let nexts: [&[u8]; 3] = [&[0x00], &[0x00, 0x01, 0x00], &[0x00, 0x01, 0x00, 0x00]];
     for next in nexts {
         vars.put("BootNext", next)?;
-        assert_eq!(rt; boot_next(&vars).err(), Some(VarFault::BadNext));
+        assert_eq!(rt; boot_next(&vars).err(), BAD_NEXT);
         // both are at fault
-        assert_eq!(rt; plan(rt.alloc(), &vars).err(), Some(VarFault::BadOrder));
-        assert_eq!(rt;
-            plan_numbers(rt.alloc(), &vars).err(),
-            Some(VarFault::BadOrder)
-        );
+        assert_eq!(rt; plan_fault(rt.alloc(), &vars), (BAD_ORDER, BAD_ORDER));
     }
     assert!(rt; vars.remove("BootOrder"));
-    assert_eq!(rt; plan(rt.alloc(), &vars).err(), Some(VarFault::BadNext));
-    assert_eq!(rt;
-        plan_numbers(rt.alloc(), &vars).err(),
-        Some(VarFault::BadNext)
-    );
+    assert_eq!(rt; plan_fault(rt.alloc(), &vars), (BAD_NEXT, BAD_NEXT));
     Ok(())
 }
 
@@ -377,25 +417,44 @@ fn entries(alloc: Global) -> Result<Vars, Fail> {
     Ok(vars)
 }
 
-#[test]
-fn plans_the_normal_options_behind_the_next(rt: HostRuntime) -> Result<(), Fail> {
-    let mut vars = entries(rt.alloc())?;
+/// [`entries`] in their order, of which 7 is the next.
+fn ordered(alloc: Global) -> Result<Vars, Fail> {
+    let mut vars = entries(alloc)?;
     vars.put("BootOrder", &[5, 0, 1, 0, 2, 0, 3, 0, 4, 0, 6, 0, 7, 0])?;
     vars.put("BootNext", &[7, 0])?;
-    assert!(rt; entry_option(rt.alloc(), &vars, 7)?.is_some_and(|app| app.attributes() == 0x201));
-    assert!(rt; entry_option(rt.alloc(), &vars, 3)?.is_none());
-    assert!(rt; entry_option(rt.alloc(), &vars, 5)?.is_none());
-    let before = vars.copy(rt.alloc())?;
+    Ok(vars)
+}
+
+#[test]
+fn plans_the_normal_options_behind_the_next(rt: HostRuntime) -> Result<(), Fail> {
+    let vars = ordered(rt.alloc())?;
     let choice = plan(rt.alloc(), &vars)?;
-    let numbers = plan_numbers(rt.alloc(), &vars)?;
-    assert!(rt; vars == before);
     assert!(rt; choice.next().is_some_and(|first| first.number == 7));
     assert_eq!(rt; choice.normal().len(), 2);
     let expected = PlanNumbers {
         next: Some(7),
         normal: vec![in rt.alloc(); 4, 6]?,
     };
-    assert_eq!(rt; numbers, expected);
+    assert_eq!(rt; plan_numbers(rt.alloc(), &vars)?, expected);
+    assert!(rt; vars == ordered(rt.alloc())?);
+    Ok(())
+}
+
+#[test]
+fn reads_the_options_of_entries(rt: HostRuntime) -> Result<(), Fail> {
+    let vars = entries(rt.alloc())?;
+    for (number, attributes) in [(7, Some(0x201)), (3, None), (5, None)] {
+        let option = entry_option(rt.alloc(), &vars, number)?;
+        let found = option.map(|option| option.attributes());
+        assert_eq!(rt; found, attributes, "of {number}");
+    }
+    Ok(())
+}
+
+#[test]
+fn copies_compares_and_takes_plans_apart(rt: HostRuntime) -> Result<(), Fail> {
+    let mut vars = ordered(rt.alloc())?;
+    let choice = plan(rt.alloc(), &vars)?;
     let copy = choice.copy(rt.alloc())?;
     assert!(rt; copy == choice);
     let (next, normal) = copy.into_parts();
@@ -405,8 +464,7 @@ fn plans_the_normal_options_behind_the_next(rt: HostRuntime) -> Result<(), Fail>
     }
     assert!(rt; BootPlan::new(next, normal) == choice);
     assert!(rt; vars.remove("BootNext"));
-    let other = plan(rt.alloc(), &vars)?;
-    assert!(rt; other != choice);
+    assert!(rt; plan(rt.alloc(), &vars)? != choice);
     Ok(())
 }
 

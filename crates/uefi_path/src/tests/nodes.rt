@@ -8,71 +8,83 @@ use crate::{
 };
 use std::test::Fail;
 
+/// The type, the sub-type and the length of the longest node of each type that holds a list. All but the last have a
+/// case of their own.
+const LONGEST: [(u8, u8, u16); 6] = [
+    (1, 4, 65_535),
+    (3, 10, 65_535),
+    (3, 24, 65_535),
+    (4, 3, 65_535),
+    (4, 4, 65_534),
+    (5, 1, 65_535),
+];
+
 #[test]
 fn reads_writes_and_copies_long_nodes(rt: HostRuntime) -> Result<(), Fail> {
-    let alloc = rt.alloc();
-    // the longest node of each type that holds a list; all but the last have a case of their own
-    let table: [(u8, u8, u16); 6] = [
-        (1, 4, 65_535),
-        (3, 10, 65_535),
-        (3, 24, 65_535),
-        (4, 3, 65_535),
-        (4, 4, 65_534),
-        (5, 1, 65_535),
-    ];
-    for (kind, sub, len) in table {
-        let mut bytes = long_node(alloc, kind, sub, len)?;
-        let node = node_from_parts(alloc, kind, sub, &bytes.as_slice()[4..])?;
+    for (kind, sub, len) in LONGEST {
+        let bytes = long_node(rt.alloc(), kind, sub, len)?;
+        let node = node_from_parts(rt.alloc(), kind, sub, &bytes.as_slice()[4..])?;
         assert_eq!(rt; matches!(node, Node::Other(_)), kind == 5);
         assert_eq!(rt; node_len(&node), usize::from(len));
-        assert!(rt; node.copy(alloc)? == node);
-        let mut twice = Vec::new(alloc);
+        assert!(rt; node.copy(rt.alloc())? == node);
+        let mut twice = Vec::new(rt.alloc());
         write_node(&node, &mut twice)?;
         write_node(&node, &mut twice)?;
-        bytes.extend_from_slice(&long_node(alloc, kind, sub, len)?)?;
-        assert!(rt; twice == bytes);
-        bytes.extend_from_slice(&END)?;
-        let (path, read) = read_path(alloc, &bytes)?;
-        assert_eq!(rt; read, bytes.len());
-        assert!(rt; path.nodes().all(|held| *held == node));
-        let mut again = long_node(alloc, kind, sub, len)?;
-        write_path(&path.copy(alloc)?, &mut again)?;
-        assert!(rt; again.as_slice().ends_with(&bytes));
-        assert_eq!(rt; again.len(), usize::from(len) + bytes.len());
+        assert_eq!(rt; twice.len(), 2 * usize::from(len));
+        assert!(rt; twice.as_slice().starts_with(&bytes) && twice.as_slice().ends_with(&bytes));
     }
     Ok(())
 }
 
 #[test]
-fn tells_the_fields_of_nodes(rt: HostRuntime) -> Result<(), Fail> {
-    let alloc = rt.alloc();
-    let vendor = Vendor::new(alloc, Guid(GUID), &[0xaa, 0xbb])?;
-    assert_eq!(rt; vendor.guid(), &Guid(GUID));
-    assert_eq!(rt; vendor.body(), [0xaa, 0xbb].as_slice());
+fn reads_writes_and_copies_paths_of_long_nodes(rt: HostRuntime) -> Result<(), Fail> {
+    for (kind, sub, len) in LONGEST {
+        let mut bytes = long_node(rt.alloc(), kind, sub, len)?;
+        bytes.extend_from_slice(&END)?;
+        let (path, read) = read_path(rt.alloc(), &bytes)?;
+        assert_eq!(rt; read, bytes.len());
+        assert!(rt; path.nodes().all(|held| node_len(held) == usize::from(len)));
+        let mut out = vec![in rt.alloc(); 0x5a]?;
+        write_path(&path.copy(rt.alloc())?, &mut out)?;
+        assert_eq!(rt; out.len(), 1 + bytes.len());
+        assert!(rt; out.as_slice().ends_with(&bytes));
+    }
+    Ok(())
+}
 
+#[test]
+fn tells_the_fields_of_nodes(rt: HostRuntime) {
     let connection = Ipv4Node::new([1; 4], [2; 4], 3, 4, 5, 6, [7; 4], [8; 4]);
-    assert_eq!(rt; connection.local(), &[1; 4]);
-    assert_eq!(rt; connection.remote(), &[2; 4]);
-    assert_eq!(rt; connection.local_port(), 3);
-    assert_eq!(rt; connection.remote_port(), 4);
-    assert_eq!(rt; connection.protocol(), 5);
-    assert_eq!(rt; connection.fixed(), 6);
-    assert_eq!(rt; connection.gateway(), &[7; 4]);
-    assert_eq!(rt; connection.mask(), &[8; 4]);
+    assert_eq!(rt;
+        (
+            connection.local(),
+            connection.remote(),
+            connection.gateway(),
+            connection.mask()
+        ),
+        (&[1; 4], &[2; 4], &[7; 4], &[8; 4])
+    );
+    assert_eq!(rt; (connection.local_port(), connection.remote_port()), (3, 4));
+    assert_eq!(rt; (connection.protocol(), connection.fixed()), (5, 6));
 
     let partition = HardDriveNode::new(1, 2, 3, GUID, 4, 5);
-    assert_eq!(rt; partition.partition(), 1);
-    assert_eq!(rt; partition.start(), 2);
-    assert_eq!(rt; partition.size(), 3);
-    assert_eq!(rt; partition.signature(), &GUID);
-    assert_eq!(rt; partition.format(), 4);
-    assert_eq!(rt; partition.signature_kind(), 5);
-
-    assert_eq!(rt; UriNode::new(alloc, b"tftp:")?.bytes(), b"tftp:".as_slice());
     assert_eq!(rt;
-        FileNode::new(alloc, &[0x5c, 0xe9])?.units(),
-        [0x5c, 0xe9].as_slice()
+        (partition.partition(), partition.start(), partition.size()),
+        (1, 2, 3)
     );
+    assert_eq!(rt; partition.signature(), &GUID);
+    assert_eq!(rt; (partition.format(), partition.signature_kind()), (4, 5));
+}
+
+#[test]
+fn tells_the_lists_of_nodes(rt: HostRuntime) -> Result<(), Fail> {
+    let vendor = Vendor::new(rt.alloc(), Guid(GUID), &[0xaa, 0xbb])?;
+    assert_eq!(rt; vendor.guid(), &Guid(GUID));
+    assert_eq!(rt; vendor.body(), [0xaa, 0xbb].as_slice());
+    let uri = UriNode::new(rt.alloc(), b"tftp:")?;
+    assert_eq!(rt; uri.bytes(), b"tftp:".as_slice());
+    let file = FileNode::new(rt.alloc(), &[0x5c, 0xe9])?;
+    assert_eq!(rt; file.units(), [0x5c, 0xe9].as_slice());
     Ok(())
 }
 
@@ -99,23 +111,27 @@ fn makes_nodes_of_lists_and_gives_them_back(rt: HostRuntime) -> Result<(), Fail>
 }
 
 #[test]
-fn hands_refused_lists_back(rt: HostRuntime) -> Result<(), Fail> {
-    let alloc = rt.alloc();
+fn hands_refused_bytes_back(rt: HostRuntime) -> Result<(), Fail> {
     for (len, refused) in [(65_515usize, false), (65_516, true)] {
-        match Vendor::from_vec(Guid(GUID), vec![in alloc; 7u8; len]?) {
+        match Vendor::from_vec(Guid(GUID), vec![in rt.alloc(); 7u8; len]?) {
             Ok(vendor) => assert!(rt; !refused && vendor.body().len() == len),
-            Err(body) => assert!(rt; refused && body == vec![in alloc; 7u8; len]?),
+            Err(body) => assert!(rt; refused && body == vec![in rt.alloc(); 7u8; len]?),
         }
     }
     for (len, refused) in [(65_531usize, false), (65_532, true)] {
-        match UriNode::from_vec(vec![in alloc; 7u8; len]?) {
+        match UriNode::from_vec(vec![in rt.alloc(); 7u8; len]?) {
             Ok(node) => assert!(rt; !refused && node.bytes().len() == len),
-            Err(bytes) => assert!(rt; refused && bytes == vec![in alloc; 7u8; len]?),
+            Err(bytes) => assert!(rt; refused && bytes == vec![in rt.alloc(); 7u8; len]?),
         }
     }
-    let most = vec![in alloc; 0x41u16; 32_764]?;
+    Ok(())
+}
+
+#[test]
+fn hands_refused_units_back(rt: HostRuntime) -> Result<(), Fail> {
+    let most = vec![in rt.alloc(); 0x41u16; 32_764]?;
     assert!(rt; FileNode::from_vec(most).is_ok());
-    let mut more = vec![in alloc; 0x41u16; 32_765]?;
+    let mut more = vec![in rt.alloc(); 0x41u16; 32_765]?;
     for fault in [NameFault::TooLong, NameFault::ZeroUnit(32_765)] {
         more = match FileNode::from_vec(more) {
             Ok(node) => {
@@ -223,21 +239,27 @@ fn refuses_what_is_no_name(rt: HostRuntime) -> Result<(), Fail> {
 }
 
 #[test]
-fn refuses_what_makes_no_node_or_path(rt: HostRuntime) -> Result<(), Fail> {
-    let alloc = rt.alloc();
-    assert!(rt; node_from_parts(alloc, 0x7f, 0xff, &[]) == Err(NodeFault::BadEnd));
-    let long = vec![in alloc; 0u8; 65_532]?;
-    assert!(rt; node_from_parts(alloc, 0x7f, 0xff, &long) == Err(NodeFault::BadEnd));
-    assert!(rt; node_from_parts(alloc, 1, 1, &long) == Err(NodeFault::TooLong));
-    assert!(rt; node_from_parts(alloc, 1, 1, &long[1..]).is_ok());
+fn refuses_what_makes_no_node(rt: HostRuntime) -> Result<(), Fail> {
+    let long = vec![in rt.alloc(); 0u8; 65_532]?;
+    let table: [(u8, u8, &[u8], Option<NodeFault>); 4] = [
+        (0x7f, 0xff, &[], Some(NodeFault::BadEnd)),
+        (0x7f, 0xff, long.as_slice(), Some(NodeFault::BadEnd)),
+        (1, 1, long.as_slice(), Some(NodeFault::TooLong)),
+        (1, 1, &long.as_slice()[1..], None),
+    ];
+    for (kind, sub, body, fault) in table {
+        assert_eq!(rt; node_from_parts(rt.alloc(), kind, sub, body).err(), fault);
+    }
+    Ok(())
+}
 
-    match make_path(Vec::new(alloc)) {
+#[test]
+fn refuses_what_makes_no_path(rt: HostRuntime) -> Result<(), Fail> {
+    match make_path(Vec::new(rt.alloc())) {
         Ok(_) => assert!(rt; false, "a path has an instance"),
         Err(instances) => assert!(rt; instances.is_empty()),
     }
-    let mut instances = Vec::new(alloc);
-    instances.push(Vec::new(alloc))?;
-    match make_path(instances) {
+    match make_path(vec![in rt.alloc(); Vec::new(rt.alloc())]?) {
         Ok(path) => assert_eq!(rt; path_len(&path), Some(4)),
         Err(_) => assert!(rt; false, "an instance may be empty"),
     }

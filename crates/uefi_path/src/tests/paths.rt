@@ -1,10 +1,12 @@
 //! Paths, by examples, paths that were stored, and large ones.
 
-use super::examples::{END, example_nodes, long_node, stored_paths};
+use super::examples::{Case, END, example_nodes, long_node, stored_paths};
 use crate::{
     Node, Path, PathFault, check_path, make_path, node_len, nodes, path_len, read_path, write_node,
     write_path,
 };
+use std::alloc::Global;
+use std::process::Abort;
 use std::test::Fail;
 
 /// The ACPI root 0, the PCI device 31 with function 2, and the SATA port 0.
@@ -39,13 +41,15 @@ fn reads_writes_and_copies_paths(rt: HostRuntime) -> Result<(), Fail> {
     ];
     for (bytes, instances, nodes, rest) in table {
         let (path, len) = read_path(rt.alloc(), bytes)?;
-        assert_eq!(rt; bytes.len() - len, rest, "behind {bytes:?}");
-        assert_eq!(rt; path.instances().len(), instances, "in {bytes:?}");
         let mut count = 0usize;
         for instance in path.instances() {
             count = count.saturating_add(instance.len());
         }
-        assert_eq!(rt; count, nodes, "in {bytes:?}");
+        assert_eq!(rt;
+            (path.instances().len(), count, bytes.len() - len),
+            (instances, nodes, rest),
+            "in {bytes:?}"
+        );
 
         let mut out = vec![in rt.alloc(); 0x5a]?;
         write_path(&path, &mut out)?;
@@ -70,20 +74,10 @@ fn tells_the_first_fault_of_a_path(rt: HostRuntime) {
         (&[0x7f, 0x01, 0x04, 0x00], PathFault::NoEnd(4)),
     ];
     for (bytes, fault) in table {
-        assert_eq!(rt;
-            check_path(bytes).err(),
-            Some(fault),
-            "of {bytes:?}, which is checked"
-        );
-        assert_eq!(rt;
-            nodes(bytes).err(),
-            Some(fault),
-            "of {bytes:?}, which is gone over"
-        );
-        match read_path(rt.alloc(), bytes) {
-            Ok(_) => assert!(rt; false, "{bytes:?} is read"),
-            Err(found) => assert_eq!(rt; found, fault, "of {bytes:?}"),
-        }
+        let checked = (check_path(bytes).err(), nodes(bytes).err());
+        assert_eq!(rt; checked, (Some(fault), Some(fault)), "of {bytes:?}");
+        let read = read_path(rt.alloc(), bytes).err();
+        assert_eq!(rt; read, Some(fault), "of {bytes:?}");
     }
 }
 
@@ -134,30 +128,27 @@ fn only_node(path: &Path) -> Option<&Node> {
     }
 }
 
+/// The bytes are those of a node of this case.
+fn is_node(rt: &impl Abort, alloc: Global, bytes: &[u8], case: &Case) -> Result<(), Fail> {
+    let mut spelled = Vec::from_slice(alloc, bytes)?;
+    spelled.extend_from_slice(&END)?;
+    let (path, len) = read_path(alloc, &spelled)?;
+    assert_eq!(rt; len, spelled.len(), "of {bytes:?}");
+    let node = only_node(&path).ok_or("not one node")?;
+    assert!(rt; case.is(node), "of {bytes:?}");
+    let kind = [node.kind(), node.sub()];
+    assert_eq!(rt; bytes.get(..2), Some(kind.as_slice()));
+    assert_eq!(rt; node_len(node), bytes.len());
+    let mut out = Vec::new(alloc);
+    write_node(node, &mut out)?;
+    assert_eq!(rt; out.as_slice(), bytes);
+    Ok(())
+}
+
 #[test]
 fn reads_each_node_into_its_case(rt: HostRuntime) -> Result<(), Fail> {
-    let alloc = rt.alloc();
-    let examples = example_nodes(alloc)?;
-    for (bytes, case) in &examples {
-        let mut spelled = Vec::from_slice(alloc, bytes)?;
-        spelled.extend_from_slice(&END)?;
-        let (path, len) = read_path(alloc, &spelled)?;
-        assert_eq!(rt; len, spelled.len(), "of {bytes:?}");
-        let mut out = Vec::new(alloc);
-        write_path(&path, &mut out)?;
-        assert!(rt; out == spelled, "from {bytes:?}");
-        match only_node(&path) {
-            Some(node) => {
-                assert!(rt; case.is(node), "of {bytes:?}");
-                assert_eq!(rt; bytes.first(), Some(&node.kind()));
-                assert_eq!(rt; bytes.get(1), Some(&node.sub()));
-                assert_eq!(rt; node_len(node), bytes.len());
-                let mut out = Vec::new(alloc);
-                write_node(node, &mut out)?;
-                assert_eq!(rt; out.as_slice(), *bytes);
-            }
-            None => assert!(rt; false, "{bytes:?} is one node"),
-        }
+    for (bytes, case) in &example_nodes(rt.alloc())? {
+        is_node(&rt, rt.alloc(), bytes, case)?;
     }
     Ok(())
 }
@@ -188,44 +179,60 @@ fn reads_and_writes_what_was_stored(rt: HostRuntime) -> Result<(), Fail> {
 /// The node that ends an instance where another follows.
 const END_OF_INSTANCE: [u8; 4] = [0x7f, 0x01, 0x04, 0x00];
 
+/// These nodes and an end are read as one path with so many instances and nodes, and written again.
+fn is_path(
+    rt: &impl Abort,
+    alloc: Global,
+    (nodes, instances, count): (&[u8], usize, usize),
+) -> Result<(), Fail> {
+    let mut bytes = Vec::from_slice(alloc, nodes)?;
+    bytes.extend_from_slice(&END)?;
+    let (path, len) = read_path(alloc, &bytes)?;
+    assert_eq!(rt; (len, path_len(&path)), (bytes.len(), Some(len)));
+    assert_eq!(rt; path.instances().len(), instances);
+    let mut found = 0usize;
+    for _ in path.nodes() {
+        found = found.saturating_add(1);
+    }
+    assert_eq!(rt; found, count);
+    let mut out = Vec::new(alloc);
+    write_path(&path, &mut out)?;
+    assert!(rt; out == bytes);
+    is_copied(rt, alloc, &path)
+}
+
+/// A copy of the path has its instances, and they make a path again.
+fn is_copied(rt: &impl Abort, alloc: Global, path: &Path) -> Result<(), Fail> {
+    let copy = path.copy(alloc)?;
+    assert!(rt; copy == *path);
+    match make_path(copy.into_instances()) {
+        Ok(made) => assert!(rt; made == *path),
+        Err(_) => assert!(rt; false, "a path has instances"),
+    }
+    Ok(())
+}
+
 #[test]
 fn works_on_large_paths(rt: HostRuntime) -> Result<(), Fail> {
-    let alloc = rt.alloc();
-    let mut empty = Vec::new(alloc);
+    let mut empty = Vec::new(rt.alloc());
     for _ in 0..20_000 {
         empty.extend_from_slice(&END_OF_INSTANCE)?;
     }
-    let longest = long_node(alloc, 5, 1, 65_535)?;
-    let mut mixed = Vec::new(alloc);
-    let examples = example_nodes(alloc)?;
+    is_path(&rt, rt.alloc(), (empty.as_slice(), 20_001, 0))?;
+    let longest = long_node(rt.alloc(), 5, 1, 65_535)?;
+    is_path(&rt, rt.alloc(), (longest.as_slice(), 1, 1))
+}
+
+#[test]
+fn works_on_paths_of_many_nodes(rt: HostRuntime) -> Result<(), Fail> {
+    let examples = example_nodes(rt.alloc())?;
+    let mut mixed = Vec::new(rt.alloc());
     for _ in 0..371 {
         for (bytes, _) in &examples {
             mixed.extend_from_slice(bytes)?;
         }
     }
-    // the bytes before the end of the path, and how many instances and nodes there are
-    for (mut bytes, instances, nodes) in [(empty, 20_001, 0), (longest, 1, 1), (mixed, 1, 10_017)] {
-        bytes.extend_from_slice(&END)?;
-        let (path, len) = read_path(alloc, &bytes)?;
-        assert_eq!(rt; len, bytes.len());
-        assert_eq!(rt; path.instances().len(), instances);
-        let mut count = 0usize;
-        for _ in path.nodes() {
-            count = count.saturating_add(1);
-        }
-        assert_eq!(rt; count, nodes);
-        let mut out = Vec::new(alloc);
-        write_path(&path, &mut out)?;
-        assert!(rt; out == bytes);
-        assert_eq!(rt; path_len(&path), Some(len));
-        let copy = path.copy(alloc)?;
-        assert!(rt; copy == path);
-        match make_path(copy.into_instances()) {
-            Ok(made) => assert!(rt; made == path),
-            Err(_) => assert!(rt; false, "a path has instances"),
-        }
-    }
-    Ok(())
+    is_path(&rt, rt.alloc(), (mixed.as_slice(), 1, 10_017))
 }
 
 #[test]
