@@ -55,6 +55,12 @@ no_longer (first ∷ numbers) number =
       | false ↦ omega (arith, no_longer numbers number)
     ]
 
+pub without_absent : (numbers : List ℕ) (number : ℕ) → is_in numbers number ≡ false → without numbers number ≡ numbers
+without_absent [] number none = refl
+without_absent (first ∷ numbers) number none =
+    let parts = or_parts (first == number) (is_in numbers number) none in
+    cond-true _ _ _ (ap not parts.0) ∙ ap (λ (others : List ℕ). first ∷ others) (without_absent numbers number parts.1)
+
 pub appended_there : (order : List ℕ) (number : ℕ) → is_in order number ≡ true → appended order number ≡ order
 appended_there order number h = cond-true _ _ _ h
 

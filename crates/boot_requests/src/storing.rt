@@ -134,6 +134,9 @@ pub(crate) fn remove_number(alloc: Global, vars: &mut Vars, number: u16) -> Resu
     ensures { OnOk result (ChangesBy vars.old vars.new (without_number number)) }
 {
     let order = read_order(alloc, vars)?;
+    if !is_in(&order, number) {
+        return Ok(());
+    }
     let others = without(alloc, &order, number)?;
     store_order(alloc, vars, &others)?;
     Ok(())

@@ -1,46 +1,85 @@
-//! A table by the numbers of entries.
+//! What is kept of entries by their numbers.
 
-ghost use Rattle.std.specs.Prelude.{◌≡◌, ◌≢◌, ℕ, Some, None, OnOk};
-ghost use Rattle.std.specs.Option.{option_map};
-ghost use Rattle.uefi_vars.specs.ByNumber.{kept};
+ghost use Rattle.std.specs.Prelude.{◌≡◌, ◌⊎◌, ℕ, Some, IfSome, IfOk, All, set};
+ghost use Rattle.uefi_vars.specs.ByNumber.{IsFree, IsKept, kept_by};
 
 use std::alloc::{AllocError, Global};
 
-/// What is kept of entries, by their numbers.
+/// A number with what is kept under it, if anything.
+#[derive(Drop)]
+pub(crate) struct Slot<T> {
+    pub(crate) number: u16,
+    pub(crate) kept: Option<T>,
+}
+
+/// What is kept of the entries whose numbers an order repeats. It takes memory for these numbers, however high they are.
 #[derive(Drop)]
 pub(crate) struct ByNumber<T> {
-    /// As long as the numbers want it.
-    slots: Vec<Option<T>>,
+    /// In the order of their numbers.
+    slots: Vec<Slot<T>>,
+}
+
+/// The numbers that stand more than once among these, in rising order.
+fn repeated_numbers(alloc: Global, numbers: &[u16]) -> Result<Vec<u16>, AllocError> {
+    let mut sorted = Vec::from_slice(alloc, numbers)?;
+    sorted.as_mut_slice().sort_unstable();
+    let mut repeated = Vec::new(alloc);
+    for (number, next) in sorted.iter().zip(sorted.iter().skip(1)) {
+        if number == next {
+            repeated.push(*number)?;
+        }
+    }
+    repeated.dedup();
+    Ok(repeated)
 }
 
 impl<T: Drop> ByNumber<T> {
-    /// Nothing is kept yet.
-    pub(crate) fn new(alloc: Global) -> ByNumber<T>
-        ensures { (number : ℕ) → kept result number ≡ None }
+    /// Room for what is kept under each number that this order repeats. Nothing is kept yet.
+    pub(crate) fn of_repeated(alloc: Global, order: &[u16]) -> Result<ByNumber<T>, AllocError>
+        ensures { IfOk result (λ table. All IsFree table.slots.items) }
     {
-        ByNumber {
-            slots: Vec::new(alloc),
+        let mut slots = Vec::new(alloc);
+        for number in &repeated_numbers(alloc, order)? {
+            slots.push(Slot {
+                number: *number,
+                kept: None,
+            })?;
         }
+        Ok(ByNumber { slots })
+    }
+
+    /// Where the slot of this number is, if it has one.
+    fn place(&self, number: u16) -> Option<usize> {
+        self.slots
+            .as_slice()
+            .binary_search_by(|slot| slot.number.cmp(&number))
+            .ok()
     }
 
     /// What is kept under this number, if anything.
     pub(crate) fn get(&self, number: u16) -> Option<&T>
-        ensures { option_map (λ value. value.now) result ≡ kept self.now number }
+        ensures { IfSome result (λ value. IsKept self.now number value.now) }
     {
-        self.slots.get(usize::from(number))?.as_ref()
+        let slot = self.slots.get(self.place(number)?)?;
+        if slot.number != number {
+            return None;
+        }
+        slot.kept.as_ref()
     }
 
-    /// Keeps the value under this number, in place of what was kept there.
-    pub(crate) fn keep(&mut self, number: u16, value: T) -> Result<(), AllocError>
-        ensures here { OnOk result (kept self.new number ≡ Some value) }
-        ensures others { OnOk result ((other : ℕ) → other ≢ number →
-            kept self.new other ≡ kept self.old other) }
+    /// Keeps the value under this number, if it has a slot.
+    pub(crate) fn keep(&mut self, number: u16, value: T)
+        ensures { (self.new.slots.items ≡ self.old.slots.items)
+            ⊎ ((place : ℕ) × (self.new.slots.items ≡ set self.old.slots.items place (kept_by number value))) }
     {
-        let place = usize::from(number);
-        for _ in self.slots.len()..place + 1 {
-            self.slots.push(None)?;
+        let Some(place) = self.place(number) else {
+            return;
+        };
+        if let Some(slot) = self.slots.get_mut(place) {
+            *slot = Slot {
+                number,
+                kept: Some(value),
+            };
         }
-        self.slots[place] = Some(value);
-        Ok(())
     }
 }

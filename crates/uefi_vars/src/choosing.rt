@@ -73,21 +73,17 @@ fn read_normal_entry(alloc: Global, vars: &Vars, number: u16) -> Result<Option<C
 
 /// Whether the entry of this number is a normal option. BootOrder may repeat the number of a long entry, so what was seen
 /// of an entry is kept, and none is looked at twice.
-pub(crate) fn look_once(
-    vars: &Vars,
-    number: u16,
-    known: &mut ByNumber<bool>,
-) -> Result<bool, AllocError>
+pub(crate) fn look_once(vars: &Vars, number: u16, known: &mut ByNumber<bool>) -> bool
     requires { EachTells (TellsNormal (entry_of vars.now)) known.old }
-    ensures answer { IfOk result (TellsNormal (entry_of vars.now) number) }
-    ensures known { OnOk result (EachTells (TellsNormal (entry_of vars.now)) known.new) }
+    ensures answer { TellsNormal (entry_of vars.now) number result }
+    ensures known { EachTells (TellsNormal (entry_of vars.now)) known.new }
 {
     if let Some(normal) = known.get(number) {
-        return Ok(*normal);
+        return *normal;
     }
     let normal = is_normal_entry(vars, number);
-    known.keep(number, normal)?;
-    Ok(normal)
+    known.keep(number, normal);
+    normal
 }
 
 /// The option of the entry of this number with the number, if the entry is there and is a normal option. What was read of
@@ -107,6 +103,6 @@ pub(crate) fn read_once(
     }
     let choice = read_normal_entry(alloc, vars, number)?;
     let copy = copy_if_any(alloc, choice.as_ref())?;
-    known.keep(number, choice)?;
+    known.keep(number, choice);
     Ok(copy)
 }

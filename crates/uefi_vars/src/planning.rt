@@ -68,7 +68,7 @@ fn read_normal_choices(alloc: Global, vars: &Vars, order: &[u16]) -> Result<Vec<
     ensures { IfOk result (λ choices.
         AreNormalChoices (entry_of vars.now) order.now choices.items) }
 {
-    let mut known = ByNumber::new(alloc);
+    let mut known = ByNumber::of_repeated(alloc, order)?;
     let mut choices = Vec::new(alloc);
     for number in order {
         if let Some(choice) = read_once(alloc, vars, *number, &mut known)? {
@@ -83,10 +83,10 @@ fn normal_numbers(alloc: Global, vars: &Vars, order: &[u16]) -> Result<Vec<u16>,
     ensures { IfOk result (λ numbers.
         AreNormalNumbers (entry_of vars.now) order.now numbers.items) }
 {
-    let mut known = ByNumber::new(alloc);
+    let mut known = ByNumber::of_repeated(alloc, order)?;
     let mut numbers = Vec::new(alloc);
     for number in order {
-        if look_once(vars, *number, &mut known)? {
+        if look_once(vars, *number, &mut known) {
             numbers.push(*number)?;
         }
     }
@@ -142,9 +142,8 @@ pub fn plan_numbers(alloc: Global, vars: &Vars) -> Result<PlanNumbers, VarFault>
 /// boots by the plan deletes BootNext first.
 ///
 /// An option is read once however often its number stands in BootOrder, and its choices share its lists. So a plan takes a
-/// small multiple of the bytes of the variables, with some words for each number in BootOrder and, while it is made, for
-/// each up to the highest of them; [`plan_numbers`] gives the numbers alone. An entry that is left out isn't copied. The
-/// option of BootNext may be read once more.
+/// small multiple of the bytes of the variables, with some words for each number in BootOrder; [`plan_numbers`] gives the
+/// numbers alone. An entry that is left out isn't copied. The option of BootNext may be read once more.
 ///
 /// # Errors
 ///

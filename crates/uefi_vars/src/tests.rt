@@ -562,6 +562,25 @@ fn looks_once_at_an_entry_whose_number_is_repeated(rt: HostRuntime) -> Result<()
     Ok(())
 }
 
+#[test]
+fn plans_the_highest_number(rt: HostRuntime) -> Result<(), Fail> {
+    let mut vars = Vars::new(rt.alloc());
+    vars.put_entry(u16::MAX, &DISK)?;
+    // once, and again behind a number without an entry
+    for (order, line) in [
+        (&[0xff, 0xff][..], "plan next - normal FFFF"),
+        (
+            &[0xff, 0xff, 0, 0, 0xff, 0xff][..],
+            "plan next - normal FFFF FFFF",
+        ),
+    ] {
+        vars.put("BootOrder", order)?;
+        let words = plan(rt.alloc(), &vars)?.words(rt.alloc())?;
+        assert_eq!(rt; words.as_str(), line);
+    }
+    Ok(())
+}
+
 /// A normal option of as many bytes as a variable can have: it has no description, the shortest path, and optional data.
 fn longest_option(alloc: Global) -> Result<Vec<u8>, Fail> {
     let front = [1, 0, 0, 0, 4, 0, 0, 0, 0x7f, 0xff, 4, 0];

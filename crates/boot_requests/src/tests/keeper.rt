@@ -443,6 +443,16 @@ fn entries_and_orders_are_changed(rt: HostRuntime) -> Result<(), Fail> {
             lines: "applied Done 1\n",
             after: &[("BootKeepState", &[1, 1, 0, 0, 0, 1, 0])],
         },
+        // an order that lacks the number stays
+        Case {
+            before: &[("Boot0001", &DISK), ("BootOrder", &[2, 0, 9, 0])],
+            sent: &[Sent::Remove(0, 1)],
+            lines: "applied Done 1\n",
+            after: &[
+                ("BootOrder", &[2, 0, 9, 0]),
+                ("BootKeepState", &[1, 1, 0, 0, 0, 1, 0]),
+            ],
+        },
         Case {
             before: &[],
             sent: &[
