@@ -1,5 +1,5 @@
 -- For private functions: what is kept of entries by their numbers.
-use Rattle.std.specs.Prelude.{◌≡◌, ℕ, All, Option, Some, None, IfSome, slice_get}
+use Rattle.std.specs.Prelude.{◌≡◌, ℕ, All, Some, None, IfSome, slice_get}
 use Rattle.uefi_vars.specs.declared.by_number.Slot.{Slot}
 use Rattle.uefi_vars.specs.declared.by_number.ByNumber.{ByNumber}
 

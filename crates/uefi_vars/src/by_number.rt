@@ -1,6 +1,6 @@
 //! What is kept of entries by their numbers.
 
-ghost use Rattle.std.specs.Prelude.{◌≡◌, ◌⊎◌, ℕ, Some, IfSome, IfOk, All, set};
+ghost use Rattle.std.specs.Prelude.{◌≡◌, ◌⊎◌, ℕ, IfSome, IfOk, All, set};
 ghost use Rattle.uefi_vars.specs.ByNumber.{IsFree, IsKept, kept_by};
 
 use std::alloc::{AllocError, Global};
@@ -8,8 +8,8 @@ use std::alloc::{AllocError, Global};
 /// A number with what is kept under it, if anything.
 #[derive(Drop)]
 pub(crate) struct Slot<T> {
-    pub(crate) number: u16,
-    pub(crate) kept: Option<T>,
+    number: u16,
+    kept: Option<T>,
 }
 
 /// What is kept of the entries whose numbers an order repeats. It takes memory for these numbers, however high they are.
@@ -21,14 +21,18 @@ pub(crate) struct ByNumber<T> {
 
 /// The numbers that stand more than once among these, in rising order.
 fn repeated_numbers(alloc: Global, numbers: &[u16]) -> Result<Vec<u16>, AllocError> {
-    let mut sorted = Vec::from_slice(alloc, numbers)?;
-    sorted.as_mut_slice().sort_unstable();
+    // a bit for each number that was met
+    let mut met = [0u64; 1024];
     let mut repeated = Vec::new(alloc);
-    for (number, next) in sorted.iter().zip(sorted.iter().skip(1)) {
-        if number == next {
+    for number in numbers {
+        let word = &mut met[usize::from(*number / 64)];
+        let bit = 1u64 << (*number % 64);
+        if *word & bit != 0 {
             repeated.push(*number)?;
         }
+        *word |= bit;
     }
+    repeated.as_mut_slice().sort_unstable();
     repeated.dedup();
     Ok(repeated)
 }

@@ -112,7 +112,10 @@ fn steps(alloc: Global, keeper: Keeper, events: &[Event]) -> Result<(Keeper, Str
 /// The keeper after the events, in one run, and the lines of the replies.
 fn all(alloc: Global, keeper: Keeper, events: &[Event]) -> Result<(Keeper, String), Fail> {
     let mut replies = Vec::new(alloc);
-    let (now, _whole) = run(alloc, keeper, events, &mut replies);
+    let (now, whole) = run(alloc, keeper, events, &mut replies);
+    if !whole {
+        return Err("no memory".into());
+    }
     let lines = lines_of(alloc, &replies)?;
     Ok((now, lines))
 }

@@ -7,7 +7,7 @@ use crate::fault::ScriptFault;
 use crate::input::LIMIT;
 use crate::running::run_stream;
 use crate::source::Watched;
-use boot_requests::{FeedFault, OpenFault};
+use boot_requests::{FeedFault, OpenFault, Request, write_frame};
 use std::alloc::Global;
 use std::cell::Cell;
 use std::process::Abort;
@@ -129,6 +129,7 @@ fn bytes_that_are_left_are_told(rt: HostRuntime) -> Result<(), Fail> {
 #[test]
 fn headers_at_fault_are_told(rt: HostRuntime) -> Result<(), Fail> {
     let alloc = rt.alloc();
+    let frames = out_of_order(alloc)?;
     for (digits, fault) in [
         (TOO_LONG, ScriptFault::Stream(FeedFault::TooLong)),
         (
@@ -147,13 +148,32 @@ fn headers_at_fault_are_told(rt: HostRuntime) -> Result<(), Fail> {
         ("4251010300", ScriptFault::Rest(5)),
     ] {
         let bad = hex::decode(alloc, digits)?;
-        let mut stream = out_of_order(alloc)?;
-        stream.extend_from_slice(&bad)?;
-        for stream in [&bad, &stream] {
-            check_refused(&rt, alloc, &[], stream, fault)?;
+        // behind no frame, behind one, and behind three
+        for count in [0, 14, frames.len()] {
+            let (front, _) = frames.split_at_checked(count).ok_or("short")?;
+            let mut stream = Vec::from_slice(alloc, front)?;
+            stream.extend_from_slice(&bad)?;
+            check_refused(&rt, alloc, &[], &stream, fault)?;
         }
     }
     Ok(())
+}
+
+#[test]
+fn ten_thousand_frames_are_answered(rt: HostRuntime) -> Result<(), Fail> {
+    let alloc = rt.alloc();
+    let mut stream = Vec::new(alloc);
+    let mut lines = String::new(alloc);
+    for number in 0..10_000u32 {
+        stream.extend_from_slice(&write_frame(alloc, number, &Request::Remove(9))?)?;
+        lines.push_str(&format!(in alloc; "applied Missing {}\n", number + 1)?)?;
+    }
+    // the next number, which is 10,000, and the last sixteen outcomes
+    let after: Table<'_> = &[(
+        "BootKeepState",
+        "01102700001002020202020202020202020202020202",
+    )];
+    check(&rt, alloc, (&[], after), &stream, &lines)
 }
 
 #[test]
