@@ -1,6 +1,0 @@
-mod Lines
-mod Scripts
-mod Streams
-mod Transfers
-mod Happening
-mod Texts

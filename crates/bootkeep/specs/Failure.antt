@@ -5,16 +5,16 @@ use Rattle.uefi_vars.specs.Vars.{Variables}
 use Rattle.bootkeep.specs.declared.command_line.Form.{Form}
 use Rattle.bootkeep.specs.declared.failure.Failure.{Failure}
 use Rattle.bootkeep.specs.declared.failure.Failure.TheVariants as failure
-use Rattle.bootkeep.specs.declared.fault.ScriptFault.{ScriptFault}
-use Rattle.bootkeep.specs.declared.fault.ScriptFault.TheVariants as script
-use Rattle.bootkeep.specs.declared.input.InputFault.{InputFault}
-use Rattle.bootkeep.specs.declared.input.InputFault.TheVariants as input
-use Rattle.bootkeep.specs.declared.output.OutputFault.{OutputFault}
-use Rattle.bootkeep.specs.declared.output.OutputFault.TheVariants as output
-use Rattle.bootkeep.specs.declared.refusal.Refusal.{Refusal}
-use Rattle.bootkeep.specs.declared.refusal.Refusal.TheVariants as refusal
+use Rattle.boot_commands.specs.declared.fault.ScriptFault.{ScriptFault}
+use Rattle.boot_commands.specs.declared.fault.ScriptFault.TheVariants as script
+use Rattle.boot_commands.specs.declared.input.InputFault.{InputFault}
+use Rattle.boot_commands.specs.declared.input.InputFault.TheVariants as input
+use Rattle.boot_commands.specs.declared.output.OutputFault.{OutputFault}
+use Rattle.boot_commands.specs.declared.output.OutputFault.TheVariants as output
+use Rattle.boot_commands.specs.declared.refusal.Refusal.{Refusal}
+use Rattle.boot_commands.specs.declared.refusal.Refusal.TheVariants as refusal
 use Rattle.bootkeep.specs.Form.{IsFirstFaultIn}
-use Rattle.bootkeep.specs.Words.{script_fault_words}
+use Rattle.boot_commands.specs.Words.{script_fault_words}
 
 -- the status that the program ends with
 abbrev pub status_of : Failure → ℕ
@@ -67,3 +67,10 @@ IsFailureOf (script.Open fault) made = IsRefusedBy (script_fault_words (script.O
 abbrev pub TellsScriptFault : Form → List ℕ → Variables → List ℕ → Type 0
 TellsScriptFault form bytes vars words =
     (fault : ScriptFault) × IsFirstFaultIn form bytes vars fault × (words ≡ script_fault_words fault)
+
+-- the status that a program ends with where a script is refused so
+abbrev pub script_status_of : ScriptFault → ℕ
+script_status_of script.Read = 3
+script_status_of script.Write = 3
+script_status_of script.OutOfMemory = 4
+script_status_of _ = 1

@@ -4,10 +4,10 @@ use Rattle.uefi_vars.specs.Vars.{Variables}
 use Rattle.boot_requests.specs.declared.reply.Reply.{Reply}
 use Rattle.bootkeep.specs.declared.command_line.Form.{Form}
 use Rattle.bootkeep.specs.declared.command_line.Form.TheVariants as form
-use Rattle.bootkeep.specs.declared.fault.ScriptFault.{ScriptFault}
-use Rattle.bootkeep.specs.Running.{RunsBy, Runs}
-use Rattle.bootkeep.specs.ScriptFault.{IsFirstFault, IsFirstStreamFault}
-use Rattle.bootkeep.specs.Stream.{IsStream}
+use Rattle.boot_commands.specs.declared.fault.ScriptFault.{ScriptFault}
+use Rattle.boot_commands.specs.Running.{RunsBy, Runs}
+use Rattle.boot_commands.specs.ScriptFault.{IsFirstFault, IsFirstStreamFault}
+use Rattle.boot_commands.specs.Stream.{IsStream}
 
 -- the bytes are of this form, and their events lead from the one variables to the others and are answered so
 abbrev pub RunsIn : Form → List ℕ → Variables → Variables → List Reply → Type 0

@@ -1,15 +1,11 @@
 //! What keeps the program from doing what it was asked to.
 
 ghost use Rattle.std.specs.Prelude.{◌≡◌, ◌⊎◌};
-ghost use Rattle.bootkeep.specs.ScriptFault.{script_status_of};
-ghost use Rattle.bootkeep.specs.Failure.{failure_of, failure_of_input, failure_of_output, IsFailureOf};
+ghost use Rattle.bootkeep.specs.Failure.{failure_of, failure_of_input, failure_of_output, script_status_of, IsFailureOf};
 ghost use Rattle.bootkeep.specs.declared.failure.Failure.TheVariants as failure;
 
 use crate::command_line::USAGE;
-use crate::fault::ScriptFault;
-use crate::input::InputFault;
-use crate::output::OutputFault;
-use crate::refusal::Refusal;
+use boot_commands::{InputFault, OutputFault, Refusal, ScriptFault};
 use std::alloc::{AllocError, AllocFailed, Global};
 use thiserror::Error;
 
@@ -121,5 +117,21 @@ impl From<OutputFault> for Failure {
             OutputFault::Write => Failure::Write,
             OutputFault::Memory => Failure::Memory,
         }
+    }
+}
+
+/// The status that a program ends with whose script or stream is refused: 3 where reading or writing failed, 4 where memory
+/// was refused, and 1 where the script, the stream or the variables are at fault.
+pub fn script_status(fault: &ScriptFault) -> u8
+    ensures { result ≡ script_status_of fault.now }
+{
+    match fault {
+        ScriptFault::Read | ScriptFault::Write => 3,
+        ScriptFault::OutOfMemory => 4,
+        ScriptFault::BadLine(_)
+        | ScriptFault::Stream(_)
+        | ScriptFault::Rest(_)
+        | ScriptFault::Open(_)
+        | ScriptFault::TooMuch => 1,
     }
 }

@@ -8,25 +8,17 @@
 //! ends with status 0 where it did what it was asked to, and otherwise with the status and the line on
 //! standard error of its [`Failure`].
 //!
+//! Here are the words of the command line, the statuses and the run of the program. What its subcommands show, run, read
+//! and write is of the library `boot_commands`.
+//!
 //! [`Failure`]: failure::Failure
 #![tactic(auto)]
 
 mod command_line;
 mod failure;
-mod fault;
-mod input;
-pub mod laws;
-mod output;
 mod program;
-mod refusal;
-mod report;
-mod running;
-mod script;
-mod source;
-mod stream;
 #[cfg(test)]
 mod tests;
-mod transfer;
 
 use std::process::ExitCode;
 

@@ -2,17 +2,17 @@
 
 ghost use Rattle.std.specs.Prelude.{◌≡◌, ◌<◌, List, length, Err, IfOk, IfErr, IfSome, MatchResult};
 ghost use Rattle.boot_requests.specs.declared.reply.Reply.{Reply};
+ghost use Rattle.boot_commands.specs.ScriptFault.{script_max};
 ghost use Rattle.bootkeep.specs.Failure.{status_of, IfRefused, TellsScriptFault};
 ghost use Rattle.bootkeep.specs.Form.{RunsIn};
-ghost use Rattle.bootkeep.specs.ScriptFault.{script_max};
 ghost use Rattle.bootkeep.specs.declared.failure.Failure.TheVariants as failure;
 
 use crate::command_line::{self, Form, Request, USAGE};
 use crate::failure::Failure;
-use crate::input::{self, InputFault};
-use crate::refusal::refuse;
-use crate::source::Watched;
-use crate::{output, report, running};
+use boot_commands::{
+    InputFault, Watched, option_report, path_report, read_file, refuse, run_script, run_stream,
+    set_report, text_report, write_file,
+};
 use std::alloc::Global;
 use std::io::{self, Read, Write};
 use std::rt::{Env, Files};
@@ -45,15 +45,15 @@ fn answer<R: Env + Files + Print + AllocGlobal>(rt: &R) -> Result<(), Failure> {
     let words = words(rt)?;
     match command_line::read_words(rt.alloc(), words.as_slice())? {
         Request::Help => rt.println(USAGE),
-        Request::Path { hex } => rt.print(report::path_report(rt.alloc(), hex)?),
-        Request::Text { text } => rt.print(report::text_report(rt.alloc(), text)?),
+        Request::Path { hex } => rt.print(path_report(rt.alloc(), hex)?),
+        Request::Text { text } => rt.print(text_report(rt.alloc(), text)?),
         Request::LoadOption { file } => {
-            let bytes = input::read_file(rt, file)?;
-            rt.print(report::option_report(rt.alloc(), bytes.as_slice())?)
+            let bytes = read_file(rt, file)?;
+            rt.print(option_report(rt.alloc(), bytes.as_slice())?)
         }
         Request::Show { set } => {
-            let bytes = input::read_file(rt, set)?;
-            rt.print(report::set_report(rt.alloc(), bytes.as_slice())?)
+            let bytes = read_file(rt, set)?;
+            rt.print(set_report(rt.alloc(), bytes.as_slice())?)
         }
         Request::Run {
             form,
@@ -78,7 +78,7 @@ fn run_file<R: Files + Print + AllocGlobal>(
     let script = fs::open(rt, script).map_err(InputFault::from)?;
     let vars = run_events(rt.alloc(), form, script, io::writer(rt), vars)?;
     let bytes = write_set(rt.alloc(), &vars)?;
-    Ok(output::write_file(rt, file, &bytes)?)
+    Ok(write_file(rt, file, &bytes)?)
 }
 
 /// The variables after the events of a script or a stream, whose replies are written, a line for each.
@@ -105,8 +105,8 @@ fn run_events<R: Read + Drop, W: Write + Drop>(
         failed: false,
     };
     let ran = match form {
-        Form::Script => running::run_script(alloc, &mut reader, &mut writer, vars),
-        Form::Stream => running::run_stream(alloc, &mut reader, &mut writer, vars),
+        Form::Script => run_script(alloc, &mut reader, &mut writer, vars),
+        Form::Stream => run_stream(alloc, &mut reader, &mut writer, vars),
     };
     match ran {
         Ok(vars) => Ok(vars),
@@ -116,7 +116,7 @@ fn run_events<R: Read + Drop, W: Write + Drop>(
 
 /// The variables of the set file at this path.
 fn read_vars<R: Files + AllocGlobal>(rt: &R, set: &str) -> Result<Vars, Failure> {
-    let bytes = input::read_file(rt, set)?;
+    let bytes = read_file(rt, set)?;
     Ok(read_set(rt.alloc(), &bytes).map_err(|fault| refuse(rt.alloc(), fault))?)
 }
 

@@ -1,6 +1,5 @@
 //! Files in memory that are read alone.
 
-use std::cell::Cell;
 use std::fs::{Metadata, OpenOptions};
 use std::io::{self, Read, Seek, SeekFrom, Write};
 use std::rt::Files;
@@ -140,39 +139,5 @@ impl<'a> Files for Shelf<'a> {
 
     fn remove_dir_all<B: std::alloc::Allocator>(&self, _alloc: B, _path: &str) -> io::Result<()> {
         Err(io::Error::from(io::ErrorKind::Unsupported))
-    }
-}
-
-/// A reader of so many bytes, a few at once, that fails after some, and counts what it has given.
-#[derive(Drop)]
-pub struct Fed<'a> {
-    bytes: u64,
-    at_once: usize,
-    fails_at: Option<u64>,
-    given: &'a Cell<u64>,
-}
-
-impl<'a> Fed<'a> {
-    pub fn new(bytes: u64, at_once: usize, fails_at: Option<u64>, given: &'a Cell<u64>) -> Fed<'a> {
-        Fed {
-            bytes,
-            at_once,
-            fails_at,
-            given,
-        }
-    }
-}
-
-impl Read for Fed<'_> {
-    fn read(&mut self, buf: &mut [u8]) -> io::Result<usize> {
-        let given = self.given.get();
-        if self.fails_at == Some(given) {
-            return Err(io::Error::from(io::ErrorKind::BrokenPipe));
-        }
-        let end = self.fails_at.unwrap_or(self.bytes).min(self.bytes);
-        let len = buf.len().min(self.at_once) as u64;
-        let len = len.min(end.saturating_sub(given));
-        self.given.set(given.saturating_add(len));
-        Ok(len as usize)
     }
 }

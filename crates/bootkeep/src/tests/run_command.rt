@@ -1,32 +1,68 @@
 //! Scripts and streams that are run over set files of the system.
 
-use super::frame_streams::{LINES, TOO_LONG, out_of_order};
 use super::real_files::Scratch;
 use super::runtime::{FakeRuntime, Run, Stream, Words};
-use super::scripts::{TWO_ENTRIES, vars_of};
 use super::{DRIVE_OPTION, SET};
+use std::alloc::{AllocError, Global};
 use std::fs::{self, File, Permissions};
 use std::os::unix::fs::{PermissionsExt, symlink};
 use std::process::Abort;
 use std::test::Fail;
-use uefi_vars::write_set;
+use uefi_vars::{Vars, write_set};
 
 /// A set file without a variable.
 const EMPTY_SET: &[u8] = b"BVS1";
 
-/// What stands in front of the option in the frame of request 0, to add it as entry 1.
-const ADD: &str = "42510101000000002c0000000100";
+/// The delivery that adds the option of the drive as entry 1, by request 0.
+const ADD_1: &str =
+    "deliver 42510101000000002c00000001000100000020004100000002010c00d041030a0000000001010600021f03120a000000ffff00007fff0400";
 
-/// A script that adds the option of the drive as entry 1 by request 0, once more, and shows the plan of a boot.
-fn add_script(rt: &HostRuntime) -> Result<String, Fail> {
-    let option = hex::encode(rt.alloc(), DRIVE_OPTION.as_slice())?;
-    Ok(format!(in rt.alloc();
-        "deliver {ADD}{option}\n\ndeliver {ADD}{option}\nprepare\nhand\nhand\nrestart\ndeliver \n"
-    )?)
+/// A script that has that delivery twice, and shows the plan of a boot.
+fn add_script(alloc: Global) -> Result<String, AllocError> {
+    format!(in alloc; "{ADD_1}\n\n{ADD_1}\nprepare\nhand\nhand\nrestart\ndeliver \n")
 }
 
 const ADD_LINES: &str =
     "applied Done 1\nrepeat Done\nprepared 1\nplan next - normal 0001\nnothing prepared\nrestarted 1\nmalformed Short\n";
+
+/// The frame of request 2, which makes entry 2 the next one.
+const NEXT_2: &[u8] = b"BQ\x01\x05\x02\0\0\0\x02\0\0\0\x02\0";
+
+/// What stands in front of the option in the frames of requests 1 and 0, which add it as entries 2 and 1.
+const ADD_FRAMES: [&[u8]; 2] = [
+    b"BQ\x01\x01\x01\0\0\0\x2c\0\0\0\x02\0",
+    b"BQ\x01\x01\0\0\0\0\x2c\0\0\0\x01\0",
+];
+
+/// The frames of these three requests, of which the last comes first.
+fn out_of_order(alloc: Global) -> Result<Vec<u8>, AllocError> {
+    let mut stream = Vec::from_slice(alloc, NEXT_2)?;
+    for front in ADD_FRAMES {
+        stream.extend_from_slice(front)?;
+        stream.extend_from_slice(&DRIVE_OPTION)?;
+    }
+    Ok(stream)
+}
+
+const STREAM_LINES: &str = "waiting 0\nwaiting 0\napplied Done 3\n";
+
+/// The set after that stream: both entries, of which the second is the next one.
+fn two_entries(alloc: Global) -> Result<Vec<u8>, Fail> {
+    let mut vars = Vars::new(alloc);
+    for (name, data) in [
+        ("Boot0001", DRIVE_OPTION.as_slice()),
+        ("Boot0002", DRIVE_OPTION.as_slice()),
+        ("BootOrder", &[0x01, 0x00, 0x02, 0x00]),
+        ("BootNext", &[0x02, 0x00]),
+        (
+            "BootKeepState",
+            &[0x01, 0x03, 0x00, 0x00, 0x00, 0x03, 0x00, 0x00, 0x00],
+        ),
+    ] {
+        vars.put(name, data)?;
+    }
+    Ok(write_set(alloc, &vars)?)
+}
 
 /// A new folder with sets and scripts.
 fn scratch<'a>(rt: &'a HostRuntime) -> Result<Scratch<'a>, Fail> {
@@ -38,7 +74,7 @@ fn scratch<'a>(rt: &'a HostRuntime) -> Result<Scratch<'a>, Fail> {
         "bad order",
         b"BVS1\x09BootOrder\x03\x00\x00\x00\x01\x00\x02".as_slice(),
     )?;
-    fs::write(&scratch, "script", add_script(rt)?)?;
+    fs::write(&scratch, "script", add_script(rt.alloc())?)?;
     fs::write(&scratch, "bad script", "prepare\nboot")?;
     let stream = out_of_order(rt.alloc())?;
     let (cut, _) = stream.split_at_checked(125).ok_or("short")?;
@@ -84,56 +120,73 @@ fn writes_the_new_set(rt: HostRuntime) -> Result<(), Fail> {
     scratch.remove()
 }
 
+/// Sets, scripts and files, with the status, standard output and standard error of a run.
+const SCRIPT_RUNS: [(&str, &str, &str, u8, &str, &str); 13] = [
+    (
+        "no set",
+        "bad script",
+        "long",
+        1,
+        "",
+        "refused: BadMagic 0\n",
+    ),
+    (
+        "bad order",
+        "script",
+        "long",
+        1,
+        "",
+        "refused: Open BadOrder\n",
+    ),
+    (
+        "bad order",
+        "bad script",
+        "long",
+        1,
+        "",
+        "refused: BadLine 2\n",
+    ),
+    ("set", "bad script", "long", 1, "", "refused: BadLine 2\n"),
+    // without the flag the bytes of a stream are those of a script
+    ("set", "stream", "new", 1, "", "refused: BadLine 1\n"),
+    ("set", "/dev/zero", "long", 1, "", "refused: TooMuch\n"),
+    ("missing", "script", "long", 3, "", "fault: read\n"),
+    ("set", "missing", "long", 3, "", "fault: read\n"),
+    ("set", "folder", "long", 3, "", "fault: read\n"),
+    (
+        "set",
+        "script",
+        "missing/new",
+        3,
+        ADD_LINES,
+        "fault: write\n",
+    ),
+    ("set", "script", "folder", 3, ADD_LINES, "fault: write\n"),
+    ("set", "script", "/dev/full", 3, ADD_LINES, "fault: write\n"),
+    ("set", "script", "/dev/null", 0, ADD_LINES, ""),
+];
+
+/// Sets and streams, with the status and standard error of a run.
+const STREAM_RUNS: [(&str, &str, u8, &str); 6] = [
+    ("set", "cut stream", 1, "refused: Rest 55\n"),
+    ("set", "script", 1, "refused: Stream BadMagic\n"),
+    ("bad order", "stream", 1, "refused: Open BadOrder\n"),
+    ("bad order", "cut stream", 1, "refused: Rest 55\n"),
+    ("set", "/dev/zero", 1, "refused: TooMuch\n"),
+    ("set", "folder", 3, "fault: read\n"),
+];
+
 #[test]
-fn refuses_scripts_and_files(rt: HostRuntime) -> Result<(), Fail> {
+fn refuses_scripts_streams_and_files(rt: HostRuntime) -> Result<(), Fail> {
     let scratch = scratch(&rt)?;
     let names = scratch.count()?;
-    // set, script and file; status, standard output and standard error
-    let table: [(&str, &str, &str, u8, &str, &str); 12] = [
-        (
-            "no set",
-            "bad script",
-            "long",
-            1,
-            "",
-            "refused: BadMagic 0\n",
-        ),
-        (
-            "bad order",
-            "script",
-            "long",
-            1,
-            "",
-            "refused: Open BadOrder\n",
-        ),
-        (
-            "bad order",
-            "bad script",
-            "long",
-            1,
-            "",
-            "refused: BadLine 2\n",
-        ),
-        ("set", "bad script", "long", 1, "", "refused: BadLine 2\n"),
-        ("set", "/dev/zero", "long", 1, "", "refused: TooMuch\n"),
-        ("missing", "script", "long", 3, "", "fault: read\n"),
-        ("set", "missing", "long", 3, "", "fault: read\n"),
-        ("set", "folder", "long", 3, "", "fault: read\n"),
-        (
-            "set",
-            "script",
-            "missing/new",
-            3,
-            ADD_LINES,
-            "fault: write\n",
-        ),
-        ("set", "script", "folder", 3, ADD_LINES, "fault: write\n"),
-        ("set", "script", "/dev/full", 3, ADD_LINES, "fault: write\n"),
-        ("set", "script", "/dev/null", 0, ADD_LINES, ""),
-    ];
-    for (set, script, file, status, stdout, stderr) in table {
+    for (set, script, file, status, stdout, stderr) in SCRIPT_RUNS {
         let words = ["bootkeep", "run", set, script, "--out", file];
         check(&rt, &scratch, &words, (status, stdout, stderr));
+    }
+    for (set, stream, status, stderr) in STREAM_RUNS {
+        let words = ["bootkeep", "run", "--stream", set, stream, "--out", "new"];
+        check(&rt, &scratch, &words, (status, "", stderr));
     }
     assert!(rt; scratch.has("long", &[0x5a; 1000])?);
     assert_eq!(rt; scratch.count()?, names);
@@ -168,68 +221,49 @@ fn keeps_the_rights_of_a_file(rt: HostRuntime) -> Result<(), Fail> {
     scratch.remove()
 }
 
-#[test]
-fn runs_a_stream(rt: HostRuntime) -> Result<(), Fail> {
-    let scratch = scratch(&rt)?;
-    let wanted = write_set(rt.alloc(), &vars_of(rt.alloc(), TWO_ENTRIES)?)?;
-    let calls: [[&str; 7]; 3] = [
-        [
-            "bootkeep", "run", "--stream", "set", "stream", "--out", "new",
-        ],
-        [
-            "bootkeep", "run", "set", "--stream", "stream", "--out", "new",
-        ],
-        [
-            "bootkeep", "run", "set", "stream", "--out", "new", "--stream",
-        ],
-    ];
-    for words in calls {
-        fs::write(&scratch, "new", b"".as_slice())?;
-        check(&rt, &scratch, &words, (0, LINES, ""));
-        assert!(rt; scratch.has("new", &wanted)?, "at {words:?}");
-    }
-    scratch.remove()
-}
+/// The words of runs of one stream.
+const STREAM_WORDS: [[&str; 7]; 3] = [
+    [
+        "bootkeep", "run", "--stream", "set", "stream", "--out", "new",
+    ],
+    [
+        "bootkeep", "run", "set", "--stream", "stream", "--out", "new",
+    ],
+    [
+        "bootkeep", "run", "set", "stream", "--out", "new", "--stream",
+    ],
+];
+
+/// Streams that change nothing, with the status, standard output and standard error of a run. The last is a header of a
+/// frame that is to have 131,073 bytes behind it.
+const IDLE_STREAMS: [(&[u8], u8, &str, &str); 4] = [
+    (b"", 0, "", ""),
+    (b"BQ\x01\x06\0\0\0\0\0\0\0\0", 0, "malformed BadKind\n", ""),
+    (b"BQ\x01\x03\0", 1, "", "refused: Rest 5\n"),
+    (
+        b"BQ\x01\x03\0\0\0\0\x01\0\x02\0",
+        1,
+        "",
+        "refused: Stream TooLong\n",
+    ),
+];
 
 #[test]
-fn runs_streams_that_change_nothing(rt: HostRuntime) -> Result<(), Fail> {
+fn runs_streams(rt: HostRuntime) -> Result<(), Fail> {
     let scratch = scratch(&rt)?;
+    let wanted = two_entries(rt.alloc())?;
+    for words in STREAM_WORDS {
+        fs::write(&scratch, "new", b"".as_slice())?;
+        check(&rt, &scratch, &words, (0, STREAM_LINES, ""));
+        assert!(rt; scratch.has("new", &wanted)?, "at {words:?}");
+    }
     let words = [
         "bootkeep", "run", "--stream", "set", "stream", "--out", "set",
     ];
-    // the stream; status, standard output and standard error
-    for (digits, status, stdout, stderr) in [
-        ("", 0, "", ""),
-        ("425101060000000000000000", 0, "malformed BadKind\n", ""),
-        ("4251010300", 1, "", "refused: Rest 5\n"),
-        (TOO_LONG, 1, "", "refused: Stream TooLong\n"),
-    ] {
-        fs::write(&scratch, "stream", hex::decode(rt.alloc(), digits)?)?;
+    for (stream, status, stdout, stderr) in IDLE_STREAMS {
+        fs::write(&scratch, "stream", stream)?;
         check(&rt, &scratch, &words, (status, stdout, stderr));
-        assert!(rt; scratch.has("set", EMPTY_SET)?, "of {digits}");
+        assert!(rt; scratch.has("set", EMPTY_SET)?, "of {stream:?}");
     }
-    scratch.remove()
-}
-
-#[test]
-fn refuses_streams(rt: HostRuntime) -> Result<(), Fail> {
-    let scratch = scratch(&rt)?;
-    let names = scratch.count()?;
-    // set, script; status and standard error
-    for (set, script, status, stderr) in [
-        ("set", "cut stream", 1, "refused: Rest 55\n"),
-        ("set", "script", 1, "refused: Stream BadMagic\n"),
-        ("bad order", "stream", 1, "refused: Open BadOrder\n"),
-        ("bad order", "cut stream", 1, "refused: Rest 55\n"),
-        ("set", "/dev/zero", 1, "refused: TooMuch\n"),
-        ("set", "folder", 3, "fault: read\n"),
-    ] {
-        let words = ["bootkeep", "run", "--stream", set, script, "--out", "new"];
-        check(&rt, &scratch, &words, (status, "", stderr));
-    }
-    // without the flag the bytes are those of a script
-    let words = ["bootkeep", "run", "set", "stream", "--out", "new"];
-    check(&rt, &scratch, &words, (1, "", "refused: BadLine 1\n"));
-    assert_eq!(rt; scratch.count()?, names);
     scratch.remove()
 }

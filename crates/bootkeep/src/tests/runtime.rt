@@ -48,7 +48,7 @@ impl Stream {
 }
 
 /// The words of a command line.
-#[derive(Clone, Copy)]
+#[derive(Clone, Copy, Debug)]
 pub enum Words<'a> {
     /// The program's name and what follows it.
     Given(&'a [&'a str]),

@@ -1,0 +1,203 @@
+-- Events that happen to variables, and what is answered where bytes are read as events.
+use Rattle.std.proofs.Common.{◌≡◌, ◌≢◌, ◌≤◌, ◌+◌, ℕ, List, [], ◌∷◌, ◌++◌, length, take, drop, Option, Some, None, Result, Ok, Err, refl, ap, sym, subst, ◌∙◌, inl, inr, arith, append-nil}
+use Rattle.std.specs.Prelude.{IfOk, IfErr, IfSome}
+use Rattle.std.specs.List.{AllByRecursion}
+use Rattle.std.specs.Io.KnownBytes.{Appends}
+use Rattle.std.proofs.lemmas.List.{take_all}
+use Rattle.uefi_vars.specs.Vars.{Variables}
+use Rattle.boot_requests.specs.declared.event.Event.{Event}
+use Rattle.boot_requests.specs.declared.reply.Reply.{Reply}
+use Rattle.boot_requests.specs.declared.fault.OpenFault.{OpenFault}
+use Rattle.boot_requests.specs.declared.fault.OpenFault.TheVariants as opening
+use Rattle.boot_requests.specs.State.{State, IsState, IsImage}
+use Rattle.boot_requests.specs.Opening.{IsOpenFault}
+use Rattle.boot_requests.specs.Seen.{Seen, IsEvent, IsSeen, AreSeen}
+use Rattle.boot_requests.specs.Run.{followed}
+use Rattle.boot_requests.specs.Reply.{AreAnswers}
+use Rattle.boot_requests.specs.Turn.{Plain, plain_start}
+use Rattle.boot_requests.specs.Keeping.{StandsFor, IsStateOf}
+use Rattle.boot_commands.specs.declared.fault.ScriptFault.{ScriptFault}
+use Rattle.boot_commands.specs.declared.fault.ScriptFault.TheVariants as fault
+use Rattle.boot_requests.specs.Stream.{Cut, IsCut}
+use Rattle.boot_commands.specs.Running.{answer_lines, Happens, RunsBy}
+use Rattle.boot_commands.specs.ScriptFault.{script_max, IsLineFault, IsFirstFaultBy, IsFirstFault, IsFirstStreamFault, IsFaultUnless}
+use Rattle.boot_commands.specs.Script.{IsScript}
+use Rattle.boot_commands.specs.Stream.{IsStream, IsStreamFault}
+use Rattle.boot_commands.specs.Source.{ReadsAll, AppendsFront}
+use Rattle.boot_commands.specs.Answering.{IsAnswer}
+use Rattle.boot_commands.proofs.Scripts.{no_script, one_bad_line}
+use Rattle.boot_commands.proofs.Streams.{no_stream, one_stream_fault}
+
+-- ---- events
+
+-- events of bytes are read, where each is
+read_as : ((event : Event) → IsEvent event → (seen : Seen) × IsSeen event seen) → (events : List Event) → AllByRecursion IsEvent events
+    → (seen : List Seen) × AreSeen events seen
+read_as each [] valid = ([], tt)
+read_as each (event ∷ events) valid =
+    let first = each event valid.0 in
+    let rest = read_as each events valid.1 in
+    (first.0 ∷ rest.0, (first.1, rest.1))
+
+-- A keeper at its start was run over the events, and answered each.
+pub happens : (before after : Variables) (events : List Event) (first last : Plain) (old new : List Reply)
+    → ((event : Event) → IsEvent event → (seen : Seen) × IsSeen event seen)
+    → ((start : State) → StandsFor (plain_start start) start [])
+    → AllByRecursion IsEvent events → first ≡ plain_start first.machine → IsStateOf first.machine before → old ≡ []
+    → length new ≡ length old + length events
+    → ((start : State) (past seen : List Seen) → StandsFor first start past → AreSeen (take (length (drop (length old) new)) events) seen
+    → StandsFor last start (followed past seen) × AreAnswers start past seen (drop (length old) new))
+    → IsState last.machine → IsImage last.machine after → Happens before events after new
+happens before after events first last [] new each starts valid is_start opened none whole ran is_state image =
+    let start = first.machine in
+    let seen = read_as each events valid in
+    let stands : StandsFor first start [] = subst (λ (k : Plain). StandsFor k start []) (sym is_start) (starts start) in
+    let all : take (length new) events ≡ events = take_all (length new) events (omega (arith, whole)) in
+    let read : AreSeen (take (length new) events) seen.0 = subst (λ (es : List Event). AreSeen es seen.0) (sym all) seen.1 in
+    let done = ran start [] seen.0 stands read in
+    let left : IsStateOf last.machine after = record { is = is_state; image = image } in
+    record {
+      start = start;
+      seen = seen.0;
+      opened = opened;
+      read = seen.1;
+      answered = done.1;
+      left = subst (λ (m : State). IsStateOf m after) done.0.machine left;
+    }
+happens before after events first last (reply ∷ old) new each starts valid is_start opened none whole ran is_state image = absurd (cc)
+
+-- ---- first faults
+
+one_open_fault : (vars : Variables) (a b : OpenFault) → IsOpenFault vars a → IsOpenFault vars b → a ≡ b
+one_open_fault vars opening.BadOrder opening.BadOrder p q = refl
+one_open_fault vars opening.BadOrder opening.BadNext p q = absurd (q.0 p)
+one_open_fault vars opening.BadOrder opening.BadState p q = absurd (q.0 p)
+one_open_fault vars opening.BadOrder opening.OutOfMemory p q = absurd q
+one_open_fault vars opening.BadNext opening.BadOrder p q = absurd (p.0 q)
+one_open_fault vars opening.BadNext opening.BadNext p q = refl
+one_open_fault vars opening.BadNext opening.BadState p q = absurd (q.1 p.1)
+one_open_fault vars opening.BadNext opening.OutOfMemory p q = absurd q
+one_open_fault vars opening.BadState opening.BadOrder p q = absurd (p.0 q)
+one_open_fault vars opening.BadState opening.BadNext p q = absurd (p.1 q.1)
+one_open_fault vars opening.BadState opening.BadState p q = refl
+one_open_fault vars opening.BadState opening.OutOfMemory p q = absurd q
+one_open_fault vars opening.OutOfMemory b p q = absurd p
+
+-- Faults that bytes have of their own, where others are read as events: there is one at most, and none of what is read.
+pub record AreFaults (Reads : List ℕ → List Event → Type 0) (IsFaultOf : List ℕ → ScriptFault → Type 0) : Type 0 where
+  pub first : (bytes : List ℕ) (vars : Variables) (f : ScriptFault) → length bytes ≤ script_max → IsFaultOf bytes f → IsFirstFaultBy Reads IsFaultOf bytes vars f
+  pub one : (bytes : List ℕ) (f g : ScriptFault) → IsFaultOf bytes f → IsFaultOf bytes g → f ≡ g
+  pub none : (bytes : List ℕ) (f : ScriptFault) (events : List Event) → IsFaultOf bytes f → Reads bytes events → ⊥
+
+module _ (Reads : List ℕ → List Event → Type 0) (IsFaultOf : List ℕ → ScriptFault → Type 0) (are : AreFaults Reads IsFaultOf) (bytes : List ℕ) (vars : Variables) where
+  -- bytes and variables have one first fault
+  pub one_first : (a b : ScriptFault) → IsFirstFaultBy Reads IsFaultOf bytes vars a → IsFirstFaultBy Reads IsFaultOf bytes vars b → a ≡ b
+  one_first fault.TooMuch fault.TooMuch p q = refl
+  one_first fault.TooMuch (fault.Open g) p q = absurd (omega arith)
+  one_first fault.TooMuch b p q = absurd (omega arith)
+  one_first (fault.Open f) fault.TooMuch p q = absurd (omega arith)
+  one_first (fault.Open f) (fault.Open g) p q = ap (λ (h : OpenFault). fault.Open h) (one_open_fault vars f g p.3 q.3)
+  one_first (fault.Open f) b p q = absurd (are.none bytes b p.1 q.1 p.2)
+  one_first a fault.TooMuch p q = absurd (omega arith)
+  one_first a (fault.Open g) p q = absurd (are.none bytes a q.1 p.1 q.2)
+  one_first a b p q = are.one bytes a b p.1 q.1
+
+  -- what is run has none
+  no_first : ((m : State) (vars : Variables) (f : OpenFault) → IsState m → IsImage m vars → IsOpenFault vars f → ⊥)
+      → (after : Variables) (answers : List Reply) (f : ScriptFault) → length bytes ≤ script_max → RunsBy Reads bytes vars after answers → IsFirstFaultBy Reads IsFaultOf bytes vars f → ⊥
+  no_first kept after answers fault.TooMuch len runs p = omega arith
+  no_first kept after answers (fault.Open f) len runs p =
+      let opened = runs.happens.opened in
+      kept runs.happens.start vars f opened.is opened.image p.3
+  no_first kept after answers f len runs p = are.none bytes f runs.events p.1 runs.read
+
+-- ---- scripts and streams
+
+first_of_script : (text : List ℕ) (vars : Variables) (f : ScriptFault) → length text ≤ script_max → IsLineFault text f → IsFirstFault text vars f
+first_of_script text vars (fault.BadLine n) len h = (len, h)
+first_of_script text vars f len h = absurd h
+
+one_of_script : (text : List ℕ) (f g : ScriptFault) → IsLineFault text f → IsLineFault text g → f ≡ g
+one_of_script text (fault.BadLine m) (fault.BadLine n) p q = ap (λ (k : ℕ). fault.BadLine k) (one_bad_line text m n p q)
+one_of_script text (fault.BadLine m) g p q = absurd q
+one_of_script text f g p q = absurd p
+
+none_of_script : (text : List ℕ) (f : ScriptFault) (events : List Event) → IsLineFault text f → IsScript text events → ⊥
+none_of_script text (fault.BadLine n) events p q = no_script text n events p q
+none_of_script text f events p q = absurd p
+
+pub of_script : AreFaults IsScript IsLineFault
+of_script = record { first = first_of_script; one = one_of_script; none = none_of_script }
+
+first_of_stream : (stream : List ℕ) (vars : Variables) (f : ScriptFault) → length stream ≤ script_max → IsStreamFault stream f → IsFirstStreamFault stream vars f
+first_of_stream stream vars (fault.Stream f) len h = (len, h)
+first_of_stream stream vars (fault.Rest n) len h = (len, h)
+first_of_stream stream vars f len h = absurd h
+
+pub of_stream : ((stream : List ℕ) (a b : Cut) → IsCut stream a → IsCut stream b → a ≡ b) → AreFaults IsStream IsStreamFault
+of_stream one_cut = record { first = first_of_stream; one = one_stream_fault one_cut; none = no_stream one_cut }
+
+-- ---- the clauses of an answer to what was read
+
+at_bytes : (remaining left : Option (List ℕ)) (bytes : List ℕ) (P : List ℕ → Type 0) → ReadsAll remaining left bytes → P bytes → IfSome remaining P
+at_bytes None left bytes P all h = tt
+at_bytes (Some known) None bytes P all h = absurd all.0
+at_bytes (Some known) (Some rest) bytes P all h =
+    subst P (sym (all.0 ∙ ap (λ (l : List ℕ). bytes ++ l) all.1 ∙ append-nil bytes)) h
+
+module _ (Reads : List ℕ → List Event → Type 0) (IsFaultOf : List ℕ → ScriptFault → Type 0) (are : AreFaults Reads IsFaultOf) (remaining left : Option (List ℕ)) (bytes : List ℕ) (vars : Variables) (all : ReadsAll remaining left bytes) (len : length bytes ≤ script_max) where
+  told : (f : ScriptFault) → (f ≢ fault.Read → f ≢ fault.Write → f ≢ fault.OutOfMemory → IsFirstFaultBy Reads IsFaultOf bytes vars f)
+      → IfSome remaining (λ b. f ≢ fault.Read → f ≢ fault.Write → f ≢ fault.OutOfMemory → IsFirstFaultBy Reads IsFaultOf b vars f)
+  told f h = at_bytes remaining left bytes (λ b. f ≢ fault.Read → f ≢ fault.Write → f ≢ fault.OutOfMemory → IsFirstFaultBy Reads IsFaultOf b vars f) all h
+
+  -- the bytes have a fault of their own, or memory was refused
+  pub refused_fault : (f : ScriptFault) → (f ≢ fault.OutOfMemory → IsFaultOf bytes f)
+      → IfSome remaining (λ b. f ≢ fault.Read → f ≢ fault.Write → f ≢ fault.OutOfMemory → IsFirstFaultBy Reads IsFaultOf b vars f)
+  refused_fault f own = told f (λ read write memory. are.first bytes vars f len (own memory))
+
+  refused_unless : (f : ScriptFault) → (f ≢ fault.OutOfMemory → IsFaultOf bytes f) → (g : ScriptFault) → IsFirstFaultBy Reads IsFaultOf bytes vars g → IsFaultUnless {T = Variables} (Err f) g
+  refused_unless fault.OutOfMemory own g first = inr (inr refl)
+  refused_unless f own g first = inl (ap (λ (h : ScriptFault). Err h) (one_first Reads IsFaultOf are bytes vars f g (are.first bytes vars f len (own (λ e. cc))) first))
+
+  pub refused_only : (f : ScriptFault) → (f ≢ fault.OutOfMemory → IsFaultOf bytes f)
+      → IfSome remaining (λ b. (g : ScriptFault) → IsFirstFaultBy Reads IsFaultOf b vars g → IsFaultUnless {T = Variables} (Err f) g)
+  refused_only f own = at_bytes remaining left bytes (λ b. (g : ScriptFault) → IsFirstFaultBy Reads IsFaultOf b vars g → IsFaultUnless {T = Variables} (Err f) g) all (refused_unless f own)
+
+  -- the bytes are read as events, which were answered
+  module _ (old new : Option (List ℕ)) (events : List Event) (read : Reads bytes events) where
+    by : (after : Variables) (answers : List Reply) → Happens vars events after answers → RunsBy Reads bytes vars after answers
+    by after answers happens = record { events = events; read = read; happens = happens }
+
+    pub answer_done : (r : Result Variables ScriptFault) → IsAnswer events vars old new r
+        → IfOk r (λ after. IfSome remaining (λ b. (answers : List Reply) × RunsBy Reads b vars after answers × Appends old new (answer_lines answers)))
+    answer_done (Ok after) h =
+        at_bytes remaining left bytes (λ b. (answers : List Reply) × RunsBy Reads b vars after answers × Appends old new (answer_lines answers)) all
+        (h.0, by after h.0 h.1, h.2)
+    answer_done (Err f) h = tt
+
+    pub answer_fault : (r : Result Variables ScriptFault) → IsAnswer events vars old new r
+        → IfErr r (λ f. IfSome remaining (λ b. f ≢ fault.Read → f ≢ fault.Write → f ≢ fault.OutOfMemory → IsFirstFaultBy Reads IsFaultOf b vars f))
+    answer_fault (Ok after) h = tt
+    answer_fault (Err fault.Write) h = told fault.Write (λ other no another. absurd (no refl))
+    answer_fault (Err fault.OutOfMemory) h = told fault.OutOfMemory (λ other another no. absurd (no refl))
+    answer_fault (Err (fault.Open f)) h = told (fault.Open f) (λ one two three. (len, events, read, h.0))
+    answer_fault (Err f) h = absurd h.0
+
+    pub answer_write : (r : Result Variables ScriptFault) → IsAnswer events vars old new r → r ≡ Err fault.Write
+        → IfSome remaining (λ b. (length b ≤ script_max) × (after : Variables) × (answers : List Reply) × RunsBy Reads b vars after answers × AppendsFront old new (answer_lines answers))
+    answer_write r h is =
+        let wrote = subst (IsAnswer events vars old new) is h in
+        at_bytes remaining left bytes (λ b. (length b ≤ script_max) × (after : Variables) × (answers : List Reply) × RunsBy Reads b vars after answers × AppendsFront old new (answer_lines answers)) all
+        (len, wrote.0, wrote.1, by wrote.0 wrote.1 wrote.2, wrote.3)
+
+    only : ((m : State) (vars : Variables) (f : OpenFault) → IsState m → IsImage m vars → IsOpenFault vars f → ⊥)
+        → (r : Result Variables ScriptFault) → IsAnswer events vars old new r → (f : ScriptFault) → IsFirstFaultBy Reads IsFaultOf bytes vars f → IsFaultUnless r f
+    only kept (Ok after) h f first = absurd (no_first Reads IsFaultOf are bytes vars kept after h.0 f len (by after h.0 h.1) first)
+    only kept (Err fault.Write) h f first = absurd (no_first Reads IsFaultOf are bytes vars kept h.0 h.1 f len (by h.0 h.1 h.2) first)
+    only kept (Err fault.OutOfMemory) h f first = inr (inr refl)
+    only kept (Err (fault.Open g)) h f first = inl (ap (λ (g : ScriptFault). Err g) (one_first Reads IsFaultOf are bytes vars (fault.Open g) f (len, events, read, h.0) first))
+    only kept (Err g) h f first = absurd h.0
+
+    pub answer_only : ((m : State) (vars : Variables) (f : OpenFault) → IsState m → IsImage m vars → IsOpenFault vars f → ⊥)
+        → (r : Result Variables ScriptFault) → IsAnswer events vars old new r → IfSome remaining (λ b. (f : ScriptFault) → IsFirstFaultBy Reads IsFaultOf b vars f → IsFaultUnless r f)
+    answer_only kept r h = at_bytes remaining left bytes (λ b. (f : ScriptFault) → IsFirstFaultBy Reads IsFaultOf b vars f → IsFaultUnless r f) all (only kept r h)

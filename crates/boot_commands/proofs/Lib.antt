@@ -1,0 +1,6 @@
+mod Lines
+mod Scripts
+mod Streams
+mod Transfers
+mod Happening
+mod Texts

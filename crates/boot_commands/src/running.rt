@@ -1,0 +1,201 @@
+//! Scripts and streams, run over variables.
+
+ghost use Rattle.std.specs.Prelude.{◌≡◌, ◌≢◌, ◌≤◌, List, length, Err, IfOk, IfErr, IfSome, OnOk, false};
+ghost use Rattle.std.specs.List.{AllByRecursion};
+ghost use Rattle.std.specs.String.{string_bytes};
+ghost use Rattle.std.specs.Io.KnownBytes.{Keeps, Appends, IsAtEnd};
+ghost use Rattle.uefi_vars.specs.Vars.{Variables};
+ghost use Rattle.boot_requests.specs.declared.reply.Reply.{Reply};
+ghost use Rattle.boot_requests.specs.declared.fault.FeedFault.{FeedFault};
+ghost use Rattle.boot_requests.specs.declared.fault.OpenFault.{OpenFault};
+ghost use Rattle.boot_requests.specs.Seen.{IsEvent};
+ghost use Rattle.boot_requests.specs.Turn.{plain_start};
+ghost use Rattle.boot_requests.specs.Keeping.{IsStateOf};
+ghost use Rattle.boot_commands.specs.declared.fault.ScriptFault.{ScriptFault};
+ghost use Rattle.boot_commands.specs.Running.{answer_lines, Happens, Runs, RunsBy};
+ghost use Rattle.boot_commands.specs.ScriptFault.{script_max, IsVarsFault, IsFirstFault, IsFirstStreamFault, IsFaultUnless, failed_read, failed_write};
+ghost use Rattle.boot_commands.specs.Source.{AppendsFront};
+ghost use Rattle.boot_commands.specs.Answering.{IsAnswer};
+ghost use Rattle.boot_commands.specs.Stream.{IsStream};
+
+use crate::fault::ScriptFault;
+use crate::script::read_script;
+use crate::source::{Sink, Source};
+use crate::stream::read_stream;
+use crate::transfer::{read_all, write_all};
+use boot_requests::{Event, Keeper, Reply, laws, reply_line, run};
+use std::alloc::{AllocError, Global};
+use uefi_vars::Vars;
+
+/// Runs a script over variables, writes what is answered to each of its events on a line of its own, and returns the
+/// variables after it. The script is all that the reader gives, up to its end, and has the lines that [`read_script`]
+/// reads; a line of answer is that of [`reply_line`] and a line feed. All lines are there before one is written. No call of
+/// the reader or the writer may have failed before.
+///
+/// # Errors
+///
+/// In this order: [`ScriptFault::TooMuch`] where the reader gives more than [`LIMIT`](crate::input::LIMIT) bytes, and
+/// [`ScriptFault::Read`] where a read fails before that; [`ScriptFault::BadLine`] with the number of the first line that is
+/// none of a script; [`ScriptFault::Open`] where the variables can't be kept; [`ScriptFault::Write`] where a write fails or
+/// takes no byte. [`ScriptFault::OutOfMemory`] comes where memory was refused. Nothing is written but at
+/// [`ScriptFault::Write`], where it is a front of the lines, and what was read stays read. The variables are given up.
+pub fn run_script<R: Source, W: Sink>(
+    alloc: Global,
+    reader: &mut R,
+    writer: &mut W,
+    vars: Vars,
+) -> Result<Vars, ScriptFault>
+    requires reads { R.failed reader.old ≡ false }
+    requires writes { W.failed writer.old ≡ false }
+    // The script is what the reader had left, the variables are those after it, and its answers are what was written.
+    ensures done { IfOk result (λ after. IfSome (R.remaining reader.old) (λ text.
+        (answers : List Reply) × Runs text vars after answers
+        × Appends (W.contents writer.old) (W.contents writer.new) (answer_lines answers))) }
+    ensures all_read { OnOk result (IsAtEnd (R.remaining reader.new)) }
+    ensures all_read_before { IfErr result (λ fault.
+        fault ≢ ScriptFault.Read → fault ≢ ScriptFault.TooMuch → fault ≢ ScriptFault.OutOfMemory →
+        IsAtEnd (R.remaining reader.new)) }
+    // The first fault of what the reader had left and of the variables.
+    ensures fault { IfErr result (λ fault. IfSome (R.remaining reader.old) (λ text.
+        fault ≢ ScriptFault.Read → fault ≢ ScriptFault.Write → fault ≢ ScriptFault.OutOfMemory →
+        IsFirstFault text vars fault)) }
+    ensures only_fault { IfSome (R.remaining reader.old) (λ text. (fault : ScriptFault) →
+        IsFirstFault text vars fault → IsFaultUnless result fault) }
+    // A failed write: the script was run.
+    ensures write { result ≡ Err ScriptFault.Write → IfSome (R.remaining reader.old) (λ text.
+        (length text ≤ script_max) × (after : Variables) × (answers : List Reply) × Runs text vars after answers
+        × AppendsFront (W.contents writer.old) (W.contents writer.new) (answer_lines answers)) }
+    ensures unwritten { IfErr result (λ fault. fault ≢ ScriptFault.Write →
+        Keeps (W.contents writer.old) (W.contents writer.new)) }
+    ensures memory { result ≢ Err (ScriptFault.Open OpenFault.OutOfMemory) }
+    ensures read_flag { R.failed reader.new ≡ failed_read result }
+    ensures write_flag { W.failed writer.new ≡ failed_write result }
+{
+    laws::an_image_can_be_kept();
+    let text = read_all(alloc, reader)?;
+    let events = read_script(alloc, &text)?;
+    answer(alloc, &events, writer, vars)
+}
+
+/// Runs a stream of frames over variables, as [`run_script`] runs a script: each frame is delivered, and answered on a line of
+/// its own. The stream is all that the reader gives, up to its end, and is cut as [`read_stream`] has it.
+///
+/// # Errors
+///
+/// In this order: [`ScriptFault::TooMuch`] where the reader gives more than [`LIMIT`](crate::input::LIMIT) bytes, and
+/// [`ScriptFault::Read`] where a read fails before that; [`ScriptFault::Stream`] with the fault of the first header that has
+/// one; [`ScriptFault::Rest`] with the number of bytes that are left of a frame that isn't whole; [`ScriptFault::Open`] where
+/// the variables can't be kept; [`ScriptFault::Write`] where a write fails or takes no byte. [`ScriptFault::OutOfMemory`]
+/// comes where memory was refused. Nothing is written but at [`ScriptFault::Write`], where it is a front of the lines, and
+/// what was read stays read. The variables are given up.
+pub fn run_stream<R: Source, W: Sink>(
+    alloc: Global,
+    reader: &mut R,
+    writer: &mut W,
+    vars: Vars,
+) -> Result<Vars, ScriptFault>
+    requires reads { R.failed reader.old ≡ false }
+    requires writes { W.failed writer.old ≡ false }
+    // The stream is what the reader had left, the variables are those after it, and its answers are what was written.
+    ensures done { IfOk result (λ after. IfSome (R.remaining reader.old) (λ stream.
+        (answers : List Reply) × RunsBy IsStream stream vars after answers
+        × Appends (W.contents writer.old) (W.contents writer.new) (answer_lines answers))) }
+    ensures all_read { OnOk result (IsAtEnd (R.remaining reader.new)) }
+    ensures all_read_before { IfErr result (λ fault.
+        fault ≢ ScriptFault.Read → fault ≢ ScriptFault.TooMuch → fault ≢ ScriptFault.OutOfMemory →
+        IsAtEnd (R.remaining reader.new)) }
+    // The first fault of what the reader had left and of the variables.
+    ensures fault { IfErr result (λ fault. IfSome (R.remaining reader.old) (λ stream.
+        fault ≢ ScriptFault.Read → fault ≢ ScriptFault.Write → fault ≢ ScriptFault.OutOfMemory →
+        IsFirstStreamFault stream vars fault)) }
+    ensures only_fault { IfSome (R.remaining reader.old) (λ stream. (fault : ScriptFault) →
+        IsFirstStreamFault stream vars fault → IsFaultUnless result fault) }
+    // A failed write: the stream was run.
+    ensures write { result ≡ Err ScriptFault.Write → IfSome (R.remaining reader.old) (λ stream.
+        (length stream ≤ script_max) × (after : Variables) × (answers : List Reply)
+        × RunsBy IsStream stream vars after answers
+        × AppendsFront (W.contents writer.old) (W.contents writer.new) (answer_lines answers)) }
+    ensures unwritten { IfErr result (λ fault. fault ≢ ScriptFault.Write →
+        Keeps (W.contents writer.old) (W.contents writer.new)) }
+    ensures memory { result ≢ Err (ScriptFault.Open OpenFault.OutOfMemory) }
+    ensures stream_memory { result ≢ Err (ScriptFault.Stream FeedFault.OutOfMemory) }
+    ensures read_flag { R.failed reader.new ≡ failed_read result }
+    ensures write_flag { W.failed writer.new ≡ failed_write result }
+{
+    laws::an_image_can_be_kept();
+    laws::a_stream_has_one_cut();
+    let stream = read_all(alloc, reader)?;
+    let events = read_stream(alloc, &stream)?;
+    answer(alloc, &events, writer, vars)
+}
+
+/// Runs the events over variables, and writes the answers.
+fn answer<W: Sink>(
+    alloc: Global,
+    events: &[Event],
+    writer: &mut W,
+    vars: Vars,
+) -> Result<Vars, ScriptFault>
+    requires events { AllByRecursion IsEvent events.now }
+    requires writes { W.failed writer.old ≡ false }
+    ensures answer { IsAnswer events.now vars (W.contents writer.old) (W.contents writer.new) result }
+    ensures flag { W.failed writer.new ≡ failed_write result }
+{
+    let (vars, lines) = answers_to(alloc, events, vars)?;
+    write_all(writer, lines.as_bytes())?;
+    Ok(vars)
+}
+
+/// The variables after these events, and the lines that answer them.
+fn answers_to(alloc: Global, events: &[Event], vars: Vars) -> Result<(Vars, String), ScriptFault>
+    requires { AllByRecursion IsEvent events.now }
+    ensures done { IfOk result (λ done. (answers : List Reply) × Happens vars events.now done.0 answers
+        × (string_bytes done.1 ≡ answer_lines answers)) }
+    ensures fault { IfErr result (λ fault. fault ≢ ScriptFault.OutOfMemory → IsVarsFault vars fault) }
+{
+    let (vars, replies) = happen(alloc, events, vars)?;
+    let lines = answer_lines(alloc, &replies)?;
+    Ok((vars, lines))
+}
+
+/// The variables after these events, and the replies to these.
+fn happen(alloc: Global, events: &[Event], vars: Vars) -> Result<(Vars, Vec<Reply>), ScriptFault>
+    requires { AllByRecursion IsEvent events.now }
+    ensures done { IfOk result (λ done. Happens vars events.now done.0 done.1.items) }
+    ensures fault { IfErr result (λ fault. fault ≢ ScriptFault.OutOfMemory → IsVarsFault vars fault) }
+{
+    laws::a_start_stands_for_no_events();
+    laws::each_event_is_seen();
+    let keeper = open(alloc, vars)?;
+    let mut replies = Vec::new(alloc);
+    let (keeper, whole) = run(alloc, keeper, events, &mut replies);
+    if !whole {
+        return Err(ScriptFault::OutOfMemory);
+    }
+    Ok((keeper.into_vars(), replies))
+}
+
+/// What keeps the variables.
+fn open(alloc: Global, vars: Vars) -> Result<Keeper, ScriptFault>
+    ensures opened { IfOk result (λ keeper.
+        (keeper ≡ plain_start keeper.machine) × IsStateOf keeper.machine vars) }
+    ensures fault { IfErr result (λ fault. fault ≢ ScriptFault.OutOfMemory → IsVarsFault vars fault) }
+{
+    match Keeper::open(alloc, vars) {
+        Ok(keeper) => Ok(keeper),
+        Err(refused) => Err(ScriptFault::from(refused.fault)),
+    }
+}
+
+/// The lines of the replies, each ended by a line feed.
+fn answer_lines(alloc: Global, replies: &[Reply]) -> Result<String, AllocError>
+    ensures { IfOk result (λ lines. string_bytes lines ≡ answer_lines replies.now) }
+{
+    let mut lines = String::new(alloc);
+    for reply in replies {
+        let line = reply_line(alloc, reply)?;
+        lines.push_str(&line)?;
+        lines.push('\n')?;
+    }
+    Ok(lines)
+}

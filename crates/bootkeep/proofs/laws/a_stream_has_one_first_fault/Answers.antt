@@ -1,6 +1,0 @@
-use Rattle.bootkeep.specs.Stream.{IsStream, IsStreamFault}
-use Rattle.bootkeep.proofs.Happening.{of_stream, one_first}
-use Rattle.bootkeep.proofs.laws.a_stream_has_one_first_fault.Goals as goal
-
-pub returns : goal.returns
-returns c = one_first IsStream IsStreamFault (of_stream c.a_stream_has_one_cut.ensures)
