@@ -43,6 +43,3 @@ pub use request::{OrderList, Request};
 pub use running::run;
 pub use window::WIDTH;
 pub use writing::write_frame;
-
-#[cfg(test)]
-mod tests;

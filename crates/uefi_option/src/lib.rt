@@ -28,6 +28,3 @@ pub use reading::{check_option, read_option};
 pub use text::description_text;
 pub use view::OptionView;
 pub use writing::write_option;
-
-#[cfg(test)]
-mod tests;

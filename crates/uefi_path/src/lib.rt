@@ -42,6 +42,3 @@ pub use uri::UriNode;
 pub use vendor::{VENDOR_BODY_MAX, Vendor};
 pub use view::{NodeIter, NodeView};
 pub use writing::{node_len, path_len, write_node, write_path};
-
-#[cfg(test)]
-mod tests;

@@ -21,6 +21,3 @@ pub use fault::TextFault;
 pub use guid::{GuidText, guid_text, read_guid};
 pub use print_path::{PathText, path_text};
 pub use reading::read_text;
-
-#[cfg(test)]
-mod tests;

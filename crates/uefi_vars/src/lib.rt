@@ -27,6 +27,3 @@ pub use planning::{entry_option, plan, plan_numbers};
 pub use reading::read_set;
 pub use vars::{DATA_MAX, Iter, Vars};
 pub use writing::write_set;
-
-#[cfg(test)]
-mod tests;

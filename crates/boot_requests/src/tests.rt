@@ -1,5 +1,0 @@
-//! Frames, requests and replies by examples.
-
-mod frames;
-mod keeper;
-mod streams;

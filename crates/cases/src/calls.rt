@@ -1,0 +1,130 @@
+//! The calls that cases name.
+
+use crate::input::{bytes_of, ends_of, text_of};
+use crate::variables::stated_text;
+use crate::{frames, options, paths, plans, reports, runs, sets, streams, texts};
+use anyhow::{Result, bail};
+use serde_json::Value;
+use std::alloc::Global;
+
+/// What the case says that the call answers.
+pub fn wanted(alloc: Global, case: &Value) -> Result<String> {
+    if case.get("replies").is_some() {
+        return runs::wanted(alloc, case);
+    }
+    match case.get("answer") {
+        Some(answer) => with_variables(alloc, case, text_of(alloc, answer)?),
+        None => bail!("no answer is stated"),
+    }
+}
+
+/// An answer, and below it the variables that the case says there are then, if it says so.
+fn with_variables(alloc: Global, case: &Value, mut answer: String) -> Result<String> {
+    if let Some(after) = case.get("after") {
+        answer.push_str("\n")?;
+        answer.push_str(&stated_text(alloc, after)?)?;
+    }
+    Ok(answer)
+}
+
+/// What the call answers.
+pub fn answer(alloc: Global, call: &str, case: &Value) -> Result<String> {
+    match case.get("input") {
+        None => of_members(alloc, call, case),
+        Some(input) if takes_text(call) => of_text(alloc, call, &text_of(alloc, input)?),
+        Some(input) => {
+            let bytes = bytes_of(alloc, input)?;
+            match case.get("cuts") {
+                None => of_bytes(alloc, call, &bytes),
+                Some(cuts) => of_cuts(alloc, call, &bytes, ends_of(cuts)?),
+            }
+        }
+    }
+}
+
+/// Whether the input of a call is text, and not bytes.
+fn takes_text(call: &str) -> bool {
+    matches!(
+        call,
+        "read_text" | "read_guid" | "entry_number" | "path_report" | "text_report"
+    )
+}
+
+/// What a call of bytes answers to each front of the bytes from one length to another: one answer, or the first that differs.
+fn of_cuts(alloc: Global, call: &str, bytes: &[u8], (first, last): (u64, u64)) -> Result<String> {
+    let mut told: Option<String> = None;
+    for len in first..=last {
+        let Some((front, _)) = bytes.split_at_checked(usize::try_from(len)?) else {
+            bail!("the input has no {len} bytes");
+        };
+        let answer = of_bytes(alloc, call, front)?;
+        match &told {
+            None => told = Some(answer),
+            Some(before) if before.as_str() == answer.as_str() => {}
+            Some(before) => return Ok(format!(in alloc; "{before}, and {answer} of {len} bytes")?),
+        }
+    }
+    match told {
+        Some(answer) => Ok(answer),
+        None => bail!("no cut is stated"),
+    }
+}
+
+/// The calls whose input is bytes.
+fn of_bytes(alloc: Global, call: &str, bytes: &[u8]) -> Result<String> {
+    match call {
+        "read_path" => paths::read(alloc, bytes),
+        "check_path" => paths::measure(alloc, bytes),
+        "nodes" => paths::views(alloc, bytes),
+        "to_node" => paths::nodes_in_words(alloc, bytes),
+        "read_units" => paths::units(alloc, bytes),
+        "path_text" => texts::print(alloc, bytes),
+        "guid_text" => texts::print_guid(alloc, bytes),
+        "read_option" => options::read(alloc, bytes),
+        "check_option" => options::view(alloc, bytes),
+        "description_text" => options::text(alloc, bytes),
+        "read_set" => sets::read(alloc, bytes),
+        "read_frame" => frames::read(alloc, bytes),
+        "feed" => streams::feed(alloc, bytes),
+        "option_report" => reports::option(alloc, bytes),
+        "set_report" => reports::set(alloc, bytes),
+        _ => bail!("no call {call} of bytes"),
+    }
+}
+
+/// The calls whose input is text.
+fn of_text(alloc: Global, call: &str, text: &str) -> Result<String> {
+    match call {
+        "read_text" => texts::read(alloc, text),
+        "read_guid" => texts::read_a_guid(alloc, text),
+        "entry_number" => sets::number(alloc, text),
+        "path_report" => reports::path(alloc, text),
+        "text_report" => reports::text(alloc, text),
+        _ => bail!("no call {call} of text"),
+    }
+}
+
+/// The calls that take more than one thing.
+fn of_members(alloc: Global, call: &str, case: &Value) -> Result<String> {
+    match call {
+        "node_from_parts" => paths::node_of_parts(alloc, case),
+        "OtherNode::from_vec" => paths::other_node(alloc, case),
+        "Vendor::new" => paths::vendor(alloc, case),
+        "UriNode::new" => paths::uri(alloc, case),
+        "FileNode::new" => paths::file(alloc, case),
+        "make_option" => options::make(alloc, case),
+        "is_normal" => options::meaning(alloc, case),
+        "change" => sets::change(alloc, case),
+        "entry_name" => sets::name(alloc, case),
+        "boot_order" => sets::order(alloc, case),
+        "boot_next" => sets::next(alloc, case),
+        "entry_option" => sets::option(alloc, case),
+        "plan" => plans::make(alloc, case),
+        "write_frame" => frames::write(alloc, case),
+        "open" => runs::open(alloc, case),
+        "run" => runs::events(alloc, case),
+        "run_script" => runs::script(alloc, case),
+        "run_stream" => runs::stream(alloc, case),
+        _ => bail!("no call {call}"),
+    }
+}

@@ -1,0 +1,52 @@
+//! Runs the cases of the files in the folder that it is run in, and tells how many of each file differ.
+//!
+//! A file `NAME.json` has calls of the libraries with what each takes and what it answers. The program makes each call, and
+//! prints a line for each file, as `uefi_path.json 214 cases, 0 differ`, and below it a line for each case whose answer isn't
+//! the one that the file has. In the file `wrong.json` every answer is a wrong one, so all of its cases have to be told.
+//! Last come the checks that no file can state, as those of readers that fail. docs/formats.md has the form of the files.
+#![tactic(auto)]
+
+mod calls;
+mod checks;
+mod counting;
+mod frames;
+mod input;
+mod nodes;
+mod options;
+mod paths;
+mod pipes;
+mod plans;
+mod reports;
+mod runs;
+mod sets;
+mod streams;
+mod suite;
+mod texts;
+mod variables;
+
+use anyhow::{Context, Result};
+use std::fs;
+
+fn main(rt: HostRuntime) -> Result<()> {
+    for name in &suite_names(&rt)? {
+        let text = fs::read_to_string(&rt, name.as_str())?;
+        let told = suite::report(rt.alloc(), name, &text);
+        rt.print(told.context(format_args!("in {name}"))?)?;
+    }
+    rt.print(checks::report(rt.alloc())?)?;
+    Ok(())
+}
+
+/// The names of the files with cases, in the order of their bytes.
+fn suite_names(rt: &HostRuntime) -> Result<Vec<String>> {
+    let mut names = Vec::new(rt.alloc());
+    for entry in fs::read_dir(rt, ".")? {
+        let entry = entry?;
+        let name = entry.file_name();
+        if name.ends_with(".json") {
+            names.push(String::from_str(rt.alloc(), name)?)?;
+        }
+    }
+    names.sort()?;
+    Ok(names)
+}

@@ -1,6 +1,0 @@
-//! Nodes and paths by examples.
-
-mod examples;
-mod nodes;
-mod paths;
-mod views;
