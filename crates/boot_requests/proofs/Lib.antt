@@ -6,6 +6,7 @@ pub mod Turns
 pub mod Followed
 pub mod Histories
 pub mod Hands
+pub mod Pendings
 pub mod Replies
 pub mod Valid
 pub mod Answers
@@ -29,6 +30,7 @@ mod Steps
 mod OrderLists
 mod Outcomes
 pub mod Asked
+mod Held
 mod Headers
 mod Streams
 mod Pieces

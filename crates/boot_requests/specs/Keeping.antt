@@ -1,7 +1,8 @@
 -- Which run a plain state stands for, and with which variables it starts.
-use Rattle.std.specs.Prelude.{◌≡◌, ℕ, ◌+◌, ◌<◌, ◌==◌, nat_lt, Bool, false, List, [], ◌∷◌, Option, Some, None, IfSome}
+use Rattle.std.specs.Prelude.{◌≡◌, ◌⊎◌, ℕ, ◌+◌, ◌<◌, ◌==◌, nat_lt, Bool, false, List, [], ◌∷◌, Option, Some, None, IfSome}
 use Rattle.std.specs.FinMap.{get, retain_keys}
 use Rattle.uefi_option.specs.LoadOption.{SpellsOption}
+use Rattle.uefi_vars.specs.declared.boot_plan.Choice.{Choice}
 use Rattle.uefi_vars.specs.Vars.{Variables}
 use Rattle.boot_requests.specs.declared.request.Request.{Request}
 use Rattle.boot_requests.specs.declared.request.Request.TheVariants.{Add, Replace, Remove, Order, Next}
@@ -61,6 +62,10 @@ IsStored m (Replace entry option) = (bytes : List ℕ) × (get m.entries entry �
 IsStored m (Remove entry) = Unit {0}
 IsStored m (Order numbers) = Unit {0}
 IsStored m (Next entry) = Unit {0}
+
+-- the request is one to store the option of the choice under its number
+abbrev pub AsksFor : Request → Choice → Type 0
+AsksFor request choice = (request ≡ Add choice.number choice.option) ⊎ (request ≡ Replace choice.number choice.option)
 
 -- whether the request is one to replace or to remove the entry
 abbrev pub touches : Request → ℕ → Bool

@@ -1,5 +1,6 @@
 -- Whole runs: lists of what happened, the newest first. Nothing here knows how it is kept.
-use Rattle.std.specs.Prelude.{◌≡◌, ◌⊎◌, ℕ, ◌+◌, ◌<◌, ◌==◌, ◌&&◌, nat_lt, Bool, true, false, if◌then◌else◌, List, [], ◌∷◌, ◌++◌, Option, Some, None}
+use Rattle.std.specs.Prelude.{◌≡◌, ◌≢◌, ◌⊎◌, ℕ, ◌+◌, ◌<◌, ◌==◌, ◌&&◌, nat_lt, Bool, true, false, if◌then◌else◌, List, [], ◌∷◌, ◌++◌, Option, Some, None}
+use Rattle.std.specs.List.{AllByRecursion}
 use Rattle.std.specs.FinMap.{empty, insert, retain_keys}
 use Rattle.uefi_vars.specs.Plan.{PlanParts}
 use Rattle.boot_requests.specs.declared.request.Request.{Request}
@@ -49,6 +50,10 @@ is_armed (Garbled fault ∷ before) = is_armed before
 is_armed (Prepare ∷ before) = true
 is_armed (Hand ∷ before) = false
 is_armed (Restart ∷ before) = false
+
+-- among these no plan was to be handed out, and the keeper didn't start anew
+abbrev pub HaveNoHandOrRestart : List Seen → Type 0
+HaveNoHandOrRestart = AllByRecursion (λ seen. (seen ≢ Hand) × (seen ≢ Restart))
 
 -- what happened before the last boot that was prepared while no plan was: such a boot is taken. Nothing, where none was
 -- taken.

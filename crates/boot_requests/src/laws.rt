@@ -1,10 +1,13 @@
 //! Laws of the definitions. Each function's contract is one law; calling it does nothing.
 
-ghost use Rattle.std.specs.Prelude.{◌≡◌, ◌⊎◌, ◌↔◌, ℕ, ◌-◌, ◌<◌, ◌≤◌, List, [], ◌∷◌, ◌++◌, length, reverse, None, IsTrue, true, false};
+ghost use Rattle.std.specs.Prelude.{◌≡◌, ◌⊎◌, ◌↔◌, ℕ, ◌-◌, ◌<◌, ◌≤◌, List, [], ◌∷◌, ◌++◌, length, reverse, Contains, Some, None, IsTrue, true, false};
 ghost use Rattle.std.specs.List.{AllByRecursion};
 ghost use Rattle.std.specs.FinMap as map;
 ghost use Rattle.uefi_path.specs.Row.{IsByte};
+ghost use Rattle.uefi_option.specs.Attributes.{IsNormal};
+ghost use Rattle.uefi_vars.specs.declared.boot_plan.Choice.{Choice};
 ghost use Rattle.uefi_vars.specs.Vars.{Variables, IsVars};
+ghost use Rattle.uefi_vars.specs.Plan.{PlanParts};
 ghost use Rattle.boot_requests.specs.declared.event.Event.{Event};
 ghost use Rattle.boot_requests.specs.declared.fault.FeedFault.{FeedFault};
 ghost use Rattle.boot_requests.specs.declared.fault.FrameFault.{FrameFault};
@@ -17,12 +20,13 @@ ghost use Rattle.boot_requests.specs.Request.{IsRequest, payload_of};
 ghost use Rattle.boot_requests.specs.Frame.{SpellsFrame};
 ghost use Rattle.boot_requests.specs.FrameFault.{IsFirstFault};
 ghost use Rattle.boot_requests.specs.State.{State, IsState, IsImage};
-ghost use Rattle.boot_requests.specs.Seen.{Seen, Came, Prepare, IsEvent, IsSeen};
+ghost use Rattle.boot_requests.specs.Apply.{HasPlanOf};
+ghost use Rattle.boot_requests.specs.Seen.{Seen, Came, Prepare, Hand, IsEvent, IsSeen};
 ghost use Rattle.boot_requests.specs.Changes.{numbers_in, rising};
-ghost use Rattle.boot_requests.specs.Run.{followed, accepted, gap_at, Delivers, AreTaken, AgreeOnNumbers, is_armed, history, state_at, last_of, sets};
+ghost use Rattle.boot_requests.specs.Run.{followed, accepted, gap_at, Delivers, AreTaken, AgreeOnNumbers, is_armed, HaveNoHandOrRestart, history, state_at, last_of, sets};
 ghost use Rattle.boot_requests.specs.Reply.{IsReply, AreReplies, AreAnswers, hands};
 ghost use Rattle.boot_requests.specs.Turn.{Plain, plain_start, Turn};
-ghost use Rattle.boot_requests.specs.Keeping.{StandsFor, IsPlain, AreRead, IsLeft, IsStored, IsLast};
+ghost use Rattle.boot_requests.specs.Keeping.{StandsFor, IsPlain, AreRead, IsLeft, IsStored, AsksFor, IsLast};
 ghost use Rattle.boot_requests.specs.Opening.{IsOpenFault};
 ghost use Rattle.boot_requests.specs.Stream.{Cut, IsCut};
 
@@ -84,6 +88,18 @@ pub fn answers_are_the_replies_of_the_run()
 pub fn a_boot_deletes_the_next_entry()
     ensures { (start : State) (run : List Seen) → is_armed run ≡ false →
         (state_at start (Prepare ∷ run)).next ≡ None }
+{}
+
+/// A plan is handed out only where one was to be handed out, after a boot that was prepared while no plan was: between the
+/// two no other was to be handed out, and the keeper didn't start anew. It is the plan of the state before that boot.
+pub fn a_plan_is_handed_out_after_its_boot()
+    ensures hand { (start : State) (run : List Seen) (seen : Seen) (plan : PlanParts) →
+        IsReply start run seen (Reply.Plan plan) → seen ≡ Hand }
+    ensures boot { (start : State) (run : List Seen) (seen : Seen) (plan : PlanParts) →
+        IsReply start run seen (Reply.Plan plan) →
+        (later : List Seen) × (before : List Seen) × (run ≡ later ++ Prepare ∷ before)
+        × HaveNoHandOrRestart later × (is_armed before ≡ false)
+        × HasPlanOf (state_at start before) plan }
 {}
 
 /// What happens after a run has at most one reply.
@@ -325,3 +341,18 @@ pub fn a_stored_option_is_what_was_asked_for()
         IsRequest request → IsLast k.waiting number next request →
         Turn k (Came number request) to (Reply.Applied Outcome.Done next) → IsStored to.machine request }
 {}
+
+/// An option that is stored as a request asked for is in each plan of that state: as the one that is tried first if
+/// BootNext names its entry, and among the others if the order does and the option is normal.
+pub fn a_plan_holds_what_was_asked_for()
+    ensures next { (m : State) (request : Request) (plan : PlanParts) (choice : Choice) →
+        AsksFor request choice → IsStored m request → HasPlanOf m plan →
+        m.next ≡ Some choice.number → plan.next ≡ Some choice }
+    ensures normal { (m : State) (request : Request) (plan : PlanParts) (choice : Choice) →
+        AsksFor request choice → IsStored m request → HasPlanOf m plan →
+        Contains m.order choice.number → IsNormal choice.option.attributes →
+        Contains plan.normal choice }
+{
+    uefi_vars::laws::entries_have_one_plan();
+    uefi_vars::laws::a_plan_has_each_normal_option();
+}
