@@ -1,6 +1,8 @@
 //! The bytes of a delivery.
 
 ghost use Rattle.std.specs.Prelude.{◌≡◌, IfOk};
+ghost use Rattle.std.specs.List.{AllByRecursion};
+ghost use Rattle.uefi_path.specs.Row.{IsByte};
 
 use std::alloc::{AllocError, Global};
 use std::marker::Model;
@@ -61,16 +63,26 @@ impl Bytes {
 
     /// Equal bytes. The one refusal is for want of memory.
     pub fn copy(&self, alloc: Global) -> Result<Bytes, AllocError>
-        ensures { IfOk result (λ bytes. bytes ≡ self.now) }
+        ensures equal { IfOk result (λ bytes. bytes ≡ self.now) }
+        ensures valid { AllByRecursion IsByte self.now }
     {
-        let bytes = Vec::from_slice(alloc, &self.bytes)?;
+        let bytes = Vec::from_slice(alloc, self.bytes())?;
         Ok(Bytes { bytes })
     }
 
     /// The bytes.
     pub fn bytes(&self) -> &[u8]
-        ensures { result.now ≡ self.now }
+        ensures bytes { result.now ≡ self.now }
+        ensures valid { AllByRecursion IsByte self.now }
     {
-        &self.bytes
+        each_byte(&self.bytes)
     }
+}
+
+/// The same bytes. A contract learns here what the type says: that these are bytes.
+fn each_byte(bytes: &[u8]) -> &[u8]
+    ensures same { result.now ≡ bytes.now }
+    ensures valid { AllByRecursion IsByte bytes.now }
+{
+    bytes
 }

@@ -1,5 +1,7 @@
 //! What happens to a machine.
 
+ghost use Rattle.boot_requests.specs.Seen.{IsEvent};
+
 use crate::bytes::Bytes;
 
 /// What happens to the boot entries of a machine.
@@ -13,4 +15,18 @@ pub enum Event {
     Hand,
     /// The program that keeps the entries starts anew, from the variables that were kept last.
     Restart,
+}
+
+impl Event {
+    /// Looks at the event, for the contract alone: what a value's type keeps is known where the value is looked at.
+    pub(crate) fn look(&self)
+        ensures { IsEvent self.now }
+    {
+        match self {
+            Event::Deliver(bytes) => {
+                let _ = bytes.bytes();
+            }
+            Event::Prepare | Event::Hand | Event::Restart => {}
+        }
+    }
 }

@@ -11,7 +11,7 @@ ghost use Rattle.boot_requests.specs.Frame.{SpellsFrame, IsSent};
 ghost use Rattle.boot_requests.specs.FrameFault.{IsFirstFault};
 ghost use Rattle.boot_requests.specs.State.{State, IsState, IsImage};
 ghost use Rattle.boot_requests.specs.Apply.{outcome_of, HasPlanOf};
-ghost use Rattle.boot_requests.specs.Seen.{Seen, IsSeen, Came, Garbled, Prepare, Hand, Restart};
+ghost use Rattle.boot_requests.specs.Seen.{Seen, IsEvent, IsSeen, Came, Garbled, Prepare, Hand, Restart};
 ghost use Rattle.boot_requests.specs.Answer.{kept_outcome, again, choice_count};
 ghost use Rattle.boot_requests.specs.Reply.{IsReply};
 ghost use Rattle.boot_requests.specs.Turn.{settled, Turn};
@@ -120,6 +120,8 @@ impl Keeper {
         ensures run { IfOk result (λ answer. (start : State) (run : List Seen) (seen : Seen) →
             StandsFor self.now start run → IsSeen event.now seen →
             StandsFor answer.0 start (seen ∷ run) × IsReply start run seen answer.1) }
+        // So the event can be read in some way.
+        ensures valid { IsEvent event.now }
     {
         laws::a_turn_goes_on_with_the_run();
         let (update, reply) = self.take_turn(alloc, event)?;
@@ -136,6 +138,7 @@ impl Keeper {
         ensures fits { IfOk result (λ answer. Fits self.now answer.0) }
         ensures turn { IfOk result (λ answer. (seen : Seen) → IsSeen event.now seen →
             Turn self.now seen (updated self.now answer.0) answer.1) }
+        ensures valid { IsEvent event.now }
     {
         match event {
             Event::Deliver(bytes) => self.receive(alloc, bytes.bytes()),

@@ -1,6 +1,9 @@
 //! Requests as values.
 
 ghost use Rattle.std.specs.Prelude.{◌≡◌, IfOk};
+ghost use Rattle.std.specs.List.{AllByRecursion};
+ghost use Rattle.uefi_vars.specs.Order.{IsEntryNumber};
+ghost use Rattle.boot_requests.specs.Request.{IsRequest};
 
 use std::alloc::{AllocError, Global};
 use std::marker::Model;
@@ -55,18 +58,28 @@ impl OrderList {
 
     /// An equal list. The one refusal is for want of memory.
     pub fn copy(&self, alloc: Global) -> Result<OrderList, AllocError>
-        ensures { IfOk result (λ order. order ≡ self.now) }
+        ensures equal { IfOk result (λ order. order ≡ self.now) }
+        ensures valid { AllByRecursion IsEntryNumber self.now }
     {
-        let numbers = Vec::from_slice(alloc, &self.numbers)?;
+        let numbers = Vec::from_slice(alloc, self.numbers())?;
         Ok(OrderList { numbers })
     }
 
     /// The numbers.
     pub fn numbers(&self) -> &[u16]
-        ensures { result.now ≡ self.now }
+        ensures numbers { result.now ≡ self.now }
+        ensures valid { AllByRecursion IsEntryNumber self.now }
     {
-        &self.numbers
+        each_number(&self.numbers)
     }
+}
+
+/// The same numbers. A contract learns here what the type says: that each is one of two bytes.
+fn each_number(numbers: &[u16]) -> &[u16]
+    ensures same { result.now ≡ numbers.now }
+    ensures valid { AllByRecursion IsEntryNumber numbers.now }
+{
+    numbers
 }
 
 /// A change of the boot entries (UEFI 2.10, 3.3). The number of an entry is that of its variable, `Boot####`.
@@ -87,7 +100,8 @@ pub enum Request {
 impl Request {
     /// An equal request. The one refusal is for want of memory.
     pub fn copy(&self, alloc: Global) -> Result<Request, AllocError>
-        ensures { IfOk result (λ request. request ≡ self.now) }
+        ensures equal { IfOk result (λ request. request ≡ self.now) }
+        ensures valid { IsRequest self.now }
     {
         Ok(match self {
             Request::Add(entry, option) => Request::Add(*entry, option.copy(alloc)?),

@@ -1,9 +1,10 @@
 //! Events one after the other.
 
 ghost use Rattle.std.specs.Prelude.{◌≡◌, ◌<◌, ◌+◌, List, [], ◌∷◌, ◌++◌, length, take, drop, IsTrue, OnOk, OnErr, false};
+ghost use Rattle.std.specs.List.{AllByRecursion};
 ghost use Rattle.boot_requests.specs.declared.reply.Reply.{Reply};
 ghost use Rattle.boot_requests.specs.State.{State};
-ghost use Rattle.boot_requests.specs.Seen.{Seen, IsSeen, AreSeen};
+ghost use Rattle.boot_requests.specs.Seen.{Seen, IsEvent, IsSeen, AreSeen};
 ghost use Rattle.boot_requests.specs.Run.{followed};
 ghost use Rattle.boot_requests.specs.Reply.{AreAnswers};
 ghost use Rattle.boot_requests.specs.Turn.{Turn, Turns};
@@ -41,7 +42,10 @@ pub fn run(
         (start : State) (before seen : List Seen) → StandsFor keeper start before →
         AreSeen (take (length answers) events.now) seen →
         StandsFor result.0 start (followed before seen) × AreAnswers start before seen answers }
+    // So each event can be read in some way.
+    ensures valid { AllByRecursion IsEvent events.now }
 {
+    look_at_each(events);
     let mut now = keeper;
     for event in events {
         let Ok(()) = take_event(alloc, &mut now, event, replies) else {
@@ -69,4 +73,13 @@ fn take_event(
     replies.push(reply)?;
     keeper.update(update);
     Ok(())
+}
+
+/// Looks at each event, for the contract alone: what a value's type keeps is known where the value is looked at.
+fn look_at_each(events: &[Event])
+    ensures { AllByRecursion IsEvent events.now }
+{
+    for event in events {
+        event.look();
+    }
 }

@@ -5,4 +5,4 @@ use Rattle.boot_requests.proofs.writing.payload_len.Goals as goal
 
 pub returns-in-Order : goal.returns-in-Order
 returns-in-Order c =
-    counted c.checked_mul.result _ (length (payload_of c.args.request.now)) (order_len c.args.request.now c.in-Order.order c.numbers.result.now c.in-Order.is c.numbers.ensures) c.checked_mul.ensures
+    counted c.checked_mul.result _ (length (payload_of c.args.request.now)) (order_len c.args.request.now c.in-Order.order c.numbers.result.now c.in-Order.is c.numbers.ensures.numbers) c.checked_mul.ensures
