@@ -1,5 +1,5 @@
 -- Events that happen to variables, and what is answered where bytes are read as events.
-use Rattle.std.proofs.Common.{◌≡◌, ◌≢◌, ◌≤◌, ◌+◌, ℕ, List, [], ◌∷◌, ◌++◌, length, take, drop, Option, Some, None, Result, Ok, Err, refl, ap, sym, subst, ◌∙◌, inl, inr, arith, append-nil}
+use Rattle.std.proofs.Common.{◌≡◌, ◌≢◌, ◌<◌, ◌≤◌, ◌+◌, ℕ, List, [], ◌∷◌, ◌++◌, length, take, drop, Option, Some, None, Result, Ok, Err, refl, ap, sym, subst, ◌∙◌, inl, inr, arith, append-nil}
 use Rattle.std.specs.Prelude.{IfOk, IfErr, IfSome}
 use Rattle.std.specs.List.{AllByRecursion}
 use Rattle.std.specs.Io.KnownBytes.{Appends}
@@ -163,16 +163,21 @@ module _ (Reads : List ℕ → List Event → Type 0) (IsFaultOf : List ℕ → 
       → IfSome remaining (λ b. (g : ScriptFault) → IsFirstFaultBy Reads IsFaultOf b vars g → IsFaultUnless {T = Variables} (Err f) g)
   refused_only f own = at_bytes remaining left bytes (λ b. (g : ScriptFault) → IsFirstFaultBy Reads IsFaultOf b vars g → IsFaultUnless {T = Variables} (Err f) g) all (refused_unless f own)
 
+  -- what is read whole is not too much
+  pub refused_few : (f : ScriptFault) → (f ≢ fault.OutOfMemory → IsFaultOf bytes f) → f ≢ fault.TooMuch
+  refused_few f own is =
+      let first = are.first bytes vars f len (own (λ memory. cc)) in
+      let more : script_max < length bytes = subst (IsFirstFaultBy Reads IsFaultOf bytes vars) is first in
+      omega (arith, more, len)
+
   -- the bytes are read as events, which were answered
   module _ (old new : Option (List ℕ)) (events : List Event) (read : Reads bytes events) where
     by : (after : Variables) (answers : List Reply) → Happens vars events after answers → RunsBy Reads bytes vars after answers
     by after answers happens = record { events = events; read = read; happens = happens }
 
     pub answer_done : (r : Result Variables ScriptFault) → IsAnswer events vars old new r
-        → IfOk r (λ after. IfSome remaining (λ b. (answers : List Reply) × RunsBy Reads b vars after answers × Appends old new (answer_lines answers)))
-    answer_done (Ok after) h =
-        at_bytes remaining left bytes (λ b. (answers : List Reply) × RunsBy Reads b vars after answers × Appends old new (answer_lines answers)) all
-        (h.0, by after h.0 h.1, h.2)
+        → IfOk r (λ after. (b : List ℕ) × ReadsAll remaining left b × (length b ≤ script_max) × (answers : List Reply) × RunsBy Reads b vars after answers × Appends old new (answer_lines answers))
+    answer_done (Ok after) h = (bytes, all, len, h.0, by after h.0 h.1, h.2)
     answer_done (Err f) h = tt
 
     pub answer_fault : (r : Result Variables ScriptFault) → IsAnswer events vars old new r
@@ -184,11 +189,14 @@ module _ (Reads : List ℕ → List Event → Type 0) (IsFaultOf : List ℕ → 
     answer_fault (Err f) h = absurd h.0
 
     pub answer_write : (r : Result Variables ScriptFault) → IsAnswer events vars old new r → r ≡ Err fault.Write
-        → IfSome remaining (λ b. (length b ≤ script_max) × (after : Variables) × (answers : List Reply) × RunsBy Reads b vars after answers × AppendsFront old new (answer_lines answers))
+        → (b : List ℕ) × ReadsAll remaining left b × (length b ≤ script_max) × (after : Variables) × (answers : List Reply) × RunsBy Reads b vars after answers × AppendsFront old new (answer_lines answers)
     answer_write r h is =
         let wrote = subst (IsAnswer events vars old new) is h in
-        at_bytes remaining left bytes (λ b. (length b ≤ script_max) × (after : Variables) × (answers : List Reply) × RunsBy Reads b vars after answers × AppendsFront old new (answer_lines answers)) all
-        (len, wrote.0, wrote.1, by wrote.0 wrote.1 wrote.2, wrote.3)
+        (bytes, all, len, wrote.0, wrote.1, by wrote.0 wrote.1 wrote.2, wrote.3)
+
+    -- that there are too many bytes is no answer to events
+    pub answer_few : (r : Result Variables ScriptFault) → IsAnswer events vars old new r → r ≢ Err fault.TooMuch
+    answer_few r h is = (subst (IsAnswer events vars old new) is h).0
 
     only : ((m : State) (vars : Variables) (f : OpenFault) → IsState m → IsImage m vars → IsOpenFault vars f → ⊥)
         → (r : Result Variables ScriptFault) → IsAnswer events vars old new r → (f : ScriptFault) → IsFirstFaultBy Reads IsFaultOf bytes vars f → IsFaultUnless r f

@@ -3,4 +3,5 @@ mod Scripts
 mod Streams
 mod Transfers
 mod Happening
+mod Faults
 mod Texts

@@ -1,8 +1,8 @@
 -- What reads and writes do to known bytes, one after the other.
-use Rattle.std.proofs.Common.{◌≡◌, ℕ, List, ◌++◌, take, drop, Option, Some, None, sym, ap, ◌∙◌, append_assoc, append-nil, take-append-drop}
-use Rattle.std.specs.Prelude.{IfSome}
-use Rattle.std.specs.Io.KnownBytes.{Appends, Consumes}
-use Rattle.boot_commands.specs.Source.{ReadsAll}
+use Rattle.std.proofs.Common.{◌≡◌, ℕ, ◌+◌, ◌≤◌, List, [], ◌++◌, length, take, drop, Option, Some, None, Result, Ok, Err, refl, sym, ap, ◌∙◌, arith, append_assoc, append-nil, length-append, take-append-drop}
+use Rattle.std.specs.Prelude.{IfSome, OnErr}
+use Rattle.std.specs.Io.KnownBytes.{Keeps, Appends, Consumes}
+use Rattle.boot_commands.specs.Source.{ReadsAll, TakesAtMost}
 
 pub appends_more : (a b c : Option (List ℕ)) (xs ys : List ℕ) → Appends a b xs → Appends b c ys → Appends a c (xs ++ ys)
 appends_more None b c xs ys p q = tt
@@ -21,6 +21,29 @@ pub all_of : (a b : Option (List ℕ)) (bytes : List ℕ) → ReadsAll a b bytes
 all_of None b bytes p = tt
 all_of (Some text) None bytes p = absurd p.0
 all_of (Some text) (Some left) bytes p = p.0 ∙ ap (λ (l : List ℕ). bytes ++ l) p.1 ∙ append-nil bytes
+
+-- nothing is taken of what stays as it was
+pub takes_nothing : (a : Option (List ℕ)) (most : ℕ) → TakesAtMost a a most
+takes_nothing None most = ([], tt, omega arith)
+takes_nothing (Some x) most = ([], refl, omega arith)
+
+pub takes_none : (a b : Option (List ℕ)) (most : ℕ) → Keeps a b → TakesAtMost a b most
+takes_none None b most h = ([], tt, omega arith)
+takes_none (Some x) None most h = absurd h
+takes_none (Some x) (Some y) most h = ([], sym h, omega arith)
+
+pub takes_more : (a b c : Option (List ℕ)) (xs : List ℕ) (count most : ℕ) → Consumes a b xs → TakesAtMost b c count → length xs + count ≤ most → TakesAtMost a c most
+takes_more a b c xs count most p q len =
+    let all = length-append xs q.0 in
+    (xs ++ q.0, consumes_more a b c xs q.0 p q.1, omega (arith, all, q.2, len))
+
+-- what was read whole was taken
+pub takes_all : (a b : Option (List ℕ)) (bytes : List ℕ) (most : ℕ) → ReadsAll a b bytes → length bytes ≤ most → TakesAtMost a b (most + 1)
+takes_all a b bytes most p len = (bytes, p.0, omega (arith, len))
+
+pub takes_all_on_err : {T E : Type 0} (r : Result T E) (a b : Option (List ℕ)) (bytes : List ℕ) (most : ℕ) → ReadsAll a b bytes → length bytes ≤ most → OnErr r (TakesAtMost a b (most + 1))
+takes_all_on_err (Ok _) a b bytes most p len = tt
+takes_all_on_err (Err _) a b bytes most p len = takes_all a b bytes most p len
 
 -- some more of the bytes is written
 pub wrote_more : (all front rest : List ℕ) (count : ℕ) → all ≡ front ++ rest → all ≡ (front ++ take count rest) ++ drop count rest

@@ -1,11 +1,12 @@
 -- What is wrong with a script or a stream, or with the variables that it is to be run over.
-use Rattle.std.specs.Prelude.{◌≡◌, ◌⊎◌, ℕ, ◌<◌, ◌≤◌, Bool, true, false, List, length, Result, Ok, Err}
+use Rattle.std.specs.Prelude.{◌≡◌, ◌≢◌, ◌⊎◌, ℕ, ◌+◌, ◌<◌, ◌≤◌, Bool, true, false, List, length, Result, Ok, Err, ⊤}
 use Rattle.uefi_vars.specs.Vars.{Variables}
 use Rattle.boot_requests.specs.declared.event.Event.{Event}
 use Rattle.boot_requests.specs.declared.fault.FeedFault.{FeedFault}
 use Rattle.boot_requests.specs.declared.fault.FeedFault.TheVariants as feeding
 use Rattle.boot_requests.specs.declared.fault.OpenFault.{OpenFault}
 use Rattle.boot_requests.specs.declared.fault.OpenFault.TheVariants as opening
+use Rattle.boot_requests.specs.Limits.{payload_max}
 use Rattle.boot_requests.specs.Opening.{IsOpenFault}
 use Rattle.boot_commands.specs.declared.fault.ScriptFault.{ScriptFault}
 use Rattle.boot_commands.specs.declared.fault.ScriptFault.TheVariants as fault
@@ -53,6 +54,29 @@ IsFirstFault = IsFirstFaultBy IsScript IsLineFault
 -- of a delivery that isn't whole, else the variables can't be kept.
 abbrev pub IsFirstStreamFault : List ℕ → Variables → ScriptFault → Type 0
 IsFirstStreamFault = IsFirstFaultBy IsStream IsStreamFault
+
+-- A script over these variables may be refused for this fault, whatever its text is.
+abbrev pub MayComeOfScript : Variables → ScriptFault → Type 0
+MayComeOfScript vars (fault.BadLine number) = 0 < number
+MayComeOfScript vars (fault.Open open_fault) = IsOpenFault vars open_fault
+MayComeOfScript vars fault.Read = ⊤
+MayComeOfScript vars fault.Write = ⊤
+MayComeOfScript vars fault.TooMuch = ⊤
+MayComeOfScript vars fault.OutOfMemory = ⊤
+MayComeOfScript vars (fault.Stream _) = ⊥
+MayComeOfScript vars (fault.Rest _) = ⊥
+
+-- A stream over these variables may be refused for this fault, whatever its bytes are. What is left of a frame is less than
+-- the longest one, of twelve bytes and a payload.
+abbrev pub MayComeOfStream : Variables → ScriptFault → Type 0
+MayComeOfStream vars (fault.Stream feed_fault) = feed_fault ≢ feeding.OutOfMemory
+MayComeOfStream vars (fault.Rest count) = (0 < count) × (count < 12 + payload_max)
+MayComeOfStream vars (fault.Open open_fault) = IsOpenFault vars open_fault
+MayComeOfStream vars fault.Read = ⊤
+MayComeOfStream vars fault.Write = ⊤
+MayComeOfStream vars fault.TooMuch = ⊤
+MayComeOfStream vars fault.OutOfMemory = ⊤
+MayComeOfStream vars (fault.BadLine _) = ⊥
 
 -- whether the answer is that a read failed
 abbrev pub failed_read : {T : Type 0} → Result T ScriptFault → Bool

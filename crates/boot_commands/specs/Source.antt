@@ -1,5 +1,5 @@
 -- What sources and sinks do with bytes, where these are known.
-use Rattle.std.specs.Prelude.{◌≡◌, ℕ, ◌<◌, List, ◌++◌, length, take, Option, MatchOption}
+use Rattle.std.specs.Prelude.{◌≡◌, ℕ, ◌<◌, ◌≤◌, List, ◌++◌, length, take, Option, MatchOption}
 use Rattle.std.specs.Io.KnownBytes.{Keeps, Appends, Consumes, IsAtEnd}
 
 -- A read filled the front of the buffer with as many of the bytes that were left as it says: none only at their end, or
@@ -16,6 +16,14 @@ Writes old new result bytes = MatchOption result (Keeps old new)
 -- what was left was this text, and nothing is left
 abbrev pub ReadsAll : Option (List ℕ) → Option (List ℕ) → List ℕ → Type 0
 ReadsAll old new text = Consumes old new text × IsAtEnd new
+
+-- so many of the bytes that were left were taken
+abbrev pub Takes : Option (List ℕ) → Option (List ℕ) → ℕ → Type 0
+Takes old new count = (taken : List ℕ) × Consumes old new taken × (length taken ≡ count)
+
+-- so many of the bytes that were left were taken at most
+abbrev pub TakesAtMost : Option (List ℕ) → Option (List ℕ) → ℕ → Type 0
+TakesAtMost old new most = (taken : List ℕ) × Consumes old new taken × (length taken ≤ most)
 
 -- a front of the bytes was appended
 abbrev pub AppendsFront : Option (List ℕ) → Option (List ℕ) → List ℕ → Type 0

@@ -1,6 +1,6 @@
 //! Scripts and streams, run over variables.
 
-ghost use Rattle.std.specs.Prelude.{◌≡◌, ◌≢◌, ◌≤◌, List, length, Err, IfOk, IfErr, IfSome, OnOk, false};
+ghost use Rattle.std.specs.Prelude.{◌≡◌, ◌≢◌, ℕ, ◌+◌, ◌≤◌, List, length, Err, IfOk, IfErr, IfSome, OnOk, OnErr, false};
 ghost use Rattle.std.specs.List.{AllByRecursion};
 ghost use Rattle.std.specs.String.{string_bytes};
 ghost use Rattle.std.specs.Io.KnownBytes.{Keeps, Appends, IsAtEnd};
@@ -13,8 +13,8 @@ ghost use Rattle.boot_requests.specs.Turn.{plain_start};
 ghost use Rattle.boot_requests.specs.Keeping.{IsStateOf};
 ghost use Rattle.boot_commands.specs.declared.fault.ScriptFault.{ScriptFault};
 ghost use Rattle.boot_commands.specs.Running.{answer_lines, Happens, Runs, RunsBy};
-ghost use Rattle.boot_commands.specs.ScriptFault.{script_max, IsVarsFault, IsFirstFault, IsFirstStreamFault, IsFaultUnless, failed_read, failed_write};
-ghost use Rattle.boot_commands.specs.Source.{AppendsFront};
+ghost use Rattle.boot_commands.specs.ScriptFault.{script_max, IsVarsFault, IsFirstFault, IsFirstStreamFault, IsFaultUnless, MayComeOfScript, MayComeOfStream, failed_read, failed_write};
+ghost use Rattle.boot_commands.specs.Source.{ReadsAll, Takes, TakesAtMost, AppendsFront};
 ghost use Rattle.boot_commands.specs.Answering.{IsAnswer};
 ghost use Rattle.boot_commands.specs.Stream.{IsStream};
 
@@ -34,11 +34,12 @@ use uefi_vars::Vars;
 ///
 /// # Errors
 ///
-/// In this order: [`ScriptFault::TooMuch`] where the reader gives more than [`LIMIT`](crate::input::LIMIT) bytes, and
-/// [`ScriptFault::Read`] where a read fails before that; [`ScriptFault::BadLine`] with the number of the first line that is
-/// none of a script; [`ScriptFault::Open`] where the variables can't be kept; [`ScriptFault::Write`] where a write fails or
-/// takes no byte. [`ScriptFault::OutOfMemory`] comes where memory was refused. Nothing is written but at
-/// [`ScriptFault::Write`], where it is a front of the lines, and what was read stays read. The variables are given up.
+/// In this order: [`ScriptFault::TooMuch`] where the reader gives more than [`LIMIT`](crate::input::LIMIT) bytes, of which one
+/// past the limit is read, and [`ScriptFault::Read`] where a read fails before that; [`ScriptFault::BadLine`] with the number
+/// of the first line that is none of a script; [`ScriptFault::Open`] where the variables can't be kept;
+/// [`ScriptFault::Write`] where a write fails or takes no byte. [`ScriptFault::OutOfMemory`] comes where memory was refused.
+/// Nothing is written but at [`ScriptFault::Write`], where it is a front of the lines, and what was read stays read. The
+/// variables are given up.
 pub fn run_script<R: Source, W: Sink>(
     alloc: Global,
     reader: &mut R,
@@ -47,10 +48,11 @@ pub fn run_script<R: Source, W: Sink>(
 ) -> Result<Vars, ScriptFault>
     requires reads { R.failed reader.old ≡ false }
     requires writes { W.failed writer.old ≡ false }
-    // The script is what the reader had left, the variables are those after it, and its answers are what was written.
-    ensures done { IfOk result (λ after. IfSome (R.remaining reader.old) (λ text.
-        (answers : List Reply) × Runs text vars after answers
-        × Appends (W.contents writer.old) (W.contents writer.new) (answer_lines answers))) }
+    // The script is all that the reader gave, the variables are those after it, and its answers are what was written.
+    ensures done { IfOk result (λ after.
+        (text : List ℕ) × ReadsAll (R.remaining reader.old) (R.remaining reader.new) text × (length text ≤ script_max)
+        × (answers : List Reply) × Runs text vars after answers
+        × Appends (W.contents writer.old) (W.contents writer.new) (answer_lines answers)) }
     ensures all_read { OnOk result (IsAtEnd (R.remaining reader.new)) }
     ensures all_read_before { IfErr result (λ fault.
         fault ≢ ScriptFault.Read → fault ≢ ScriptFault.TooMuch → fault ≢ ScriptFault.OutOfMemory →
@@ -61,10 +63,17 @@ pub fn run_script<R: Source, W: Sink>(
         IsFirstFault text vars fault)) }
     ensures only_fault { IfSome (R.remaining reader.old) (λ text. (fault : ScriptFault) →
         IsFirstFault text vars fault → IsFaultUnless result fault) }
+    // What may come, also if the reader doesn't tell its bytes.
+    ensures may_come { IfErr result (MayComeOfScript vars) }
+    // Of too many bytes one past the limit is taken, and never more.
+    ensures one_past { result ≡ Err ScriptFault.TooMuch →
+        Takes (R.remaining reader.old) (R.remaining reader.new) (script_max + 1) }
+    ensures taken { OnErr result (TakesAtMost (R.remaining reader.old) (R.remaining reader.new) (script_max + 1)) }
     // A failed write: the script was run.
-    ensures write { result ≡ Err ScriptFault.Write → IfSome (R.remaining reader.old) (λ text.
-        (length text ≤ script_max) × (after : Variables) × (answers : List Reply) × Runs text vars after answers
-        × AppendsFront (W.contents writer.old) (W.contents writer.new) (answer_lines answers)) }
+    ensures write { result ≡ Err ScriptFault.Write →
+        (text : List ℕ) × ReadsAll (R.remaining reader.old) (R.remaining reader.new) text × (length text ≤ script_max)
+        × (after : Variables) × (answers : List Reply) × Runs text vars after answers
+        × AppendsFront (W.contents writer.old) (W.contents writer.new) (answer_lines answers) }
     ensures unwritten { IfErr result (λ fault. fault ≢ ScriptFault.Write →
         Keeps (W.contents writer.old) (W.contents writer.new)) }
     ensures memory { result ≢ Err (ScriptFault.Open OpenFault.OutOfMemory) }
@@ -82,12 +91,12 @@ pub fn run_script<R: Source, W: Sink>(
 ///
 /// # Errors
 ///
-/// In this order: [`ScriptFault::TooMuch`] where the reader gives more than [`LIMIT`](crate::input::LIMIT) bytes, and
-/// [`ScriptFault::Read`] where a read fails before that; [`ScriptFault::Stream`] with the fault of the first header that has
-/// one; [`ScriptFault::Rest`] with the number of bytes that are left of a frame that isn't whole; [`ScriptFault::Open`] where
-/// the variables can't be kept; [`ScriptFault::Write`] where a write fails or takes no byte. [`ScriptFault::OutOfMemory`]
-/// comes where memory was refused. Nothing is written but at [`ScriptFault::Write`], where it is a front of the lines, and
-/// what was read stays read. The variables are given up.
+/// In this order: [`ScriptFault::TooMuch`] where the reader gives more than [`LIMIT`](crate::input::LIMIT) bytes, of which one
+/// past the limit is read, and [`ScriptFault::Read`] where a read fails before that; [`ScriptFault::Stream`] with the fault of
+/// the first header that has one; [`ScriptFault::Rest`] with the number of bytes that are left of a frame that isn't whole;
+/// [`ScriptFault::Open`] where the variables can't be kept; [`ScriptFault::Write`] where a write fails or takes no byte.
+/// [`ScriptFault::OutOfMemory`] comes where memory was refused. Nothing is written but at [`ScriptFault::Write`], where it is
+/// a front of the lines, and what was read stays read. The variables are given up.
 pub fn run_stream<R: Source, W: Sink>(
     alloc: Global,
     reader: &mut R,
@@ -96,10 +105,11 @@ pub fn run_stream<R: Source, W: Sink>(
 ) -> Result<Vars, ScriptFault>
     requires reads { R.failed reader.old ≡ false }
     requires writes { W.failed writer.old ≡ false }
-    // The stream is what the reader had left, the variables are those after it, and its answers are what was written.
-    ensures done { IfOk result (λ after. IfSome (R.remaining reader.old) (λ stream.
-        (answers : List Reply) × RunsBy IsStream stream vars after answers
-        × Appends (W.contents writer.old) (W.contents writer.new) (answer_lines answers))) }
+    // The stream is all that the reader gave, the variables are those after it, and its answers are what was written.
+    ensures done { IfOk result (λ after.
+        (stream : List ℕ) × ReadsAll (R.remaining reader.old) (R.remaining reader.new) stream × (length stream ≤ script_max)
+        × (answers : List Reply) × RunsBy IsStream stream vars after answers
+        × Appends (W.contents writer.old) (W.contents writer.new) (answer_lines answers)) }
     ensures all_read { OnOk result (IsAtEnd (R.remaining reader.new)) }
     ensures all_read_before { IfErr result (λ fault.
         fault ≢ ScriptFault.Read → fault ≢ ScriptFault.TooMuch → fault ≢ ScriptFault.OutOfMemory →
@@ -110,11 +120,17 @@ pub fn run_stream<R: Source, W: Sink>(
         IsFirstStreamFault stream vars fault)) }
     ensures only_fault { IfSome (R.remaining reader.old) (λ stream. (fault : ScriptFault) →
         IsFirstStreamFault stream vars fault → IsFaultUnless result fault) }
+    // What may come, also if the reader doesn't tell its bytes.
+    ensures may_come { IfErr result (MayComeOfStream vars) }
+    // Of too many bytes one past the limit is taken, and never more.
+    ensures one_past { result ≡ Err ScriptFault.TooMuch →
+        Takes (R.remaining reader.old) (R.remaining reader.new) (script_max + 1) }
+    ensures taken { OnErr result (TakesAtMost (R.remaining reader.old) (R.remaining reader.new) (script_max + 1)) }
     // A failed write: the stream was run.
-    ensures write { result ≡ Err ScriptFault.Write → IfSome (R.remaining reader.old) (λ stream.
-        (length stream ≤ script_max) × (after : Variables) × (answers : List Reply)
-        × RunsBy IsStream stream vars after answers
-        × AppendsFront (W.contents writer.old) (W.contents writer.new) (answer_lines answers)) }
+    ensures write { result ≡ Err ScriptFault.Write →
+        (stream : List ℕ) × ReadsAll (R.remaining reader.old) (R.remaining reader.new) stream × (length stream ≤ script_max)
+        × (after : Variables) × (answers : List Reply) × RunsBy IsStream stream vars after answers
+        × AppendsFront (W.contents writer.old) (W.contents writer.new) (answer_lines answers) }
     ensures unwritten { IfErr result (λ fault. fault ≢ ScriptFault.Write →
         Keeps (W.contents writer.old) (W.contents writer.new)) }
     ensures memory { result ≢ Err (ScriptFault.Open OpenFault.OutOfMemory) }

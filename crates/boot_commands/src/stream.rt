@@ -1,9 +1,10 @@
 //! Streams: frames, one behind the other.
 
-ghost use Rattle.std.specs.Prelude.{◌≡◌, ◌≢◌, [], List, map, Err, IfOk, IfErr, MatchResult};
+ghost use Rattle.std.specs.Prelude.{◌≡◌, ◌≢◌, ℕ, ◌+◌, ◌<◌, [], List, map, Err, IfOk, IfErr, MatchResult};
 ghost use Rattle.std.specs.List.{AllByRecursion};
 ghost use Rattle.uefi_path.specs.Answer.{IsUnless};
 ghost use Rattle.boot_requests.specs.declared.event.Event.{Event};
+ghost use Rattle.boot_requests.specs.Limits.{payload_max};
 ghost use Rattle.boot_requests.specs.Seen.{IsEvent};
 ghost use Rattle.boot_requests.specs.Stream.{Cut, IsCut};
 ghost use Rattle.boot_commands.specs.declared.fault.ScriptFault.{ScriptFault};
@@ -30,6 +31,8 @@ pub fn read_stream(alloc: Global, stream: &[u8]) -> Result<Vec<Event>, ScriptFau
         fault ≢ ScriptFault.OutOfMemory → IsStreamFault stream.now fault) }
     ensures only_fault { (fault : ScriptFault) → IsStreamFault stream.now fault →
         IsUnless result (Err fault) ScriptFault.OutOfMemory }
+    // What is left of a frame is less than the longest one.
+    ensures rest { IfErr result (λ fault. (count : ℕ) → fault ≡ ScriptFault.Rest count → count < 12 + payload_max) }
     ensures valid { IfOk result (λ events. AllByRecursion IsEvent events.items) }
 {
     laws::a_stream_has_one_cut();
@@ -41,6 +44,7 @@ fn read_frames(alloc: Global, stream: &[u8]) -> Result<Vec<Event>, ScriptFault>
     ensures found { IfOk result (λ events. IsStream stream.now events.items) }
     ensures fault { IfErr result (λ fault.
         fault ≢ ScriptFault.OutOfMemory → IsStreamFault stream.now fault) }
+    ensures rest { IfErr result (λ fault. (count : ℕ) → fault ≡ ScriptFault.Rest count → count < 12 + payload_max) }
 {
     let frames = cut(alloc, stream)?;
     Ok(deliveries(alloc, frames)?)
@@ -52,6 +56,7 @@ fn cut(alloc: Global, stream: &[u8]) -> Result<Vec<Bytes>, ScriptFault>
         (cut : Cut) × IsCut stream.now cut × (cut.rest ≡ []) × (cut.deliveries ≡ frames.items)) }
     ensures fault { IfErr result (λ fault.
         fault ≢ ScriptFault.OutOfMemory → IsStreamFault stream.now fault) }
+    ensures rest { IfErr result (λ fault. (count : ℕ) → fault ≡ ScriptFault.Rest count → count < 12 + payload_max) }
 {
     let mut inbox = Inbox::new(alloc);
     let mut frames = Vec::new(alloc);

@@ -1,10 +1,10 @@
 //! All that a source gives, and all of some bytes to a sink.
 
-ghost use Rattle.std.specs.Prelude.{◌≡◌, ◌≢◌, ℕ, ◌<◌, ◌≤◌, List, [], ◌++◌, length, vec_len, Err, IfOk, IfErr, OnOk, OnErr, IfSome, MatchBool, false};
+ghost use Rattle.std.specs.Prelude.{◌≡◌, ◌≢◌, ℕ, ◌+◌, ◌<◌, ◌≤◌, List, [], ◌++◌, length, vec_len, Err, IfOk, IfErr, OnOk, OnErr, IfSome, MatchBool, false};
 ghost use Rattle.std.specs.Io.KnownBytes.{Appends, Consumes, IsAtEnd};
 ghost use Rattle.boot_commands.specs.declared.fault.ScriptFault.{ScriptFault};
 ghost use Rattle.boot_commands.specs.ScriptFault.{script_max, failed_read, failed_write};
-ghost use Rattle.boot_commands.specs.Source.{ReadsAll, AppendsFront};
+ghost use Rattle.boot_commands.specs.Source.{ReadsAll, Takes, TakesAtMost, AppendsFront};
 
 use crate::fault::ScriptFault;
 use crate::input::LIMIT;
@@ -27,6 +27,9 @@ pub fn read_all<R: Source>(alloc: Global, reader: &mut R) -> Result<Vec<u8>, Scr
     ensures limit { IfOk result (λ bytes. vec_len bytes ≤ script_max) }
     ensures too_much { result ≡ Err ScriptFault.TooMuch →
         IfSome (R.remaining reader.old) (λ text. script_max < length text) }
+    ensures one_past { result ≡ Err ScriptFault.TooMuch →
+        Takes (R.remaining reader.old) (R.remaining reader.new) (script_max + 1) }
+    ensures taken { OnErr result (TakesAtMost (R.remaining reader.old) (R.remaining reader.new) (script_max + 1)) }
     ensures fault { IfErr result (λ fault. fault ≢ ScriptFault.Read → fault ≢ ScriptFault.TooMuch →
         fault ≡ ScriptFault.OutOfMemory) }
     ensures flag { R.failed reader.new ≡ failed_read result }
@@ -50,6 +53,9 @@ fn fill<R: Source>(
     ensures limit { OnOk result (vec_len bytes.new ≤ script_max) }
     ensures too_much { result ≡ Err ScriptFault.TooMuch →
         IfSome (R.remaining reader.old) (λ text. script_max < length text) }
+    ensures one_past { result ≡ Err ScriptFault.TooMuch →
+        Takes (R.remaining reader.old) (R.remaining reader.new) (script_max + 1) }
+    ensures taken { OnErr result (TakesAtMost (R.remaining reader.old) (R.remaining reader.new) (script_max + 1)) }
     ensures fault { IfErr result (λ fault. fault ≢ ScriptFault.Read → fault ≢ ScriptFault.TooMuch →
         fault ≡ ScriptFault.OutOfMemory) }
     ensures flag { R.failed reader.new ≡ failed_read result }
@@ -75,6 +81,7 @@ fn read_some<R: Source>(
         × Consumes (R.remaining reader.old) (R.remaining reader.new) piece
         × (length piece ≤ length buffer.old)
         × MatchBool more (0 < length piece) ((piece ≡ []) × IsAtEnd (R.remaining reader.new))) }
+    ensures taken { OnErr result (TakesAtMost (R.remaining reader.old) (R.remaining reader.new) (length buffer.old)) }
     ensures fault { IfErr result (λ fault. fault ≢ ScriptFault.Read → fault ≡ ScriptFault.OutOfMemory) }
     ensures flag { R.failed reader.new ≡ failed_read result }
 {
