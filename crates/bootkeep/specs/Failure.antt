@@ -1,5 +1,5 @@
 -- How the program ends where it did not do what it was asked to.
-use Rattle.std.specs.Prelude.{◌≡◌, ℕ, List, ⊤}
+use Rattle.std.specs.Prelude.{◌≡◌, ◌⊎◌, ℕ, List, Result, IsErrAnd, ⊤}
 use Rattle.std.specs.String.{string_bytes}
 use Rattle.uefi_vars.specs.Vars.{Variables}
 use Rattle.bootkeep.specs.declared.command_line.Form.{Form}
@@ -62,6 +62,11 @@ IsFailureOf (script.BadLine number) made = IsRefusedBy (script_fault_words (scri
 IsFailureOf (script.Stream fault) made = IsRefusedBy (script_fault_words (script.Stream fault)) made
 IsFailureOf (script.Rest count) made = IsRefusedBy (script_fault_words (script.Rest count)) made
 IsFailureOf (script.Open fault) made = IsRefusedBy (script_fault_words (script.Open fault)) made
+
+-- the answer is what this fault is to the program, unless a read failed or memory was refused
+abbrev pub IsFailureUnless : {T : Type 0} → Result T Failure → ScriptFault → Type 0
+IsFailureUnless answer expected =
+    IsErrAnd answer (λ made. IsFailureOf expected made ⊎ ((made ≡ failure.Read) ⊎ (made ≡ failure.Memory)))
 
 -- the words tell the first fault of a script or a stream and of the variables that it is to be run over
 abbrev pub TellsScriptFault : Form → List ℕ → Variables → List ℕ → Type 0

@@ -6,7 +6,7 @@ use Rattle.bootkeep.specs.declared.command_line.Form.{Form}
 use Rattle.bootkeep.specs.declared.command_line.Form.TheVariants as form
 use Rattle.boot_commands.specs.declared.fault.ScriptFault.{ScriptFault}
 use Rattle.boot_commands.specs.Running.{RunsBy, Runs}
-use Rattle.boot_commands.specs.ScriptFault.{IsFirstFault, IsFirstStreamFault}
+use Rattle.boot_commands.specs.ScriptFault.{IsFirstFault, IsFirstStreamFault, MayComeOfScript, MayComeOfStream}
 use Rattle.boot_commands.specs.Stream.{IsStream}
 
 -- the bytes are of this form, and their events lead from the one variables to the others and are answered so
@@ -18,3 +18,8 @@ RunsIn form.Stream = RunsBy IsStream
 abbrev pub IsFirstFaultIn : Form → List ℕ → Variables → ScriptFault → Type 0
 IsFirstFaultIn form.Script = IsFirstFault
 IsFirstFaultIn form.Stream = IsFirstStreamFault
+
+-- bytes of this form over these variables may be refused for this fault, whatever they are
+abbrev pub MayComeIn : Form → Variables → ScriptFault → Type 0
+MayComeIn form.Script = MayComeOfScript
+MayComeIn form.Stream = MayComeOfStream

@@ -1,17 +1,22 @@
 //! A run of the program, over any runtime.
 
-ghost use Rattle.std.specs.Prelude.{◌≡◌, ◌<◌, List, length, Err, IfOk, IfErr, IfSome, MatchResult};
+ghost use Rattle.std.specs.Prelude.{◌≡◌, ◌≢◌, ℕ, ◌<◌, ◌≤◌, List, length, Err, IfOk, IfErr, IfSome, MatchResult, false};
+ghost use Rattle.std.specs.Io.KnownBytes.{Appends};
+ghost use Rattle.uefi_vars.specs.Vars.{Variables};
 ghost use Rattle.boot_requests.specs.declared.reply.Reply.{Reply};
-ghost use Rattle.boot_commands.specs.ScriptFault.{script_max};
-ghost use Rattle.bootkeep.specs.Failure.{status_of, IfRefused, TellsScriptFault};
-ghost use Rattle.bootkeep.specs.Form.{RunsIn};
+ghost use Rattle.boot_commands.specs.declared.fault.ScriptFault.{ScriptFault};
+ghost use Rattle.boot_commands.specs.Running.{answer_lines};
+ghost use Rattle.boot_commands.specs.ScriptFault.{script_max, IsFaultUnless};
+ghost use Rattle.boot_commands.specs.Source.{ReadsAll, AppendsFront};
+ghost use Rattle.bootkeep.specs.Failure.{status_of, IfRefused, IsFailureOf, IsFailureUnless, TellsScriptFault};
+ghost use Rattle.bootkeep.specs.Form.{RunsIn, IsFirstFaultIn, MayComeIn};
 ghost use Rattle.bootkeep.specs.declared.failure.Failure.TheVariants as failure;
 
 use crate::command_line::{self, Form, Request, USAGE};
 use crate::failure::Failure;
 use boot_commands::{
-    InputFault, Watched, option_report, path_report, read_file, refuse, run_script, run_stream,
-    set_report, text_report, write_file,
+    InputFault, ScriptFault, Sink, Source, Watched, option_report, path_report, read_file, refuse,
+    run_script, run_stream, set_report, text_report, write_file,
 };
 use std::alloc::Global;
 use std::io::{self, Read, Write};
@@ -89,12 +94,25 @@ fn run_events<R: Read + Drop, W: Write + Drop>(
     replies: W,
     vars: Vars,
 ) -> Result<Vars, Failure>
-    ensures done { IfOk result (λ after. IfSome (R.remaining script) (λ text.
-        (answers : List Reply) × RunsIn form text vars after answers)) }
+    // All that was read is a script or a stream, and the variables are those after it.
+    ensures done { IfOk result (λ after.
+        (text : List ℕ) × IfSome (R.remaining script) (λ known. known ≡ text) × (length text ≤ script_max)
+        × (answers : List Reply) × RunsIn form text vars after answers) }
     ensures refused { IfErr result (λ failure. IfSome (R.remaining script) (λ text.
         IfRefused failure (TellsScriptFault form text vars))) }
     ensures too_much { result ≡ Err failure.TooMuch → IfSome (R.remaining script) (λ text.
         script_max < length text) }
+    // The first fault of what there is to read and of the variables is told as what it is to the program.
+    ensures only_fault { IfSome (R.remaining script) (λ text. (fault : ScriptFault) →
+        IsFirstFaultIn form text vars fault → IsFailureUnless result fault) }
+    // Replies that can't be written are those to all that was read.
+    ensures write { result ≡ Err failure.Write →
+        (text : List ℕ) × IfSome (R.remaining script) (λ known. known ≡ text) × (length text ≤ script_max)
+        × (after : Variables) × (answers : List Reply) × RunsIn form text vars after answers }
+    // What may come, also if the bytes aren't known: what a fault is to the program that may come of such a run.
+    ensures may_come { IfErr result (λ failure.
+        (fault : ScriptFault) × MayComeIn form vars fault × IsFailureOf fault failure) }
+    ensures no_usage { result ≢ Err failure.CommandLine }
 {
     let mut reader = Watched {
         inner: script,
@@ -104,13 +122,40 @@ fn run_events<R: Read + Drop, W: Write + Drop>(
         inner: replies,
         failed: false,
     };
-    let ran = match form {
-        Form::Script => run_script(alloc, &mut reader, &mut writer, vars),
-        Form::Stream => run_stream(alloc, &mut reader, &mut writer, vars),
-    };
-    match ran {
+    match run_form(alloc, form, &mut reader, &mut writer, vars) {
         Ok(vars) => Ok(vars),
         Err(fault) => Err(Failure::of_script(alloc, fault)),
+    }
+}
+
+/// The variables after the script or the stream that a reader gives, by [`run_script`] or [`run_stream`].
+fn run_form<R: Source, W: Sink>(
+    alloc: Global,
+    form: Form,
+    reader: &mut R,
+    writer: &mut W,
+    vars: Vars,
+) -> Result<Vars, ScriptFault>
+    requires reads { R.failed reader.old ≡ false }
+    requires writes { W.failed writer.old ≡ false }
+    ensures done { IfOk result (λ after.
+        (text : List ℕ) × ReadsAll (R.remaining reader.old) (R.remaining reader.new) text × (length text ≤ script_max)
+        × (answers : List Reply) × RunsIn form text vars after answers
+        × Appends (W.contents writer.old) (W.contents writer.new) (answer_lines answers)) }
+    ensures fault { IfErr result (λ fault. IfSome (R.remaining reader.old) (λ text.
+        fault ≢ ScriptFault.Read → fault ≢ ScriptFault.Write → fault ≢ ScriptFault.OutOfMemory →
+        IsFirstFaultIn form text vars fault)) }
+    ensures only_fault { IfSome (R.remaining reader.old) (λ text. (fault : ScriptFault) →
+        IsFirstFaultIn form text vars fault → IsFaultUnless result fault) }
+    ensures may_come { IfErr result (MayComeIn form vars) }
+    ensures write { result ≡ Err ScriptFault.Write →
+        (text : List ℕ) × ReadsAll (R.remaining reader.old) (R.remaining reader.new) text × (length text ≤ script_max)
+        × (after : Variables) × (answers : List Reply) × RunsIn form text vars after answers
+        × AppendsFront (W.contents writer.old) (W.contents writer.new) (answer_lines answers) }
+{
+    match form {
+        Form::Script => run_script(alloc, reader, writer, vars),
+        Form::Stream => run_stream(alloc, reader, writer, vars),
     }
 }
 

@@ -1,24 +1,32 @@
-use Rattle.std.proofs.Common.{ℕ, List, Option, Some, None, sym, ◌∙◌}
+use Rattle.std.proofs.Common.{◌≡◌, ℕ, List, ◌++◌, Option, Some, None, Err, refl, ap, subst, ◌∙◌, append-nil}
 use Rattle.std.specs.Prelude.{IfSome}
-use Rattle.boot_requests.specs.declared.reply.Reply.{Reply}
-use Rattle.bootkeep.specs.Form.{RunsIn}
-use Rattle.bootkeep.specs.declared.command_line.Form.TheVariants as form
+use Rattle.boot_commands.specs.declared.fault.ScriptFault.{ScriptFault}
+use Rattle.boot_commands.specs.declared.fault.ScriptFault.TheVariants as fault
+use Rattle.boot_commands.specs.Source.{ReadsAll}
+use Rattle.bootkeep.specs.declared.failure.Failure.TheVariants as failure
+use Rattle.bootkeep.specs.Failure.{IsFailureOf}
 use Rattle.bootkeep.proofs.program.run_events.Goals as goal
-use Rattle.bootkeep.proofs.program.run_events.Goals.{in-Script, in-Stream}
 
--- what is said of the lines that were written is left out
-without_lines : (remaining : Option (List ℕ)) (Runs : List ℕ → List Reply → Type 0) (Writes : List Reply → Type 0)
-    → IfSome remaining (λ bytes. (answers : List Reply) × Runs bytes answers × Writes answers) → IfSome remaining (λ bytes. (answers : List Reply) × Runs bytes answers)
-without_lines None Runs Writes h = tt
-without_lines (Some bytes) Runs Writes h = (h.0, h.1)
+-- what is read to its end is all that there was
+all_of : (a b : Option (List ℕ)) (text : List ℕ) → ReadsAll a b text → IfSome a (λ known. known ≡ text)
+all_of None b text p = tt
+all_of (Some known) None text p = absurd p.0
+all_of (Some known) (Some left) text p = p.0 ∙ ap (λ (l : List ℕ). text ++ l) p.1 ∙ append-nil text
 
-pub returns-in-Ok-clause-done : goal.returns-in-Ok-clause-done
-returns-in-Ok-clause-done g c =
-    elim c.match-form.branch [
-      | in-Script w ↦
-          let done = rw (sym w.ran-is ∙ c.in-Ok.is) at w.run_script-ran.ensures.done in
-          rw w.in-Script.is (without_lines _ (λ bytes answers. RunsIn form.Script bytes c.args.vars c.in-Ok.vars answers) _ done)
-      | in-Stream w ↦
-          let done = rw (sym w.ran-is ∙ c.in-Ok.is) at w.run_stream-ran.ensures.done in
-          rw w.in-Stream.is (without_lines _ (λ bytes answers. RunsIn form.Stream bytes c.args.vars c.in-Ok.vars answers) _ done)
-    ]
+-- only a failed write is a failed write to the program
+of_write : (f : ScriptFault) → IsFailureOf f failure.Write → f ≡ fault.Write
+of_write fault.Write h = refl
+of_write fault.Read h = cc
+of_write fault.TooMuch h = cc
+of_write fault.OutOfMemory h = cc
+of_write (fault.BadLine n) h = absurd h
+of_write (fault.Stream f) h = absurd h
+of_write (fault.Rest n) h = absurd h
+of_write (fault.Open f) h = absurd h
+
+pub returns-clause-write : goal.returns-clause-write
+returns-clause-write g c = λ is.
+    let same : c.of_script.result ≡ failure.Write = cc in
+    let told = of_write c.in-Err.fault (subst (IsFailureOf c.in-Err.fault) same c.of_script.ensures.fault) in
+    let ran = c.in-Err.ensures.write (ap (λ (f : ScriptFault). Err f) told) in
+    (ran.0, all_of _ _ ran.0 ran.1, ran.2, ran.3, ran.4, ran.5)
