@@ -6,5 +6,5 @@ use Rattle.boot_commands.specs.declared.input.InputFault.TheVariants as input
 
 -- what an error of the system is, by its kind
 abbrev pub input_fault_of : ErrorKind → InputFault
-input_fault_of OutOfMemory = input.Memory
+input_fault_of OutOfMemory = input.OutOfMemory
 input_fault_of _ = input.Read

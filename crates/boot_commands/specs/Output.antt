@@ -1,6 +1,5 @@
 -- Why an output isn't written, and under which name it is written first.
-use Rattle.std.specs.Prelude.{◌≡◌, ◌≢◌, ℕ, List, ◌++◌, Some, codes}
-use Rattle.std.specs.Fmt.{decimal}
+use Rattle.std.specs.Prelude.{◌≡◌, ◌≢◌, ◌<◌, ◌≤◌, ℕ, List, ◌++◌, take, Some, codes, IsCharBoundary}
 use Rattle.std.specs.Path.{path_file_name, path_with_file_name}
 use Rattle.std.specs.declared.io.ErrorKind.{ErrorKind}
 use Rattle.std.specs.declared.io.ErrorKind.TheVariants.{OutOfMemory}
@@ -9,13 +8,20 @@ use Rattle.boot_commands.specs.declared.output.OutputFault.TheVariants as output
 
 -- what an error of the system is, by its kind
 abbrev pub output_fault_of : ErrorKind → OutputFault
-output_fault_of OutOfMemory = output.Memory
+output_fault_of OutOfMemory = output.OutOfMemory
 output_fault_of _ = output.Write
 
--- the name of the new file of this number
-abbrev pub new_name : ℕ → List ℕ
-new_name number = codes ".bootkeep-" ++ decimal number
+-- the last place, up to this number, at which a character of the text begins, or the text ends
+abbrev pub IsLastBoundary : List ℕ → ℕ → ℕ → Type 0
+IsLastBoundary text most end =
+    (end ≤ most) × IsCharBoundary text end × ((later : ℕ) → end < later → later ≤ most → ¬ (IsCharBoundary text later))
 
--- a path beside another one: it has this name in the folder of the other, which has another name
-abbrev pub IsBeside : List ℕ → List ℕ → List ℕ → Type 0
-IsBeside path name beside = (path_file_name path ≢ Some name) × (beside ≡ path_with_file_name path name)
+-- the name of the new file for a file of this name: `.bootkeep-` and that name, or the characters of both that have at most 255 bytes
+abbrev pub IsNewName : List ℕ → List ℕ → Type 0
+IsNewName name new =
+    let whole = codes ".bootkeep-" ++ name in (end : ℕ) × IsLastBoundary whole 255 end × (new ≡ take end whole)
+
+-- a path beside another one: it has the name of the new file in the folder of the other, which has another name
+abbrev pub IsBeside : List ℕ → List ℕ → Type 0
+IsBeside path beside = (name : List ℕ) × (new : List ℕ) × (path_file_name path ≡ Some name) × IsNewName name new
+    × (new ≢ name) × (beside ≡ path_with_file_name path new)

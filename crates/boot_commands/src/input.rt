@@ -1,25 +1,45 @@
 //! Inputs that are read whole, up to a limit.
 
 ghost use Rattle.std.specs.Prelude.{◌≡◌, ◌<◌, ◌≤◌, length, vec_len, IfOk, IfSome, IsErrOf};
+ghost use Rattle.std.specs.String.{string_bytes};
 ghost use Rattle.boot_commands.specs.declared.input.InputFault.{InputFault};
 
 use std::alloc::{AllocError, Global};
 use std::fs;
 use std::io::{self, Read};
 use std::rt::Files;
+use thiserror::Error;
 
 /// The most bytes that an input may have.
 pub const LIMIT: usize = 67_108_864;
 
 /// Why an input isn't read.
-#[derive(Clone, Copy, Debug, PartialEq, Eq)]
+#[derive(Clone, Copy, Debug, PartialEq, Eq, Hash, Error)]
 pub enum InputFault {
     /// It has more than [`LIMIT`] bytes.
+    #[error("TooMuch")]
     TooMuch,
     /// It can't be opened or read.
+    #[error("Read")]
     Read,
     /// Memory was refused.
-    Memory,
+    #[error("OutOfMemory")]
+    OutOfMemory,
+}
+
+impl InputFault {
+    ghost use Rattle.boot_commands.specs.Words.{input_fault_words};
+
+    /// The fault's name. The one refusal is for want of memory.
+    pub fn words(&self, alloc: Global) -> Result<String, AllocError>
+        ensures { IfOk result (λ text. string_bytes text ≡ input_fault_words self.now) }
+    {
+        match self {
+            InputFault::TooMuch => String::from_str(alloc, "TooMuch"),
+            InputFault::Read => String::from_str(alloc, "Read"),
+            InputFault::OutOfMemory => String::from_str(alloc, "OutOfMemory"),
+        }
+    }
 }
 
 impl From<io::Error> for InputFault {
@@ -31,7 +51,7 @@ impl From<io::Error> for InputFault {
 
     fn from(error: io::Error) -> InputFault {
         match error.kind() {
-            io::ErrorKind::OutOfMemory => InputFault::Memory,
+            io::ErrorKind::OutOfMemory => InputFault::OutOfMemory,
             _ => InputFault::Read,
         }
     }
@@ -52,7 +72,7 @@ pub fn read_file<R: Files + AllocGlobal>(rt: &R, path: &str) -> Result<Vec<u8>, 
 /// # Errors
 ///
 /// [`InputFault::TooMuch`] where there are more than [`LIMIT`] bytes; at most one byte past these is read.
-/// [`InputFault::Read`] where a read fails before that, and [`InputFault::Memory`] where memory was refused.
+/// [`InputFault::Read`] where a read fails before that, and [`InputFault::OutOfMemory`] where memory was refused.
 pub fn read_input<R: Read + Drop>(alloc: Global, reader: R) -> Result<Vec<u8>, InputFault>
     ensures all { IfOk result (λ bytes. IfSome (R.remaining reader) (λ rest. bytes.items ≡ rest)) }
     ensures limit { IfOk result (λ bytes. vec_len bytes ≤ LIMIT) }

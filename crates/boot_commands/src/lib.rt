@@ -6,12 +6,14 @@
 //! events of a script, or the frames of a stream, over variables, from a [`Source`] to a [`Sink`], which a [`Watched`]
 //! makes of a reader or a writer of the standard library; [`read_script`] and [`read_stream`] read the events alone, and
 //! all four tell what is wrong by a [`ScriptFault`]. [`read_file`] and [`read_input`] read an input of up to [`LIMIT`]
-//! bytes, and [`write_file`] replaces a file whole.
+//! bytes. [`write_file`] replaces a file whole, of which [`lock_file`] took the lock: whoever changes a file so reads it in
+//! between, and nobody's change is lost.
 #![tactic(auto)]
 
 mod fault;
 mod input;
 pub mod laws;
+mod lock;
 mod output;
 mod refusal;
 mod report;
@@ -23,6 +25,7 @@ mod transfer;
 
 pub use fault::ScriptFault;
 pub use input::{InputFault, LIMIT, read_file, read_input};
+pub use lock::{FileLock, OutputFile, lock_file};
 pub use output::{OutputFault, write_file};
 pub use refusal::{Fault, Refusal, refuse};
 pub use report::{option_report, path_report, set_report, text_report};

@@ -34,12 +34,12 @@ failure_of refusal.Memory = failure.Memory
 abbrev pub failure_of_input : InputFault → Failure
 failure_of_input input.TooMuch = failure.TooMuch
 failure_of_input input.Read = failure.Read
-failure_of_input input.Memory = failure.Memory
+failure_of_input input.OutOfMemory = failure.Memory
 
 -- what an output that isn't written is to the program
 abbrev pub failure_of_output : OutputFault → Failure
 failure_of_output output.Write = failure.Write
-failure_of_output output.Memory = failure.Memory
+failure_of_output output.OutOfMemory = failure.Memory
 
 -- P of the words, if the input is refused with words
 abbrev pub IfRefused : Failure → (List ℕ → Type 0) → Type 0

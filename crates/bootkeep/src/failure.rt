@@ -104,7 +104,7 @@ impl From<InputFault> for Failure {
         match fault {
             InputFault::TooMuch => Failure::TooMuch,
             InputFault::Read => Failure::Read,
-            InputFault::Memory => Failure::Memory,
+            InputFault::OutOfMemory => Failure::Memory,
         }
     }
 }
@@ -115,7 +115,7 @@ impl From<OutputFault> for Failure {
     fn from(fault: OutputFault) -> Failure {
         match fault {
             OutputFault::Write => Failure::Write,
-            OutputFault::Memory => Failure::Memory,
+            OutputFault::OutOfMemory => Failure::Memory,
         }
     }
 }

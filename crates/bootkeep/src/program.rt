@@ -15,18 +15,18 @@ ghost use Rattle.bootkeep.specs.declared.failure.Failure.TheVariants as failure;
 use crate::command_line::{self, Form, Request, USAGE};
 use crate::failure::Failure;
 use boot_commands::{
-    InputFault, ScriptFault, Sink, Source, Watched, option_report, path_report, read_file, refuse,
-    run_script, run_stream, set_report, text_report, write_file,
+    InputFault, OutputFile, ScriptFault, Sink, Source, Watched, lock_file, option_report,
+    path_report, read_file, refuse, run_script, run_stream, set_report, text_report, write_file,
 };
 use std::alloc::Global;
+use std::env;
 use std::io::{self, Read, Write};
 use std::rt::{Env, Files};
-use std::{env, fs};
 use uefi_vars::{Vars, read_set, write_set};
 
 /// Does what the words of the command line ask for, and returns the status to end with: 0, or that
 /// of the [`Failure`], whose line goes to standard error.
-pub fn run<R: Env + Files + Print + Eprint + AllocGlobal>(rt: &R) -> u8 {
+pub fn run<R: Env + Files<File: OutputFile> + Print + Eprint + AllocGlobal>(rt: &R) -> u8 {
     tell(rt, answer(rt))
 }
 
@@ -46,7 +46,7 @@ pub fn tell<R: Eprint>(rt: &R, outcome: Result<(), Failure>) -> u8
     }
 }
 
-fn answer<R: Env + Files + Print + AllocGlobal>(rt: &R) -> Result<(), Failure> {
+fn answer<R: Env + Files<File: OutputFile> + Print + AllocGlobal>(rt: &R) -> Result<(), Failure> {
     let words = words(rt)?;
     match command_line::read_words(rt.alloc(), words.as_slice())? {
         Request::Help => rt.println(USAGE),
@@ -71,19 +71,36 @@ fn answer<R: Env + Files + Print + AllocGlobal>(rt: &R) -> Result<(), Failure> {
 }
 
 /// Runs the script or the stream of the one file over the set of another, prints the replies, and then writes the new set to
-/// a third.
-fn run_file<R: Files + Print + AllocGlobal>(
+/// a third. That one is locked from before the set is read until the new one is there, so that runs over one file go one
+/// after the other. A script that comes slowly keeps no other run waiting: it's read before. The set's fault comes first, then
+/// the script's, and then that of the lock.
+fn run_file<R: Files<File: OutputFile> + Print + AllocGlobal>(
     rt: &R,
     form: Form,
     set: &str,
     script: &str,
     file: &str,
 ) -> Result<(), Failure> {
+    let alloc = rt.alloc();
+    let script = match read_file(rt, script) {
+        Ok(script) => script,
+        Err(fault) => {
+            read_vars(rt, set)?;
+            return Err(fault.into());
+        }
+    };
+    let lock = lock_file(rt, file);
     let vars = read_vars(rt, set)?;
-    let script = fs::open(rt, script).map_err(InputFault::from)?;
-    let vars = run_events(rt.alloc(), form, script, io::writer(rt), vars)?;
-    let bytes = write_set(rt.alloc(), &vars)?;
-    Ok(write_file(rt, file, &bytes)?)
+    let lock = match lock {
+        Ok(lock) => lock,
+        Err(fault) => {
+            run_events(alloc, form, script.as_slice(), io::sink(), vars)?;
+            return Err(fault.into());
+        }
+    };
+    let vars = run_events(alloc, form, script.as_slice(), io::writer(rt), vars)?;
+    let bytes = write_set(alloc, &vars)?;
+    Ok(write_file(rt, lock, &bytes)?)
 }
 
 /// The variables after the events of a script or a stream, whose replies are written, a line for each.

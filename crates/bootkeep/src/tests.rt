@@ -7,7 +7,7 @@ mod runtime;
 
 use crate::failure::{Failure, script_status};
 use crate::program;
-use boot_commands::ScriptFault;
+use boot_commands::{InputFault, OutputFault, ScriptFault};
 use boot_requests::{FeedFault, OpenFault};
 use files::{Contents, NamedFile, Shelf};
 use runtime::{FakeRuntime, Run, Stream, Words};
@@ -45,7 +45,7 @@ const SET_LINES: &str =
     "variables 3\nBoot0001 normal A\norder 0001\nnext -\nplan next - normal 0001\n";
 
 /// The files that runs find.
-const FILES: [NamedFile<'static>; 7] = [
+const FILES: [NamedFile<'static>; 9] = [
     NamedFile {
         path: "set",
         contents: Contents::Bytes(&SET),
@@ -67,6 +67,14 @@ const FILES: [NamedFile<'static>; 7] = [
         contents: Contents::Zeros(u64::MAX),
     },
     NamedFile {
+        path: "script",
+        contents: Contents::Bytes(b"restart\n"),
+    },
+    NamedFile {
+        path: "bad script",
+        contents: Contents::Bytes(b"restart\nboot"),
+    },
+    NamedFile {
         path: "folder",
         contents: Contents::Refused,
     },
@@ -84,7 +92,7 @@ fn check_call(rt: &impl Abort, alloc: Global, words: Words<'_>, answer: (u8, &st
 }
 
 /// Words with the status, standard output and standard error that they end with.
-const CALLS: [(&[&str], u8, &str, &str); 24] = [
+const CALLS: [(&[&str], u8, &str, &str); 31] = [
     (
         &["bootkeep", "text", "USB(1,0)"],
         0,
@@ -131,6 +139,49 @@ const CALLS: [(&[&str], u8, &str, &str); 24] = [
     (&["bootkeep", "show", "folder"], 3, "", "fault: read\n"),
     (&["bootkeep", "show", "missing"], 3, "", "fault: read\n"),
     (&["bootkeep", "show", "large"], 4, "", "fault: memory\n"),
+    // none of the files can be locked
+    (
+        &["bootkeep", "run", "set", "script", "--out", "set"],
+        3,
+        "",
+        "fault: write\n",
+    ),
+    (
+        &["bootkeep", "run", "set", "script", "--out", "large"],
+        4,
+        "",
+        "fault: memory\n",
+    ),
+    (
+        &["bootkeep", "run", "option", "missing", "--out", "set"],
+        1,
+        "",
+        "refused: BadMagic 0\n",
+    ),
+    (
+        &["bootkeep", "run", "option", "bad script", "--out", "set"],
+        1,
+        "",
+        "refused: BadMagic 0\n",
+    ),
+    (
+        &["bootkeep", "run", "set", "missing", "--out", "set"],
+        3,
+        "",
+        "fault: read\n",
+    ),
+    (
+        &["bootkeep", "run", "set", "bad script", "--out", "set"],
+        1,
+        "",
+        "refused: BadLine 2\n",
+    ),
+    (
+        &["bootkeep", "run", "bad order", "script", "--out", "large"],
+        1,
+        "",
+        "refused: Open BadOrder\n",
+    ),
     (&["bootkeep", "--help"], 0, USAGE_LINE, ""),
     (&["bootkeep", "path", "7fff0400"], 0, EMPTY_PATH_LINES, ""),
     (
@@ -312,6 +363,22 @@ fn tells_each_failure(rt: HostRuntime) -> Result<(), Fail> {
         (ScriptFault::OutOfMemory, 4),
     ] {
         assert_eq!(rt; script_status(&fault), status, "of {fault}");
+    }
+    for fault in [
+        InputFault::TooMuch,
+        InputFault::Read,
+        InputFault::OutOfMemory,
+    ] {
+        assert_eq!(rt;
+            format!(in rt.alloc(); "{fault}")?,
+            fault.words(rt.alloc())?
+        );
+    }
+    for fault in [OutputFault::Write, OutputFault::OutOfMemory] {
+        assert_eq!(rt;
+            format!(in rt.alloc(); "{fault}")?,
+            fault.words(rt.alloc())?
+        );
     }
     Ok(())
 }

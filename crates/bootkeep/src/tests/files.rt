@@ -1,5 +1,6 @@
-//! Files in memory that are read alone.
+//! Files in memory that are read alone, and can't be locked.
 
+use boot_commands::OutputFile;
 use std::fs::{Metadata, OpenOptions};
 use std::io::{self, Read, Seek, SeekFrom, Write};
 use std::rt::Files;
@@ -85,6 +86,19 @@ impl std::fs::OpenFile for FakeFile<'_> {
     }
 }
 
+impl OutputFile for FakeFile<'_> {
+    fn lock(&self) -> io::Result<()> {
+        match self.rest {
+            Contents::OutOfMemory => Err(io::Error::from(io::ErrorKind::OutOfMemory)),
+            _ => Err(io::Error::from(io::ErrorKind::Unsupported)),
+        }
+    }
+
+    fn chown(&self, _uid: Option<u32>, _gid: Option<u32>) -> io::Result<()> {
+        Err(io::Error::from(io::ErrorKind::Unsupported))
+    }
+}
+
 /// The files that are found, each by its path.
 #[derive(Clone, Copy)]
 pub struct Shelf<'a>(pub &'a [NamedFile<'a>]);
@@ -110,7 +124,7 @@ impl<'a> Files for Shelf<'a> {
     }
 
     fn metadata(&self, _path: &str) -> io::Result<Metadata> {
-        Err(io::Error::from(io::ErrorKind::Unsupported))
+        Ok(Metadata::of_file(0))
     }
 
     fn symlink_metadata(&self, _path: &str) -> io::Result<Metadata> {

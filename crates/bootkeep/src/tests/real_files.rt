@@ -120,8 +120,4 @@ impl Files for Scratch<'_> {
     fn symlink(&self, original: &str, link: &str) -> io::Result<()> {
         Files::symlink(self.rt, original, self.at(link)?.as_path().as_str())
     }
-
-    fn lchown(&self, path: &str, uid: Option<u32>, gid: Option<u32>) -> io::Result<()> {
-        Files::lchown(self.rt, self.at(path)?.as_path().as_str(), uid, gid)
-    }
 }

@@ -85,6 +85,17 @@ fn scratch<'a>(rt: &'a HostRuntime) -> Result<Scratch<'a>, Fail> {
     Ok(scratch)
 }
 
+/// Links to the target, `link 1` in one step, and each up to `link 41` in one step more.
+fn chain(scratch: &Scratch<'_>, alloc: Global, target: &str) -> Result<(), Fail> {
+    symlink(scratch, target, "link 1")?;
+    for number in 1..=40u8 {
+        let target = format!(in alloc; "link {number}")?;
+        let link = format!(in alloc; "link {}", number + 1)?;
+        symlink(scratch, target.as_str(), link.as_str())?;
+    }
+    Ok(())
+}
+
 /// A run with these words ends with this status and this text on standard output and standard error.
 fn check<'a>(
     rt: &(impl Abort + AllocGlobal),
@@ -101,11 +112,15 @@ fn writes_the_new_set(rt: HostRuntime) -> Result<(), Fail> {
     let scratch = scratch(&rt)?;
     symlink(&scratch, "long", "link")?;
     symlink(&scratch, "folder/target", "leads to nothing")?;
+    chain(&scratch, rt.alloc(), "new")?;
     let names = scratch.count()?;
+    // what a run that was killed left
+    fs::write(&scratch, ".bootkeep-new", "BV")?;
     // the file, and where what was written is found
     for (file, found) in [
         ("new", "new"),
         ("new", "new"),
+        ("link 40", "new"),
         ("link", "long"),
         ("leads to nothing", "folder/target"),
         (".bootkeep-0", ".bootkeep-0"),
@@ -115,6 +130,8 @@ fn writes_the_new_set(rt: HostRuntime) -> Result<(), Fail> {
         check(&rt, &scratch, &words, (0, ADD_LINES, ""));
         assert!(rt; scratch.has(found, &SET)?, "at {file}");
     }
+    let words = ["bootkeep", "run", "set", "script", "--out", "link 41"];
+    check(&rt, &scratch, &words, (3, "", "fault: write\n"));
     assert!(rt; fs::symlink_metadata(&scratch, "link")?.is_symlink());
     assert_eq!(rt; Some(scratch.count()?), names.checked_add(2));
     scratch.remove()
@@ -153,14 +170,8 @@ const SCRIPT_RUNS: [(&str, &str, &str, u8, &str, &str); 13] = [
     ("missing", "script", "long", 3, "", "fault: read\n"),
     ("set", "missing", "long", 3, "", "fault: read\n"),
     ("set", "folder", "long", 3, "", "fault: read\n"),
-    (
-        "set",
-        "script",
-        "missing/new",
-        3,
-        ADD_LINES,
-        "fault: write\n",
-    ),
+    ("set", "script", "missing/new", 3, "", "fault: write\n"),
+    // a folder isn't locked
     ("set", "script", "folder", 3, ADD_LINES, "fault: write\n"),
     ("set", "script", "/dev/full", 3, ADD_LINES, "fault: write\n"),
     ("set", "script", "/dev/null", 0, ADD_LINES, ""),

@@ -1,6 +1,7 @@
 //! A runtime of the tests' own.
 
 use crate::program;
+use boot_commands::OutputFile;
 use std::alloc::{Allocator, Global};
 use std::cell::RefCell;
 use std::env::FillError;
@@ -170,10 +171,6 @@ impl<F: Files> Files for FakeRuntime<'_, F> {
     fn read_link<B: Allocator>(&self, alloc: B, path: &str) -> io::Result<PathBuf<B>> {
         self.files.read_link(alloc, path)
     }
-
-    fn lchown(&self, path: &str, uid: Option<u32>, gid: Option<u32>) -> io::Result<()> {
-        self.files.lchown(path, uid, gid)
-    }
 }
 
 /// What a run leaves behind.
@@ -186,7 +183,11 @@ pub struct Run {
 
 impl Run {
     /// A run with these words and files, whose streams take everything.
-    pub fn with<F: Files + Drop>(alloc: Global, words: Words<'_>, files: F) -> Run {
+    pub fn with<F: Files<File: OutputFile> + Drop>(
+        alloc: Global,
+        words: Words<'_>,
+        files: F,
+    ) -> Run {
         Run::over(FakeRuntime {
             alloc,
             words,
@@ -201,7 +202,7 @@ impl Run {
         (self.status, self.stdout.as_str(), self.stderr.as_str())
     }
 
-    pub fn over<F: Files + Drop>(runtime: FakeRuntime<'_, F>) -> Run {
+    pub fn over<F: Files<File: OutputFile> + Drop>(runtime: FakeRuntime<'_, F>) -> Run {
         let status = program::run(&runtime);
         let FakeRuntime {
             alloc: _,

@@ -1,5 +1,6 @@
 //! A folder in memory, in which a step fails.
 
+use boot_commands::OutputFile;
 use std::alloc::{Allocator, Global};
 use std::cell::{Cell, RefCell};
 use std::fs::{Metadata, OpenFile, OpenOptions, Permissions};
@@ -11,7 +12,7 @@ use std::rt::Files;
 pub const SET: &str = "set";
 
 /// The one other name that a file can be made under.
-pub const NEW: &str = ".bootkeep-0";
+pub const NEW: &str = ".bootkeep-set";
 
 /// A folder with two names, which counts the steps that are taken in it, and of which one step fails.
 pub struct Folder {
@@ -58,8 +59,18 @@ impl Folder {
         Ok(())
     }
 
-    fn has_set(&self) -> io::Result<bool> {
-        Ok(self.set.try_borrow()?.is_some())
+    /// That the path is one of the two names or the folder, and that something stands there.
+    fn find(&self, path: &str) -> io::Result<()> {
+        let is_there = match path {
+            SET => self.set.try_borrow()?.is_some(),
+            NEW => self.new.try_borrow()?.is_some(),
+            _ => path == ".",
+        };
+        if is_there {
+            Ok(())
+        } else {
+            Err(io::Error::from(ErrorKind::NotFound))
+        }
     }
 
     /// Makes the file of the other name, which isn't there.
@@ -135,6 +146,16 @@ impl OpenFile for Opened<'_> {
     }
 }
 
+impl OutputFile for Opened<'_> {
+    fn lock(&self) -> io::Result<()> {
+        self.folder.step()
+    }
+
+    fn chown(&self, _uid: Option<u32>, _gid: Option<u32>) -> io::Result<()> {
+        self.folder.step()
+    }
+}
+
 impl<'a> Files for &'a Folder {
     type File = Opened<'a>;
 
@@ -146,8 +167,8 @@ impl<'a> Files for &'a Folder {
         how.check()?;
         if how.asks_create_new() {
             folder.create(path)?;
-        } else if path == SET && !folder.has_set()? {
-            return Err(io::Error::from(ErrorKind::NotFound));
+        } else {
+            folder.find(path)?;
         }
         Ok(Opened {
             folder,
@@ -159,12 +180,15 @@ impl<'a> Files for &'a Folder {
         Err(io::Error::from(ErrorKind::Unsupported))
     }
 
-    fn metadata(&self, _path: &str) -> io::Result<Metadata> {
-        Err(io::Error::from(ErrorKind::Unsupported))
+    fn metadata(&self, path: &str) -> io::Result<Metadata> {
+        self.step()?;
+        self.find(path)?;
+        Ok(Metadata::of_file(0))
     }
 
-    fn symlink_metadata(&self, _path: &str) -> io::Result<Metadata> {
+    fn symlink_metadata(&self, path: &str) -> io::Result<Metadata> {
         self.step()?;
+        self.find(path)?;
         Ok(Metadata::of_file(0))
     }
 
@@ -184,10 +208,9 @@ impl<'a> Files for &'a Folder {
 
     fn remove_file(&self, path: &str) -> io::Result<()> {
         self.step()?;
-        if path != NEW {
+        if path != NEW || self.new.try_borrow_mut()?.take().is_none() {
             return Err(io::Error::from(ErrorKind::NotFound));
         }
-        *self.new.try_borrow_mut()? = None;
         Ok(())
     }
 
@@ -206,9 +229,5 @@ impl<'a> Files for &'a Folder {
     fn read_link<B: Allocator>(&self, _alloc: B, _path: &str) -> io::Result<PathBuf<B>> {
         self.step()?;
         Err(io::Error::from(ErrorKind::InvalidInput))
-    }
-
-    fn lchown(&self, _path: &str, _uid: Option<u32>, _gid: Option<u32>) -> io::Result<()> {
-        self.step()
     }
 }

@@ -3,7 +3,7 @@
 use crate::checks::Findings;
 use crate::checks::folder::{Folder, SET};
 use anyhow::Result;
-use boot_commands::{OutputFault, write_file};
+use boot_commands::{OutputFault, lock_file, write_file};
 use std::alloc::Global;
 use std::io::ErrorKind;
 
@@ -48,9 +48,16 @@ fn is_so(
         None => None,
     };
     let folder = Folder::new(alloc, set, failing, kind);
-    let found = write_file(&(&folder, alloc), SET, NEW_BYTES);
+    let found = replace(&folder, alloc);
     let found_left = what_is_left(folder, old);
     Ok(found == answer && found_left == left)
+}
+
+/// Replaces the set, or makes it.
+fn replace(folder: &Folder, alloc: Global) -> Result<(), OutputFault> {
+    let rt = (folder, alloc);
+    let lock = lock_file(&rt, SET)?;
+    write_file(&rt, lock, NEW_BYTES)
 }
 
 fn what_is_left(folder: Folder, old: Option<&[u8]>) -> Left {
@@ -70,18 +77,18 @@ fn what_is_left(folder: Folder, old: Option<&[u8]>) -> Left {
 fn old_or_new(alloc: Global) -> Result<bool> {
     // the old file; the first step that fails, and the one behind the last; what is answered, and what is left
     let table: [(Option<&[u8]>, usize, usize, Result<(), OutputFault>, Left); 8] = [
-        // it is opened and looked at, and the new one is opened
-        (Some(OLD_BYTES), 0, 5, REFUSED, Left::Old),
+        // it is looked at, opened, locked and looked at again, and the new one is opened
+        (Some(OLD_BYTES), 0, 9, REFUSED, Left::Old),
         // group, owner and rights can't be given
-        (Some(OLD_BYTES), 5, 8, Ok(()), Left::New),
-        // the new one is written twice, synced, and renamed
-        (Some(OLD_BYTES), 8, 12, REFUSED, Left::Old),
+        (Some(OLD_BYTES), 9, 12, Ok(()), Left::New),
+        // the new one is written twice and synced, both are looked at, and it is renamed
+        (Some(OLD_BYTES), 12, 19, REFUSED, Left::Old),
         // the folder is opened and synced
-        (Some(OLD_BYTES), 12, 14, REFUSED, Left::New),
-        (Some(OLD_BYTES), 14, 15, Ok(()), Left::New),
-        (None, 0, 7, REFUSED, Left::Old),
-        (None, 7, 9, REFUSED, Left::New),
-        (None, 9, 10, Ok(()), Left::New),
+        (Some(OLD_BYTES), 19, 21, REFUSED, Left::New),
+        (Some(OLD_BYTES), 21, 22, Ok(()), Left::New),
+        (None, 0, 14, REFUSED, Left::Old),
+        (None, 14, 16, REFUSED, Left::New),
+        (None, 16, 17, Ok(()), Left::New),
     ];
     for (old, first, end, answer, left) in table {
         for failing in first..end {
@@ -99,21 +106,27 @@ fn old_or_new(alloc: Global) -> Result<bool> {
 }
 
 fn kinds(alloc: Global) -> Result<bool> {
-    let table: [(usize, ErrorKind, Result<(), OutputFault>, Left); 6] = [
+    let table: [(usize, ErrorKind, Result<(), OutputFault>, Left); 9] = [
+        // it was there, and is gone as it's opened: it is looked at once more
+        (1, ErrorKind::NotFound, Ok(()), Left::New),
+        // a read-only file is left alone
+        (1, ErrorKind::PermissionDenied, REFUSED, Left::Old),
+        // a file system without locks
+        (2, ErrorKind::Unsupported, REFUSED, Left::Old),
         (
-            4,
+            8,
             ErrorKind::OutOfMemory,
-            Err(OutputFault::Memory),
+            Err(OutputFault::OutOfMemory),
             Left::Old,
         ),
-        // a read-only file is left alone
-        (0, ErrorKind::PermissionDenied, REFUSED, Left::Old),
         // a file system without sync
-        (10, ErrorKind::InvalidInput, Ok(()), Left::New),
-        (10, ErrorKind::Unsupported, Ok(()), Left::New),
+        (14, ErrorKind::InvalidInput, Ok(()), Left::New),
+        (14, ErrorKind::Unsupported, Ok(()), Left::New),
+        // the new one's name leads to nothing
+        (16, ErrorKind::NotFound, REFUSED, Left::Old),
         // a folder that may not be read, and one without sync
-        (12, ErrorKind::PermissionDenied, Ok(()), Left::New),
-        (13, ErrorKind::InvalidInput, Ok(()), Left::New),
+        (19, ErrorKind::PermissionDenied, Ok(()), Left::New),
+        (20, ErrorKind::InvalidInput, Ok(()), Left::New),
     ];
     for (failing, kind, answer, left) in table {
         if !is_so(alloc, Some(OLD_BYTES), (failing, kind), (answer, left))? {
