@@ -9,6 +9,7 @@
 mod calls;
 mod checks;
 mod counting;
+mod failing;
 mod frames;
 mod input;
 mod nodes;

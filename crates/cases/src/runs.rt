@@ -1,5 +1,6 @@
 //! Runs of events over variables: calls of `boot_commands`, and of `boot_requests` below them.
 
+use crate::failing;
 use crate::input::{bytes, ends_of, list, member, number, text_of};
 use crate::paths::unless;
 use crate::pipes::{Given, Taken};
@@ -13,7 +14,7 @@ use uefi_vars::{Vars, write_set};
 
 /// What the bytes of a run are.
 #[derive(Clone, Copy)]
-enum Form {
+pub enum Form {
     /// The lines of a script.
     Script,
     /// Frames, one behind the other.
@@ -116,6 +117,9 @@ fn lines_of(alloc: Global, items: &[Value]) -> Result<String> {
 /// keepers alone.
 fn of_run(alloc: Global, case: &Value, form: Form, bytes: &[u8]) -> Result<String> {
     let vars = vars_of(alloc, member(case, "before")?)?;
+    if failing::is_stated(case) {
+        return failing::answer(alloc, case, (form, bytes), &vars);
+    }
     let words = by_parts(alloc, form, bytes, vars.copy(alloc)?)?;
     let watched = by_traits(alloc, form, bytes, vars.copy(alloc)?)?;
     let same = watched.as_str() == words.as_str();
@@ -158,7 +162,11 @@ fn by_traits(alloc: Global, form: Form, bytes: &[u8], vars: Vars) -> Result<Stri
 }
 
 /// What was written, and the variables behind it, or the fault.
-fn words_of(alloc: Global, answer: Result<Vars, ScriptFault>, written: &[u8]) -> Result<String> {
+pub fn words_of(
+    alloc: Global,
+    answer: Result<Vars, ScriptFault>,
+    written: &[u8],
+) -> Result<String> {
     let mut words = String::from_str(alloc, str::from_utf8(written)?)?;
     match answer {
         Ok(vars) => words.push_str(&text_of_vars(alloc, &vars)?)?,

@@ -2,7 +2,8 @@
 
 use crate::checks::Findings;
 use crate::checks::paths::is_shown;
-use crate::checks::readers::{Narrow, NoRoom, Zeros};
+use crate::checks::readers::Repeated;
+use crate::failing::{Failure, Narrow};
 use crate::pipes::{Given, Taken};
 use anyhow::{Result, bail};
 use boot_commands::{InputFault, LIMIT, ScriptFault, Watched, read_input, run_script, run_stream};
@@ -44,12 +45,14 @@ pub fn check(alloc: Global, findings: &mut Findings) -> Result<()> {
     findings.note("the words of script faults", script_faults(alloc))?;
     findings.note("the limit of an input", Ok(LIMIT as u64 == MOST))?;
     findings.note("an input is read up to the limit", inputs(alloc))?;
-    findings.note("a failed read of a script is told", failed_scripts(alloc))?;
     findings.note(
         "a script of too many bytes is told, also if it has no end",
         long_scripts(alloc),
     )?;
-    findings.note("a failed read of a stream is told", failed_streams(alloc))?;
+    findings.note(
+        "a stream of too many bytes is told, also if it has no end",
+        long_streams(alloc),
+    )?;
     findings.note(
         "a failed write of a script's answers is told",
         failed_answers(alloc, Form::Script, SCRIPT, SCRIPT_LINES),
@@ -115,7 +118,13 @@ fn inputs(alloc: Global) -> Result<bool> {
     ];
     for (bytes, at_once, fails_at, answer, read) in table {
         let given = Cell::new(0);
-        let reader = Zeros::new(bytes, at_once, fails_at, &given);
+        let reader = Repeated {
+            byte: 0,
+            bytes,
+            at_once,
+            fails_at,
+            given: &given,
+        };
         let found = read_input(alloc, reader).map(|bytes| bytes.len() as u64);
         if found != answer || given.get() != read {
             return Ok(false);
@@ -124,16 +133,22 @@ fn inputs(alloc: Global) -> Result<bool> {
     Ok(true)
 }
 
-/// What so many zero bytes, of which reading fails behind so many, are refused for.
+/// What so many times a byte, of which reading fails after so many, are refused for.
 fn refused_for(
     alloc: Global,
     form: Form,
-    bytes: u64,
+    (byte, bytes): (u8, u64),
     fails_at: Option<u64>,
 ) -> Result<ScriptFault> {
     let given = Cell::new(0);
     let mut reader = Watched {
-        inner: Zeros::new(bytes, 1_000_000, fails_at, &given),
+        inner: Repeated {
+            byte,
+            bytes,
+            at_once: 1_000_000,
+            fails_at,
+            given: &given,
+        },
         failed: false,
     };
     let mut sink = Taken::new(alloc);
@@ -154,57 +169,49 @@ fn refused_for(
     Ok(fault)
 }
 
-fn failed_scripts(alloc: Global) -> Result<bool> {
-    for (bytes, fails_at) in [(10, 0), (10, 10), (u64::MAX, MOST)] {
-        if refused_for(alloc, Form::Script, bytes, Some(fails_at))? != ScriptFault::Read {
+fn long_scripts(alloc: Global) -> Result<bool> {
+    for (byte, bytes, fails_at, fault) in [
+        (0, MOST, None, ScriptFault::BadLine(1)),
+        (0, MOST + 1, None, ScriptFault::TooMuch),
+        (0, u64::MAX, Some(MOST), ScriptFault::Read),
+        (0, u64::MAX, Some(MOST + 1), ScriptFault::TooMuch),
+        (b'\n', u64::MAX, None, ScriptFault::TooMuch),
+    ] {
+        if refused_for(alloc, Form::Script, (byte, bytes), fails_at)? != fault {
             return Ok(false);
         }
     }
     Ok(true)
 }
 
-fn long_scripts(alloc: Global) -> Result<bool> {
+fn long_streams(alloc: Global) -> Result<bool> {
     for (bytes, fault) in [
-        (MOST, ScriptFault::BadLine(1)),
+        (MOST, ScriptFault::Stream(FeedFault::BadMagic)),
         (MOST + 1, ScriptFault::TooMuch),
         (u64::MAX, ScriptFault::TooMuch),
     ] {
-        if refused_for(alloc, Form::Script, bytes, None)? != fault {
+        if refused_for(alloc, Form::Stream, (b'\n', bytes), None)? != fault {
             return Ok(false);
         }
     }
     Ok(true)
 }
 
-fn failed_streams(alloc: Global) -> Result<bool> {
-    for (bytes, fails_at, fault) in [
-        (10, Some(0), ScriptFault::Read),
-        (10, Some(5), ScriptFault::Read),
-        (10, Some(10), ScriptFault::Read),
-        (10, None, ScriptFault::Rest(10)),
-        (12, None, ScriptFault::Stream(FeedFault::BadMagic)),
-        (MOST + 1, None, ScriptFault::TooMuch),
-    ] {
-        if refused_for(alloc, Form::Stream, bytes, fails_at)? != fault {
-            return Ok(false);
-        }
-    }
-    Ok(true)
-}
-
-/// Whether a run whose answers find room for so many bytes ends with a failed write, behind these bytes.
+/// Whether a run whose answers find room for so many bytes ends with a failed write, after these bytes.
 fn is_cut_short(
     alloc: Global,
     (form, bytes): (Form, &[u8]),
-    (room, no_room): (usize, NoRoom),
+    failure: Failure,
+    at_once: u64,
     front: &[u8],
 ) -> bool {
     let mut source = Given { rest: bytes };
     let mut writer = Watched {
         inner: Narrow {
             bytes: Vec::new(alloc),
-            room,
-            no_room,
+            at_once,
+            room: front.len() as u64,
+            failure,
         },
         failed: false,
     };
@@ -218,15 +225,17 @@ fn is_cut_short(
         && writer.inner.bytes.as_slice() == front
 }
 
-/// Whether each front of the lines that answer a run can be all that there is room for.
+/// Whether each front of the lines that answer a run can be all that there is room for, if a write takes one byte or many.
 fn failed_answers(alloc: Global, form: Form, bytes: &[u8], lines: &[u8]) -> Result<bool> {
     for room in 0..lines.len() {
         let Some((front, _)) = lines.split_at_checked(room) else {
             bail!("the lines have no {room} bytes");
         };
-        for no_room in [NoRoom::Error, NoRoom::Nothing] {
-            if !is_cut_short(alloc, (form, bytes), (room, no_room), front) {
-                return Ok(false);
+        for failure in [Failure::Interrupted, Failure::Broken, Failure::NoByte] {
+            for at_once in [1, u64::MAX] {
+                if !is_cut_short(alloc, (form, bytes), failure, at_once, front) {
+                    return Ok(false);
+                }
             }
         }
     }
