@@ -58,12 +58,13 @@ pub(crate) enum Found<F> {
 /// A link is followed: the file that it leads to is locked. Where there is no file, the folder is locked in which it is to
 /// be made, which has to be readable. What is no regular file, as a pipe or a device, isn't locked, and isn't opened. The
 /// lock is that of the system's `flock`, which keeps out those who take it, and nobody else: not a program that writes the
-/// file without asking. It isn't passed on: another lock on the same path in the same program is waited for without end.
+/// file without asking. A program that has the lock and takes it once more waits for itself, without end.
 ///
 /// # Errors
 ///
-/// [`OutputFault::Write`] where the file can't be opened for writing, the folder can't be opened for reading, or the system
-/// gives no lock, and [`OutputFault::OutOfMemory`] where memory was refused.
+/// [`OutputFault::Write`] where the file can't be opened for writing, the folder can't be opened for reading, the system
+/// gives no lock, or the path leads to another file after each of 10,000 waits, and [`OutputFault::OutOfMemory`] where
+/// memory was refused.
 pub fn lock_file<R: Files<File: OutputFile> + AllocGlobal>(
     rt: &R,
     path: &str,
