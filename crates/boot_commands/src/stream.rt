@@ -72,5 +72,9 @@ fn deliveries(alloc: Global, frames: Vec<Bytes>) -> Result<Vec<Event>, AllocErro
     ensures { IfOk result (λ events.
         events.items ≡ map (λ frame. Event.Deliver frame) frames.items) }
 {
-    frames.into_iter().map(Event::Deliver).collect(alloc)
+    let mut events = Vec::with_capacity(alloc, frames.len())?;
+    for frame in frames {
+        events.push(Event::Deliver(frame))?;
+    }
+    Ok(events)
 }

@@ -162,7 +162,11 @@ fn are_outcomes(bytes: &[u8]) -> bool
 fn read_outcomes(alloc: Global, bytes: &[u8]) -> Result<Vec<Outcome>, AllocError>
     ensures { IfOk result (λ kept. kept.items ≡ map outcome_at bytes.now) }
 {
-    bytes.iter().map(|byte| outcome_at(*byte)).collect(alloc)
+    let mut kept = Vec::with_capacity(alloc, bytes.len())?;
+    for byte in bytes {
+        kept.push(outcome_at(*byte))?;
+    }
+    Ok(kept)
 }
 
 /// The outcome of this byte.
