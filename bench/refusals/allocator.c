@@ -24,7 +24,7 @@
 
 enum { COUNT = 3, UNIT = 16 };
 
-static const size_t ROOM = (size_t)1 << 32;
+static const size_t ROOM = (size_t)1 << 28;
 
 static unsigned char *room;
 static size_t used;
