@@ -90,8 +90,8 @@ pub fn a_boot_deletes_the_next_entry()
         (state_at start (Prepare ∷ run)).next ≡ None }
 {}
 
-/// A plan is handed out only where one was to be handed out, after a boot that was prepared while no plan was: between the
-/// two no other was to be handed out, and the keeper didn't start anew. It is the plan of the state before that boot.
+/// A plan is handed out only by a Hand. Before that a boot was prepared while no plan was, and between the two there was
+/// neither another Hand nor a Restart. The plan is that of the state before the boot.
 pub fn a_plan_is_handed_out_after_its_boot()
     ensures hand { (start : State) (run : List Seen) (seen : Seen) (plan : PlanParts) →
         IsReply start run seen (Reply.Plan plan) → seen ≡ Hand }
