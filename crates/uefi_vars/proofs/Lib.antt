@@ -1,6 +1,7 @@
 pub mod Bytes
 pub mod Chosen
 pub mod Faults
+pub mod LowestFree
 pub mod MapChanges
 pub mod Maps
 pub mod Names

@@ -96,7 +96,7 @@ module _ {K X : Type 0} (R : K → K → Ordering) (o : IsTotalOrder R) (key : K
   below_at x (e ∷ es) zero h named = sym (ap (R x) named) ∙ h.0
   below_at x (e ∷ es) (suc place) h named = below_at x es place h.1 named
 
-  sorted_below : (es : List (K × X)) (place : ℕ) → T (is_sorted R es) → IsNamed es place → AllBelow (take place es)
+  pub sorted_below : (es : List (K × X)) (place : ℕ) → T (is_sorted R es) → IsNamed es place → AllBelow (take place es)
   sorted_below [] place rising named = absurd named
   sorted_below (e ∷ es) zero rising named = tt
   sorted_below (e ∷ es) (suc place) rising named =

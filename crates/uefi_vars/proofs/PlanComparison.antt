@@ -25,7 +25,7 @@ choice_Decides each a b =
     let decides : Decides (choice_eq a b) (SameChoice a b) = Decides-and _ _ (Decides-eqb a.number b.number) (each a.option b.option) in
     (λ yes. let e = decides.0 yes in same_choice a b e.0 e.1, λ e. decides.1 (ap (λ (c : Choice). c.number) e, ap (λ (c : Choice). c.option) e))
 
-optional_Decides : {X : Type 0} {E : X → X → Bool} → ((a b : X) → Decides (E a b) (a ≡ b)) → (p q : Option X) → Decides (optional_eq E p q) (p ≡ q)
+pub optional_Decides : {X : Type 0} {E : X → X → Bool} → ((a b : X) → Decides (E a b) (a ≡ b)) → (p q : Option X) → Decides (optional_eq E p q) (p ≡ q)
 optional_Decides each None None = (λ _. refl, λ _. refl)
 optional_Decides each None (Some b) = (λ e. absurd (false≢true e), λ e. cc)
 optional_Decides each (Some a) None = (λ e. absurd (false≢true e), λ e. cc)

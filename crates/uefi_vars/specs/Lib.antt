@@ -5,6 +5,7 @@ pub mod Iter
 pub mod Set
 pub mod Fault
 pub mod Order
+pub mod Free
 pub mod Plan
 pub mod Words
 pub mod Equality

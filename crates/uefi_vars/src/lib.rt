@@ -3,14 +3,15 @@
 //!
 //! [`Vars`] is a finite map from names to data. [`read_set`] reads one from the bytes of a set file, all of them, and
 //! [`write_set`] gives its one spelling. Load options stand under the names that [`entry_name`] gives, and [`entry_option`]
-//! reads one; [`boot_order`] and [`boot_next`] read which of them are to be tried, [`plan`] puts together what a boot
-//! would try, and [`plan_numbers`] its numbers alone.
+//! reads one; [`lowest_free`] finds a number for one more. [`boot_order`] and [`boot_next`] read which of them are to be
+//! tried, [`plan`] puts together what a boot would try, and [`plan_numbers`] its numbers alone.
 #![tactic(auto)]
 
 mod boot_plan;
 mod by_number;
 mod choosing;
 mod fault;
+mod free;
 pub mod laws;
 mod name;
 mod order;
@@ -21,6 +22,7 @@ mod writing;
 
 pub use boot_plan::{BootPlan, Choice, PlanNumbers};
 pub use fault::{PutFault, SetFault, VarFault};
+pub use free::lowest_free;
 pub use name::{BOOT_NEXT, BOOT_ORDER, NAME_MAX, entry_name, entry_number};
 pub use order::{ORDER_MAX, boot_next, boot_order};
 pub use planning::{entry_option, plan, plan_numbers};
