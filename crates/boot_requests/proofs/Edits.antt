@@ -29,7 +29,7 @@ is_next_name = inr (inr (inl refl))
 pub is_keep_name : IsBootName keep_text
 is_keep_name = inr (inr (inr refl))
 
-other_apart : (boot name : List ℕ) → IsBootName boot → ¬ IsBootName name → boot ≢ name
+pub other_apart : (boot name : List ℕ) → IsBootName boot → ¬ IsBootName name → boot ≢ name
 other_apart boot name is other e = other (subst IsBootName e is)
 
 pub order_edited : (m : State) (vars : Variables) (order : List ℕ) → IsOrder order → IsStateOf m vars → IsStateOf (record m { order = order }) (with_stored vars order_text (stored_order order))

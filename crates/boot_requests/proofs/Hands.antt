@@ -5,14 +5,15 @@ use Rattle.std.specs.FinMap.{get}
 use Rattle.uefi_vars.specs.declared.boot_plan.Choice.{Choice}
 use Rattle.uefi_vars.specs.Plan.{PlanParts, plan_parts, IsNextChoice}
 use Rattle.boot_requests.specs.declared.request.Request.{Request}
-use Rattle.boot_requests.specs.declared.request.Request.TheVariants.{Add, Replace, Remove, Order, Next}
+use Rattle.boot_requests.specs.declared.request.Request.TheVariants.{Add, Replace, Remove, Order, Next, AddFree}
+use Rattle.boot_requests.specs.declared.outcome.Code.{Code}
+use Rattle.boot_requests.specs.declared.outcome.Code.TheVariants.{Done, Exists, Missing, OrderRepeats, OrderUnknown, NoFree}
 use Rattle.boot_requests.specs.declared.outcome.Outcome.{Outcome}
-use Rattle.boot_requests.specs.declared.outcome.Outcome.TheVariants.{Done, Exists, Missing, OrderRepeats, OrderUnknown}
 use Rattle.boot_requests.specs.declared.reply.Reply.{Reply}
 use Rattle.boot_requests.specs.declared.reply.Reply.TheVariants as reply
 use Rattle.boot_requests.specs.Limits.{width}
 use Rattle.boot_requests.specs.State.{State}
-use Rattle.boot_requests.specs.Apply.{outcome_of, effect, applied, booted, next_without, HasPlanOf}
+use Rattle.boot_requests.specs.Apply.{outcome_of, changed, effect_by, effect, applied, booted, next_without, HasPlanOf}
 use Rattle.boot_requests.specs.Seen.{Seen, Came, Garbled, Prepare, Hand, Restart}
 use Rattle.boot_requests.specs.Window.{Requests}
 use Rattle.boot_requests.specs.Changes.{Change, Applies, Boots, folded}
@@ -27,7 +28,7 @@ module _ (entry : ℕ) where
   held m = if is_next_entry m.next entry then 1 else 0
 
   abbrev pub set_by : State → Request → ℕ
-  set_by m request = if is_next request entry && is_done (outcome_of m request) then 1 else 0
+  set_by m request = if is_next request entry && is_done (outcome_of m request).code then 1 else 0
 
   more : (n : ℕ) (b : Bool) → n ≤ n + (if b then 1 else 0)
   more n b = omega arith
@@ -36,19 +37,25 @@ module _ (entry : ℕ) where
   without_held None number = omega arith
   without_held (Some next) number = elim (eqb next number) as (λ b. (if is_next_entry (if b then None else Some next) entry then 1 else 0) ≤ (if eqb next entry then 1 else 0)) [ true ↦ omega arith | false ↦ omega arith ]
 
-  done_held : (m : State) (request : Request) → held (effect m request Done) ≤ held m + (if is_next request entry && true then 1 else 0)
-  done_held m (Add number option) = omega arith
-  done_held m (Replace number option) = omega arith
-  done_held m (Remove number) = let less = without_held m.next number in omega arith
-  done_held m (Order numbers) = omega arith
-  done_held m (Next next) = elim (eqb next entry) as (λ b. (if b then 1 else 0) ≤ held m + (if b && true then 1 else 0)) [ true ↦ omega arith | false ↦ omega arith ]
+  done_held : (m : State) (request : Request) (told : Option ℕ) → held (changed m request told) ≤ held m + (if is_next request entry && true then 1 else 0)
+  done_held m (Add number option) told = omega arith
+  done_held m (Replace number option) told = omega arith
+  done_held m (Remove number) told = let less = without_held m.next number in omega arith
+  done_held m (Order numbers) told = omega arith
+  done_held m (AddFree option) None = omega arith
+  done_held m (AddFree option) (Some number) = omega arith
+  done_held m (Next next) told = elim (eqb next entry) as (λ b. (if b then 1 else 0) ≤ held m + (if b && true then 1 else 0)) [ true ↦ omega arith | false ↦ omega arith ]
 
-  one_held : (m : State) (request : Request) (outcome : Outcome) → held (effect m request outcome) ≤ held m + (if is_next request entry && is_done outcome then 1 else 0)
-  one_held m request Done = done_held m request
-  one_held m request Exists = more (held m) (is_next request entry && false)
-  one_held m request Missing = more (held m) (is_next request entry && false)
-  one_held m request OrderRepeats = more (held m) (is_next request entry && false)
-  one_held m request OrderUnknown = more (held m) (is_next request entry && false)
+  held_by : (m : State) (request : Request) (code : Code) (told : Option ℕ) → held (effect_by m request code told) ≤ held m + (if is_next request entry && is_done code then 1 else 0)
+  held_by m request Done told = done_held m request told
+  held_by m request Exists told = more (held m) (is_next request entry && false)
+  held_by m request Missing told = more (held m) (is_next request entry && false)
+  held_by m request OrderRepeats told = more (held m) (is_next request entry && false)
+  held_by m request OrderUnknown told = more (held m) (is_next request entry && false)
+  held_by m request NoFree told = more (held m) (is_next request entry && false)
+
+  one_held : (m : State) (request : Request) (outcome : Outcome) → held (effect m request outcome) ≤ held m + (if is_next request entry && is_done outcome.code then 1 else 0)
+  one_held m request outcome = held_by m request outcome.code outcome.entry
 
   changes_held : (m : State) (changes : List Change) → held (folded m changes) ≤ held m + sets_in m changes entry
   changes_held m [] = omega arith

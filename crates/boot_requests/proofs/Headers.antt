@@ -2,7 +2,7 @@
 use Rattle.std.proofs.Common.{◌≡◌, ◌⊎◌, ℕ, ◌+◌, ◌<◌, ◌≤◌, List, [], ◌∷◌, ◌++◌, length, take, drop, refl, sym, ap, subst, ◌∙◌, inl, inr, arith, append_assoc}
 use Rattle.std.specs.Int.{w32, to_le_bytes}
 use Rattle.std.specs.List.{AllByRecursion}
-use Rattle.std.proofs.lemmas.Bool.{cases_eq, cases_lt}
+use Rattle.std.proofs.lemmas.Bool.{cases_lt}
 use Rattle.std.proofs.lemmas.List.{length-append, take-append-drop, length-take}
 use Rattle.uefi_path.specs.Row.{IsByte}
 use Rattle.boot_requests.specs.declared.fault.FeedFault.{FeedFault}
@@ -12,6 +12,7 @@ use Rattle.boot_requests.specs.FrameFault.{Raw, IsRaw, IsRawWith}
 use Rattle.boot_requests.specs.Stream.{IsDelivery, HasNoDelivery, IsHeaderFault}
 use Rattle.boot_requests.specs.Reading.{raw_of, PassesLength, FailsHeader}
 use Rattle.boot_requests.specs.Pieces.{IsMissing, IsOpen}
+use Rattle.boot_requests.proofs.KindBytes.{version_or_not}
 use Rattle.boot_requests.proofs.Raws.{same_raw, raw_size}
 use Rattle.boot_requests.proofs.Reader.{HasHeader, heads}
 
@@ -158,7 +159,7 @@ header_found : (bytes : List ℕ) (raw : Raw) → HasHeader bytes raw → Found 
 header_found bytes raw h =
     elim h.decided [
       | inr other ↦ inr (inl (fault.BadMagic, record { raw = raw; is = h.is; here = other }))
-      | inl magic_is ↦ elim (cases_eq raw.version 1) [
+      | inl magic_is ↦ elim (version_or_not raw.version) [
         | inr other ↦ inr (inl (fault.BadVersion, record { raw = raw; is = h.is; here = (magic_is, other) }))
         | inl version_is ↦ elim (cases_lt payload_max raw.len) [
           | inl long ↦ inr (inl (fault.TooLong, record { raw = raw; is = h.is; here = ((magic_is, version_is), long) }))

@@ -1,29 +1,28 @@
 -- What histories do: their numbers, what becomes of an entry, and of BootNext.
-use Rattle.std.proofs.Common.{◌≡◌, ℕ, zero, suc, ltb, ◌+◌, ◌-◌, ◌<◌, ◌≤◌, Bool, true, false, cond, eqb, List, [], ◌∷◌, ◌++◌, map, Option, Some, None, refl, sym, ap, subst, ◌∙◌, arith}
-use Rattle.std.specs.Prelude.{◌&&◌, IfSome, if◌then◌else◌}
+use Rattle.std.proofs.Common.{◌≡◌, ℕ, zero, suc, ltb, ◌+◌, ◌-◌, ◌<◌, ◌≤◌, true, false, cond, eqb, List, [], ◌∷◌, ◌++◌, map, Option, Some, None, refl, sym, ap, subst, ◌∙◌, arith}
+use Rattle.std.specs.Prelude.{IfSome, if◌then◌else◌}
+use Rattle.std.specs.Option.{option_map}
 use Rattle.std.specs.List.{AllByRecursion}
-use Rattle.std.specs.FinMap.{get, contains_key, insert, get-remove, get-empty}
+use Rattle.std.specs.FinMap.{get, contains_key, insert, get-empty}
 use Rattle.std.specs.Ordering.{nat_cmp}
-use Rattle.std.specs.Cmp.{nat_cmp_total}
 use Rattle.std.proofs.lemmas.Bool.Decides.{nat_tests}
 use Rattle.std.proofs.lemmas.List.{append-nil}
 use Rattle.uefi_option.specs.LoadOption.{option_bytes}
 use Rattle.boot_requests.specs.declared.request.Request.{Request}
-use Rattle.boot_requests.specs.declared.request.Request.TheVariants.{Add, Replace, Remove, Order, Next}
 use Rattle.boot_requests.specs.declared.outcome.Outcome.{Outcome}
-use Rattle.boot_requests.specs.declared.outcome.Outcome.TheVariants.{Done, Exists, Missing, OrderRepeats, OrderUnknown}
 use Rattle.boot_requests.specs.Request.{IsRequest}
 use Rattle.boot_requests.specs.Frame.{IsSent}
 use Rattle.boot_requests.specs.State.{State}
-use Rattle.boot_requests.specs.Apply.{outcome_of, effect, applied, booted}
+use Rattle.boot_requests.specs.Apply.{outcome_of, effect, applied, booted, Stored, stored_by}
 use Rattle.boot_requests.specs.Seen.{Seen, Came, Garbled, Prepare, Hand, Restart}
 use Rattle.boot_requests.specs.Window.{Requests, gap_of, is_open}
 use Rattle.boot_requests.specs.Changes.{Change, Applies, Boots, changes_between, folded, numbers_in, rising}
-use Rattle.boot_requests.specs.Run.{accepted, gap_at, is_armed, newly, history, state_at, is_about, is_done, last_in, last_of}
+use Rattle.boot_requests.specs.Run.{accepted, gap_at, is_armed, newly, history, state_at, last_with, last_in, last_of}
 use Rattle.boot_requests.specs.Keeping.{AreRead, IsLeft}
-use Rattle.boot_requests.proofs.Numbers.{tie_test, get_inserted, get_retained, each_between}
+use Rattle.boot_requests.proofs.Numbers.{get_inserted, get_retained, each_between}
 use Rattle.boot_requests.proofs.Gaps.{gap_is}
 use Rattle.boot_requests.proofs.Deliveries.{above_gap, no_changes, first_change}
+use Rattle.boot_requests.proofs.Effects.{IsValid, stands_after, entry_after, stored_valid, spelled}
 use Rattle.boot_requests.proofs.Runs.{some_of, gap_open, newly_open, history_closed, gap_closed, gap_of_none, gap_kept}
 
 -- ---- the numbers of a history
@@ -140,45 +139,25 @@ history_sent first (Restart ∷ run) h = AreSent-append (history first run) [] (
 -- ---- what becomes of an entry
 
 module _ (before : Option (List ℕ)) (entry : ℕ) where
-  abbrev Left : Option Request → State → Type 0
+  after_stored : (stored last : Option Stored) (now : Option (List ℕ)) → IsValid stored → IsLeft before last now →
+      IsLeft before (last_with stored entry last) (stands_after stored entry now)
+  after_stored None last now valid h = h
+  after_stored (Some stored) last now valid h =
+      elim (eqb entry stored.entry) as (λ b. IsLeft before (if b then Some stored else last) (cond b (option_map option_bytes stored.option) now)) [
+        | true ↦ spelled stored.option valid
+        | false ↦ h
+      ]
+
+  abbrev Left : Option Stored → State → Type 0
   Left last m = IsLeft before last (get m.entries entry)
 
-  after_done : (m : State) (request : Request) (last : Option Request) → IsRequest request → Left last m →
-      Left (if is_about request entry && true then Some request else last) (effect m request Done)
-  after_done m (Add number option) last valid h =
-      subst (λ (o : Option (List ℕ)). IsLeft before (if (eqb number entry && true) then Some (Add number option) else last) o) (sym (get_inserted m.entries number (option_bytes option) entry))
-      (elim (eqb entry number) as (λ b. eqb entry number ≡ b → IsLeft before (if (eqb number entry && true) then Some (Add number option) else last) (cond b (Some (option_bytes option)) (get m.entries entry))) [
-        | true ↦ λ t. let same : (eqb number entry && true) ≡ true = grind (arith, nat_tests, t) in subst (λ b. IsLeft before (if b then Some (Add number option) else last) (Some (option_bytes option))) (sym same) (option_bytes option, refl, (valid.1, refl))
-        | false ↦ λ t. let apart : (eqb number entry && true) ≡ false = grind (arith, nat_tests, t) in subst (λ b. IsLeft before (if b then Some (Add number option) else last) (get m.entries entry)) (sym apart) h
-      ] refl)
-  after_done m (Replace number option) last valid h =
-      subst (λ (o : Option (List ℕ)). IsLeft before (if (eqb number entry && true) then Some (Replace number option) else last) o) (sym (get_inserted m.entries number (option_bytes option) entry))
-      (elim (eqb entry number) as (λ b. eqb entry number ≡ b → IsLeft before (if (eqb number entry && true) then Some (Replace number option) else last) (cond b (Some (option_bytes option)) (get m.entries entry))) [
-        | true ↦ λ t. let same : (eqb number entry && true) ≡ true = grind (arith, nat_tests, t) in subst (λ b. IsLeft before (if b then Some (Replace number option) else last) (Some (option_bytes option))) (sym same) (option_bytes option, refl, (valid.1, refl))
-        | false ↦ λ t. let apart : (eqb number entry && true) ≡ false = grind (arith, nat_tests, t) in subst (λ b. IsLeft before (if b then Some (Replace number option) else last) (get m.entries entry)) (sym apart) h
-      ] refl)
-  after_done m (Remove number) last valid h =
-      subst (λ (o : Option (List ℕ)). IsLeft before (if (eqb number entry && true) then Some (Remove number) else last) o) (sym (get-remove nat_cmp_total m.entries number entry ∙ ap (λ b. cond b None (get m.entries entry)) (tie_test entry number)))
-      (elim (eqb entry number) as (λ b. eqb entry number ≡ b → IsLeft before (if (eqb number entry && true) then Some (Remove number) else last) (cond b None (get m.entries entry))) [
-        | true ↦ λ t. let same : (eqb number entry && true) ≡ true = grind (arith, nat_tests, t) in subst (λ b. IsLeft before (if b then Some (Remove number) else last) None) (sym same) refl
-        | false ↦ λ t. let apart : (eqb number entry && true) ≡ false = grind (arith, nat_tests, t) in subst (λ b. IsLeft before (if b then Some (Remove number) else last) (get m.entries entry)) (sym apart) h
-      ] refl)
-  after_done m (Order numbers) last valid h = h
-  after_done m (Next number) last valid h = h
+  after_one : (m : State) (request : Request) (last : Option Stored) (outcome : Outcome) → IsRequest request → Left last m →
+      Left (last_with (stored_by request outcome) entry last) (effect m request outcome)
+  after_one m request last outcome valid h =
+      subst (IsLeft before (last_with (stored_by request outcome) entry last)) (sym (entry_after m request outcome entry))
+      (after_stored (stored_by request outcome) last (get m.entries entry) (stored_valid request outcome valid) h)
 
-  undone : (b : Bool) (request : Request) (last : Option Request) (m : State) → Left last m → Left (if b && false then Some request else last) m
-  undone true request last m h = h
-  undone false request last m h = h
-
-  after_one : (m : State) (request : Request) (last : Option Request) (outcome : Outcome) → IsRequest request → Left last m →
-      Left (if is_about request entry && is_done outcome then Some request else last) (effect m request outcome)
-  after_one m request last Done valid h = after_done m request last valid h
-  after_one m request last Exists valid h = undone (is_about request entry) request last m h
-  after_one m request last Missing valid h = undone (is_about request entry) request last m h
-  after_one m request last OrderRepeats valid h = undone (is_about request entry) request last m h
-  after_one m request last OrderUnknown valid h = undone (is_about request entry) request last m h
-
-  pub left_by : (m : State) (changes : List Change) (last : Option Request) → AreSent changes → Left last m → Left (last_in m changes entry last) (folded m changes)
+  pub left_by : (m : State) (changes : List Change) (last : Option Stored) → AreSent changes → Left last m → Left (last_in m changes entry last) (folded m changes)
   left_by m [] last valid h = h
   left_by m (Applies number request ∷ changes) last valid h =
       left_by (applied m request) changes _ valid.1 (after_one m request last (outcome_of m request) valid.0.1.valid h)

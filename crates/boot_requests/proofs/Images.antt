@@ -1,7 +1,7 @@
 -- The image of a state: that there is one, and that it is the image of no other state.
-use Rattle.std.proofs.Common.{◌≡◌, ◌≢◌, ℕ, zero, suc, ◌*◌, ◌<◌, ◌≤◌, ◌^◌, ◌==◌, List, [], ◌∷◌, length, map, Option, Some, None, IfSome, refl, sym, ap, subst, ◌∙◌, ⊎_elim, arith, if◌then◌else◌, Bool, true, ◌&&◌, nat_le}
+use Rattle.std.proofs.Common.{◌≡◌, ◌≢◌, ℕ, zero, suc, ◌*◌, ◌<◌, ◌≤◌, ◌^◌, List, [], ◌∷◌, length, map, take, drop, get_or, Option, Some, None, IfSome, inl, refl, sym, ap, subst, ◌∙◌, ⊎_elim, arith, Bool, true, ◌&&◌, nat_le}
 use Rattle.std.specs.Int.{w32, from_le_bytes, to_le_bytes}
-use Rattle.std.specs.List.{AllByRecursion, list_all}
+use Rattle.std.specs.List.{AllByRecursion, flat_map, list_all}
 use Rattle.std.specs.FinMap.{get, same_map, nat_cmp-IsAntisymmetric, slice_cmp-IsAntisymmetric}
 use Rattle.std.proofs.lemmas.Bool.{and_parts, leb-true}
 use Rattle.std.proofs.lemmas.Cmp.{nat_list_cmp_total}
@@ -10,51 +10,41 @@ use Rattle.uefi_path.specs.Units.{units_bytes}
 use Rattle.uefi_path.specs.Row.{IsByte}
 use Rattle.uefi_vars.specs.Name.{IsNameByte, IsName, entry_text, order_text, next_text}
 use Rattle.uefi_vars.specs.Vars.{Variables, IsData, IsVariable, IsVars}
-use Rattle.uefi_vars.specs.Order.{IsEntryNumber, IsOrder, stored_order, stored_next, HasBadOrder, HasBadNext}
+use Rattle.uefi_vars.specs.Order.{IsEntryNumber, IsOrder, stored_order, stored_next, HasOrder, HasNext, HasBadOrder, HasBadNext}
+use Rattle.boot_requests.specs.declared.outcome.Code.{Code}
 use Rattle.boot_requests.specs.declared.outcome.Outcome.{Outcome}
-use Rattle.boot_requests.specs.declared.outcome.Outcome.TheVariants.{Done, Exists, Missing, OrderRepeats, OrderUnknown}
 use Rattle.boot_requests.specs.declared.fault.OpenFault.{OpenFault}
 use Rattle.boot_requests.specs.declared.fault.OpenFault.TheVariants as fault
-use Rattle.boot_requests.specs.State.{State, IsState, IsImage, IsBootName, IsMark, keep_text, outcome_byte, mark_bytes, stored_mark}
-use Rattle.boot_requests.specs.Opening.{HasMark, IsOpenFault}
+use Rattle.boot_requests.specs.State.{State, IsState, IsImage, IsBootName, IsMark, keep_text, mark_bytes, stored_mark}
+use Rattle.boot_requests.specs.Outcome.{without_entry, code_byte, outcome_bytes}
+use Rattle.boot_requests.specs.Opening.{first_mark_bytes, IsFirstMark, HasMark, migrated, OpensAs, IsOpenFault}
 use Rattle.boot_requests.specs.Machine.{Entries, with_stored, with_entries, machine_of, image_of}
-use Rattle.boot_requests.proofs.Stored.{stored_here, stored_apart, same_name_or_not, same_number_or_not, names_apart, order_is_no_entry, next_is_no_entry, keep_is_no_entry, order_is_not_next, order_is_not_keep, next_is_not_keep}
+use Rattle.boot_requests.specs.Marks.{mark_of}
+use Rattle.boot_requests.proofs.Stored.{stored_here, stored_apart, stored_again, same_name_or_not, same_number_or_not, names_apart, order_is_no_entry, next_is_no_entry, keep_is_no_entry, order_is_not_next, order_is_not_keep, next_is_not_keep}
 use Rattle.boot_requests.proofs.Edits.{mark_stored, is_entry_name, is_order_name, is_next_name, is_keep_name}
 use Rattle.boot_requests.proofs.Machines.{boot_or_not, machine_is}
+use Rattle.boot_requests.proofs.OutcomeBytes.{same_codes, same_outcomes, length-outcomes, outcomes_are_bytes}
 
 -- ---- which marks are equal
-
-abbrev outcome_at : ℕ → Outcome
-outcome_at byte =
-    if byte == 0 then Done else if byte == 1 then Exists else if byte == 2 then Missing else if byte == 3 then OrderRepeats else OrderUnknown
-
-outcome_again : (outcome : Outcome) → outcome_at (outcome_byte outcome) ≡ outcome
-outcome_again Done = refl
-outcome_again Exists = refl
-outcome_again Missing = refl
-outcome_again OrderRepeats = refl
-outcome_again OrderUnknown = refl
-
-pub same_outcomes : (a b : List Outcome) → map outcome_byte a ≡ map outcome_byte b → a ≡ b
-same_outcomes [] [] e = refl
-same_outcomes [] (p ∷ b) e = cc
-same_outcomes (o ∷ a) [] e = cc
-same_outcomes (o ∷ a) (p ∷ b) e =
-    let first : outcome_byte o ≡ outcome_byte p = cc in
-    let rest : map outcome_byte a ≡ map outcome_byte b = cc in
-    let same : o ≡ p = sym (outcome_again o) ∙ ap outcome_at first ∙ outcome_again p in
-    let others : a ≡ b = same_outcomes a b rest in
-    cc
 
 none_of_none : (kept : List Outcome) → length kept ≡ 0 → kept ≡ []
 none_of_none [] e = refl
 none_of_none (o ∷ kept) e = absurd (omega (arith, e))
 
-same_bytes : (c d : ℕ) (a b : List Outcome) → c < 2 ^ 32 → d < 2 ^ 32 → mark_bytes c a ≡ mark_bytes d b → (c ≡ d) × (a ≡ b)
+same_number : (c d : ℕ) → c < 2 ^ 32 → d < 2 ^ 32 → to_le_bytes w32 c ≡ to_le_bytes w32 d → c ≡ d
+same_number c d p q e = sym (from_le_bytes-to_le_bytes_4 c p) ∙ ap (from_le_bytes w32) e ∙ from_le_bytes-to_le_bytes_4 d q
+
+same_bytes : (c d : ℕ) (a b : List Outcome) → IsMark c a → IsMark d b → mark_bytes c a ≡ mark_bytes d b → (c ≡ d) × (a ≡ b)
 same_bytes c d a b p q e =
-    let number : to_le_bytes w32 c ≡ to_le_bytes w32 d = cc in
-    let outcomes : map outcome_byte a ≡ map outcome_byte b = cc in
-    (sym (from_le_bytes-to_le_bytes_4 c p) ∙ ap (from_le_bytes w32) number ∙ from_le_bytes-to_le_bytes_4 d q, same_outcomes a b outcomes)
+    let number : to_le_bytes w32 c ≡ to_le_bytes w32 d = ap (λ (t : List ℕ). take 4 (drop 1 t)) e in
+    let outcomes : flat_map outcome_bytes a ≡ flat_map outcome_bytes b = ap (drop 6) e in
+    (same_number c d p.four_bytes q.four_bytes number, same_outcomes a b p.outcomes q.outcomes outcomes)
+
+same_first : (c d : ℕ) (a b : List Code) → IsFirstMark c a → IsFirstMark d b → first_mark_bytes c a ≡ first_mark_bytes d b → (c ≡ d) × (a ≡ b)
+same_first c d a b p q e =
+    let number : to_le_bytes w32 c ≡ to_le_bytes w32 d = ap (λ (t : List ℕ). take 4 (drop 1 t)) e in
+    let codes : map code_byte a ≡ map code_byte b = ap (drop 6) e in
+    (same_number c d p.four_bytes q.four_bytes number, same_codes a b codes)
 
 same_some : (a b : List ℕ) → ◌≡◌ {A = Option (List ℕ)} (Some a) (Some b) → a ≡ b
 same_some a b e = cc
@@ -62,16 +52,51 @@ same_some a b e = cc
 apart : (bytes : List ℕ) → ◌≡◌ {A = Option (List ℕ)} None (Some bytes) → ⊥
 apart bytes e = cc
 
-pub same_mark : (c d : ℕ) (a b : List Outcome) → IsMark c a → IsMark d b → stored_mark c a ≡ stored_mark d b → (c ≡ d) × (a ≡ b)
-same_mark zero zero a b p q e = (refl, none_of_none a (omega (arith, p.len)) ∙ sym (none_of_none b (omega (arith, q.len))))
+same_mark : (c d : ℕ) (a b : List Outcome) → IsMark c a → IsMark d b → stored_mark c a ≡ stored_mark d b → (c ≡ d) × (a ≡ b)
+same_mark zero zero a b p q e = (refl, none_of_none a (omega (arith, p.most)) ∙ sym (none_of_none b (omega (arith, q.most))))
 same_mark zero (suc d) a b p q e = absurd (apart (mark_bytes (suc d) b) (e ∙ mark_stored (suc d) b (omega arith)))
 same_mark (suc c) zero a b p q e = absurd (apart (mark_bytes (suc c) a) (sym e ∙ mark_stored (suc c) a (omega arith)))
-same_mark (suc c) (suc d) a b p q e = same_bytes (suc c) (suc d) a b p.four_bytes q.four_bytes (same_some _ _ (sym (mark_stored (suc c) a (omega arith)) ∙ e ∙ mark_stored (suc d) b (omega arith)))
+same_mark (suc c) (suc d) a b p q e = same_bytes (suc c) (suc d) a b p q (same_some _ _ (sym (mark_stored (suc c) a (omega arith)) ∙ e ∙ mark_stored (suc d) b (omega arith)))
+
+versions_apart : (c d : ℕ) (a : List Outcome) (b : List Code) → stored_mark c a ≡ Some (first_mark_bytes d b) → ⊥
+versions_apart zero d a b e = apart (first_mark_bytes d b) e
+versions_apart (suc c) d a b e =
+    let same = same_some _ _ (sym (mark_stored (suc c) a (omega arith)) ∙ e) in
+    let version : ◌≡◌ {A = ℕ} 2 1 = ap (λ (t : List ℕ). get_or t 0 0) same in
+    omega (arith, version)
+
+-- variables have one mark, by whichever version
+pub one_mark : (vars : Variables) (c d : ℕ) (a b : List Outcome) → HasMark vars c a → HasMark vars d b → (c ≡ d) × (a ≡ b)
+one_mark vars c d a b p q =
+    ⊎_elim (λ x. ⊎_elim
+    (λ y. same_mark c d a b x.is y.is (sym x.stored ∙ y.stored))
+    (λ y. absurd (versions_apart c d a y.codes (sym x.stored ∙ y.stored))) q)
+    (λ x. ⊎_elim
+    (λ y. absurd (versions_apart d c b x.codes (sym y.stored ∙ x.stored)))
+    (λ y.
+    let same = same_first c d x.codes y.codes x.is y.is (same_some _ _ (sym x.stored ∙ y.stored)) in
+    (same.0, x.kept_is ∙ ap (map without_entry) same.1 ∙ sym y.kept_is)) q) p
 
 pub one_state : (m n : State) (vars : Variables) → IsState m → IsState n → IsImage m vars → IsImage n vars → m ≡ n
 one_state m n vars p q f g =
     let same = same_mark m.count n.count m.kept n.kept p.mark q.mark (sym f.mark ∙ g.mark) in
-    machine_is m vars (record { is = p; image = f }) ∙ (λ i. machine_of vars (same.0 i) (same.1 i)) ∙ sym (machine_is n vars (record { is = q; image = g }))
+    machine_is m vars (record { is = p; image = f }) ∙ (λ i. machine_of vars (mark_of (same.0 i) (same.1 i))) ∙ sym (machine_is n vars (record { is = q; image = g }))
+
+-- ---- which variables open
+
+pub one_opening : (m n : State) (vars : Variables) → OpensAs vars m → OpensAs vars n → m ≡ n
+one_opening m n vars p q =
+    let same = one_mark vars m.count n.count m.kept n.kept p.mark q.mark in
+    let put : migrated vars m ≡ migrated vars n = λ i. with_stored vars keep_text (stored_mark (same.0 i) (same.1 i)) in
+    one_state m n (migrated vars m) p.is q.is p.image (subst (IsImage n) (sym put) q.image)
+
+-- an image has its mark by version 2 already
+pub migrated_same : (m : State) (vars : Variables) → IsImage m vars → migrated vars m ≡ vars
+migrated_same m vars f = ap (with_stored vars keep_text) (sym f.mark) ∙ stored_again vars keep_text
+
+pub image_opens : (m : State) (vars : Variables) → IsState m → IsImage m vars → OpensAs vars m
+image_opens m vars is f =
+    record { is = is; mark = inl (record { is = is.mark; stored = f.mark }); image = subst (IsImage m) (sym (migrated_same m vars f)) f }
 
 -- ---- one image
 
@@ -112,26 +137,11 @@ next_data : (next : Option ℕ) → IfSome (stored_next next) IsData
 next_data None = tt
 next_data (Some number) = record { some = λ e. cc; len = omega arith; bytes = (omega arith, (omega arith, tt)) }
 
-outcome_is_byte : (outcome : Outcome) → outcome_byte outcome < 256
-outcome_is_byte Done = omega arith
-outcome_is_byte Exists = omega arith
-outcome_is_byte Missing = omega arith
-outcome_is_byte OrderRepeats = omega arith
-outcome_is_byte OrderUnknown = omega arith
-
-outcomes_are_bytes : (kept : List Outcome) → AllByRecursion IsByte (map outcome_byte kept)
-outcomes_are_bytes [] = tt
-outcomes_are_bytes (o ∷ kept) = (outcome_is_byte o, outcomes_are_bytes kept)
-
-length-outcomes : (kept : List Outcome) → length (map outcome_byte kept) ≡ length kept
-length-outcomes [] = refl
-length-outcomes (o ∷ kept) = ap suc (length-outcomes kept)
-
 mark_data : (count : ℕ) (kept : List Outcome) → IsMark count kept → IfSome (stored_mark count kept) IsData
 mark_data zero kept mark = tt
 mark_data (suc count) kept mark =
     subst (λ (o : Option (List ℕ)). IfSome o IsData) (sym (mark_stored (suc count) kept (omega arith)))
-    (let few = mark.len in let long = length-outcomes kept in record { some = λ e. cc; len = omega (arith, few, long); bytes = (omega arith, (omega arith, (omega arith, (omega arith, (omega arith, (omega (arith, few), outcomes_are_bytes kept)))))) })
+    (let few = mark.most in let long = length-outcomes kept in record { some = λ e. cc; len = omega (arith, few, long); bytes = (omega arith, (omega arith, (omega arith, (omega arith, (omega arith, (omega (arith, few), outcomes_are_bytes kept)))))) })
 
 -- what is stored under each number is an entry's data
 abbrev AreEntries : Entries → Type 0
@@ -203,8 +213,20 @@ keep_is_name = record { some = λ e. cc; len = omega arith; printing = each_prin
 
 -- ---- no fault
 
-pub no_fault : (vars : Variables) (count : ℕ) (kept : List Outcome) → (HasBadOrder vars → ⊥) → (HasBadNext vars → ⊥) → HasMark vars count kept → (fault : OpenFault) → IsOpenFault vars fault → ⊥
+no_fault : (vars : Variables) (count : ℕ) (kept : List Outcome) → (HasBadOrder vars → ⊥) → (HasBadNext vars → ⊥) → HasMark vars count kept → (fault : OpenFault) → IsOpenFault vars fault → ⊥
 no_fault vars count kept order next mark fault.BadOrder h = order h
 no_fault vars count kept order next mark fault.BadNext h = next h.1
 no_fault vars count kept order next mark fault.BadState h = h.2 count kept mark
 no_fault vars count kept order next mark fault.OutOfMemory h = h
+
+opened_order : (m : State) (vars : Variables) → OpensAs vars m → HasOrder vars m.order
+opened_order m vars h = record { is = h.is.order; stored = sym (stored_apart vars keep_text (stored_mark m.count m.kept) order_text (λ e. order_is_not_keep (sym e))) ∙ h.image.order }
+
+opened_next : (m : State) (vars : Variables) → OpensAs vars m → HasNext vars m.next
+opened_next m vars h = record { is = h.is.next; stored = sym (stored_apart vars keep_text (stored_mark m.count m.kept) next_text (λ e. next_is_not_keep (sym e))) ∙ h.image.next }
+
+module _ (no_order : (vars : Variables) (order : List ℕ) → HasBadOrder vars → HasOrder vars order → ⊥) (no_next : (vars : Variables) (next : Option ℕ) → HasBadNext vars → HasNext vars next → ⊥) where
+  -- what opens has no fault
+  pub opened_has_no_fault : (m : State) (vars : Variables) (fault : OpenFault) → OpensAs vars m → IsOpenFault vars fault → ⊥
+  opened_has_no_fault m vars fault h =
+      no_fault vars m.count m.kept (λ bad. no_order vars m.order bad (opened_order m vars h)) (λ bad. no_next vars m.next bad (opened_next m vars h)) h.mark fault

@@ -1,9 +1,11 @@
 pub mod Numbers
 pub mod Gaps
+mod FreeNumbers
 pub mod Deliveries
 pub mod Runs
 pub mod Turns
 pub mod Followed
+pub mod Effects
 pub mod Histories
 pub mod Hands
 pub mod Pendings
@@ -15,6 +17,7 @@ pub mod Orders
 pub mod ByteLists
 pub mod TwoBytes
 pub mod Lengths
+pub mod KindBytes
 pub mod Raws
 pub mod Requests
 pub mod Reader
@@ -28,6 +31,7 @@ mod Fills
 mod Plains
 mod Steps
 mod OrderLists
+mod OutcomeBytes
 mod Outcomes
 pub mod Asked
 mod Held

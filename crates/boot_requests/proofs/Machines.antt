@@ -11,13 +11,14 @@ use Rattle.uefi_vars.specs.Name.{entry_text, order_text, next_text}
 use Rattle.uefi_vars.specs.Vars.{Variables, IsData, IsVariable, IsVars, entry_of}
 use Rattle.uefi_vars.specs.Order.{IsEntryNumber, IsOrder, stored_order, stored_next, HasOrder, HasNext}
 use Rattle.uefi_path.specs.Units.{units_of, units_bytes}
-use Rattle.boot_requests.specs.declared.outcome.Outcome.{Outcome}
-use Rattle.boot_requests.specs.State.{State, IsBootName, keep_text}
-use Rattle.boot_requests.specs.Opening.{HasMark}
+use Rattle.boot_requests.specs.State.{State, IsImage, MarkParts, IsBootName, keep_text, stored_mark}
+use Rattle.boot_requests.specs.Opening.{HasMark, OpensAs}
 use Rattle.boot_requests.specs.Keeping.{IsStateOf}
 use Rattle.boot_requests.specs.Machine.{with_entry, with_stored, entries_below, others_below, order_in, next_in, machine_of}
-use Rattle.boot_requests.proofs.Stored.{stored_here, stored_apart, still_none, entry_here, entry_apart, same_name_or_not, same_number_or_not}
-use Rattle.boot_requests.proofs.Edits.{is_entry_name, is_order_name, is_next_name, is_keep_name}
+use Rattle.boot_requests.specs.Marks.{mark_in}
+use Rattle.boot_requests.proofs.Stored.{stored_here, stored_apart, still_none, entry_here, entry_apart, same_name_or_not, same_number_or_not, keep_is_no_entry, order_is_not_keep, next_is_not_keep}
+use Rattle.boot_requests.proofs.Edits.{is_entry_name, is_order_name, is_next_name, is_keep_name, other_apart}
+use Rattle.boot_requests.proofs.Outcomes.{mark_valid}
 
 -- ---- entries
 
@@ -131,10 +132,12 @@ stored_other : (name : List ℕ) (stored : Option (List ℕ)) → ¬ IsBootName 
 stored_other name None odd valid = tt
 stored_other name (Some bytes) odd valid = (valid, odd)
 
-pub machine_stands : (vars : Variables) (count : ℕ) (kept : List Outcome) (order : List ℕ) (next : Option ℕ) → IsVars vars → HasOrder vars order → HasNext vars next → HasMark vars count kept → IsStateOf (machine_of vars count kept) vars
-machine_stands vars count kept order next valid has_order has_next has_mark =
+-- the state that is read off variables is the one as which they open
+pub machine_opens : (vars : Variables) (mark : MarkParts) (order : List ℕ) (next : Option ℕ) → IsVars vars → HasOrder vars order → HasNext vars next → HasMark vars mark.next mark.kept → OpensAs vars (machine_of vars mark)
+machine_opens vars mark order next valid has_order has_next has_mark =
     let same_order : order_in (get vars order_text) ≡ order = ap order_in has_order.stored ∙ order_again order has_order.is.numbers in
     let same_next : next_in (get vars next_text) ≡ next = ap next_in has_next.stored ∙ next_again next has_next.is in
+    let stored = stored_mark mark.next mark.kept in
     record {
       is = record {
         entries = λ k. ⊎_elim
@@ -143,18 +146,19 @@ machine_stands vars count kept order next valid has_order has_next has_mark =
             (cases_lt k (2 ^ 16));
         order = subst IsOrder (sym same_order) has_order.is;
         next = subst (λ (o : Option ℕ). IfSome o IsEntryNumber) (sym same_next) has_next.is;
-        mark = has_mark.is;
+        mark = mark_valid vars mark.next mark.kept has_mark;
         others = λ name. ⊎_elim
             (λ boot. subst (λ (o : Option (List ℕ)). IfSome o (λ bytes. IsVariable (name, bytes) × (¬ IsBootName name))) (sym (boot_gone vars name boot)) tt)
             (λ odd. subst (λ (o : Option (List ℕ)). IfSome o (λ bytes. IsVariable (name, bytes) × (¬ IsBootName name))) (sym (other_stays vars name odd)) (stored_other name (get vars name) odd (valid name)))
             (boot_or_not name);
       };
+      mark = has_mark;
       image = record {
-        entry = λ k p. sym (entry_below (2 ^ 16) vars k p);
-        order = has_order.stored ∙ ap stored_order (sym same_order);
-        next = has_next.stored ∙ ap stored_next (sym same_next);
-        mark = has_mark.stored;
-        other = λ name odd. sym (other_stays vars name odd);
+        entry = λ k p. stored_apart vars keep_text stored (entry_text k) (λ e. keep_is_no_entry k (sym e)) ∙ sym (entry_below (2 ^ 16) vars k p);
+        order = stored_apart vars keep_text stored order_text (λ e. order_is_not_keep (sym e)) ∙ has_order.stored ∙ ap stored_order (sym same_order);
+        next = stored_apart vars keep_text stored next_text (λ e. next_is_not_keep (sym e)) ∙ has_next.stored ∙ ap stored_next (sym same_next);
+        mark = stored_here vars keep_text stored;
+        other = λ name odd. stored_apart vars keep_text stored name (other_apart keep_text name is_keep_name odd) ∙ sym (other_stays vars name odd);
       };
     }
 
@@ -178,7 +182,7 @@ same_others m vars h = same_map nat_list_cmp_total (slice_cmp-IsAntisymmetric na
     (λ odd. sym (h.image.other name odd) ∙ sym (other_stays vars name odd))
     (boot_or_not name))
 
-pub machine_is : (m : State) (vars : Variables) → IsStateOf m vars → m ≡ machine_of vars m.count m.kept
+pub machine_is : (m : State) (vars : Variables) → IsStateOf m vars → m ≡ machine_of vars (mark_in m)
 machine_is m vars h =
     let entries = same_entries m vars h in
     let order : m.order ≡ order_in (get vars order_text) = sym (order_again m.order h.is.order.numbers) ∙ ap order_in (sym h.image.order) in
@@ -187,9 +191,22 @@ machine_is m vars h =
     λ i. record { entries = entries i; order = order i; next = next i; count = m.count; kept = m.kept; others = others i }
 
 -- edited variables stand for the state that is read off them
-pub stands_again : (m : State) (vars : Variables) (count : ℕ) (kept : List Outcome) → m.count ≡ count → m.kept ≡ kept → IsStateOf m vars → IsStateOf (machine_of vars count kept) vars
-stands_again m vars count kept c k h =
-    subst (λ (s : State). IsStateOf s vars) (machine_is m vars h ∙ (λ i. machine_of vars (c i) (k i))) h
+pub stands_again : (m : State) (vars : Variables) (mark : MarkParts) → mark_in m ≡ mark → IsStateOf m vars → IsStateOf (machine_of vars mark) vars
+stands_again m vars mark e h = subst (λ (s : State). IsStateOf s vars) (machine_is m vars h ∙ ap (machine_of vars) e) h
 
-pub read_again : (m : State) (vars : Variables) (count : ℕ) (kept : List Outcome) → m.count ≡ count → m.kept ≡ kept → IsStateOf m vars → machine_of vars count kept ≡ m
-read_again m vars count kept c k h = sym (machine_is m vars h ∙ (λ i. machine_of vars (c i) (k i)))
+pub read_again : (m : State) (vars : Variables) (mark : MarkParts) → mark_in m ≡ mark → IsStateOf m vars → machine_of vars mark ≡ m
+read_again m vars mark e h = sym (machine_is m vars h ∙ ap (machine_of vars) e)
+
+-- ---- opened variables with their mark by version 2
+
+module _ (old new : Variables) (mark : MarkParts) (opens : OpensAs old (machine_of old mark)) (put : new ≡ with_stored old keep_text (stored_mark mark.next mark.kept)) where
+  migrated_stands : IsStateOf (machine_of old mark) new
+  migrated_stands = record { is = opens.is; image = subst (IsImage (machine_of old mark)) (sym put) opens.image }
+
+  -- they stand for the state that is read off them
+  pub stands_migrated : IsStateOf (machine_of new mark) new
+  stands_migrated = stands_again (machine_of old mark) new mark refl migrated_stands
+
+  -- it is that as which the variables before opened
+  pub opens_migrated : OpensAs old (machine_of new mark)
+  opens_migrated = subst (OpensAs old) (machine_is (machine_of old mark) new migrated_stands) opens

@@ -1,47 +1,144 @@
--- BootKeepState as it is read: its outcomes, and that other bytes are of none.
-use Rattle.std.proofs.Common.{◌≡◌, ◌≢◌, ℕ, zero, suc, ◌≤◌, List, [], ◌∷◌, ◌++◌, length, map, Option, Some, None, refl, sym, ap, subst, ◌∙◌, arith}
-use Rattle.std.specs.Int.{w32, to_le_bytes}
-use Rattle.std.specs.List.{AllByRecursion}
+-- BootKeepState as it is read: the mark of its bytes, and that other bytes are of none.
+use Rattle.std.proofs.Common.{◌≡◌, ◌≢◌, ℕ, zero, suc, ◌-◌, ◌*◌, ◌<◌, ◌≤◌, List, [], ◌∷◌, ◌++◌, length, map, take, drop, get_or, min, Option, Some, None, inl, inr, refl, sym, ap, subst, ◌∙◌, ⊎_elim, append_assoc, arith}
+use Rattle.std.specs.Prelude.{MatchOption}
+use Rattle.std.specs.Int.{w32, from_le_bytes, to_le_bytes}
+use Rattle.std.specs.List.{AllByRecursion, flat_map}
 use Rattle.std.specs.FinMap.{get}
+use Rattle.std.proofs.lemmas.List.{append-nil, take_rest}
+use Rattle.std.proofs.lemmas.Nat.{from_le_bytes-to_le_bytes_4}
 use Rattle.uefi_vars.specs.Vars.{Variables}
+use Rattle.boot_requests.specs.declared.outcome.Code.{Code}
 use Rattle.boot_requests.specs.declared.outcome.Outcome.{Outcome}
-use Rattle.boot_requests.specs.declared.outcome.Outcome.TheVariants.{Done, Exists, Missing, OrderRepeats, OrderUnknown}
 use Rattle.boot_requests.specs.declared.fault.OpenFault.{OpenFault}
 use Rattle.boot_requests.specs.declared.fault.OpenFault.TheVariants as fault
-use Rattle.boot_requests.specs.State.{keep_text, outcome_byte, mark_bytes}
-use Rattle.boot_requests.specs.Opening.{HasMark}
-use Rattle.boot_requests.specs.Marks.{SplitsMark, IsOutcomeByte, outcome_at}
+use Rattle.boot_requests.specs.Limits.{kept_min, kept_max}
+use Rattle.boot_requests.specs.Outcome.{IsOutcome, without_entry, code_byte, outcome_bytes}
+use Rattle.boot_requests.specs.State.{MarkParts, IsMark, keep_text}
+use Rattle.boot_requests.specs.Opening.{IsFirstCode, IsFirstMark, HasSecondMark, HasFirstMark, HasMark, HasBadMark}
+use Rattle.boot_requests.specs.Marks.{mark_of, SpellsMark, SpellsFirstMark, IsMarkIn, SplitsMark}
 use Rattle.boot_requests.proofs.Edits.{mark_stored}
+use Rattle.boot_requests.proofs.OutcomeBytes.{first_four, after_outcome, length-outcomes, length-codes, length-without, without_entries}
 
-byte_again : (byte : ℕ) → byte ≤ 4 → outcome_byte (outcome_at byte) ≡ byte
-byte_again zero h = refl
-byte_again (suc zero) h = refl
-byte_again (suc (suc zero)) h = refl
-byte_again (suc (suc (suc zero))) h = refl
-byte_again (suc (suc (suc (suc zero)))) h = refl
-byte_again (suc (suc (suc (suc (suc byte))))) h = absurd (omega (arith, h))
+-- ---- outcomes
 
-bytes_again : (bytes : List ℕ) → AllByRecursion IsOutcomeByte bytes → map outcome_byte (map outcome_at bytes) ≡ bytes
-bytes_again [] h = refl
-bytes_again (byte ∷ bytes) h = λ i. byte_again byte h.0 i ∷ bytes_again bytes h.1 i
+-- outcomes whose bytes begin with those of others have more after them
+outcomes_after : (a b : List Outcome) (rest : List ℕ) → AllByRecursion IsOutcome a → flat_map outcome_bytes a ≡ flat_map outcome_bytes b ++ rest → (others : List Outcome) × AllByRecursion IsOutcome others × (flat_map outcome_bytes others ≡ rest)
+outcomes_after a [] rest p e = (a, p, e)
+outcomes_after [] (r ∷ b) rest p e = absurd (omega (arith, ap length e))
+outcomes_after (o ∷ a) (r ∷ b) rest p e =
+    outcomes_after a b rest p.1
+    (sym (after_outcome o (flat_map outcome_bytes a)) ∙ ap (drop 4) (e ∙ append_assoc (outcome_bytes r) (flat_map outcome_bytes b) rest) ∙ after_outcome r (flat_map outcome_bytes b ++ rest))
 
-as_many : (bytes : List ℕ) → length (map outcome_at bytes) ≡ length bytes
-as_many [] = refl
-as_many (byte ∷ bytes) = ap suc (as_many bytes)
+-- where what is left is of no outcomes, the whole is of none
+pub no_outcomes : (bytes rest : List ℕ) (read : List Outcome) → flat_map outcome_bytes read ++ rest ≡ bytes → ((others : List Outcome) → AllByRecursion IsOutcome others → flat_map outcome_bytes others ≢ rest) →
+    (kept : List Outcome) → AllByRecursion IsOutcome kept → flat_map outcome_bytes kept ≢ bytes
+no_outcomes bytes rest read is none kept p e =
+    let more = outcomes_after kept read rest p (e ∙ sym is) in none more.0 more.1 more.2
 
-abbrev laid_out : ℕ → ℕ → List ℕ → List ℕ
-laid_out count len outcomes = (1 ∷ []) ++ to_le_bytes w32 count ++ (len ∷ outcomes)
+-- all of the bytes are read
+pub read_whole : (bytes rest : List ℕ) (kept : List Outcome) → flat_map outcome_bytes kept ++ rest ≡ bytes → length rest ≡ 0 → flat_map outcome_bytes kept ≡ bytes
+read_whole bytes [] kept is none = sym (append-nil (flat_map outcome_bytes kept)) ∙ is
+read_whole bytes (byte ∷ rest) kept is none = absurd (omega (arith, none))
 
-pub mark_read : (vars : Variables) (bytes : List ℕ) (count : ℕ) (outcomes : List ℕ) (kept : List Outcome) → get vars keep_text ≡ Some bytes → SplitsMark bytes count outcomes → AllByRecursion IsOutcomeByte outcomes → kept ≡ map outcome_at outcomes → HasMark vars count kept
-mark_read vars bytes count outcomes kept is splits valid made =
-    let again : outcomes ≡ map outcome_byte kept = sym (bytes_again outcomes valid) ∙ ap (map outcome_byte) (sym made) in
-    let len : length outcomes ≡ length kept = sym (as_many outcomes) ∙ ap length (sym made) in
-    let same : bytes ≡ mark_bytes count kept = splits.parts ∙ (λ i. laid_out count (len i) (again i)) in
-    record { is = record { four_bytes = splits.four_bytes; len = sym len ∙ splits.len }; stored = is ∙ ap Some same ∙ sym (mark_stored count kept splits.some) }
+-- bytes whose first four are of no outcome are of no outcomes
+pub no_outcome_first : (rest : List ℕ) → 4 ≤ length rest → ((o : Outcome) → IsOutcome o → outcome_bytes o ≢ get_or rest 0 0 ∷ get_or rest 1 0 ∷ get_or rest 2 0 ∷ get_or rest 3 0 ∷ []) →
+    (others : List Outcome) → AllByRecursion IsOutcome others → flat_map outcome_bytes others ≢ rest
+no_outcome_first rest some none [] p e = omega (arith, some, ap length e)
+no_outcome_first rest some none (o ∷ others) p e =
+    none o p.0 (first_four o (flat_map outcome_bytes others) ∙ ap (λ (t : List ℕ). get_or t 0 0 ∷ get_or t 1 0 ∷ get_or t 2 0 ∷ get_or t 3 0 ∷ []) e)
 
-length-bytes : (kept : List Outcome) → length (map outcome_byte kept) ≡ length kept
-length-bytes [] = refl
-length-bytes (o ∷ kept) = ap suc (length-bytes kept)
+-- so are fewer than four bytes
+pub too_few : (rest : List ℕ) → 0 < length rest → length rest < 4 → (others : List Outcome) → AllByRecursion IsOutcome others → flat_map outcome_bytes others ≢ rest
+too_few rest some few others p e = omega (arith, length-outcomes others, ap length e)
+
+-- ---- marks
+
+-- bytes are split in one way
+split_once : (bytes : List ℕ) (m n k l : ℕ) (x y : List ℕ) → SplitsMark bytes m k x → SplitsMark bytes n l y → (m ≡ n) × (k ≡ l) × (x ≡ y)
+split_once bytes m n k l x y p q =
+    let same : to_le_bytes w32 m ++ (k ∷ x) ≡ to_le_bytes w32 n ++ (l ∷ y) = sym p.parts ∙ q.parts in
+    let number : to_le_bytes w32 m ≡ to_le_bytes w32 n = ap (take 4) same in
+    let rest : k ∷ x ≡ l ∷ y = ap (drop 4) same in
+    let count : k ≡ l = cc in
+    let outcomes : x ≡ y = cc in
+    (sym (from_le_bytes-to_le_bytes_4 m p.four_bytes) ∙ ap (from_le_bytes w32) number ∙ from_le_bytes-to_le_bytes_4 n q.four_bytes, count, outcomes)
+
+mark_splits : (bytes : List ℕ) (mark : MarkParts) → SpellsMark (2 ∷ bytes) mark → SplitsMark bytes mark.next (length mark.kept) (flat_map outcome_bytes mark.kept)
+mark_splits bytes mark h = record { some = h.some; four_bytes = h.is.four_bytes; parts = ap (drop 1) h.spelled }
+
+-- the outcomes of these bytes are those of a mark of version 2, with this next number and as many as are stated
+pub record IsSecond (next len : ℕ) (outcomes : List ℕ) (kept : List Outcome) : Type 0 where
+  pub valid : AllByRecursion IsOutcome kept
+  pub read : flat_map outcome_bytes kept ≡ outcomes
+  pub least : min kept_min next ≤ len
+  pub most : len ≤ min kept_max next
+  pub whole : length outcomes ≡ 4 * len
+
+module _ (bytes : List ℕ) (next len : ℕ) (outcomes : List ℕ) (split : SplitsMark bytes next len outcomes) where
+  -- each outcome of a mark of version 2 has four bytes
+  pub second_whole : (mark : MarkParts) → SpellsMark (2 ∷ bytes) mark → length outcomes ≡ 4 * len
+  second_whole mark h =
+      let same = split_once bytes mark.next next (length mark.kept) len (flat_map outcome_bytes mark.kept) outcomes (mark_splits bytes mark h) split in
+      sym (ap length same.2) ∙ length-outcomes mark.kept ∙ ap (λ (n : ℕ). 4 * n) same.1
+
+  second_count : (kept : List Outcome) → IsSecond next len outcomes kept → len ≡ length kept
+  second_count kept h = omega (arith, length-outcomes kept, ap length h.read, h.whole)
+
+  pub second_valid : (kept : List Outcome) → IsSecond next len outcomes kept → IsMark next kept
+  second_valid kept h =
+      let count = second_count kept h in
+      record {
+        four_bytes = split.four_bytes;
+        least = subst (λ (n : ℕ). min kept_min next ≤ n) count h.least;
+        most = subst (λ (n : ℕ). n ≤ min kept_max next) count h.most;
+        outcomes = h.valid;
+      }
+
+  pub second_spelled : (kept : List Outcome) → IsSecond next len outcomes kept → SpellsMark (2 ∷ bytes) (mark_of next kept)
+  second_spelled kept h =
+      let count : len ≡ length kept = second_count kept h in
+      let read : outcomes ≡ flat_map outcome_bytes kept = sym h.read in
+      let same : len ∷ outcomes ≡ length kept ∷ flat_map outcome_bytes kept = cc in
+      record { some = split.some; is = second_valid kept h; spelled = ap (λ (t : List ℕ). 2 ∷ t) (split.parts ∙ ap (λ (t : List ℕ). to_le_bytes w32 next ++ t) same) }
+
+  -- the codes of these bytes are those of a mark of version 1
+  pub first_is : (known : List Code) → AllByRecursion IsFirstCode known → map code_byte known ≡ outcomes → len ≡ min kept_min next → length outcomes ≡ len → IsFirstMark next known
+  first_is known valid read stated whole =
+      record { some = split.some; four_bytes = split.four_bytes; len = sym (length-codes known) ∙ ap length read ∙ whole ∙ stated; known = valid }
+
+-- bytes of version 1 are those of no mark of version 2
+first_clash : (bytes rest : List ℕ) (mark : MarkParts) → bytes ≡ 1 ∷ rest → SpellsMark bytes mark → ⊥
+first_clash bytes rest mark e h = let clash : ◌≡◌ {A = ℕ} 1 2 = ap (λ (t : List ℕ). get_or t 0 0) (sym e ∙ h.spelled) in omega (arith, clash)
+
+-- what is found of a mark by its version is found of it by either
+pub first_found : (bytes rest : List ℕ) → bytes ≡ 1 ∷ rest → (found : Option MarkParts) → MatchOption found ((mark : MarkParts) → SpellsFirstMark (1 ∷ rest) mark → ⊥) (λ mark. SpellsFirstMark (1 ∷ rest) mark) →
+    MatchOption found ((mark : MarkParts) → IsMarkIn bytes mark → ⊥) (λ mark. IsMarkIn bytes mark)
+first_found bytes rest e None none = λ mark h. ⊎_elim (λ second. first_clash bytes rest mark e second) (λ first. none mark (subst (λ (b : List ℕ). SpellsFirstMark b mark) e first)) h
+first_found bytes rest e (Some mark) h = inr (subst (λ (b : List ℕ). SpellsFirstMark b mark) (sym e) h)
+
+-- a byte, and those after it
+pub one_then : (bytes : List ℕ) (byte : ℕ) → 1 ≤ length bytes → get_or bytes 0 0 ≡ byte → bytes ≡ byte ∷ take (length bytes - 1) (drop 1 bytes)
+one_then [] byte some is = absurd (omega (arith, some))
+one_then (b ∷ bytes) byte some is = ap (λ (n : ℕ). n ∷ bytes) is ∙ ap (λ (t : List ℕ). byte ∷ t) (sym (take_rest (b ∷ bytes) 1))
+
+-- a mark of version 1 is one of version 2 whose outcomes tell no entries
+pub first_valid : (count : ℕ) (codes : List Code) → IsFirstMark count codes → IsMark count (map without_entry codes)
+first_valid count codes is =
+    let len : length (map without_entry codes) ≡ min kept_min count = length-without codes ∙ is.len in
+    record {
+      four_bytes = is.four_bytes;
+      least = omega (arith, len);
+      most = omega (arith, len);
+      outcomes = without_entries codes;
+    }
+
+-- ---- either version
+
+pub mark_valid : (vars : Variables) (count : ℕ) (kept : List Outcome) → HasMark vars count kept → IsMark count kept
+mark_valid vars count kept has =
+    ⊎_elim (λ second. second.is) (λ first. subst (IsMark count) (sym first.kept_is) (first_valid count first.codes first.is)) has
+
+-- ---- the variable
 
 same_some : (a b : List ℕ) → ◌≡◌ {A = Option (List ℕ)} (Some a) (Some b) → a ≡ b
 same_some a b e = cc
@@ -49,36 +146,35 @@ same_some a b e = cc
 none_stored : (bytes : List ℕ) → ◌≡◌ {A = Option (List ℕ)} (Some bytes) None → ⊥
 none_stored bytes e = cc
 
-pub mark_splits : (vars : Variables) (bytes : List ℕ) (count : ℕ) (kept : List Outcome) → get vars keep_text ≡ Some bytes → HasMark vars count kept → SplitsMark bytes count (map outcome_byte kept)
-mark_splits vars bytes zero kept is has = absurd (none_stored bytes (sym is ∙ has.stored))
-mark_splits vars bytes (suc count) kept is has =
-    let same : bytes ≡ mark_bytes (suc count) kept = same_some _ _ (sym is ∙ has.stored ∙ mark_stored (suc count) kept (omega arith)) in
-    record {
-      some = omega arith;
-      four_bytes = has.is.four_bytes;
-      len = length-bytes kept ∙ has.is.len;
-      parts = same ∙ ap (λ (n : ℕ). laid_out (suc count) n (map outcome_byte kept)) (sym (length-bytes kept));
-    }
+module _ (vars : Variables) (bytes : List ℕ) (is : get vars keep_text ≡ Some bytes) where
+  pub has_second : (mark : MarkParts) → SpellsMark bytes mark → HasSecondMark vars mark.next mark.kept
+  has_second mark h = record { is = h.is; stored = is ∙ ap Some h.spelled ∙ sym (mark_stored mark.next mark.kept h.some) }
 
-small : (outcome : Outcome) → outcome_byte outcome ≤ 4
-small Done = omega arith
-small Exists = omega arith
-small Missing = omega arith
-small OrderRepeats = omega arith
-small OrderUnknown = omega arith
+  has_first : (mark : MarkParts) → SpellsFirstMark bytes mark → HasFirstMark vars mark.next mark.kept
+  has_first mark h = record { codes = h.known; is = h.is; kept_is = h.kept; stored = is ∙ ap Some h.spelled }
 
-all_small : (kept : List Outcome) → AllByRecursion IsOutcomeByte (map outcome_byte kept)
-all_small [] = tt
-all_small (o ∷ kept) = (small o, all_small kept)
+  second_in : (count : ℕ) (kept : List Outcome) → HasSecondMark vars count kept → SpellsMark bytes (mark_of count kept)
+  second_in zero kept has = absurd (none_stored bytes (sym is ∙ has.stored))
+  second_in (suc count) kept has =
+      record { some = omega arith; is = has.is; spelled = same_some _ _ (sym is ∙ has.stored ∙ mark_stored (suc count) kept (omega arith)) }
 
-same_outcomes : (count c len n : ℕ) (a b : List ℕ) → laid_out count len a ≡ laid_out c n b → a ≡ b
-same_outcomes count c len n a b e = cc
+  first_in : (count : ℕ) (kept : List Outcome) → HasFirstMark vars count kept → SpellsFirstMark bytes (mark_of count kept)
+  first_in count kept has = record { known = has.codes; is = has.is; kept = has.kept_is; spelled = same_some _ _ (sym is ∙ has.stored) }
 
--- what is split off bytes that have a mark are outcomes
-pub splits_outcomes : (vars : Variables) (bytes : List ℕ) (next : ℕ) (outcomes : List ℕ) (count : ℕ) (kept : List Outcome) → get vars keep_text ≡ Some bytes → SplitsMark bytes next outcomes → HasMark vars count kept → AllByRecursion IsOutcomeByte outcomes
-splits_outcomes vars bytes next outcomes count kept is splits has =
-    let other = mark_splits vars bytes count kept is has in
-    subst (AllByRecursion IsOutcomeByte) (sym (same_outcomes next count (length outcomes) (length (map outcome_byte kept)) outcomes (map outcome_byte kept) (sym splits.parts ∙ other.parts))) (all_small kept)
+  pub mark_in_bytes : (count : ℕ) (kept : List Outcome) → HasMark vars count kept → IsMarkIn bytes (mark_of count kept)
+  mark_in_bytes count kept has = ⊎_elim (λ second. inl (second_in count kept second)) (λ first. inr (first_in count kept first)) has
+
+  -- what is found in the bytes is found in the variables
+  pub found_is : (found : Option MarkParts) → MatchOption found ((mark : MarkParts) → IsMarkIn bytes mark → ⊥) (λ mark. IsMarkIn bytes mark) →
+      MatchOption found (HasBadMark vars) (λ mark. HasMark vars mark.next mark.kept)
+  found_is None bad = λ count kept has. bad (mark_of count kept) (mark_in_bytes count kept has)
+  found_is (Some mark) h = ⊎_elim (λ second. inl (has_second mark second)) (λ first. inr (has_first mark first)) h
+
+-- where nothing is stored, the mark is one of version 2
+pub none_is_second : (vars : Variables) (count : ℕ) (kept : List Outcome) → get vars keep_text ≡ None → HasMark vars count kept → HasSecondMark vars count kept
+none_is_second vars count kept is has = ⊎_elim (λ second. second) (λ first. absurd (none_stored _ (sym first.stored ∙ is))) has
+
+-- ---- faults
 
 pub no_memory : (f : OpenFault) → (f ≢ fault.OutOfMemory → ⊥) → f ≡ fault.OutOfMemory
 no_memory fault.BadOrder h = absurd (h (λ e. cc))

@@ -1,5 +1,5 @@
 -- The header and the payload of a frame: one for each input, and one first fault of them.
-use Rattle.std.proofs.Common.{◌≡◌, ◌≢◌, ◌⊎◌, ℕ, ◌%◌, ◌<◌, ◌≤◌, List, [], ◌∷◌, ◌++◌, length, take, drop, get_or, refl, sym, ap, subst, ◌∙◌, inl, inr, ⊎_elim, arith, append_assoc}
+use Rattle.std.proofs.Common.{◌≡◌, ◌≢◌, ◌⊎◌, ℕ, ◌<◌, ◌≤◌, List, [], ◌∷◌, ◌++◌, length, take, drop, get_or, refl, sym, ap, subst, ◌∙◌, inl, inr, arith, append_assoc}
 use Rattle.std.specs.Int.{w32, from_le_bytes, to_le_bytes}
 use Rattle.std.proofs.lemmas.List.{length-append, take_at, drop_at}
 use Rattle.std.proofs.lemmas.Nat.{from_le_bytes-to_le_bytes_4}
@@ -8,9 +8,11 @@ use Rattle.uefi_option.specs.Fault.{IsFirstFault as IsFirstOptionFault}
 use Rattle.boot_requests.specs.declared.fault.FrameFault.{FrameFault}
 use Rattle.boot_requests.specs.declared.fault.FrameFault.TheVariants as fault
 use Rattle.boot_requests.specs.Limits.{payload_max, no_number}
+use Rattle.boot_requests.specs.Kind.{IsVersion, IsKind, Layout, EntryAndOption, OptionAlone, layout_of}
 use Rattle.boot_requests.specs.Frame.{magic}
-use Rattle.boot_requests.specs.FrameFault.{Raw, IsRaw, IsKind, HoldsOption, HoldsEntry, IsBadPayload, IsFirstFault}
+use Rattle.boot_requests.specs.FrameFault.{Raw, IsRaw, IsBadPayload, IsBadOption, HasBadPayload, HasBadOption, IsFirstFault}
 use Rattle.boot_requests.specs.Reading.{raw_of}
+use Rattle.boot_requests.proofs.KindBytes.{of_one}
 
 -- ---- one header and one payload
 
@@ -46,28 +48,31 @@ same_raw input c d first second =
 pub raw_size : (input : List ℕ) (c : Raw) → IsRaw input c → 12 ≤ length input
 raw_size input c is = omega (arith, is.two_bytes, simp length-append at (ap length (regroup input c is)))
 
--- ---- kinds
+-- ---- one fault of a payload
 
-pub option_kind : (kind : ℕ) → HoldsOption kind → (1 ≤ kind) × (kind ≤ 2)
-option_kind kind holds = ⊎_elim (λ e. (omega arith, omega arith)) (λ e. (omega arith, omega arith)) holds
+abbrev pub OneOptionFault : Type 0
+OneOptionFault = (bytes : List ℕ) (f g : OptionFault) → IsFirstOptionFault bytes f → IsFirstOptionFault bytes g → f ≡ g
 
-pub entry_kind : (kind : ℕ) → HoldsEntry kind → (3 ≤ kind) × (kind ≤ 5) × (kind ≢ 4)
-entry_kind kind holds = ⊎_elim (λ e. (omega arith, omega arith, λ f. omega arith)) (λ e. (omega arith, omega arith, λ f. omega arith)) holds
+one_bad_option : OneOptionFault → (layout : Layout) (payload : List ℕ) (x y : OptionFault) → IsBadOption layout payload x → IsBadOption layout payload y → x ≡ y
+one_bad_option one EntryAndOption payload x y first second = one (drop 2 payload) x y first.1 second.1
+one_bad_option one OptionAlone payload x y first second = one payload x y first second
+one_bad_option one _ payload x y first second = absurd first
 
-pub bad_option : (kind : ℕ) (payload : List ℕ) → HoldsOption kind → IsBadPayload kind payload → length payload < 2
-bad_option kind payload holds (inl bad) = bad.1
-bad_option kind payload holds (inr (inl bad)) = absurd (omega (arith, option_kind kind holds, entry_kind kind bad.0))
-bad_option kind payload holds (inr (inr bad)) = absurd (omega (arith, option_kind kind holds, bad.0))
+-- of a payload that hasn't its length no fault of an option is told
+bad_once : (layout : Layout) (payload : List ℕ) (x : OptionFault) → IsBadPayload layout payload → IsBadOption layout payload x → ⊥
+bad_once EntryAndOption payload x short bad = omega (arith, short, bad.0)
+bad_once OptionAlone payload x other bad = other
+bad_once _ payload x other bad = bad
 
-pub bad_entry : (kind : ℕ) (payload : List ℕ) → HoldsEntry kind → IsBadPayload kind payload → length payload ≢ 2
-bad_entry kind payload holds (inl bad) = absurd (omega (arith, option_kind kind bad.0, entry_kind kind holds))
-bad_entry kind payload holds (inr (inl bad)) = bad.1
-bad_entry kind payload holds (inr (inr bad)) = absurd ((entry_kind kind holds).2 bad.0)
+same_option_fault : OneOptionFault → (c : Raw) (x y : OptionFault) → HasBadOption c x → HasBadOption c y → x ≡ y
+same_option_fault one c x y first second =
+    let both = of_one c.version c.kind (λ k. IsBadOption (layout_of k) c.payload x) (λ k. IsBadOption (layout_of k) c.payload y) first second in
+    one_bad_option one (layout_of both.0) c.payload x y both.1 both.2
 
-pub bad_order : (payload : List ℕ) → IsBadPayload 4 payload → length payload % 2 ≢ 0
-bad_order payload (inl bad) = absurd (omega (arith, option_kind 4 bad.0))
-bad_order payload (inr (inl bad)) = absurd ((entry_kind 4 bad.0).2 refl)
-bad_order payload (inr (inr bad)) = bad.1
+good_before : (c : Raw) (x : OptionFault) → HasBadOption c x → HasBadPayload c → ⊥
+good_before c x option bad =
+    let both = of_one c.version c.kind (λ k. IsBadPayload (layout_of k) c.payload) (λ k. IsBadOption (layout_of k) c.payload x) bad option in
+    bad_once (layout_of both.0) c.payload x both.1 both.2
 
 -- ---- the tests, one after the other
 
@@ -91,16 +96,16 @@ no_step Test bad Rest f passes none (inr x) = none x.1
 
 -- the fault is that of the option
 abbrev pub HasOptionFault : Raw → FrameFault → Type 0
-HasOptionFault c f = (x : OptionFault) × (f ≡ fault.Option x) × HoldsOption c.kind × IsFirstOptionFault (drop 2 c.payload) x
+HasOptionFault c f = (x : OptionFault) × (f ≡ fault.Option x) × HasBadOption c x
 
 abbrev AfterNumber : Raw → FrameFault → Type 0
-AfterNumber c = Step (IsBadPayload c.kind c.payload → ⊥) fault.BadPayload (HasOptionFault c)
+AfterNumber c = Step (HasBadPayload c → ⊥) fault.BadPayload (HasOptionFault c)
 
 abbrev AfterKind : Raw → FrameFault → Type 0
 AfterKind c = Step (c.number ≢ no_number) fault.BadNumber (AfterNumber c)
 
 abbrev AfterSize : Raw → FrameFault → Type 0
-AfterSize c = Step (IsKind c.kind) fault.BadKind (AfterKind c)
+AfterSize c = Step (IsKind c.version c.kind) fault.BadKind (AfterKind c)
 
 abbrev AfterLength : Raw → FrameFault → Type 0
 AfterLength c = Step (length c.payload ≡ c.len) fault.BadSize (AfterSize c)
@@ -109,7 +114,7 @@ abbrev AfterVersion : Raw → FrameFault → Type 0
 AfterVersion c = Step (c.len ≤ payload_max) fault.TooLong (AfterLength c)
 
 abbrev AfterMagic : Raw → FrameFault → Type 0
-AfterMagic c = Step (c.version ≡ 1) fault.BadVersion (AfterVersion c)
+AfterMagic c = Step (IsVersion c.version) fault.BadVersion (AfterVersion c)
 
 abbrev pub Steps : Raw → FrameFault → Type 0
 Steps c = Step (c.magic ≡ magic) fault.BadMagic (AfterMagic c)
@@ -136,23 +141,19 @@ by_tests input fault.BadPayload h =
 by_tests input (fault.Option x) h =
     let number = h.here.0 in
     let size = number.0 in
-    let good : IsBadPayload h.raw.kind h.raw.payload → ⊥ = λ bad. omega (arith, h.here.2, bad_option h.raw.kind h.raw.payload h.here.1 bad) in
-    inr (h.raw, h.is, inr (size.0.0, inr (size.0.1, inr (size.1, inr (size.2, inr (number.1, inr (number.2, inr (good, (x, refl, h.here.1, h.here.3)))))))))
+    inr (h.raw, h.is, inr (size.0.0, inr (size.0.1, inr (size.1, inr (size.2, inr (number.1, inr (number.2, inr (good_before h.raw x h.here.1, (x, refl, h.here.1)))))))))
 by_tests input fault.OutOfMemory h = absurd h
 
 -- ---- one first fault
 
-abbrev pub OneOptionFault : Type 0
-OneOptionFault = (bytes : List ℕ) (f g : OptionFault) → IsFirstOptionFault bytes f → IsFirstOptionFault bytes g → f ≡ g
-
 one_option_fault : OneOptionFault → (c : Raw) → OnlyOne (HasOptionFault c)
-one_option_fault one c f g x y = x.1 ∙ ap (λ (h : OptionFault). fault.Option h) (one (drop 2 c.payload) x.0 y.0 x.3 y.3) ∙ sym y.1
+one_option_fault one c f g x y = x.1 ∙ ap (λ (h : OptionFault). fault.Option h) (same_option_fault one c x.0 y.0 x.2 y.2) ∙ sym y.1
 
 one_of_steps : OneOptionFault → (c : Raw) → OnlyOne (Steps c)
 one_of_steps one c =
-    one_step (c.magic ≡ magic) fault.BadMagic (AfterMagic c) (one_step (c.version ≡ 1) fault.BadVersion (AfterVersion c) (one_step (c.len ≤ payload_max) fault.TooLong (AfterLength c)
-    (one_step (length c.payload ≡ c.len) fault.BadSize (AfterSize c) (one_step (IsKind c.kind) fault.BadKind (AfterKind c) (one_step (c.number ≢ no_number) fault.BadNumber (AfterNumber c)
-    (one_step (IsBadPayload c.kind c.payload → ⊥) fault.BadPayload (HasOptionFault c) (one_option_fault one c)))))))
+    one_step (c.magic ≡ magic) fault.BadMagic (AfterMagic c) (one_step (IsVersion c.version) fault.BadVersion (AfterVersion c) (one_step (c.len ≤ payload_max) fault.TooLong (AfterLength c)
+    (one_step (length c.payload ≡ c.len) fault.BadSize (AfterSize c) (one_step (IsKind c.version c.kind) fault.BadKind (AfterKind c) (one_step (c.number ≢ no_number) fault.BadNumber (AfterNumber c)
+    (one_step (HasBadPayload c → ⊥) fault.BadPayload (HasOptionFault c) (one_option_fault one c)))))))
 
 same_by_tests : OneOptionFault → (input : List ℕ) (f g : FrameFault) → ByTests input f → ByTests input g → f ≡ g
 same_by_tests one input f g (inl x) (inl y) = x.1 ∙ sym y.1
@@ -168,15 +169,15 @@ same_first_fault one input f g first second = same_by_tests one input f g (by_te
 -- the header and the payload pass each test
 pub record Passes (c : Raw) : Type 0 where
   pub magic : c.magic ≡ magic
-  pub version : c.version ≡ 1
+  pub version : IsVersion c.version
   pub len : c.len ≤ payload_max
   pub size : length c.payload ≡ c.len
-  pub kind : IsKind c.kind
+  pub kind : IsKind c.version c.kind
   pub number : c.number ≢ no_number
-  pub payload : IsBadPayload c.kind c.payload → ⊥
+  pub payload : HasBadPayload c → ⊥
 
 pub no_steps : (c : Raw) (f : FrameFault) → Passes c → (HasOptionFault c f → ⊥) → Steps c f → ⊥
 no_steps c f passes none =
-    no_step (c.magic ≡ magic) fault.BadMagic (AfterMagic c) f passes.magic (no_step (c.version ≡ 1) fault.BadVersion (AfterVersion c) f passes.version (no_step (c.len ≤ payload_max) fault.TooLong (AfterLength c) f passes.len
-    (no_step (length c.payload ≡ c.len) fault.BadSize (AfterSize c) f passes.size (no_step (IsKind c.kind) fault.BadKind (AfterKind c) f passes.kind (no_step (c.number ≢ no_number) fault.BadNumber (AfterNumber c) f passes.number
-    (no_step (IsBadPayload c.kind c.payload → ⊥) fault.BadPayload (HasOptionFault c) f passes.payload none))))))
+    no_step (c.magic ≡ magic) fault.BadMagic (AfterMagic c) f passes.magic (no_step (IsVersion c.version) fault.BadVersion (AfterVersion c) f passes.version (no_step (c.len ≤ payload_max) fault.TooLong (AfterLength c) f passes.len
+    (no_step (length c.payload ≡ c.len) fault.BadSize (AfterSize c) f passes.size (no_step (IsKind c.version c.kind) fault.BadKind (AfterKind c) f passes.kind (no_step (c.number ≢ no_number) fault.BadNumber (AfterNumber c) f passes.number
+    (no_step (HasBadPayload c → ⊥) fault.BadPayload (HasOptionFault c) f passes.payload none))))))

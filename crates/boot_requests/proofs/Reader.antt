@@ -1,35 +1,38 @@
 -- What the reader finds: a request with its number, or the first fault, and every input's.
-use Rattle.std.proofs.Common.{◌≡◌, ◌≢◌, ◌⊎◌, ℕ, ◌%◌, ◌<◌, ◌≤◌, ◌^◌, List, [], ◌∷◌, ◌++◌, length, get_or, Result, Ok, Err, IfOk, IfErr, zero, suc, refl, sym, ap, subst, ◌∙◌, inl, inr, arith}
+use Rattle.std.proofs.Common.{◌≡◌, ◌≢◌, ◌⊎◌, ℕ, ◌%◌, ◌<◌, ◌≤◌, ◌^◌, List, [], ◌∷◌, ◌++◌, length, get_or, Result, Ok, Err, IfOk, IfErr, refl, sym, ap, subst, ◌∙◌, inl, inr, arith}
 use Rattle.std.specs.Int.{w16, w32, from_le_bytes, to_le_bytes}
 use Rattle.std.specs.List.{AllByRecursion}
 use Rattle.std.proofs.lemmas.Bool.{cases_eq, cases_lt}
 use Rattle.std.proofs.lemmas.Nat.{le_bytes_4}
 use Rattle.uefi_path.specs.Answer.{IsUnless}
 use Rattle.uefi_path.specs.Row.{IsByte}
-use Rattle.uefi_path.specs.Units.{units_of}
+use Rattle.uefi_path.specs.Units.{units_of, units_bytes}
 use Rattle.uefi_option.specs.declared.fault.OptionFault.{OptionFault}
 use Rattle.uefi_option.specs.LoadOption.{OptionParts, SpellsOption, option_bytes}
 use Rattle.uefi_option.specs.Fault.{IsFirstFault as IsFirstOptionFault}
+use Rattle.uefi_vars.specs.Order.{IsEntryNumber}
 use Rattle.boot_requests.specs.declared.frame.Kind.{Kind}
 use Rattle.boot_requests.specs.declared.frame.Kind.TheVariants as kinds
 use Rattle.boot_requests.specs.declared.fault.FrameFault.{FrameFault}
 use Rattle.boot_requests.specs.declared.fault.FrameFault.TheVariants as fault
 use Rattle.boot_requests.specs.declared.request.Request.{Request}
-use Rattle.boot_requests.specs.declared.request.Request.TheVariants.{Add, Replace, Remove, Order, Next}
+use Rattle.boot_requests.specs.declared.request.Request.TheVariants.{Add, Replace, Remove, Order, Next, AddFree}
 use Rattle.boot_requests.specs.Limits.{payload_max, no_number}
+use Rattle.boot_requests.specs.Kind.{version_of, byte_of, Layout, EntryAndOption, Entry, Numbers, OptionAlone, layout_of}
 use Rattle.boot_requests.specs.Request.{kind_of}
 use Rattle.boot_requests.specs.Frame.{magic, header_bytes, SpellsFrame}
-use Rattle.boot_requests.specs.FrameFault.{Raw, IsRaw, IsKind, PassesNumber, IsFirstFault}
-use Rattle.boot_requests.specs.Reading.{byte_of, raw_of, SplitsFrame, SpellsPayload, IsPayloadFault}
+use Rattle.boot_requests.specs.FrameFault.{Raw, IsRaw, IsBadPayload, IsBadOption, PassesNumber, IsFirstFault}
+use Rattle.boot_requests.specs.Reading.{raw_of, SplitsFrame, SpellsPayload, SpellsEntry, IsPayloadFault}
 use Rattle.boot_requests.proofs.ByteLists.{bytes_from_recursion}
 use Rattle.boot_requests.proofs.TwoBytes.{two_bytes, bytes_again, are_numbers}
+use Rattle.boot_requests.proofs.KindBytes.{version_or_not, kind_or_not}
 
 -- ---- a frame that was split
 
-abbrev raw_for : ℕ → ℕ → List ℕ → Raw
-raw_for number kind payload = raw_of magic 1 kind number (length payload) payload
+abbrev raw_for : ℕ → Kind → List ℕ → Raw
+raw_for number kind payload = raw_of magic (version_of kind) (byte_of kind) number (length payload) payload
 
-split_raw : (bytes : List ℕ) (number kind : ℕ) (payload : List ℕ) → SplitsFrame bytes number kind payload → IsRaw bytes (raw_for number kind payload)
+split_raw : (bytes : List ℕ) (number : ℕ) (kind : Kind) (payload : List ℕ) → SplitsFrame bytes number kind payload → IsRaw bytes (raw_for number kind payload)
 split_raw bytes number kind payload split = record {
   two_bytes = refl;
   number = let below = split.below in omega (arith, below);
@@ -37,46 +40,41 @@ split_raw bytes number kind payload split = record {
   parts = split.parts;
 }
 
-split_passes : (bytes : List ℕ) (number kind : ℕ) (payload : List ℕ) → SplitsFrame bytes number kind payload → IsKind kind → PassesNumber (raw_for number kind payload)
-split_passes bytes number kind payload split is = (((refl, refl), split.len, refl), is, λ e. let below = split.below in omega (arith, below, e))
+split_passes : (bytes : List ℕ) (number : ℕ) (kind : Kind) (payload : List ℕ) → SplitsFrame bytes number kind payload → PassesNumber (raw_for number kind payload)
+split_passes bytes number kind payload split = (((refl, (kind, refl)), split.len, refl), (kind, refl, refl), λ e. let below = split.below in omega (arith, below, e))
 
-pub frame_read : (bytes : List ℕ) (number kind : ℕ) (payload : List ℕ) (request : Request) → SplitsFrame bytes number kind payload → SpellsPayload kind payload request → SpellsFrame bytes number request
+pub frame_read : (bytes : List ℕ) (number : ℕ) (kind : Kind) (payload : List ℕ) (request : Request) → SplitsFrame bytes number kind payload → SpellsPayload kind payload request → SpellsFrame bytes number request
 frame_read bytes number kind payload request split spelled = record {
   below = split.below;
   valid = spelled.valid;
   len = subst (λ (t : List ℕ). length t ≤ payload_max) spelled.is split.len;
-  is = split.parts ∙ ap (λ (n : ℕ). header_bytes n number (length payload) ++ payload) spelled.same_kind ∙ ap (λ (t : List ℕ). header_bytes (kind_of request) number (length t) ++ t) spelled.is;
+  is = split.parts ∙ ap (λ (k : Kind). header_bytes k number (length payload) ++ payload) spelled.same_kind
+      ∙ ap (λ (t : List ℕ). header_bytes (kind_of request) number (length t) ++ t) spelled.is;
 }
 
-pub payload_fault_is : (bytes : List ℕ) (number kind : ℕ) (payload : List ℕ) (f : FrameFault) → SplitsFrame bytes number kind payload → IsKind kind → IsPayloadFault kind payload f → f ≢ fault.OutOfMemory → IsFirstFault bytes f
-payload_fault_is bytes number kind payload fault.BadPayload split is h cause =
-    record { raw = raw_for number kind payload; is = split_raw bytes number kind payload split; here = (split_passes bytes number kind payload split is, h) }
-payload_fault_is bytes number kind payload (fault.Option x) split is h cause =
-    record { raw = raw_for number kind payload; is = split_raw bytes number kind payload split; here = (split_passes bytes number kind payload split is, h.0, h.1, h.2) }
-payload_fault_is bytes number kind payload fault.OutOfMemory split is h cause = absurd (cause refl)
-payload_fault_is bytes number kind payload fault.Short split is h cause = absurd h
-payload_fault_is bytes number kind payload fault.BadMagic split is h cause = absurd h
-payload_fault_is bytes number kind payload fault.BadVersion split is h cause = absurd h
-payload_fault_is bytes number kind payload fault.TooLong split is h cause = absurd h
-payload_fault_is bytes number kind payload fault.BadSize split is h cause = absurd h
-payload_fault_is bytes number kind payload fault.BadKind split is h cause = absurd h
-payload_fault_is bytes number kind payload fault.BadNumber split is h cause = absurd h
-
-pub byte_fits : (k : Kind) → IsKind (byte_of k)
-byte_fits kinds.Add = (omega arith, omega arith)
-byte_fits kinds.Replace = (omega arith, omega arith)
-byte_fits kinds.Remove = (omega arith, omega arith)
-byte_fits kinds.Order = (omega arith, omega arith)
-byte_fits kinds.Next = (omega arith, omega arith)
+pub payload_fault_is : (bytes : List ℕ) (number : ℕ) (kind : Kind) (payload : List ℕ) (f : FrameFault) → SplitsFrame bytes number kind payload → IsPayloadFault kind payload f → f ≢ fault.OutOfMemory → IsFirstFault bytes f
+payload_fault_is bytes number kind payload fault.BadPayload split h cause =
+    record { raw = raw_for number kind payload; is = split_raw bytes number kind payload split; here = (split_passes bytes number kind payload split, record { kind = kind; version_is = refl; is = refl; here = h }) }
+payload_fault_is bytes number kind payload (fault.Option x) split h cause =
+    record { raw = raw_for number kind payload; is = split_raw bytes number kind payload split; here = (split_passes bytes number kind payload split, record { kind = kind; version_is = refl; is = refl; here = h }) }
+payload_fault_is bytes number kind payload fault.OutOfMemory split h cause = absurd (cause refl)
+payload_fault_is bytes number kind payload _ split h cause = absurd h
 
 -- ---- every payload is that of a request, or has a fault
 
 abbrev pub OptionEnds : Type 0
 OptionEnds = (bytes : List ℕ) → AllByRecursion IsByte bytes → ((option : OptionParts) × SpellsOption bytes option) ⊎ ((f : OptionFault) × IsFirstOptionFault bytes f)
 
--- the payload is that of a request, or has a fault
-abbrev PayloadEnds : ℕ → List ℕ → Type 0
-PayloadEnds kind payload = ((request : Request) × SpellsPayload kind payload request) ⊎ ((f : FrameFault) × IsPayloadFault kind payload f × (f ≢ fault.OutOfMemory))
+-- the payload spells what is laid out so
+abbrev HasParts : Layout → List ℕ → Type 0
+HasParts EntryAndOption payload = (entry : ℕ) × (option : OptionParts) × IsEntryNumber entry × SpellsEntry payload entry option
+HasParts Entry payload = (entry : ℕ) × IsEntryNumber entry × (payload ≡ to_le_bytes w16 entry)
+HasParts Numbers payload = (numbers : List ℕ) × AllByRecursion IsEntryNumber numbers × (payload ≡ units_bytes numbers)
+HasParts OptionAlone payload = (option : OptionParts) × SpellsOption payload option
+
+-- it does, or has a fault
+abbrev LayoutEnds : Layout → List ℕ → Type 0
+LayoutEnds layout payload = HasParts layout payload ⊎ (IsBadPayload layout payload ⊎ ((f : OptionFault) × IsBadOption layout payload f))
 
 -- two bytes are those of the number of an entry
 entry_fits : (low high : ℕ) → low < 256 → high < 256 → from_le_bytes w16 (low ∷ high ∷ []) < 2 ^ 16
@@ -85,55 +83,55 @@ entry_fits low high p q = omega (arith, p, q)
 option_behind : (low high : ℕ) (rest : List ℕ) (option : OptionParts) → low < 256 → high < 256 → rest ≡ option_bytes option → low ∷ high ∷ rest ≡ to_le_bytes w16 (from_le_bytes w16 (low ∷ high ∷ [])) ++ option_bytes option
 option_behind low high rest option p q is = ap (λ (t : List ℕ). low ∷ high ∷ t) is ∙ ap (λ (t : List ℕ). t ++ option_bytes option) (sym (two_bytes low high p q))
 
-add_ends : OptionEnds → (payload : List ℕ) → AllByRecursion IsByte payload → PayloadEnds 1 payload
-add_ends ends [] fits = inr (fault.BadPayload, inl (inl refl, omega arith), λ e. cc)
-add_ends ends (low ∷ []) fits = inr (fault.BadPayload, inl (inl refl, omega arith), λ e. cc)
-add_ends ends (low ∷ high ∷ rest) fits =
+entry_and_option_ends : OptionEnds → (payload : List ℕ) → AllByRecursion IsByte payload → LayoutEnds EntryAndOption payload
+entry_and_option_ends ends [] fits = inr (inl (omega arith))
+entry_and_option_ends ends (low ∷ []) fits = inr (inl (omega arith))
+entry_and_option_ends ends (low ∷ high ∷ rest) fits =
     elim (ends rest fits.1.1) [
       | inl read ↦
-          inl (Add (from_le_bytes w16 (low ∷ high ∷ [])) read.0, record { valid = (entry_fits low high fits.0 fits.1.0, read.1.0); same_kind = refl; is = option_behind low high rest read.0 fits.0 fits.1.0 read.1.1 })
-      | inr stop ↦ inr (fault.Option stop.0, (inl refl, omega arith, stop.1), λ e. cc)
+          inl (from_le_bytes w16 (low ∷ high ∷ []), read.0, entry_fits low high fits.0 fits.1.0, record { valid = read.1.0; is = option_behind low high rest read.0 fits.0 fits.1.0 read.1.1 })
+      | inr stop ↦ inr (inr (stop.0, (omega arith, stop.1)))
     ]
 
-replace_ends : OptionEnds → (payload : List ℕ) → AllByRecursion IsByte payload → PayloadEnds 2 payload
-replace_ends ends [] fits = inr (fault.BadPayload, inl (inr refl, omega arith), λ e. cc)
-replace_ends ends (low ∷ []) fits = inr (fault.BadPayload, inl (inr refl, omega arith), λ e. cc)
-replace_ends ends (low ∷ high ∷ rest) fits =
-    elim (ends rest fits.1.1) [
-      | inl read ↦
-          inl (Replace (from_le_bytes w16 (low ∷ high ∷ [])) read.0, record { valid = (entry_fits low high fits.0 fits.1.0, read.1.0); same_kind = refl; is = option_behind low high rest read.0 fits.0 fits.1.0 read.1.1 })
-      | inr stop ↦ inr (fault.Option stop.0, (inr refl, omega arith, stop.1), λ e. cc)
+entry_ends : (payload : List ℕ) → AllByRecursion IsByte payload → LayoutEnds Entry payload
+entry_ends [] fits = inr (inl (λ e. omega arith))
+entry_ends (low ∷ []) fits = inr (inl (λ e. omega arith))
+entry_ends (low ∷ high ∷ []) fits = inl (from_le_bytes w16 (low ∷ high ∷ []), entry_fits low high fits.0 fits.1.0, sym (two_bytes low high fits.0 fits.1.0))
+entry_ends (low ∷ high ∷ more ∷ rest) fits = inr (inl (λ e. omega arith))
+
+numbers_end : (payload : List ℕ) → AllByRecursion IsByte payload → LayoutEnds Numbers payload
+numbers_end payload fits =
+    elim (cases_eq (length payload % 2) 0) [ inl even ↦ inl (units_of payload, are_numbers payload fits, sym (bytes_again payload fits even)) | inr odd ↦ inr (inl odd) ]
+
+option_ends : OptionEnds → (payload : List ℕ) → AllByRecursion IsByte payload → LayoutEnds OptionAlone payload
+option_ends ends payload fits = elim (ends payload fits) [ inl read ↦ inl read | inr stop ↦ inr (inr stop) ]
+
+layout_ends : OptionEnds → (layout : Layout) (payload : List ℕ) → AllByRecursion IsByte payload → LayoutEnds layout payload
+layout_ends ends EntryAndOption payload fits = entry_and_option_ends ends payload fits
+layout_ends ends Entry payload fits = entry_ends payload fits
+layout_ends ends Numbers payload fits = numbers_end payload fits
+layout_ends ends OptionAlone payload fits = option_ends ends payload fits
+
+-- the request of the kind that has these parts
+with_parts : (kind : Kind) (payload : List ℕ) → HasParts (layout_of kind) payload → (request : Request) × SpellsPayload kind payload request
+with_parts kinds.Add payload p = (Add p.0 p.1, record { valid = (p.2, p.3.valid); same_kind = refl; is = p.3.is })
+with_parts kinds.Replace payload p = (Replace p.0 p.1, record { valid = (p.2, p.3.valid); same_kind = refl; is = p.3.is })
+with_parts kinds.Remove payload p = (Remove p.0, record { valid = p.1; same_kind = refl; is = p.2 })
+with_parts kinds.Order payload p = (Order p.0, record { valid = p.1; same_kind = refl; is = p.2 })
+with_parts kinds.Next payload p = (Next p.0, record { valid = p.1; same_kind = refl; is = p.2 })
+with_parts kinds.AddFree payload p = (AddFree p.0, record { valid = p.1.0; same_kind = refl; is = p.1.1 })
+
+-- the payload is that of a request of the kind, or has a fault
+abbrev PayloadEnds : Kind → List ℕ → Type 0
+PayloadEnds kind payload = ((request : Request) × SpellsPayload kind payload request) ⊎ ((f : FrameFault) × IsPayloadFault kind payload f × (f ≢ fault.OutOfMemory))
+
+payload_ends : OptionEnds → (kind : Kind) (payload : List ℕ) → AllByRecursion IsByte payload → PayloadEnds kind payload
+payload_ends ends kind payload fits =
+    elim (layout_ends ends (layout_of kind) payload fits) [
+      | inl parts ↦ inl (with_parts kind payload parts)
+      | inr (inl bad) ↦ inr (fault.BadPayload, bad, λ e. cc)
+      | inr (inr (x, bad)) ↦ inr (fault.Option x, bad, λ e. cc)
     ]
-
-remove_ends : (payload : List ℕ) → AllByRecursion IsByte payload → PayloadEnds 3 payload
-remove_ends [] fits = inr (fault.BadPayload, inr (inl (inl refl, λ e. omega arith)), λ e. cc)
-remove_ends (low ∷ []) fits = inr (fault.BadPayload, inr (inl (inl refl, λ e. omega arith)), λ e. cc)
-remove_ends (low ∷ high ∷ []) fits =
-    inl (Remove (from_le_bytes w16 (low ∷ high ∷ [])), record { valid = entry_fits low high fits.0 fits.1.0; same_kind = refl; is = sym (two_bytes low high fits.0 fits.1.0) })
-remove_ends (low ∷ high ∷ more ∷ rest) fits = inr (fault.BadPayload, inr (inl (inl refl, λ e. omega arith)), λ e. cc)
-
-next_ends : (payload : List ℕ) → AllByRecursion IsByte payload → PayloadEnds 5 payload
-next_ends [] fits = inr (fault.BadPayload, inr (inl (inr refl, λ e. omega arith)), λ e. cc)
-next_ends (low ∷ []) fits = inr (fault.BadPayload, inr (inl (inr refl, λ e. omega arith)), λ e. cc)
-next_ends (low ∷ high ∷ []) fits =
-    inl (Next (from_le_bytes w16 (low ∷ high ∷ [])), record { valid = entry_fits low high fits.0 fits.1.0; same_kind = refl; is = sym (two_bytes low high fits.0 fits.1.0) })
-next_ends (low ∷ high ∷ more ∷ rest) fits = inr (fault.BadPayload, inr (inl (inr refl, λ e. omega arith)), λ e. cc)
-
-order_ends : (payload : List ℕ) → AllByRecursion IsByte payload → PayloadEnds 4 payload
-order_ends payload fits =
-    elim (cases_eq (length payload % 2) 0) [
-      | inl even ↦ inl (Order (units_of payload), record { valid = are_numbers payload fits; same_kind = refl; is = sym (bytes_again payload fits even) })
-      | inr odd ↦ inr (fault.BadPayload, inr (inr (refl, odd)), λ e. cc)
-    ]
-
-payload_ends : OptionEnds → (kind : ℕ) (payload : List ℕ) → IsKind kind → AllByRecursion IsByte payload → PayloadEnds kind payload
-payload_ends ends zero payload is fits = absurd (omega (arith, is.0))
-payload_ends ends (suc zero) payload is fits = add_ends ends payload fits
-payload_ends ends (suc (suc zero)) payload is fits = replace_ends ends payload fits
-payload_ends ends (suc (suc (suc zero))) payload is fits = remove_ends payload fits
-payload_ends ends (suc (suc (suc (suc zero)))) payload is fits = order_ends payload fits
-payload_ends ends (suc (suc (suc (suc (suc zero))))) payload is fits = next_ends payload fits
-payload_ends ends (suc (suc (suc (suc (suc (suc kind)))))) payload is fits = absurd (omega (arith, is.1))
 
 -- ---- every input is a frame, or has a first fault
 
@@ -191,28 +189,27 @@ heads (a ∷ b ∷ v ∷ k ∷ n0 ∷ n1 ∷ n2 ∷ n3 ∷ l0 ∷ l1 ∷ l2 ∷ 
 heads (a ∷ b ∷ v ∷ k ∷ n0 ∷ n1 ∷ n2 ∷ n3 ∷ l0 ∷ l1 ∷ l2 ∷ l3 ∷ payload) fits =
     inr (raw_of (a ∷ b ∷ []) v k (from_le_bytes w32 (n0 ∷ n1 ∷ n2 ∷ n3 ∷ [])) (from_le_bytes w32 (l0 ∷ l1 ∷ l2 ∷ l3 ∷ [])) payload, header_of a b v k n0 n1 n2 n3 l0 l1 l2 l3 payload fits)
 
-kind_or_not : (kind : ℕ) → IsKind kind ⊎ (¬ IsKind kind)
-kind_or_not kind =
-    elim (cases_lt kind 1) [ inl none ↦ inr (λ is. omega (arith, is.0, none)) | inr some ↦ elim (cases_lt 5 kind) [ inl past ↦ inr (λ is. omega (arith, is.1, past)) | inr within ↦ inl (some, within) ] ]
-
 -- where the tests of the header pass, the input is split
-split_of : (bytes : List ℕ) (c : Raw) → IsRaw bytes c → PassesNumber c → SplitsFrame bytes c.number c.kind c.payload
+split_of : (bytes : List ℕ) (c : Raw) → IsRaw bytes c → (passes : PassesNumber c) → SplitsFrame bytes c.number passes.1.0 c.payload
 split_of bytes c is passes =
     let size = passes.0 in
+    let kind = passes.1.0 in
     record {
       below = let fits = is.number in let other = passes.2 in omega (arith, fits, other);
       len = let within = size.1 in omega (arith, within, size.2);
       parts = is.parts ∙ ap (λ (t : List ℕ). t ++ (c.version ∷ c.kind ∷ []) ++ to_le_bytes w32 c.number ++ to_le_bytes w32 c.len ++ c.payload) size.0.0
-          ∙ ap (λ (v : ℕ). magic ++ (v ∷ c.kind ∷ []) ++ to_le_bytes w32 c.number ++ to_le_bytes w32 c.len ++ c.payload) size.0.1
-          ∙ ap (λ (n : ℕ). magic ++ (1 ∷ c.kind ∷ []) ++ to_le_bytes w32 c.number ++ to_le_bytes w32 n ++ c.payload) (sym size.2);
+          ∙ ap (λ (v : ℕ). magic ++ (v ∷ c.kind ∷ []) ++ to_le_bytes w32 c.number ++ to_le_bytes w32 c.len ++ c.payload) (sym passes.1.1)
+          ∙ ap (λ (n : ℕ). magic ++ (version_of kind ∷ c.kind ∷ []) ++ to_le_bytes w32 c.number ++ to_le_bytes w32 n ++ c.payload) (sym size.2)
+          ∙ ap (λ (b : ℕ). magic ++ (version_of kind ∷ b ∷ []) ++ to_le_bytes w32 c.number ++ to_le_bytes w32 (length c.payload) ++ c.payload) (sym passes.1.2);
     }
 
 payload_end : OptionEnds → (bytes : List ℕ) (c : Raw) → IsRaw bytes c → AllByRecursion IsByte c.payload → PassesNumber c → Ends bytes
 payload_end ends bytes c is fits passes =
     let split = split_of bytes c is passes in
-    elim (payload_ends ends c.kind c.payload passes.1 fits) [
-      | inl read ↦ inl (c.number, read.0, frame_read bytes c.number c.kind c.payload read.0 split read.1)
-      | inr stop ↦ inr (stop.0, payload_fault_is bytes c.number c.kind c.payload stop.0 split passes.1 stop.1 stop.2)
+    let kind = passes.1.0 in
+    elim (payload_ends ends kind c.payload fits) [
+      | inl read ↦ inl (c.number, read.0, frame_read bytes c.number kind c.payload read.0 split read.1)
+      | inr stop ↦ inr (stop.0, payload_fault_is bytes c.number kind c.payload stop.0 split stop.1 stop.2)
     ]
 
 -- the tests of the header, in their order
@@ -220,13 +217,13 @@ header_ends : OptionEnds → (bytes : List ℕ) (c : Raw) → HasHeader bytes c 
 header_ends ends bytes c h =
     elim h.decided [
       | inr other ↦ inr (fault.BadMagic, record { raw = c; is = h.is; here = other })
-      | inl magic_is ↦ elim (cases_eq c.version 1) [
+      | inl magic_is ↦ elim (version_or_not c.version) [
         | inr other ↦ inr (fault.BadVersion, record { raw = c; is = h.is; here = (magic_is, other) })
         | inl version_is ↦ elim (cases_lt payload_max c.len) [
           | inl long ↦ inr (fault.TooLong, record { raw = c; is = h.is; here = ((magic_is, version_is), long) })
           | inr within ↦ elim (cases_eq (length c.payload) c.len) [
             | inr other ↦ inr (fault.BadSize, record { raw = c; is = h.is; here = ((magic_is, version_is), within, other) })
-            | inl size ↦ elim (kind_or_not c.kind) [
+            | inl size ↦ elim (kind_or_not c.version c.kind) [
               | inr other ↦ inr (fault.BadKind, record { raw = c; is = h.is; here = (((magic_is, version_is), within, size), other) })
               | inl kind ↦ elim (cases_eq c.number no_number) [
                 | inl none ↦ inr (fault.BadNumber, record { raw = c; is = h.is; here = (((magic_is, version_is), within, size), kind, none) })

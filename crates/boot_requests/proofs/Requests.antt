@@ -1,5 +1,5 @@
 -- One request with one number for each spelling, of bytes, and none where there is a fault.
-use Rattle.std.proofs.Common.{◌≡◌, ℕ, ◌<◌, ◌≤◌, ◌^◌, List, [], ◌++◌, length, drop, refl, ap, subst, ◌∙◌, inl, inr, arith}
+use Rattle.std.proofs.Common.{◌≡◌, ℕ, ◌<◌, ◌^◌, List, [], ◌++◌, length, refl, ap, subst, ◌∙◌, inl, inr, arith}
 use Rattle.std.specs.Int.{w16, to_le_bytes}
 use Rattle.std.specs.List.{AllByRecursion}
 use Rattle.uefi_path.specs.Row.{IsByte}
@@ -8,19 +8,22 @@ use Rattle.uefi_option.specs.LoadOption.{OptionParts, IsOption, SpellsOption, op
 use Rattle.uefi_option.specs.Fault.{IsFirstFault as IsFirstOptionFault}
 use Rattle.boot_requests.specs.declared.fault.FrameFault.{FrameFault}
 use Rattle.boot_requests.specs.declared.request.Request.{Request}
-use Rattle.boot_requests.specs.declared.request.Request.TheVariants.{Add, Replace, Remove, Order, Next}
+use Rattle.boot_requests.specs.declared.request.Request.TheVariants.{Add, Replace, Remove, Order, Next, AddFree}
+use Rattle.boot_requests.specs.declared.frame.Kind.{Kind}
+use Rattle.boot_requests.specs.Kind.{version_of, byte_of, layout_of}
 use Rattle.boot_requests.specs.Request.{IsRequest, kind_of, payload_of}
 use Rattle.boot_requests.specs.Frame.{magic, header_bytes, frame_bytes, SpellsFrame}
-use Rattle.boot_requests.specs.FrameFault.{Raw, IsRaw, IsKind, HoldsOption, IsBadPayload, IsFirstFault}
+use Rattle.boot_requests.specs.FrameFault.{Raw, IsRaw, IsBadPayload, IsBadOption, IsFirstFault}
 use Rattle.boot_requests.specs.Reading.{raw_of}
 use Rattle.boot_requests.proofs.ByteLists.{AllByRecursion-append}
-use Rattle.boot_requests.proofs.TwoBytes.{bytes_of, same_number, same_numbers, length-bytes_of, numbers_are_bytes}
-use Rattle.boot_requests.proofs.Raws.{same_raw, raw_size, option_kind, bad_option, bad_entry, bad_order, HasOptionFault, Steps, ByTests, by_tests, Passes, no_steps}
+use Rattle.boot_requests.proofs.TwoBytes.{same_number, same_numbers, length-bytes_of, numbers_are_bytes}
+use Rattle.boot_requests.proofs.KindBytes.{version_fits, byte_fits, one_kind, of_kind}
+use Rattle.boot_requests.proofs.Raws.{same_raw, raw_size, HasOptionFault, Steps, ByTests, by_tests, Passes, no_steps}
 
 -- ---- the header and the payload of a spelling
 
 abbrev raw_for : ℕ → Request → Raw
-raw_for number request = raw_of magic 1 (kind_of request) number (length (payload_of request)) (payload_of request)
+raw_for number request = raw_of magic (version_of (kind_of request)) (byte_of (kind_of request)) number (length (payload_of request)) (payload_of request)
 
 is_raw : (bytes : List ℕ) (number : ℕ) (request : Request) → SpellsFrame bytes number request → IsRaw bytes (raw_for number request)
 is_raw bytes number request spelled = record {
@@ -46,41 +49,25 @@ same_payload one (Replace m o) (Replace n p) first second kinds e = let same = s
 same_payload one (Remove m) (Remove n) first second kinds e = ap (λ (k : ℕ). Remove k) (same_number m n [] [] first second e).0
 same_payload one (Order ms) (Order ns) first second kinds e = ap (λ (t : List ℕ). Order t) (same_numbers ms ns first second e)
 same_payload one (Next m) (Next n) first second kinds e = ap (λ (k : ℕ). Next k) (same_number m n [] [] first second e).0
-same_payload one (Add m o) (Replace n p) first second kinds e = absurd (omega (arith, kinds))
-same_payload one (Add m o) (Remove n) first second kinds e = absurd (omega (arith, kinds))
-same_payload one (Add m o) (Order ns) first second kinds e = absurd (omega (arith, kinds))
-same_payload one (Add m o) (Next n) first second kinds e = absurd (omega (arith, kinds))
-same_payload one (Replace m o) (Add n p) first second kinds e = absurd (omega (arith, kinds))
-same_payload one (Replace m o) (Remove n) first second kinds e = absurd (omega (arith, kinds))
-same_payload one (Replace m o) (Order ns) first second kinds e = absurd (omega (arith, kinds))
-same_payload one (Replace m o) (Next n) first second kinds e = absurd (omega (arith, kinds))
-same_payload one (Remove m) (Add n p) first second kinds e = absurd (omega (arith, kinds))
-same_payload one (Remove m) (Replace n p) first second kinds e = absurd (omega (arith, kinds))
-same_payload one (Remove m) (Order ns) first second kinds e = absurd (omega (arith, kinds))
-same_payload one (Remove m) (Next n) first second kinds e = absurd (omega (arith, kinds))
-same_payload one (Order ms) (Add n p) first second kinds e = absurd (omega (arith, kinds))
-same_payload one (Order ms) (Replace n p) first second kinds e = absurd (omega (arith, kinds))
-same_payload one (Order ms) (Remove n) first second kinds e = absurd (omega (arith, kinds))
-same_payload one (Order ms) (Next n) first second kinds e = absurd (omega (arith, kinds))
-same_payload one (Next m) (Add n p) first second kinds e = absurd (omega (arith, kinds))
-same_payload one (Next m) (Replace n p) first second kinds e = absurd (omega (arith, kinds))
-same_payload one (Next m) (Remove n) first second kinds e = absurd (omega (arith, kinds))
-same_payload one (Next m) (Order ns) first second kinds e = absurd (omega (arith, kinds))
+same_payload one (AddFree o) (AddFree p) first second kinds e = ap (λ (t : OptionParts). AddFree t) (one (option_bytes o) o p (first, refl) (second, e))
+same_payload one q r first second kinds e = absurd cc
 
 pub same_request : OneOption → (bytes : List ℕ) (m n : ℕ) (q r : Request) → SpellsFrame bytes m q → SpellsFrame bytes n r → (m ≡ n) × (q ≡ r)
 same_request one bytes m n q r first second =
     let same = same_raw bytes (raw_for m q) (raw_for n r) (is_raw bytes m q first) (is_raw bytes n r second) in
-    (ap (λ (c : Raw). c.number) same, same_payload one q r first.valid second.valid (ap (λ (c : Raw). c.kind) same) (ap (λ (c : Raw). c.payload) same))
+    let kinds = one_kind (kind_of q) (kind_of r) (ap (λ (c : Raw). c.kind) same) in
+    (ap (λ (c : Raw). c.number) same, same_payload one q r first.valid second.valid kinds (ap (λ (c : Raw). c.payload) same))
 
 -- ---- each request is spelled by bytes
 
 abbrev pub EachOptionSpelled : Type 0
 EachOptionSpelled = (option : OptionParts) → IsOption option → (bytes : List ℕ) × SpellsOption bytes option × AllByRecursion IsByte bytes
 
+option_is_bytes : EachOptionSpelled → (option : OptionParts) → IsOption option → AllByRecursion IsByte (option_bytes option)
+option_is_bytes each option is = let spelled = each option is in subst (AllByRecursion IsByte) spelled.1.1 spelled.2
+
 entry_is_bytes : EachOptionSpelled → (entry : ℕ) (option : OptionParts) → IsOption option → AllByRecursion IsByte (to_le_bytes w16 entry ++ option_bytes option)
-entry_is_bytes each entry option is =
-    let spelled = each option is in
-    (omega arith, (omega arith, subst (AllByRecursion IsByte) spelled.1.1 spelled.2))
+entry_is_bytes each entry option is = (omega arith, (omega arith, option_is_bytes each option is))
 
 payload_is_bytes : EachOptionSpelled → (request : Request) → IsRequest request → AllByRecursion IsByte (payload_of request)
 payload_is_bytes each (Add entry option) is = entry_is_bytes each entry option is.1
@@ -88,57 +75,53 @@ payload_is_bytes each (Replace entry option) is = entry_is_bytes each entry opti
 payload_is_bytes each (Remove entry) is = (omega arith, (omega arith, tt))
 payload_is_bytes each (Order numbers) is = numbers_are_bytes numbers
 payload_is_bytes each (Next entry) is = (omega arith, (omega arith, tt))
+payload_is_bytes each (AddFree option) is = option_is_bytes each option is
 
-kind_is : (request : Request) → IsKind (kind_of request)
-kind_is (Add entry option) = (omega arith, omega arith)
-kind_is (Replace entry option) = (omega arith, omega arith)
-kind_is (Remove entry) = (omega arith, omega arith)
-kind_is (Order numbers) = (omega arith, omega arith)
-kind_is (Next entry) = (omega arith, omega arith)
-
-header_is_bytes : (kind number len : ℕ) → kind ≤ 5 → AllByRecursion IsByte (header_bytes kind number len)
-header_is_bytes kind number len small =
-    (omega arith, (omega arith, (omega arith, (omega arith, (omega arith, (omega arith, (omega arith, (omega arith, (omega arith, (omega arith, (omega arith, (omega arith, tt))))))))))))
+header_is_bytes : (kind : Kind) (number len : ℕ) → AllByRecursion IsByte (header_bytes kind number len)
+header_is_bytes kind number len =
+    (omega arith, (omega arith, (version_fits kind, (byte_fits kind, (omega arith, (omega arith, (omega arith, (omega arith, (omega arith, (omega arith, (omega arith, (omega arith, tt))))))))))))
 
 pub frame_is_bytes : EachOptionSpelled → (number : ℕ) (request : Request) → IsRequest request → AllByRecursion IsByte (frame_bytes number request)
 frame_is_bytes each number request is =
-    AllByRecursion-append IsByte (header_bytes (kind_of request) number (length (payload_of request))) (payload_of request) (header_is_bytes (kind_of request) number (length (payload_of request)) (kind_is request).1) (payload_is_bytes each request is)
+    let kind = kind_of request in
+    let len = length (payload_of request) in
+    AllByRecursion-append IsByte (header_bytes kind number len) (payload_of request) (header_is_bytes kind number len) (payload_is_bytes each request is)
 
 -- ---- no fault
 
-good_payload : (request : Request) → IsBadPayload (kind_of request) (payload_of request) → ⊥
-good_payload (Add entry option) bad = omega (arith, bad_option 1 (payload_of (Add entry option)) (inl refl) bad)
-good_payload (Replace entry option) bad = omega (arith, bad_option 2 (payload_of (Replace entry option)) (inr refl) bad)
-good_payload (Remove entry) bad = bad_entry 3 (payload_of (Remove entry)) (inl refl) bad refl
-good_payload (Order numbers) bad = bad_order (bytes_of numbers) bad (omega (arith, length-bytes_of numbers))
-good_payload (Next entry) bad = bad_entry 5 (payload_of (Next entry)) (inr refl) bad refl
+good_payload : (request : Request) → IsBadPayload (layout_of (kind_of request)) (payload_of request) → ⊥
+good_payload (Add entry option) bad = omega (arith, bad)
+good_payload (Replace entry option) bad = omega (arith, bad)
+good_payload (Remove entry) bad = bad refl
+good_payload (Order numbers) bad = bad (omega (arith, length-bytes_of numbers))
+good_payload (Next entry) bad = bad refl
+good_payload (AddFree option) bad = bad
 
 abbrev pub NoOptionFault : Type 0
 NoOptionFault = (bytes : List ℕ) (f : OptionFault) (option : OptionParts) → IsFirstOptionFault bytes f → SpellsOption bytes option → ⊥
 
-good_option : NoOptionFault → (request : Request) (f : OptionFault) → IsRequest request → HoldsOption (kind_of request) → IsFirstOptionFault (drop 2 (payload_of request)) f → ⊥
-good_option none (Add entry option) f is holds first = none (option_bytes option) f option first (is.1, refl)
-good_option none (Replace entry option) f is holds first = none (option_bytes option) f option first (is.1, refl)
-good_option none (Remove entry) f is holds first = omega (arith, option_kind 3 holds)
-good_option none (Order numbers) f is holds first = omega (arith, option_kind 4 holds)
-good_option none (Next entry) f is holds first = omega (arith, option_kind 5 holds)
+good_option : NoOptionFault → (request : Request) (f : OptionFault) → IsRequest request → IsBadOption (layout_of (kind_of request)) (payload_of request) f → ⊥
+good_option none (Add entry option) f is bad = none (option_bytes option) f option bad.1 (is.1, refl)
+good_option none (Replace entry option) f is bad = none (option_bytes option) f option bad.1 (is.1, refl)
+good_option none (AddFree option) f is bad = none (option_bytes option) f option bad (is, refl)
+good_option none _ f is bad = bad
 
 passes : (bytes : List ℕ) (number : ℕ) (request : Request) → SpellsFrame bytes number request → Passes (raw_for number request)
 passes bytes number request spelled = record {
   magic = refl;
-  version = refl;
+  version = (kind_of request, refl);
   len = spelled.len;
   size = refl;
-  kind = kind_is request;
+  kind = (kind_of request, refl, refl);
   number = λ e. let below = spelled.below in omega (arith, below, e);
-  payload = good_payload request;
+  payload = λ bad. good_payload request (of_kind (kind_of request) (λ k. IsBadPayload (layout_of k) (payload_of request)) bad);
 }
 
 no_tests : NoOptionFault → (bytes : List ℕ) (f : FrameFault) (number : ℕ) (request : Request) → ByTests bytes f → SpellsFrame bytes number request → ⊥
 no_tests none bytes f number request (inl short) spelled = omega (arith, short.0, raw_size bytes (raw_for number request) (is_raw bytes number request spelled))
 no_tests none bytes f number request (inr (c, is, steps)) spelled =
     let same = same_raw bytes c (raw_for number request) is (is_raw bytes number request spelled) in
-    let last : HasOptionFault (raw_for number request) f → ⊥ = λ has. good_option none request has.0 spelled.valid has.2 has.3 in
+    let last : HasOptionFault (raw_for number request) f → ⊥ = λ has. good_option none request has.0 spelled.valid (of_kind (kind_of request) (λ k. IsBadOption (layout_of k) (payload_of request) has.0) has.2) in
     no_steps (raw_for number request) f (passes bytes number request spelled) last (subst (λ (raw : Raw). Steps raw f) same steps)
 
 pub fault_leaves_none : NoOptionFault → (bytes : List ℕ) (f : FrameFault) (number : ℕ) (request : Request) → IsFirstFault bytes f → SpellsFrame bytes number request → ⊥

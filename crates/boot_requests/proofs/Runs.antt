@@ -6,11 +6,12 @@ use Rattle.std.specs.FinMap.{empty, get, contains_key, insert, retain_keys, get-
 use Rattle.std.proofs.lemmas.Bool.Decides.{nat_tests}
 use Rattle.std.proofs.lemmas.List.{append-nil}
 use Rattle.boot_requests.specs.declared.request.Request.{Request}
-use Rattle.boot_requests.specs.declared.request.Request.TheVariants.{Add, Replace, Remove, Order, Next}
+use Rattle.boot_requests.specs.declared.request.Request.TheVariants.{Add, Replace, Remove, Order, Next, AddFree}
+use Rattle.boot_requests.specs.declared.outcome.Code.{Code}
+use Rattle.boot_requests.specs.declared.outcome.Code.TheVariants.{Done, Exists, Missing, OrderRepeats, OrderUnknown, NoFree}
 use Rattle.boot_requests.specs.declared.outcome.Outcome.{Outcome}
-use Rattle.boot_requests.specs.declared.outcome.Outcome.TheVariants.{Done, Exists, Missing, OrderRepeats, OrderUnknown}
 use Rattle.boot_requests.specs.State.{State}
-use Rattle.boot_requests.specs.Apply.{outcome_of, effect, applied, booted}
+use Rattle.boot_requests.specs.Apply.{outcome_of, changed, effect_by, effect, applied, booted}
 use Rattle.boot_requests.specs.Seen.{Seen, Came, Garbled, Prepare, Hand, Restart}
 use Rattle.boot_requests.specs.Window.{Requests, gap_of, is_open}
 use Rattle.boot_requests.specs.Changes.{Change, Applies, Boots, changes_between, folded}
@@ -26,16 +27,36 @@ folded-append m (Boots ∷ xs) ys = folded-append (booted m) xs ys
 
 -- ---- one more request is counted
 
+-- the next number and the outcomes that are kept stay as they are
+pub record IsCountedAs (m n : State) : Type 0 where
+  pub count : n.count ≡ m.count
+  pub kept : n.kept ≡ m.kept
+
+counted_here : (m : State) → IsCountedAs m m
+counted_here m = record { count = refl; kept = refl }
+
+changed_counted : (m : State) (request : Request) (told : Option ℕ) → IsCountedAs m (changed m request told)
+changed_counted m (Add entry option) told = record { count = refl; kept = refl }
+changed_counted m (Replace entry option) told = record { count = refl; kept = refl }
+changed_counted m (Remove entry) told = record { count = refl; kept = refl }
+changed_counted m (Order numbers) told = record { count = refl; kept = refl }
+changed_counted m (Next entry) told = record { count = refl; kept = refl }
+changed_counted m (AddFree option) None = counted_here m
+changed_counted m (AddFree option) (Some entry) = record { count = refl; kept = refl }
+
+counted_by : (m : State) (request : Request) (code : Code) (told : Option ℕ) → IsCountedAs m (effect_by m request code told)
+counted_by m request Done told = changed_counted m request told
+counted_by m request Exists told = counted_here m
+counted_by m request Missing told = counted_here m
+counted_by m request OrderRepeats told = counted_here m
+counted_by m request OrderUnknown told = counted_here m
+counted_by m request NoFree told = counted_here m
+
 pub effect_count : (m : State) (request : Request) (outcome : Outcome) → (effect m request outcome).count ≡ m.count
-effect_count m (Add entry option) Done = refl
-effect_count m (Replace entry option) Done = refl
-effect_count m (Remove entry) Done = refl
-effect_count m (Order numbers) Done = refl
-effect_count m (Next entry) Done = refl
-effect_count m request Exists = refl
-effect_count m request Missing = refl
-effect_count m request OrderRepeats = refl
-effect_count m request OrderUnknown = refl
+effect_count m request outcome = (counted_by m request outcome.code outcome.entry).count
+
+pub effect_kept : (m : State) (request : Request) (outcome : Outcome) → (effect m request outcome).kept ≡ m.kept
+effect_kept m request outcome = (counted_by m request outcome.code outcome.entry).kept
 
 pub applied_count : (m : State) (request : Request) → (applied m request).count ≡ m.count + 1
 applied_count m request = ap (λ n. n + 1) (effect_count m request (outcome_of m request))

@@ -14,7 +14,7 @@ use Rattle.boot_requests.specs.Limits.{width}
 use Rattle.boot_requests.specs.Frame.{IsSent}
 use Rattle.boot_requests.specs.Window.{Requests}
 use Rattle.boot_requests.specs.Keeping.{AreWaiting}
-use Rattle.boot_requests.specs.Slots.{reach, place_of, slot_at, with_slot, waiting_in, IsWindow}
+use Rattle.boot_requests.specs.Slots.{above, reach, place_of, slot_at, with_slot, waiting_in, waiting_of, IsWindow}
 use Rattle.boot_requests.proofs.Numbers.{same_numbers}
 use Rattle.boot_requests.proofs.Stored.{request_here, request_apart, request_gone, request_gone_apart, same_number_or_not}
 
@@ -83,21 +83,18 @@ set_apart slots number slot other differ = get_or-set_other slots (place_of numb
 
 -- ---- windows
 
-abbrev pub window : ℕ → Slots → Requests
-window next slots = waiting_in reach next slots
-
 module _ (next : ℕ) (slots : Slots) where
-  pub in_window : (q : ℕ) → next < q → q < next + width → get (window next slots) q ≡ slot_at slots (place_of q)
+  pub in_window : (q : ℕ) → next < q → q < next + width → get (waiting_of next slots) q ≡ slot_at slots (place_of q)
   in_window q low high = within reach next slots q low (omega arith)
 
-  below_window : (q : ℕ) → q ≤ next → get (window next slots) q ≡ None
+  below_window : (q : ℕ) → q ≤ next → get (waiting_of next slots) q ≡ None
   below_window q low = none_low reach next slots q low
 
-  pub beyond_window : (q : ℕ) → next + width ≤ q → get (window next slots) q ≡ None
+  pub beyond_window : (q : ℕ) → next + width ≤ q → get (waiting_of next slots) q ≡ None
   beyond_window q high = none_high reach next slots q (omega arith)
 
   module _ (is : IsWindow next slots) where
-    pub are_waiting : AreWaiting next (window next slots)
+    pub are_waiting : AreWaiting next (waiting_of next slots)
     are_waiting q =
         elim (cases_lt next q) [
           | inl low ↦ elim (cases_lt q (next + width)) [
@@ -117,17 +114,17 @@ module _ (next : ℕ) (slots : Slots) where
       abbrev more : Slots
       more = set slots (place_of number) (Some request)
 
-      pub kept_is : window next more ≡ insert (window next slots) number request
+      pub kept_is : waiting_of next more ≡ insert (waiting_of next slots) number request
       kept_is = same_numbers _ _ at
         where
-          at : (q : ℕ) → get (window next more) q ≡ get (insert (window next slots) number request) q
-          at q = elim (same_number_or_not number q) [ inl same ↦ here q same | inr differ ↦ apart q differ ∙ sym (request_apart (window next slots) number request q differ) ]
+          at : (q : ℕ) → get (waiting_of next more) q ≡ get (insert (waiting_of next slots) number request) q
+          at q = elim (same_number_or_not number q) [ inl same ↦ here q same | inr differ ↦ apart q differ ∙ sym (request_apart (waiting_of next slots) number request q differ) ]
             where
-              here : (k : ℕ) → number ≡ k → get (window next more) k ≡ get (insert (window next slots) number request) k
-              here k same = subst (λ (j : ℕ). get (window next more) j ≡ get (insert (window next slots) number request) j) same
-                  (within reach next more number low (omega arith) ∙ set_here slots number (Some request) is.len ∙ sym (request_here (window next slots) number request))
+              here : (k : ℕ) → number ≡ k → get (waiting_of next more) k ≡ get (insert (waiting_of next slots) number request) k
+              here k same = subst (λ (j : ℕ). get (waiting_of next more) j ≡ get (insert (waiting_of next slots) number request) j) same
+                  (within reach next more number low (omega arith) ∙ set_here slots number (Some request) is.len ∙ sym (request_here (waiting_of next slots) number request))
 
-              apart : (k : ℕ) → number ≢ k → get (window next more) k ≡ get (window next slots) k
+              apart : (k : ℕ) → number ≢ k → get (waiting_of next more) k ≡ get (waiting_of next slots) k
               apart k differ = elim (cases_lt next k) [
                 | inl l ↦ elim (cases_lt k (next + width)) [
                   | inl h ↦ within reach next more k l (omega arith) ∙ set_apart slots number (Some request) k (other_places next k number (omega arith) h (omega arith) high (λ e. differ (sym e))) ∙ sym (in_window k l h)
@@ -151,10 +148,10 @@ module _ (next : ℕ) (slots : Slots) where
     abbrev fewer : Slots
     fewer = set slots (place_of (next + 1)) None
 
-    pub passed_is : window (next + 1) fewer ≡ remove (window next slots) (next + 1)
+    pub passed_is : waiting_of (next + 1) fewer ≡ remove (waiting_of next slots) (next + 1)
     passed_is = same_numbers _ _ at
       where
-        apart : (q : ℕ) → next + 1 ≢ q → get (window (next + 1) fewer) q ≡ get (window next slots) q
+        apart : (q : ℕ) → next + 1 ≢ q → get (waiting_of (next + 1) fewer) q ≡ get (waiting_of next slots) q
         apart q differ = elim (cases_lt (next + 1) q) [
           | inl l ↦ elim (cases_lt q (next + width)) [
             | inl h ↦ within reach (next + 1) fewer q l (omega arith) ∙ set_apart slots (next + 1) None q (other_places next q (next + 1) (omega arith) h (omega arith) (omega arith) (λ e. differ (sym e))) ∙ sym (in_window q (omega arith) h)
@@ -166,17 +163,17 @@ module _ (next : ℕ) (slots : Slots) where
           | inr l ↦ let far : next + 1 ≢ q = differ in none_low reach (next + 1) fewer q l ∙ sym (below_window q (omega (arith, far)))
         ]
           where
-            last : (k : ℕ) → next + width ≡ k → get (window (next + 1) fewer) k ≡ None
-            last k same = subst (λ (j : ℕ). get (window (next + 1) fewer) j ≡ None) same
+            last : (k : ℕ) → next + width ≡ k → get (waiting_of (next + 1) fewer) k ≡ None
+            last k same = subst (λ (j : ℕ). get (waiting_of (next + 1) fewer) j ≡ None) same
                 (within reach (next + 1) fewer (next + width) (omega arith) (omega arith)
                 ∙ ap (λ (p : ℕ). slot_at fewer p) (same_place next)
                 ∙ set_apart slots (next + 1) None next (apart_places next (next + 1) (omega arith) (omega arith)) ∙ is.free)
 
-        at : (q : ℕ) → get (window (next + 1) fewer) q ≡ get (remove (window next slots) (next + 1)) q
+        at : (q : ℕ) → get (waiting_of (next + 1) fewer) q ≡ get (remove (waiting_of next slots) (next + 1)) q
         at q = elim (same_number_or_not (next + 1) q) [
-          | inl same ↦ subst (λ (j : ℕ). get (window (next + 1) fewer) j ≡ get (remove (window next slots) (next + 1)) j) same
-              (none_low reach (next + 1) fewer (next + 1) (omega arith) ∙ sym (request_gone (window next slots) (next + 1)))
-          | inr differ ↦ apart q differ ∙ sym (request_gone_apart (window next slots) (next + 1) q differ)
+          | inl same ↦ subst (λ (j : ℕ). get (waiting_of (next + 1) fewer) j ≡ get (remove (waiting_of next slots) (next + 1)) j) same
+              (none_low reach (next + 1) fewer (next + 1) (omega arith) ∙ sym (request_gone (waiting_of next slots) (next + 1)))
+          | inr differ ↦ apart q differ ∙ sym (request_gone_apart (waiting_of next slots) (next + 1) q differ)
         ]
 
     pub passed_window : IsWindow (next + 1) fewer
@@ -191,6 +188,33 @@ module _ (next : ℕ) (slots : Slots) where
       ];
     }
 
+-- ---- a request that is found
+
+pub found_waiting : (next number : ℕ) (slots : Slots) (request : Request) → IsWindow next slots → Some request ≡ get (waiting_of next slots) number → (next < number) × (number < next + width) × IsSent number request
+found_waiting next number slots request is e =
+    subst (λ (o : Option Request). IfSome o (λ r. (next < number) × (number < next + width) × IsSent number r)) (sym e) (are_waiting next slots is number)
+
+-- ---- slots after a call
+
+pub kept_slots : (old new : Slots) (number : ℕ) (request : Request) → new ≡ set old (place_of number) (Some request) → (next : ℕ) → IsWindow next old → next < number → number < next + width → IsSent number request →
+    IsWindow next new × (waiting_of next new ≡ insert (waiting_of next old) number request)
+kept_slots old new number request e next is low high sent =
+    subst (λ (slots : Slots). IsWindow next slots × (waiting_of next slots ≡ insert (waiting_of next old) number request)) (sym e)
+    (kept_window next old is number request low high sent, kept_is next old is number request low high)
+
+pub passed_slots : (old new : Slots) (next : ℕ) → new ≡ set old (place_of (next + 1)) None → IsWindow next old →
+    IsWindow (next + 1) new × (waiting_of (next + 1) new ≡ remove (waiting_of next old) (next + 1))
+passed_slots old new next e is =
+    subst (λ (slots : Slots). IsWindow (next + 1) slots × (waiting_of (next + 1) slots ≡ remove (waiting_of next old) (next + 1))) (sym e)
+    (passed_window next old is, passed_is next old is)
+
+-- the numbers by other names
+pub passed_between : (a b next after : ℕ) (old new : Slots) → a ≡ next → b ≡ after → (IsWindow a old → IsWindow b new × (waiting_of b new ≡ above b (waiting_of a old))) → IsWindow next old →
+    IsWindow after new × (waiting_of after new ≡ above after (waiting_of next old))
+passed_between a b next after old new e f h =
+    subst (λ (n : ℕ). IsWindow n old → IsWindow after new × (waiting_of after new ≡ above after (waiting_of n old))) e
+    (subst (λ (n : ℕ). IsWindow a old → IsWindow n new × (waiting_of n new ≡ above n (waiting_of a old))) f h)
+
 -- ---- nothing waits
 
 none_kept : (count next : ℕ) (slots : Slots) → ((place : ℕ) → slot_at slots place ≡ None) → waiting_in count next slots ≡ empty
@@ -204,7 +228,7 @@ no_request zero place = refl
 no_request (suc count) zero = refl
 no_request (suc count) (suc place) = no_request count place
 
-pub nothing_waits : (next : ℕ) → window next (replicate width None) ≡ empty
+pub nothing_waits : (next : ℕ) → waiting_of next (replicate width None) ≡ empty
 nothing_waits next = none_kept reach next (replicate width None) (no_request width)
 
 pub free_window : (next : ℕ) → IsWindow next (replicate width None)
@@ -213,6 +237,9 @@ free_window next = record {
   free = no_request width (place_of next);
   sent = λ q l h. subst (λ (o : Option Request). IfSome o (IsSent q)) (sym (no_request width (place_of q))) tt;
 }
+
+pub free_slots : (slots : Slots) → slots ≡ replicate width None → (next : ℕ) → IsWindow next slots × (waiting_of next slots ≡ empty)
+free_slots slots e next = subst (λ (s : Slots). IsWindow next s × (waiting_of next s ≡ empty)) (sym e) (free_window next, nothing_waits next)
 
 -- ---- how many wait
 

@@ -1,21 +1,18 @@
 -- Turns of a keeper, case by case.
-use Rattle.std.proofs.Common.{◌≡◌, ◌≢◌, ◌⊎◌, inl, inr, ℕ, zero, suc, get_or, ◌+◌, ◌-◌, ◌<◌, ◌≤◌, ◌==◌, ◌&&◌, nat_lt, nat_le, not, Bool, true, false, if◌then◌else◌, List, [], ◌∷◌, length, Option, Some, None, Result, Ok, Err, refl, sym, ap, subst, ◌∙◌, arith}
+use Rattle.std.proofs.Common.{◌≡◌, ◌≢◌, ◌⊎◌, inl, inr, ℕ, ◌+◌, ◌-◌, ◌<◌, ◌≤◌, ◌==◌, ◌&&◌, nat_lt, nat_le, not, Bool, true, false, if◌then◌else◌, Option, Some, None, Result, Ok, Err, refl, sym, ap, subst, ◌∙◌, arith}
 use Rattle.std.specs.Bool.{MatchBool}
 use Rattle.std.specs.Option.{is_some, option_map, MatchOption}
-use Rattle.std.specs.List.{slice_get}
 use Rattle.std.specs.FinMap.{get, insert}
 use Rattle.std.proofs.lemmas.Bool.{cond-true, cond-false, false≢true, false_from_ne_true, and_parts, leb-true, le-leb, ltb-true, lt-ltb, le-ltb, eq-eqb}
 use Rattle.uefi_vars.specs.Plan.{PlanParts}
 use Rattle.boot_requests.specs.declared.request.Request.{Request}
-use Rattle.boot_requests.specs.declared.request.Request.TheVariants as request
 use Rattle.boot_requests.specs.declared.fault.FrameFault.{FrameFault}
 use Rattle.boot_requests.specs.declared.outcome.Outcome.{Outcome}
-use Rattle.boot_requests.specs.declared.outcome.Outcome.TheVariants.{Done, Exists, Missing, OrderRepeats, OrderUnknown}
 use Rattle.boot_requests.specs.declared.reply.Reply.{Reply}
 use Rattle.boot_requests.specs.declared.reply.Reply.TheVariants as reply
 use Rattle.boot_requests.specs.Limits.{width}
-use Rattle.boot_requests.specs.State.{State}
-use Rattle.boot_requests.specs.Apply.{outcome_of, effect, kept_with, applied}
+use Rattle.boot_requests.specs.State.{State, MarkParts}
+use Rattle.boot_requests.specs.Apply.{outcome_of, effect, applied}
 use Rattle.boot_requests.specs.Seen.{Came}
 use Rattle.boot_requests.specs.Window.{Requests, is_open}
 use Rattle.boot_requests.specs.Answer.{kept_outcome, again}
@@ -23,8 +20,10 @@ use Rattle.boot_requests.specs.Turn.{Plain, settled, delivered, Turn}
 use Rattle.boot_requests.specs.Keeping.{AreWaiting}
 use Rattle.boot_requests.specs.Machine.{plain_of}
 use Rattle.boot_requests.specs.Edit.{with_mark}
+use Rattle.boot_requests.specs.Marks.{mark_of, mark_in, mark_after}
 use Rattle.std.proofs.lemmas.Bool.Decides.{nat_tests}
 use Rattle.boot_requests.specs.Answer.{IsReplyTo}
+use Rattle.boot_requests.proofs.Runs.{effect_count, effect_kept}
 use Rattle.boot_requests.proofs.Stored.{request_apart}
 use Rattle.boot_requests.proofs.Fills.{none_waits, settled_none}
 
@@ -131,55 +130,17 @@ module _ (k : Plain) (number : ℕ) (r : Request) where
               (told ∙ ap (λ (p : Plain). reply.Applied (outcome_of k.machine r) p.machine.count) to_is ∙ sym (cond-true _ _ _ (eq-eqb number next here))),
         )
 
--- ---- what becomes of the state
-
-same_count : (m : State) (r : Request) (outcome : Outcome) → (effect m r outcome).count ≡ m.count
-same_count m (request.Add entry option) Done = refl
-same_count m (request.Replace entry option) Done = refl
-same_count m (request.Remove entry) Done = refl
-same_count m (request.Order numbers) Done = refl
-same_count m (request.Next entry) Done = refl
-same_count m r Exists = refl
-same_count m r Missing = refl
-same_count m r OrderRepeats = refl
-same_count m r OrderUnknown = refl
-
 -- ---- the state after a request
 
-same_kept : (m : State) (r : Request) (outcome : Outcome) → (effect m r outcome).kept ≡ m.kept
-same_kept m (request.Add entry option) Done = refl
-same_kept m (request.Replace entry option) Done = refl
-same_kept m (request.Remove entry) Done = refl
-same_kept m (request.Order numbers) Done = refl
-same_kept m (request.Next entry) Done = refl
-same_kept m r Exists = refl
-same_kept m r Missing = refl
-same_kept m r OrderRepeats = refl
-same_kept m r OrderUnknown = refl
-
-with_its_outcome : (m : State) (r : Request) (count : ℕ) (kept : List Outcome) → count ≡ m.count + 1 → kept ≡ kept_with m.kept (outcome_of m r) → with_mark count kept (effect m r (outcome_of m r)) ≡ applied m r
-with_its_outcome m r count kept c k =
+with_its_outcome : (m : State) (r : Request) (mark : MarkParts) → mark ≡ mark_after (mark_in m) (outcome_of m r) → with_mark mark (effect m r (outcome_of m r)) ≡ applied m r
+with_its_outcome m r mark e =
     let o = outcome_of m r in
-    let counted : count ≡ (effect m r o).count + 1 = c ∙ ap (λ (n : ℕ). n + 1) (sym (same_count m r o)) in
-    let more : kept ≡ kept_with (effect m r o).kept o = k ∙ ap (λ (ks : List Outcome). kept_with ks o) (sym (same_kept m r o)) in
-    λ i. with_mark (counted i) (more i) (effect m r o)
+    let same : mark_in m ≡ mark_in (effect m r o) = λ i. mark_of (sym (effect_count m r o) i) (sym (effect_kept m r o) i) in
+    ap (λ (k : MarkParts). with_mark k (effect m r o)) (e ∙ ap (λ (k : MarkParts). mark_after k o) same)
 
-pub applied_is : (m : State) (r : Request) (outcome : Outcome) (count : ℕ) (kept : List Outcome) → outcome ≡ outcome_of m r → count ≡ m.count + 1 → kept ≡ kept_with m.kept outcome → with_mark count kept (effect m r outcome) ≡ applied m r
-applied_is m r outcome count kept o c k =
-    subst (λ (x : Outcome). kept ≡ kept_with m.kept x → with_mark count kept (effect m r x) ≡ applied m r) (sym o) (with_its_outcome m r count kept c) k
-
--- ---- answers to what was applied before
-
-pub old : (m : State) (number : ℕ) → number < m.count - length m.kept → reply.Old ≡ again (kept_outcome m number)
-old m number low = sym (ap again (cond-true _ _ _ (lt-ltb number (m.count - length m.kept) low)))
-
-pub repeated : (m : State) (number : ℕ) (outcome : Outcome) → m.count - length m.kept ≤ number → slice_get m.kept (number - (m.count - length m.kept)) ≡ Some outcome → reply.Repeat outcome ≡ again (kept_outcome m number)
-repeated m number outcome high found = sym (ap again (cond-false _ _ _ (le-ltb number (m.count - length m.kept) high) ∙ found))
-
-pub found_at : (xs : List Outcome) (i : ℕ) (outcome : Outcome) → i < length xs → outcome ≡ get_or xs i outcome → slice_get xs i ≡ Some outcome
-found_at [] i outcome h e = absurd (omega (arith, h))
-found_at (x ∷ xs) zero outcome h e = ap (λ (o : Outcome). Some o) (sym e)
-found_at (x ∷ xs) (suc i) outcome h e = found_at xs i outcome (omega (arith, h)) e
+pub applied_is : (m : State) (r : Request) (outcome : Outcome) (mark : MarkParts) → outcome ≡ outcome_of m r → mark ≡ mark_after (mark_in m) outcome → with_mark mark (effect m r outcome) ≡ applied m r
+applied_is m r outcome mark o e =
+    subst (λ (x : Outcome). mark ≡ mark_after (mark_in m) x → with_mark mark (effect m r x) ≡ applied m r) (sym o) (with_its_outcome m r mark) e
 
 -- ---- a plan, or none
 

@@ -3,7 +3,7 @@ use Rattle.std.proofs.Common.{◌≡◌, ◌≢◌, ◌⊎◌, ℕ, ◌/◌, ◌
 use Rattle.std.specs.declared.cmp.Ordering.{Ordering}
 use Rattle.std.specs.Ordering.{eq_by_cmp}
 use Rattle.std.specs.Cmp.{IsTotalOrder}
-use Rattle.std.specs.FinMap.{FinMap, get, insert, remove, get-insert, get-remove}
+use Rattle.std.specs.FinMap.{FinMap, get, insert, remove, get-insert, get-remove, same_map, nat_cmp-IsAntisymmetric, slice_cmp-IsAntisymmetric}
 use Rattle.std.proofs.lemmas.Bool.{cond-true, cond-false, false≢true, false_from_ne_true}
 use Rattle.std.proofs.lemmas.Bool.Decides.{nat_tests}
 use Rattle.std.proofs.lemmas.Cmp.{eq_by_cmp_equiv, nat_cmp_total, nat_list_cmp_total}
@@ -57,6 +57,13 @@ stored_here vars name (Some bytes) = insert_here nat_list_cmp_total exact_bytes 
 pub stored_apart : (vars : Variables) (name : List ℕ) (stored : Option (List ℕ)) (other : List ℕ) → name ≢ other → get (with_stored vars name stored) other ≡ get vars other
 stored_apart vars name None other differ = remove_apart nat_list_cmp_total exact_bytes vars name other differ
 stored_apart vars name (Some bytes) other differ = insert_apart nat_list_cmp_total exact_bytes vars name bytes other differ
+
+-- what is stored already changes nothing
+pub stored_again : (vars : Variables) (name : List ℕ) → with_stored vars name (get vars name) ≡ vars
+stored_again vars name = same_map nat_list_cmp_total (slice_cmp-IsAntisymmetric nat_cmp-IsAntisymmetric) _ _ (λ other. ⊎_elim
+    (λ same. subst (λ (n : List ℕ). get (with_stored vars name (get vars name)) n ≡ get vars n) same (stored_here vars name (get vars name)))
+    (λ differ. stored_apart vars name (get vars name) other differ)
+    (same_name_or_not name other))
 
 -- what isn't stored isn't after a removal
 pub still_none : (vars : Variables) (name other : List ℕ) → get vars other ≡ None → get (with_stored vars name None) other ≡ None

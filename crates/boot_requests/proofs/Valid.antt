@@ -1,5 +1,5 @@
 -- A request that was sent leads from a state to a state, and so does a run of them.
-use Rattle.std.proofs.Common.{◌≡◌, ℕ, zero, suc, ◌+◌, ◌-◌, ◌*◌, ◌^◌, ◌<◌, ◌≤◌, Bool, true, false, cond, eqb, ltb, not, min, List, [], ◌∷◌, ◌++◌, length, filter, Option, Some, None, refl, sym, ap, subst, ◌∙◌, arith}
+use Rattle.std.proofs.Common.{◌≡◌, ℕ, zero, suc, ◌+◌, ◌-◌, ◌*◌, ◌^◌, ◌<◌, ◌≤◌, Bool, true, false, cond, eqb, ltb, not, List, [], ◌∷◌, ◌++◌, length, drop, filter, Option, Some, None, refl, sym, ap, subst, ◌∙◌, arith}
 use Rattle.std.specs.Prelude.{IfSome, if◌then◌else◌}
 use Rattle.std.specs.List.{AllByRecursion, flat_map}
 use Rattle.std.specs.Int.{w16, to_le_bytes}
@@ -12,19 +12,22 @@ use Rattle.uefi_option.specs.LoadOption.{OptionParts, IsOption, SpellsOption, op
 use Rattle.uefi_vars.specs.Vars.{IsData}
 use Rattle.uefi_vars.specs.Order.{order_max, IsEntryNumber, IsOrder}
 use Rattle.boot_requests.specs.declared.request.Request.{Request}
-use Rattle.boot_requests.specs.declared.request.Request.TheVariants.{Add, Replace, Remove, Order, Next}
+use Rattle.boot_requests.specs.declared.request.Request.TheVariants.{Add, Replace, Remove, Order, Next, AddFree}
+use Rattle.boot_requests.specs.declared.outcome.Code.{Code}
+use Rattle.boot_requests.specs.declared.outcome.Code.TheVariants.{Done, Exists, Missing, OrderRepeats, OrderUnknown, NoFree}
 use Rattle.boot_requests.specs.declared.outcome.Outcome.{Outcome}
-use Rattle.boot_requests.specs.declared.outcome.Outcome.TheVariants.{Done, Exists, Missing, OrderRepeats, OrderUnknown}
 use Rattle.boot_requests.specs.Limits.{kept_max, no_number, payload_max}
+use Rattle.boot_requests.specs.Outcome.{IsOutcome}
 use Rattle.boot_requests.specs.Request.{IsRequest, payload_of}
 use Rattle.boot_requests.specs.Frame.{IsSent}
-use Rattle.boot_requests.specs.State.{State, IsState}
-use Rattle.boot_requests.specs.Apply.{is_in, appended, next_without, outcome_of, changed, effect, kept_with, counted, applied, booted}
+use Rattle.boot_requests.specs.State.{State, IsMark, IsState}
+use Rattle.boot_requests.specs.Apply.{is_in, appended, next_without, outcome_of, added, changed, effect_by, effect, kept_with, counted, applied, booted}
 use Rattle.boot_requests.specs.Seen.{Seen}
 use Rattle.boot_requests.specs.Changes.{Change, Applies, Boots, folded, numbers_in, rising}
 use Rattle.boot_requests.specs.Run.{gap_at, history, state_at}
 use Rattle.boot_requests.specs.Keeping.{AreRead}
 use Rattle.boot_requests.proofs.Numbers.{tie_test, get_inserted}
+use Rattle.boot_requests.proofs.Effects.{outcome_valid}
 use Rattle.boot_requests.proofs.Runs.{effect_count, applied_count}
 use Rattle.boot_requests.proofs.Histories.{AreSent, history_sent, history_numbers}
 
@@ -32,9 +35,14 @@ use Rattle.boot_requests.proofs.Histories.{AreSent, history_sent, history_number
 abbrev IsEntry : ℕ → Option (List ℕ) → Type 0
 IsEntry number stored = IfSome stored (λ bytes. IsEntryNumber number × IsData bytes)
 
-push_all : (P : ℕ → Type 0) (xs : List ℕ) (x : ℕ) → AllByRecursion P xs → P x → AllByRecursion P (xs ++ x ∷ [])
+push_all : {A : Type 0} (P : A → Type 0) (xs : List A) (x : A) → AllByRecursion P xs → P x → AllByRecursion P (xs ++ x ∷ [])
 push_all P [] x h p = (p, tt)
 push_all P (y ∷ ys) x h p = (h.0, push_all P ys x h.1 p)
+
+drop_all : {A : Type 0} (P : A → Type 0) (n : ℕ) (xs : List A) → AllByRecursion P xs → AllByRecursion P (drop n xs)
+drop_all P zero xs h = h
+drop_all P (suc n) [] h = tt
+drop_all P (suc n) (x ∷ xs) h = drop_all P n xs h.1
 
 filter_all : (P : ℕ → Type 0) (test : ℕ → Bool) (xs : List ℕ) → AllByRecursion P xs → AllByRecursion P (filter test xs)
 filter_all P test [] h = tt
@@ -64,12 +72,27 @@ next_valid : (next : Option ℕ) (entry : ℕ) → IfSome next IsEntryNumber →
 next_valid None entry h = tt
 next_valid (Some next) entry h = elim (eqb next entry) as (λ b. IfSome (if b then None else Some next) IsEntryNumber) [ true ↦ tt | false ↦ h ]
 
+told_valid : (code : Code) (told : Option ℕ) → IfSome told (λ entry. (code ≡ Done) × IsEntryNumber entry) → IfSome told IsEntryNumber
+told_valid code None h = tt
+told_valid code (Some entry) h = h.1
+
+-- a mark leads to one, with one more outcome
+kept_valid : (kept : List Outcome) (outcome : Outcome) (count : ℕ) → count < no_number → IsMark count kept → IsOutcome outcome → IsMark (count + 1) (kept_with kept outcome)
+kept_valid kept outcome count below h is =
+    let all : List Outcome = kept ++ outcome ∷ [] in
+    let one_more : length all ≡ length kept + 1 = simp length-append (omega arith) in
+    record {
+      four_bytes = let small : count + 1 < 2 ^ 32 = omega arith in small;
+      least = let least = h.least in simp length-drop (omega (arith, one_more));
+      most = let most = h.most in simp length-drop (omega (arith, one_more));
+      outcomes = drop_all IsOutcome (length all - kept_max) all (push_all IsOutcome kept outcome h.outcomes is);
+    }
+
 -- the spelling of an option is the data of an entry, where a payload has room for it
 module _ (spelled : (option : OptionParts) → IsOption option → (bytes : List ℕ) × SpellsOption bytes option × AllByRecursion IsByte bytes) where
-  data_of : (entry : ℕ) (option : OptionParts) → IsOption option → length (to_le_bytes w16 entry ++ option_bytes option) ≤ payload_max → IsData (option_bytes option)
-  data_of entry option valid len =
+  data_of : (option : OptionParts) → IsOption option → length (option_bytes option) ≤ payload_max → IsData (option_bytes option)
+  data_of option valid len =
       let s = spelled option valid in
-      let shorter : length (option_bytes option) ≤ payload_max = omega (arith, length-append (to_le_bytes w16 entry) (option_bytes option)) in
       record {
         some = λ none. some_bytes option (ap length none);
         len = omega arith;
@@ -96,22 +119,31 @@ module _ (spelled : (option : OptionParts) → IsOption option → (bytes : List
   units_len [] = refl
   units_len (n ∷ ns) = let rest = units_len ns in omega (arith, length-append (to_le_bytes w16 n) (flat_map (to_le_bytes w16) ns))
 
-  pub changed_valid : (m : State) (request : Request) → IsState m → IsRequest request → length (payload_of request) ≤ payload_max → IsState (changed m request)
-  changed_valid m (Add entry option) h valid len = record {
-    entries = stored_valid m entry (option_bytes option) h valid.0 (data_of entry option valid.1 len);
-    order = appended_valid m.order entry h.order valid.0;
+  after_number : (entry : ℕ) (bytes : List ℕ) → length (to_le_bytes w16 entry ++ bytes) ≤ payload_max → length bytes ≤ payload_max
+  after_number entry bytes len = omega (arith, length-append (to_le_bytes w16 entry) bytes)
+
+  added_valid : (m : State) (entry : ℕ) (option : OptionParts) → IsState m → IsEntryNumber entry → IsOption option → length (option_bytes option) ≤ payload_max → IsState (added m entry option)
+  added_valid m entry option h number valid len = record {
+    entries = stored_valid m entry (option_bytes option) h number (data_of option valid len);
+    order = appended_valid m.order entry h.order number;
     next = h.next;
     mark = h.mark;
     others = h.others;
   }
-  changed_valid m (Replace entry option) h valid len = record {
-    entries = stored_valid m entry (option_bytes option) h valid.0 (data_of entry option valid.1 len);
+
+  changed_valid : (m : State) (request : Request) (told : Option ℕ) → IsState m → IsRequest request → length (payload_of request) ≤ payload_max → IfSome told IsEntryNumber →
+      IsState (changed m request told)
+  changed_valid m (Add entry option) told h valid len is = added_valid m entry option h valid.0 valid.1 (after_number entry (option_bytes option) len)
+  changed_valid m (AddFree option) None h valid len is = h
+  changed_valid m (AddFree option) (Some entry) h valid len is = added_valid m entry option h is valid len
+  changed_valid m (Replace entry option) told h valid len is = record {
+    entries = stored_valid m entry (option_bytes option) h valid.0 (data_of option valid.1 (after_number entry (option_bytes option) len));
     order = h.order;
     next = h.next;
     mark = h.mark;
     others = h.others;
   }
-  changed_valid m (Remove entry) h valid len = record {
+  changed_valid m (Remove entry) told h valid len is = record {
     entries = removed_valid m entry h;
     order = record {
       numbers = filter_all IsEntryNumber (λ other. not (eqb other entry)) m.order h.order.numbers;
@@ -121,14 +153,14 @@ module _ (spelled : (option : OptionParts) → IsOption option → (bytes : List
     mark = h.mark;
     others = h.others;
   }
-  changed_valid m (Order numbers) h valid len = record {
+  changed_valid m (Order numbers) told h valid len is = record {
     entries = h.entries;
     order = record { numbers = valid; len = let all = units_len numbers in omega arith };
     next = h.next;
     mark = h.mark;
     others = h.others;
   }
-  changed_valid m (Next entry) h valid len = record {
+  changed_valid m (Next entry) told h valid len is = record {
     entries = h.entries;
     order = h.order;
     next = valid;
@@ -136,24 +168,25 @@ module _ (spelled : (option : OptionParts) → IsOption option → (bytes : List
     others = h.others;
   }
 
-  effect_valid : (m : State) (request : Request) (outcome : Outcome) → IsState m → IsRequest request → length (payload_of request) ≤ payload_max → IsState (effect m request outcome)
-  effect_valid m request Done h valid len = changed_valid m request h valid len
-  effect_valid m request Exists h valid len = h
-  effect_valid m request Missing h valid len = h
-  effect_valid m request OrderRepeats h valid len = h
-  effect_valid m request OrderUnknown h valid len = h
+  valid_by : (m : State) (request : Request) (code : Code) (told : Option ℕ) → IsState m → IsRequest request → length (payload_of request) ≤ payload_max → IfSome told IsEntryNumber →
+      IsState (effect_by m request code told)
+  valid_by m request Done told h valid len is = changed_valid m request told h valid len is
+  valid_by m request Exists told h valid len is = h
+  valid_by m request Missing told h valid len is = h
+  valid_by m request OrderRepeats told h valid len is = h
+  valid_by m request OrderUnknown told h valid len is = h
+  valid_by m request NoFree told h valid len is = h
 
-  kept_len : (kept : List Outcome) (outcome : Outcome) (count : ℕ) → length kept ≡ min kept_max count → length (kept_with kept outcome) ≡ min kept_max (count + 1)
-  kept_len kept outcome count h =
-      let all : length (kept ++ outcome ∷ []) ≡ length kept + 1 = simp length-append (omega arith) in
-      simp length-drop (omega (arith, all))
+  effect_valid : (m : State) (request : Request) (outcome : Outcome) → IsState m → IsRequest request → length (payload_of request) ≤ payload_max → IsOutcome outcome →
+      IsState (effect m request outcome)
+  effect_valid m request outcome h valid len is = valid_by m request outcome.code outcome.entry h valid len (told_valid outcome.code outcome.entry is)
 
-  counted_valid : (m : State) (outcome : Outcome) → m.count < no_number → IsState m → IsState (counted m outcome)
-  counted_valid m outcome below h = record {
+  counted_valid : (m : State) (outcome : Outcome) → m.count < no_number → IsState m → IsOutcome outcome → IsState (counted m outcome)
+  counted_valid m outcome below h is = record {
     entries = h.entries;
     order = h.order;
     next = h.next;
-    mark = record { four_bytes = let small : m.count + 1 < 2 ^ 32 = omega arith in small; len = kept_len m.kept outcome m.count h.mark.len };
+    mark = kept_valid m.kept outcome m.count below h.mark is;
     others = h.others;
   }
 
@@ -162,7 +195,8 @@ module _ (spelled : (option : OptionParts) → IsOption option → (bytes : List
   applied_valid m request h sent =
       let outcome = outcome_of m request in
       let below : (effect m request outcome).count < no_number = omega (arith, effect_count m request outcome, sent.1.below) in
-      counted_valid (effect m request outcome) outcome below (effect_valid m request outcome h sent.1.valid sent.1.len)
+      let is = outcome_valid m request in
+      counted_valid (effect m request outcome) outcome below (effect_valid m request outcome h sent.1.valid sent.1.len is) is
 
   pub booted_valid : (m : State) → IsState m → IsState (booted m)
   booted_valid m h = record { entries = h.entries; order = h.order; next = tt; mark = h.mark; others = h.others }

@@ -1,16 +1,19 @@
 -- What requests and boots do to a state.
 use Rattle.std.specs.Prelude.{ℕ, ◌+◌, ◌-◌, ◌==◌, ◌||◌, not, nat_lt, Bool, false, if◌then◌else◌, List, [], ◌∷◌, ◌++◌, length, drop, filter, Option, Some, None}
 use Rattle.std.specs.List.{list_any, list_all}
-use Rattle.std.specs.FinMap.{get, contains_key, insert, remove}
-use Rattle.uefi_option.specs.LoadOption.{option_bytes}
+use Rattle.std.specs.FinMap.{get, contains_key, keys, insert, remove}
+use Rattle.uefi_option.specs.LoadOption.{OptionParts, option_bytes}
 use Rattle.uefi_vars.specs.Order.{order_max}
 use Rattle.uefi_vars.specs.Plan.{PlanParts, IsPlan}
 use Rattle.boot_requests.specs.declared.request.Request.{Request}
-use Rattle.boot_requests.specs.declared.request.Request.TheVariants.{Add, Replace, Remove, Order, Next}
+use Rattle.boot_requests.specs.declared.request.Request.TheVariants.{Add, Replace, Remove, Order, Next, AddFree}
+use Rattle.boot_requests.specs.declared.outcome.Code.{Code}
+use Rattle.boot_requests.specs.declared.outcome.Code.TheVariants.{Done, Exists, Missing, OrderRepeats, OrderUnknown, NoFree}
 use Rattle.boot_requests.specs.declared.outcome.Outcome.{Outcome}
-use Rattle.boot_requests.specs.declared.outcome.Outcome.TheVariants.{Done, Exists, Missing, OrderRepeats, OrderUnknown}
-use Rattle.boot_requests.specs.Limits.{kept_max}
+use Rattle.boot_requests.specs.Limits.{kept_max, number_count}
+use Rattle.boot_requests.specs.Outcome.{without_entry, added_at}
 use Rattle.boot_requests.specs.State.{State}
+use Rattle.boot_requests.specs.Window.{gap_from}
 
 -- whether the number stands in the list
 abbrev pub is_in : List ℕ → ℕ → Bool
@@ -39,34 +42,71 @@ next_without (Some next) entry = if next == entry then None else Some next
 abbrev pub is_there : State → ℕ → Bool
 is_there m entry = contains_key m.entries entry
 
--- what comes of a request
+-- the least number under which no entry is stored
+abbrev pub free_number : State → ℕ
+free_number m = gap_from 0 (keys m.entries)
+
+-- What comes of a request. An entry is told only if the request left its number open, and was carried out.
 abbrev pub outcome_of : State → Request → Outcome
-outcome_of m (Add entry option) = if is_there m entry then Exists else Done
-outcome_of m (Replace entry option) = if is_there m entry then Done else Missing
-outcome_of m (Remove entry) = if is_there m entry then Done else Missing
+outcome_of m (Add entry option) = without_entry (if is_there m entry then Exists else Done)
+outcome_of m (Replace entry option) = without_entry (if is_there m entry then Done else Missing)
+outcome_of m (Remove entry) = without_entry (if is_there m entry then Done else Missing)
 outcome_of m (Order numbers) =
-    if repeats numbers then OrderRepeats else if list_all (is_there m) numbers then Done else OrderUnknown
-outcome_of m (Next entry) = if is_there m entry then Done else Missing
+    without_entry (if repeats numbers then OrderRepeats else if list_all (is_there m) numbers then Done else OrderUnknown)
+outcome_of m (Next entry) = without_entry (if is_there m entry then Done else Missing)
+outcome_of m (AddFree option) =
+    if nat_lt (free_number m) number_count then added_at (free_number m) else without_entry NoFree
 
--- what a request that is done changes
-abbrev pub changed : State → Request → State
-changed m (Add entry option) =
+-- the option is stored under the number, which is appended to the order
+abbrev pub added : State → ℕ → OptionParts → State
+added m entry option =
     record m { entries = insert m.entries entry (option_bytes option); order = appended m.order entry }
-changed m (Replace entry option) = record m { entries = insert m.entries entry (option_bytes option) }
-changed m (Remove entry) =
+
+-- what a request that is done changes; if it left the number of its entry open, that is the one which its outcome tells
+abbrev pub changed : State → Request → Option ℕ → State
+changed m (Add entry option) told = added m entry option
+changed m (Replace entry option) told = record m { entries = insert m.entries entry (option_bytes option) }
+changed m (Remove entry) told =
     record m { entries = remove m.entries entry; order = without m.order entry; next = next_without m.next entry }
-changed m (Order numbers) = record m { order = numbers }
-changed m (Next entry) = record m { next = Some entry }
+changed m (Order numbers) told = record m { order = numbers }
+changed m (Next entry) told = record m { next = Some entry }
+changed m (AddFree option) None = m
+changed m (AddFree option) (Some entry) = added m entry option
 
--- the effect of a request with its outcome: none where it isn't done
+-- the effect of a request with this code and entry: none where it isn't done
+abbrev pub effect_by : State → Request → Code → Option ℕ → State
+effect_by m request Done told = changed m request told
+effect_by m request Exists told = m
+effect_by m request Missing told = m
+effect_by m request OrderRepeats told = m
+effect_by m request OrderUnknown told = m
+effect_by m request NoFree told = m
+
+-- the effect of a request with its outcome
 abbrev pub effect : State → Request → Outcome → State
-effect m request Done = changed m request
-effect m request Exists = m
-effect m request Missing = m
-effect m request OrderRepeats = m
-effect m request OrderUnknown = m
+effect m request outcome = effect_by m request outcome.code outcome.entry
 
--- the outcomes with one more behind them, of which the last ones are kept
+-- what was stored of an entry: an option, or nothing where the entry was removed
+pub record Stored : Type 0 where
+  pub entry : ℕ
+  pub option : Option OptionParts
+
+abbrev pub stores : ℕ → Option OptionParts → Stored
+stores entry option = record { entry = entry; option = option }
+
+-- what a request stored that came to this code and tells this entry
+abbrev pub stored_as : Request → Code → Option ℕ → Option Stored
+stored_as (Add entry option) Done told = Some (stores entry (Some option))
+stored_as (Replace entry option) Done told = Some (stores entry (Some option))
+stored_as (Remove entry) Done told = Some (stores entry None)
+stored_as (AddFree option) Done (Some entry) = Some (stores entry (Some option))
+stored_as _ _ _ = None
+
+-- what a request that came to this outcome stored, if it stored or removed an entry
+abbrev pub stored_by : Request → Outcome → Option Stored
+stored_by request outcome = stored_as request outcome.code outcome.entry
+
+-- the outcomes with one more after them, of which the last ones are kept
 abbrev pub kept_with : List Outcome → Outcome → List Outcome
 kept_with kept outcome = let all = kept ++ outcome ∷ [] in drop (length all - kept_max) all
 

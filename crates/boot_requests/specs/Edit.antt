@@ -4,7 +4,7 @@ use Rattle.std.specs.FinMap.{insert, remove}
 use Rattle.uefi_vars.specs.Vars.{Variables}
 use Rattle.boot_requests.specs.declared.request.Request.{Request}
 use Rattle.boot_requests.specs.declared.outcome.Outcome.{Outcome}
-use Rattle.boot_requests.specs.State.{State}
+use Rattle.boot_requests.specs.State.{State, MarkParts}
 use Rattle.boot_requests.specs.Apply.{outcome_of, effect, without, appended, next_without}
 use Rattle.boot_requests.specs.Keeping.{IsStateOf}
 
@@ -31,8 +31,8 @@ with_entry number bytes m = record m { entries = insert m.entries number bytes }
 abbrev pub without_entry : ℕ → State → State
 without_entry number m = record m { entries = remove m.entries number }
 
-abbrev pub with_mark : ℕ → List Outcome → State → State
-with_mark count kept m = record m { count = count; kept = kept }
+abbrev pub with_mark : MarkParts → State → State
+with_mark mark m = record m { count = mark.next; kept = mark.kept }
 
 -- the number behind the order, or out of it, and out of BootNext
 abbrev pub with_last : ℕ → State → State

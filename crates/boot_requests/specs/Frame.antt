@@ -3,16 +3,19 @@ use Rattle.std.specs.Prelude.{◌≡◌, ℕ, ◌<◌, ◌≤◌, List, [], ◌�
 use Rattle.std.specs.Int.{w32, to_le_bytes}
 use Rattle.boot_requests.specs.declared.request.Request.{Request}
 use Rattle.boot_requests.specs.Limits.{payload_max, no_number}
+use Rattle.boot_requests.specs.declared.frame.Kind.{Kind}
+use Rattle.boot_requests.specs.Kind.{version_of, byte_of}
 use Rattle.boot_requests.specs.Request.{IsRequest, kind_of, payload_of}
 
 -- the two bytes at the front of a frame
 abbrev pub magic : List ℕ
 magic = 0x42 ∷ 0x51 ∷ []
 
--- The twelve bytes in front of a payload: the magic, the version, the kind, the request's number in four bytes, and the
--- length of the payload in four.
-abbrev pub header_bytes : ℕ → ℕ → ℕ → List ℕ
-header_bytes kind number len = magic ++ (1 ∷ kind ∷ []) ++ to_le_bytes w32 number ++ to_le_bytes w32 len
+-- The twelve bytes in front of a payload: the magic, the version and the byte of the kind, the request's number in four
+-- bytes, and the length of the payload in four.
+abbrev pub header_bytes : Kind → ℕ → ℕ → List ℕ
+header_bytes kind number len =
+    magic ++ (version_of kind ∷ byte_of kind ∷ []) ++ to_le_bytes w32 number ++ to_le_bytes w32 len
 
 -- the spelling of a request with its number
 abbrev pub frame_bytes : ℕ → Request → List ℕ

@@ -1,14 +1,13 @@
 -- Which run a plain state stands for, and with which variables it starts.
-use Rattle.std.specs.Prelude.{◌≡◌, ◌⊎◌, ℕ, ◌+◌, ◌<◌, ◌==◌, nat_lt, Bool, false, List, [], ◌∷◌, Option, Some, None, IfSome}
+use Rattle.std.specs.Prelude.{◌≡◌, ◌≢◌, ℕ, ◌+◌, ◌<◌, nat_lt, true, List, [], ◌∷◌, Option, Some, None, IfSome}
 use Rattle.std.specs.FinMap.{get, retain_keys}
-use Rattle.uefi_option.specs.LoadOption.{SpellsOption}
-use Rattle.uefi_vars.specs.declared.boot_plan.Choice.{Choice}
+use Rattle.uefi_option.specs.LoadOption.{OptionParts, SpellsOption}
 use Rattle.uefi_vars.specs.Vars.{Variables}
 use Rattle.boot_requests.specs.declared.request.Request.{Request}
-use Rattle.boot_requests.specs.declared.request.Request.TheVariants.{Add, Replace, Remove, Order, Next}
 use Rattle.boot_requests.specs.Limits.{width}
 use Rattle.boot_requests.specs.Frame.{IsSent}
 use Rattle.boot_requests.specs.State.{State, IsState, IsImage}
+use Rattle.boot_requests.specs.Apply.{is_there, outcome_of, Stored, stored_by}
 use Rattle.boot_requests.specs.Seen.{Seen, Came, Garbled, Prepare, Hand, Restart}
 use Rattle.boot_requests.specs.Window.{Requests}
 use Rattle.boot_requests.specs.Run.{accepted, gap_at, state_at, IsPending}
@@ -45,45 +44,23 @@ AreRead (Prepare ∷ before) = AreRead before
 AreRead (Hand ∷ before) = AreRead before
 AreRead (Restart ∷ before) = AreRead before
 
--- What is stored of an entry, as the last request that stored or removed it is this one: a spelling of the option that was
--- asked for, or nothing; and what was stored before where there is no such request.
-abbrev pub IsLeft : Option (List ℕ) → Option Request → Option (List ℕ) → Type 0
+-- what stands under an entry's number is a spelling of the option, or nothing where there is none
+abbrev pub IsStored : Option OptionParts → Option (List ℕ) → Type 0
+IsStored None now = now ≡ None
+IsStored (Some option) now = (bytes : List ℕ) × (now ≡ Some bytes) × SpellsOption bytes option
+
+-- What stands under an entry's number is what was stored of it last, or what stood there before where no request stored or
+-- removed it.
+abbrev pub IsLeft : Option (List ℕ) → Option Stored → Option (List ℕ) → Type 0
 IsLeft before None now = now ≡ before
-IsLeft before (Some (Add entry option)) now = (bytes : List ℕ) × (now ≡ Some bytes) × SpellsOption bytes option
-IsLeft before (Some (Replace entry option)) now = (bytes : List ℕ) × (now ≡ Some bytes) × SpellsOption bytes option
-IsLeft before (Some (Remove entry)) now = now ≡ None
-IsLeft before (Some (Order numbers)) now = ⊥
-IsLeft before (Some (Next entry)) now = ⊥
+IsLeft before (Some stored) now = IsStored stored.option now
 
--- what a request to store an entry asked for is stored
-abbrev pub IsStored : State → Request → Type 0
-IsStored m (Add entry option) = (bytes : List ℕ) × (get m.entries entry ≡ Some bytes) × SpellsOption bytes option
-IsStored m (Replace entry option) = (bytes : List ℕ) × (get m.entries entry ≡ Some bytes) × SpellsOption bytes option
-IsStored m (Remove entry) = Unit {0}
-IsStored m (Order numbers) = Unit {0}
-IsStored m (Next entry) = Unit {0}
+-- in no state in which the entry is there, the request stores or removes it
+abbrev pub LeavesAlone : Request → ℕ → Type 0
+LeavesAlone request entry = (m : State) → is_there m entry ≡ true →
+    IfSome (stored_by request (outcome_of m request)) (λ stored. stored.entry ≢ entry)
 
--- the request is one to store the option of the choice under its number
-abbrev pub AsksFor : Request → Choice → Type 0
-AsksFor request choice = (request ≡ Add choice.number choice.option) ⊎ (request ≡ Replace choice.number choice.option)
-
--- whether the request is one to replace or to remove the entry
-abbrev pub touches : Request → ℕ → Bool
-touches (Add number option) entry = false
-touches (Replace number option) entry = number == entry
-touches (Remove number) entry = number == entry
-touches (Order numbers) entry = false
-touches (Next next) entry = false
-
--- of these requests none with a number between the two replaces or removes the entry
+-- of these requests each with a number between the two leaves the entry alone
 abbrev pub IsUntouched : Requests → ℕ → ℕ → ℕ → Type 0
 IsUntouched requests from to entry = (number : ℕ) → from < number → number < to →
-    IfSome (get requests number) (λ request. touches request entry ≡ false)
-
--- where the request is one to store an entry, none of those between the two numbers replaces or removes that entry
-abbrev pub IsLast : Requests → ℕ → ℕ → Request → Type 0
-IsLast requests from to (Add entry option) = IsUntouched requests from to entry
-IsLast requests from to (Replace entry option) = IsUntouched requests from to entry
-IsLast requests from to (Remove entry) = Unit {0}
-IsLast requests from to (Order numbers) = Unit {0}
-IsLast requests from to (Next entry) = Unit {0}
+    IfSome (get requests number) (λ request. LeavesAlone request entry)

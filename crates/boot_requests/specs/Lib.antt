@@ -1,10 +1,11 @@
 -- what public contracts and the laws cite, in the order in which to read it
 pub mod Limits
+pub mod Kind
 pub mod Request
 pub mod Frame
 pub mod FrameFault
+pub mod Outcome
 pub mod State
-pub mod Opening
 pub mod Apply
 pub mod Seen
 pub mod Window
@@ -15,6 +16,7 @@ pub mod Reply
 pub mod Turn
 pub mod Keeping
 pub mod Machine
+pub mod Opening
 pub mod Words
 pub mod Stream
 -- for private functions

@@ -8,8 +8,7 @@ use Rattle.uefi_vars.specs.Vars.{Variables, entry_of}
 use Rattle.uefi_vars.specs.Order.{stored_order, stored_next}
 use Rattle.uefi_path.specs.Units.{units_of}
 use Rattle.uefi_vars.specs.Plan.{PlanParts}
-use Rattle.boot_requests.specs.declared.outcome.Outcome.{Outcome}
-use Rattle.boot_requests.specs.State.{State, keep_text, stored_mark}
+use Rattle.boot_requests.specs.State.{State, MarkParts, keep_text, stored_mark}
 use Rattle.boot_requests.specs.Window.{Requests}
 use Rattle.boot_requests.specs.Turn.{Plain}
 
@@ -48,13 +47,13 @@ next_in None = None
 next_in (Some bytes) = Some (from_le_bytes w16 bytes)
 
 -- the state of the variables, with this next number and these outcomes
-abbrev pub machine_of : Variables → ℕ → List Outcome → State
-machine_of vars count kept = record {
+abbrev pub machine_of : Variables → MarkParts → State
+machine_of vars mark = record {
   entries = entries_below (2 ^ 16) vars;
   order = order_in (get vars order_text);
   next = next_in (get vars next_text);
-  count = count;
-  kept = kept;
+  count = mark.next;
+  kept = mark.kept;
   others = others_below (2 ^ 16) vars;
 }
 

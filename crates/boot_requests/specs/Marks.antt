@@ -1,22 +1,43 @@
--- For private functions that read BootKeepState: its parts, and outcomes as bytes.
-use Rattle.std.specs.Prelude.{◌≡◌, ℕ, ◌^◌, ◌<◌, ◌≤◌, ◌==◌, if◌then◌else◌, List, [], ◌∷◌, ◌++◌, length, min}
+-- For the private type of the mark, a next number with the outcomes that are kept before it, and for its bytes.
+use Rattle.std.specs.Prelude.{◌≡◌, ◌⊎◌, ℕ, ◌+◌, ◌^◌, ◌<◌, List, ◌∷◌, ◌++◌, map}
 use Rattle.std.specs.Int.{w32, to_le_bytes}
+use Rattle.boot_requests.specs.declared.outcome.Code.{Code}
 use Rattle.boot_requests.specs.declared.outcome.Outcome.{Outcome}
-use Rattle.boot_requests.specs.declared.outcome.Outcome.TheVariants.{Done, Exists, Missing, OrderRepeats, OrderUnknown}
-use Rattle.boot_requests.specs.Limits.{kept_max}
+use Rattle.boot_requests.specs.Outcome.{without_entry}
+use Rattle.boot_requests.specs.State.{State, MarkParts, IsMark, mark_bytes}
+use Rattle.boot_requests.specs.Opening.{first_mark_bytes, IsFirstMark}
+use Rattle.boot_requests.specs.Apply.{kept_with}
 
--- the bytes are of this next number, and of so many outcomes as are kept before it
-pub record SplitsMark (bytes : List ℕ) (count : ℕ) (outcomes : List ℕ) : Type 0 where
-  pub some : 0 < count
-  pub four_bytes : count < 2 ^ 32
-  pub len : length outcomes ≡ min kept_max count
-  pub parts : bytes ≡ (1 ∷ []) ++ to_le_bytes w32 count ++ (length outcomes ∷ outcomes)
+abbrev pub mark_of : ℕ → List Outcome → MarkParts
+mark_of next kept = record { next = next; kept = kept }
 
--- the byte of an outcome
-abbrev pub IsOutcomeByte : ℕ → Type 0
-IsOutcomeByte byte = byte ≤ 4
+-- the mark of a state
+abbrev pub mark_in : State → MarkParts
+mark_in m = mark_of m.count m.kept
 
--- its outcome
-abbrev pub outcome_at : ℕ → Outcome
-outcome_at byte =
-    if byte == 0 then Done else if byte == 1 then Exists else if byte == 2 then Missing else if byte == 3 then OrderRepeats else OrderUnknown
+-- the mark after one more request, which came to this
+abbrev pub mark_after : MarkParts → Outcome → MarkParts
+mark_after mark outcome = mark_of (mark.next + 1) (kept_with mark.kept outcome)
+
+-- the bytes of BootKeepState are those of this mark, by version 2
+pub record SpellsMark (bytes : List ℕ) (mark : MarkParts) : Type 0 where
+  pub some : 0 < mark.next
+  pub is : IsMark mark.next mark.kept
+  pub spelled : bytes ≡ mark_bytes mark.next mark.kept
+
+-- the same by version 1
+pub record SpellsFirstMark (bytes : List ℕ) (mark : MarkParts) : Type 0 where
+  pub known : List Code
+  pub is : IsFirstMark mark.next known
+  pub kept : mark.kept ≡ map without_entry known
+  pub spelled : bytes ≡ first_mark_bytes mark.next known
+
+-- by either
+abbrev pub IsMarkIn : List ℕ → MarkParts → Type 0
+IsMarkIn bytes mark = SpellsMark bytes mark ⊎ SpellsFirstMark bytes mark
+
+-- the bytes after the version are of this next number, of how many outcomes are kept, and of these
+pub record SplitsMark (bytes : List ℕ) (next len : ℕ) (outcomes : List ℕ) : Type 0 where
+  pub some : 0 < next
+  pub four_bytes : next < 2 ^ 32
+  pub parts : bytes ≡ to_le_bytes w32 next ++ (len ∷ outcomes)

@@ -1,21 +1,70 @@
--- Which variables a keeper takes, and the first fault of others.
-use Rattle.std.specs.Prelude.{◌≡◌, ℕ, List}
+-- Which variables a keeper takes, as which state they open, and the first fault of others.
+use Rattle.std.specs.Prelude.{◌≡◌, ◌≢◌, ◌⊎◌, ℕ, ◌^◌, ◌<◌, List, [], ◌∷◌, ◌++◌, length, map, min, Some}
+use Rattle.std.specs.List.{AllByRecursion}
+use Rattle.std.specs.Int.{w32, to_le_bytes}
 use Rattle.std.specs.FinMap.{get}
 use Rattle.uefi_vars.specs.Vars.{Variables}
 use Rattle.uefi_vars.specs.Order.{HasBadOrder, HasBadNext}
+use Rattle.boot_requests.specs.declared.outcome.Code.{Code}
+use Rattle.boot_requests.specs.declared.outcome.Code.TheVariants.{NoFree}
 use Rattle.boot_requests.specs.declared.outcome.Outcome.{Outcome}
 use Rattle.boot_requests.specs.declared.fault.OpenFault.{OpenFault}
 use Rattle.boot_requests.specs.declared.fault.OpenFault.TheVariants as fault
-use Rattle.boot_requests.specs.State.{keep_text, stored_mark, IsMark}
+use Rattle.boot_requests.specs.Limits.{kept_min}
+use Rattle.boot_requests.specs.Outcome.{without_entry, code_byte}
+use Rattle.boot_requests.specs.State.{State, IsState, IsImage, IsMark, keep_text, stored_mark}
+use Rattle.boot_requests.specs.Machine.{with_stored}
 
--- the variables have this next number, and these outcomes are kept
-pub record HasMark (vars : Variables) (count : ℕ) (kept : List Outcome) : Type 0 where
+-- ---- version 1 of BootKeepState
+
+-- its bytes: the version, the next number in four bytes, how many outcomes are kept, and a byte for the code of each
+abbrev pub first_mark_bytes : ℕ → List Code → List ℕ
+first_mark_bytes count codes = (1 ∷ []) ++ to_le_bytes w32 count ++ (length codes ∷ map code_byte codes)
+
+-- a code that version 1 has
+abbrev pub IsFirstCode : Code → Type 0
+IsFirstCode code = code ≢ NoFree
+
+-- the next number is one of four bytes, and those of the last 16 requests before it are kept
+pub record IsFirstMark (count : ℕ) (codes : List Code) : Type 0 where
+  pub some : 0 < count
+  pub four_bytes : count < 2 ^ 32
+  pub len : length codes ≡ min kept_min count
+  pub known : AllByRecursion IsFirstCode codes
+
+-- ---- the mark of variables
+
+-- the variables have this next number, and these outcomes are kept, by version 2
+pub record HasSecondMark (vars : Variables) (count : ℕ) (kept : List Outcome) : Type 0 where
   pub is : IsMark count kept
   pub stored : get vars keep_text ≡ stored_mark count kept
+
+-- the same by version 1, whose outcomes tell no entry
+pub record HasFirstMark (vars : Variables) (count : ℕ) (kept : List Outcome) : Type 0 where
+  pub codes : List Code
+  pub is : IsFirstMark count codes
+  pub kept_is : kept ≡ map without_entry codes
+  pub stored : get vars keep_text ≡ Some (first_mark_bytes count codes)
+
+-- the same by either
+abbrev pub HasMark : Variables → ℕ → List Outcome → Type 0
+HasMark vars count kept = HasSecondMark vars count kept ⊎ HasFirstMark vars count kept
 
 -- BootKeepState is stored, and no next number with its outcomes has these bytes
 abbrev pub HasBadMark : Variables → Type 0
 HasBadMark vars = (count : ℕ) (kept : List Outcome) → HasMark vars count kept → ⊥
+
+-- ---- opening
+
+-- the variables with the mark of this state, by version 2
+abbrev pub migrated : Variables → State → Variables
+migrated vars m = with_stored vars keep_text (stored_mark m.count m.kept)
+
+-- the variables open as this state: its mark is stored, by either version, and with the mark by version 2 they are its image
+pub record OpensAs (vars : Variables) (m : State) : Type 0 where
+  pub is : IsState m
+  pub mark : HasMark vars m.count m.kept
+  pub image : IsImage m (migrated vars m)
 
 -- The fault is the first of the variables, by cases.
 abbrev pub IsOpenFault : Variables → OpenFault → Type 0

@@ -5,8 +5,10 @@ use Rattle.std.specs.Int.{w16, to_le_bytes}
 use Rattle.uefi_path.specs.Units.{units_bytes}
 use Rattle.uefi_option.specs.LoadOption.{IsOption, option_bytes}
 use Rattle.uefi_vars.specs.Order.{IsEntryNumber}
+use Rattle.boot_requests.specs.declared.frame.Kind.{Kind}
+use Rattle.boot_requests.specs.declared.frame.Kind.TheVariants as kind
 use Rattle.boot_requests.specs.declared.request.Request.{Request}
-use Rattle.boot_requests.specs.declared.request.Request.TheVariants.{Add, Replace, Remove, Order, Next}
+use Rattle.boot_requests.specs.declared.request.Request.TheVariants.{Add, Replace, Remove, Order, Next, AddFree}
 
 -- the numbers are in the ranges of their types, and the option is one
 abbrev pub IsRequest : Request → Type 0
@@ -15,19 +17,23 @@ IsRequest (Replace entry option) = IsEntryNumber entry × IsOption option
 IsRequest (Remove entry) = IsEntryNumber entry
 IsRequest (Order numbers) = AllByRecursion IsEntryNumber numbers
 IsRequest (Next entry) = IsEntryNumber entry
+IsRequest (AddFree option) = IsOption option
 
--- the kind that stands in a request's frame
-abbrev pub kind_of : Request → ℕ
-kind_of (Add entry option) = 1
-kind_of (Replace entry option) = 2
-kind_of (Remove entry) = 3
-kind_of (Order numbers) = 4
-kind_of (Next entry) = 5
+-- its kind
+abbrev pub kind_of : Request → Kind
+kind_of (Add entry option) = kind.Add
+kind_of (Replace entry option) = kind.Replace
+kind_of (Remove entry) = kind.Remove
+kind_of (Order numbers) = kind.Order
+kind_of (Next entry) = kind.Next
+kind_of (AddFree option) = kind.AddFree
 
--- its payload: the number of the entry, and behind it the spelling of the option; or the numbers of the order
+-- its payload: the number of the entry, and after it the spelling of the option; the numbers of the order; or an option's
+-- spelling alone
 abbrev pub payload_of : Request → List ℕ
 payload_of (Add entry option) = to_le_bytes w16 entry ++ option_bytes option
 payload_of (Replace entry option) = to_le_bytes w16 entry ++ option_bytes option
 payload_of (Remove entry) = to_le_bytes w16 entry
 payload_of (Order numbers) = units_bytes numbers
 payload_of (Next entry) = to_le_bytes w16 entry
+payload_of (AddFree option) = option_bytes option

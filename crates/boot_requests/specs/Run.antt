@@ -4,12 +4,12 @@ use Rattle.std.specs.List.{AllByRecursion}
 use Rattle.std.specs.FinMap.{empty, insert, retain_keys}
 use Rattle.uefi_vars.specs.Plan.{PlanParts}
 use Rattle.boot_requests.specs.declared.request.Request.{Request}
-use Rattle.boot_requests.specs.declared.request.Request.TheVariants.{Add, Replace, Remove, Order, Next}
-use Rattle.boot_requests.specs.declared.outcome.Outcome.{Outcome}
-use Rattle.boot_requests.specs.declared.outcome.Outcome.TheVariants.{Done, Exists, Missing, OrderRepeats, OrderUnknown}
+use Rattle.boot_requests.specs.declared.request.Request.TheVariants.{Add, Replace, Remove, Order, Next, AddFree}
+use Rattle.boot_requests.specs.declared.outcome.Code.{Code}
+use Rattle.boot_requests.specs.declared.outcome.Code.TheVariants.{Done, Exists, Missing, OrderRepeats, OrderUnknown, NoFree}
 use Rattle.boot_requests.specs.Limits.{width}
 use Rattle.boot_requests.specs.State.{State}
-use Rattle.boot_requests.specs.Apply.{outcome_of, applied, booted, HasPlanOf}
+use Rattle.boot_requests.specs.Apply.{outcome_of, applied, booted, Stored, stored_by, HasPlanOf}
 use Rattle.boot_requests.specs.Seen.{Seen, Came, Garbled, Prepare, Hand, Restart}
 use Rattle.boot_requests.specs.Window.{Requests, gap_of, is_open}
 use Rattle.boot_requests.specs.Changes.{Change, Applies, Boots, changes_between, folded}
@@ -92,12 +92,13 @@ IsPending start run (Some plan) = (is_armed run ≡ true) × HasPlanOf (state_at
 
 -- ---- what becomes of each entry and of BootNext
 
-abbrev pub is_done : Outcome → Bool
+abbrev pub is_done : Code → Bool
 is_done Done = true
 is_done Exists = false
 is_done Missing = false
 is_done OrderRepeats = false
 is_done OrderUnknown = false
+is_done NoFree = false
 
 -- whether the request sets BootNext to the entry
 abbrev pub is_next : Request → ℕ → Bool
@@ -106,20 +107,13 @@ is_next (Add number option) entry = false
 is_next (Replace number option) entry = false
 is_next (Remove number) entry = false
 is_next (Order numbers) entry = false
-
--- whether the request is one to store or to remove the entry
-abbrev pub is_about : Request → ℕ → Bool
-is_about (Add number option) entry = number == entry
-is_about (Replace number option) entry = number == entry
-is_about (Remove number) entry = number == entry
-is_about (Order numbers) entry = false
-is_about (Next next) entry = false
+is_next (AddFree option) entry = false
 
 -- how often changes set BootNext to the entry, from this state on
 abbrev pub sets_in : State → List Change → ℕ → ℕ
 sets_in m [] entry = 0
 sets_in m (Applies number request ∷ changes) entry =
-    (if is_next request entry && is_done (outcome_of m request) then 1 else 0) + sets_in (applied m request) changes entry
+    (if is_next request entry && is_done (outcome_of m request).code then 1 else 0) + sets_in (applied m request) changes entry
 sets_in m (Boots ∷ changes) entry = sets_in (booted m) changes entry
 
 -- whether this, as BootNext, is the entry
@@ -131,16 +125,20 @@ is_next_entry (Some next) entry = next == entry
 abbrev pub sets : State → List Seen → ℕ → ℕ
 sets start run entry = (if is_next_entry start.next entry then 1 else 0) + sets_in start (history start.count run) entry
 
--- the last request that stored or removed the entry, among changes from this state on, or else the one before them
-abbrev pub last_in : State → List Change → ℕ → Option Request → Option Request
+-- what was stored of the entry last: this, if it is of the entry, or else what was before
+abbrev pub last_with : Option Stored → ℕ → Option Stored → Option Stored
+last_with None entry last = last
+last_with (Some stored) entry last = if entry == stored.entry then Some stored else last
+
+-- what was stored of the entry last, by changes from this state on, or else before them
+abbrev pub last_in : State → List Change → ℕ → Option Stored → Option Stored
 last_in m [] entry last = last
 last_in m (Applies number request ∷ changes) entry last =
-    last_in (applied m request) changes entry
-    (if is_about request entry && is_done (outcome_of m request) then Some request else last)
+    last_in (applied m request) changes entry (last_with (stored_by request (outcome_of m request)) entry last)
 last_in m (Boots ∷ changes) entry last = last_in (booted m) changes entry last
 
--- the last request of a run that stored or removed the entry
-abbrev pub last_of : State → List Seen → ℕ → Option Request
+-- what the last request of a run that stored or removed the entry stored of it
+abbrev pub last_of : State → List Seen → ℕ → Option Stored
 last_of start run entry = last_in start (history start.count run) entry None
 
 -- ---- runs of deliveries alone

@@ -1,18 +1,14 @@
--- For the private type of the window: the slots in which requests wait, and what waits in them.
+-- For the private type of the window: the slots in which requests wait, and what waits in them; and what a keeper holds.
 use Rattle.std.specs.Prelude.{◌≡◌, ℕ, zero, suc, ◌+◌, ◌-◌, ◌%◌, ◌<◌, nat_lt, List, length, slice_index_or, Option, Some, None, IfSome}
 use Rattle.std.specs.FinMap.{empty, insert, retain_keys}
+use Rattle.uefi_vars.specs.Vars.{Variables}
 use Rattle.boot_requests.specs.declared.request.Request.{Request}
 use Rattle.boot_requests.specs.Limits.{width}
 use Rattle.boot_requests.specs.Frame.{IsSent}
+use Rattle.boot_requests.specs.State.{MarkParts}
 use Rattle.boot_requests.specs.Window.{Requests}
-
--- the next number, and what waits, by numbers above it
-pub record WindowParts : Type 0 where
-  pub next : ℕ
-  pub waiting : Requests
-
-abbrev pub parts_of : ℕ → Requests → WindowParts
-parts_of next waiting = record { next = next; waiting = waiting }
+use Rattle.boot_requests.specs.Keeping.{IsStateOf}
+use Rattle.boot_requests.specs.Machine.{machine_of}
 
 -- those of the requests that have numbers above this one
 abbrev pub above : ℕ → Requests → Requests
@@ -40,9 +36,18 @@ waiting_in zero next slots = empty
 waiting_in (suc count) next slots =
     with_slot (waiting_in count next slots) (next + suc count) (slot_at slots (place_of (next + suc count)))
 
+-- what waits, where this is the next number
+abbrev pub waiting_of : ℕ → List (Option Request) → Requests
+waiting_of next slots = waiting_in reach next slots
+
 -- There is a slot for each number that is taken, that of the next one is free, and what stands in the others was read off
 -- frames.
 pub record IsWindow (next : ℕ) (slots : List (Option Request)) : Type 0 where
   pub len : length slots ≡ width
   pub free : slot_at slots (place_of next) ≡ None
   pub sent : (number : ℕ) → next < number → number < next + width → IfSome (slot_at slots (place_of number)) (IsSent number)
+
+-- what a keeper holds: variables that stand for the state that is read off them, and the slots of its next number
+pub record IsKeeper (vars : Variables) (mark : MarkParts) (slots : List (Option Request)) : Type 0 where
+  pub stands : IsStateOf (machine_of vars mark) vars
+  pub waits : IsWindow mark.next slots

@@ -1,14 +1,15 @@
 -- The state of a machine's boot entries, and the variables that stand for it (UEFI 2.10, 3.3).
-use Rattle.std.specs.Prelude.{◌≡◌, ◌⊎◌, ℕ, ◌^◌, ◌<◌, ◌==◌, if◌then◌else◌, List, [], ◌∷◌, ◌++◌, length, map, min, codes, Option, Some, None, IfSome}
+use Rattle.std.specs.Prelude.{◌≡◌, ◌⊎◌, ℕ, ◌^◌, ◌<◌, ◌≤◌, ◌==◌, if◌then◌else◌, List, [], ◌∷◌, ◌++◌, length, min, codes, Option, Some, None, IfSome}
 use Rattle.std.specs.Ordering.{nat_cmp}
 use Rattle.std.specs.Int.{w32, to_le_bytes}
+use Rattle.std.specs.List.{AllByRecursion, flat_map}
 use Rattle.std.specs.FinMap.{FinMap, get}
 use Rattle.uefi_vars.specs.Name.{entry_text, order_text, next_text}
 use Rattle.uefi_vars.specs.Vars.{Variables, IsData, IsVariable, entry_of}
 use Rattle.uefi_vars.specs.Order.{IsEntryNumber, IsOrder, stored_order, stored_next}
 use Rattle.boot_requests.specs.declared.outcome.Outcome.{Outcome}
-use Rattle.boot_requests.specs.declared.outcome.Outcome.TheVariants.{Done, Exists, Missing, OrderRepeats, OrderUnknown}
-use Rattle.boot_requests.specs.Limits.{kept_max}
+use Rattle.boot_requests.specs.Limits.{kept_min, kept_max}
+use Rattle.boot_requests.specs.Outcome.{IsOutcome, outcome_bytes}
 
 -- The entries by their numbers, BootOrder, BootNext, how many requests were applied, which is the next number, the outcomes
 -- of the last ones, oldest first, and all other variables by their names.
@@ -25,25 +26,26 @@ pub record State : Type 0 where
 abbrev pub keep_text : List ℕ
 keep_text = codes "BootKeepState"
 
-abbrev pub outcome_byte : Outcome → ℕ
-outcome_byte Done = 0
-outcome_byte Exists = 1
-outcome_byte Missing = 2
-outcome_byte OrderRepeats = 3
-outcome_byte OrderUnknown = 4
-
--- its bytes: version 1, the next number in four bytes, how many outcomes are kept, and these
+-- its bytes: version 2, the next number in four bytes, how many outcomes are kept, and four bytes for each of these
 abbrev pub mark_bytes : ℕ → List Outcome → List ℕ
-mark_bytes count kept = (1 ∷ []) ++ to_le_bytes w32 count ++ (length kept ∷ map outcome_byte kept)
+mark_bytes count kept = (2 ∷ []) ++ to_le_bytes w32 count ++ (length kept ∷ flat_map outcome_bytes kept)
 
 -- what is stored of them: nothing where no request was applied
 abbrev pub stored_mark : ℕ → List Outcome → Option (List ℕ)
 stored_mark count kept = if count == 0 then None else Some (mark_bytes count kept)
 
--- the next number is one of four bytes, and of the requests before it the last outcomes are kept, as many as may be
+-- The next number is one of four bytes, and of the requests before it the last outcomes are kept: those of the last
+-- `kept_max`, or of fewer, but of `kept_min` at least.
 pub record IsMark (count : ℕ) (kept : List Outcome) : Type 0 where
   pub four_bytes : count < 2 ^ 32
-  pub len : length kept ≡ min kept_max count
+  pub least : min kept_min count ≤ length kept
+  pub most : length kept ≤ min kept_max count
+  pub outcomes : AllByRecursion IsOutcome kept
+
+-- a next number, with the outcomes that are kept before it
+pub record MarkParts : Type 0 where
+  pub next : ℕ
+  pub kept : List Outcome
 
 -- ---- names
 

@@ -15,7 +15,7 @@ use Rattle.boot_requests.specs.Slots.{above}
 abbrev pub updated : Plain → Update → Plain
 updated k Nothing = k
 updated k (Waits number request) = record k { waiting = insert k.waiting number request }
-updated k (Applied vars next kept) = plain_of (machine_of vars next kept.items) (above next k.waiting) k.plan
+updated k (Applied vars mark) = plain_of (machine_of vars mark) (above mark.next k.waiting) k.plan
 updated k (Prepared plan) = record k { machine = booted k.machine; plan = Some plan }
 updated k HandedOut = record k { plan = None }
 updated k Restarted = plain_start k.machine
@@ -27,7 +27,7 @@ abbrev pub Fits : Plain → Update → Type 0
 Fits k Nothing = Unit {0}
 Fits k (Waits number request) =
     (k.machine.count < number) × (number < k.machine.count + width) × IsSent number request
-Fits k (Applied vars next kept) = (k.machine.count ≤ next) × IsStateOf (machine_of vars next kept.items) vars
+Fits k (Applied vars mark) = (k.machine.count ≤ mark.next) × IsStateOf (machine_of vars mark) vars
 Fits k (Prepared plan) = Unit {0}
 Fits k HandedOut = Unit {0}
 Fits k Restarted = Unit {0}

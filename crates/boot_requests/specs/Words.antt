@@ -1,17 +1,18 @@
 -- The words of faults, outcomes and replies. Those of a fault: its name, and after one blank the words of the fault that it
 -- holds.
-use Rattle.std.specs.Prelude.{ℕ, List, ◌++◌, codes}
+use Rattle.std.specs.Prelude.{ℕ, List, [], ◌++◌, codes, Option, Some, None}
 use Rattle.std.specs.Fmt.{decimal}
 use Rattle.uefi_option.specs.Words.{option_fault_words}
-use Rattle.uefi_vars.specs.Words.{plan_words}
+use Rattle.uefi_vars.specs.Words.{number_words, plan_words}
 use Rattle.boot_requests.specs.declared.fault.FeedFault.{FeedFault}
 use Rattle.boot_requests.specs.declared.fault.FeedFault.TheVariants as feeding
 use Rattle.boot_requests.specs.declared.fault.FrameFault.{FrameFault}
 use Rattle.boot_requests.specs.declared.fault.FrameFault.TheVariants as frame
 use Rattle.boot_requests.specs.declared.fault.OpenFault.{OpenFault}
 use Rattle.boot_requests.specs.declared.fault.OpenFault.TheVariants as opening
+use Rattle.boot_requests.specs.declared.outcome.Code.{Code}
+use Rattle.boot_requests.specs.declared.outcome.Code.TheVariants as code
 use Rattle.boot_requests.specs.declared.outcome.Outcome.{Outcome}
-use Rattle.boot_requests.specs.declared.outcome.Outcome.TheVariants as outcome
 use Rattle.boot_requests.specs.declared.reply.Reply.{Reply}
 use Rattle.boot_requests.specs.declared.reply.Reply.TheVariants as reply
 
@@ -39,13 +40,23 @@ open_fault_words opening.BadNext = codes "BadNext"
 open_fault_words opening.BadState = codes "BadState"
 open_fault_words opening.OutOfMemory = codes "OutOfMemory"
 
--- the outcome's name
+-- the code's name
+abbrev pub code_words : Code → List ℕ
+code_words code.Done = codes "Done"
+code_words code.Exists = codes "Exists"
+code_words code.Missing = codes "Missing"
+code_words code.OrderRepeats = codes "OrderRepeats"
+code_words code.OrderUnknown = codes "OrderUnknown"
+code_words code.NoFree = codes "NoFree"
+
+-- the digits of the entry that is told, after one blank
+abbrev pub entry_words : Option ℕ → List ℕ
+entry_words None = []
+entry_words (Some entry) = number_words entry
+
+-- an outcome: the name of its code, and its entry, if it tells one
 abbrev pub outcome_words : Outcome → List ℕ
-outcome_words outcome.Done = codes "Done"
-outcome_words outcome.Exists = codes "Exists"
-outcome_words outcome.Missing = codes "Missing"
-outcome_words outcome.OrderRepeats = codes "OrderRepeats"
-outcome_words outcome.OrderUnknown = codes "OrderUnknown"
+outcome_words outcome = code_words outcome.code ++ entry_words outcome.entry
 
 -- a reply in one line, without the line feed that ends it
 abbrev pub line_of : Reply → List ℕ

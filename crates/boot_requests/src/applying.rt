@@ -11,7 +11,7 @@ ghost use Rattle.boot_requests.specs.Apply.{repeats, is_there as holds};
 ghost use Rattle.boot_requests.specs.Keeping.{IsStateOf};
 ghost use Rattle.boot_requests.specs.Edit.{CarriesOut};
 
-use crate::outcome::Outcome;
+use crate::outcome::{Code, Outcome};
 use crate::request::Request;
 use crate::storing::{
     append_number, forget_next, is_there, remove_number, store_entry, store_next, store_order,
@@ -19,7 +19,7 @@ use crate::storing::{
 };
 use std::alloc::{AllocError, Global};
 use uefi_option::LoadOption;
-use uefi_vars::Vars;
+use uefi_vars::{Vars, lowest_free};
 
 /// How many numbers entries can have.
 const NUMBERS: usize = 65_536;
@@ -40,6 +40,7 @@ pub(crate) fn carry_out(
         Request::Remove(number) => remove(alloc, vars, *number),
         Request::Order(order) => set_order(alloc, vars, order.numbers()),
         Request::Next(number) => set_next(vars, *number),
+        Request::AddFree(option) => add_free(alloc, vars, option),
     }
 }
 
@@ -53,11 +54,26 @@ fn add(
     ensures { IfOk result (CarriesOut vars.old vars.new (Request.Add number option.now)) }
 {
     if is_there(vars, number) {
-        return Ok(Outcome::Exists);
+        return Ok(Outcome::of(Code::Exists));
     }
     store_entry(alloc, vars, number, option)?;
     append_number(alloc, vars, number)?;
-    Ok(Outcome::Done)
+    Ok(Outcome::of(Code::Done))
+}
+
+/// Stores an entry under the least number that none has, and appends that number to BootOrder.
+fn add_free(alloc: Global, vars: &mut Vars, option: &LoadOption) -> Result<Outcome, AllocError>
+    ensures { IfOk result (CarriesOut vars.old vars.new (Request.AddFree option.now)) }
+{
+    let Some(number) = lowest_free(vars) else {
+        return Ok(Outcome::of(Code::NoFree));
+    };
+    store_entry(alloc, vars, number, option)?;
+    append_number(alloc, vars, number)?;
+    Ok(Outcome {
+        code: Code::Done,
+        entry: Some(number),
+    })
 }
 
 /// Stores an entry in the place of one that is there.
@@ -70,10 +86,10 @@ fn replace(
     ensures { IfOk result (CarriesOut vars.old vars.new (Request.Replace number option.now)) }
 {
     if !is_there(vars, number) {
-        return Ok(Outcome::Missing);
+        return Ok(Outcome::of(Code::Missing));
     }
     store_entry(alloc, vars, number, option)?;
-    Ok(Outcome::Done)
+    Ok(Outcome::of(Code::Done))
 }
 
 /// Takes out an entry, its number from BootOrder, and a BootNext that names it.
@@ -81,12 +97,12 @@ fn remove(alloc: Global, vars: &mut Vars, number: u16) -> Result<Outcome, AllocE
     ensures { IfOk result (CarriesOut vars.old vars.new (Request.Remove number)) }
 {
     if !is_there(vars, number) {
-        return Ok(Outcome::Missing);
+        return Ok(Outcome::of(Code::Missing));
     }
     take_entry(vars, number);
     remove_number(alloc, vars, number)?;
     forget_next(vars, number);
-    Ok(Outcome::Done)
+    Ok(Outcome::of(Code::Done))
 }
 
 /// Sets BootOrder to numbers of entries that are there, each once.
@@ -96,13 +112,13 @@ fn set_order(alloc: Global, vars: &mut Vars, numbers: &[u16]) -> Result<Outcome,
 {
     let repeated = has_repeat(alloc, numbers)?;
     if repeated {
-        return Ok(Outcome::OrderRepeats);
+        return Ok(Outcome::of(Code::OrderRepeats));
     }
     if !are_there(vars, numbers) {
-        return Ok(Outcome::OrderUnknown);
+        return Ok(Outcome::of(Code::OrderUnknown));
     }
     store_order(alloc, vars, numbers)?;
-    Ok(Outcome::Done)
+    Ok(Outcome::of(Code::Done))
 }
 
 /// Sets BootNext to an entry that is there.
@@ -110,10 +126,10 @@ fn set_next(vars: &mut Vars, number: u16) -> Result<Outcome, AllocError>
     ensures { IfOk result (CarriesOut vars.old vars.new (Request.Next number)) }
 {
     if !is_there(vars, number) {
-        return Ok(Outcome::Missing);
+        return Ok(Outcome::of(Code::Missing));
     }
     store_next(vars, number)?;
-    Ok(Outcome::Done)
+    Ok(Outcome::of(Code::Done))
 }
 
 /// Whether some number stands twice among those.

@@ -19,7 +19,7 @@ pub enum FrameFault {
     /// The bytes don't begin with 0x42 0x51.
     #[error("BadMagic")]
     BadMagic,
-    /// The version isn't 1.
+    /// The version is neither 1 nor 2.
     #[error("BadVersion")]
     BadVersion,
     /// The payload is to have more than [`PAYLOAD_MAX`](crate::PAYLOAD_MAX) bytes.
@@ -28,7 +28,7 @@ pub enum FrameFault {
     /// There are fewer or more bytes than the twelve and those of the payload.
     #[error("BadSize")]
     BadSize,
-    /// No request has this kind.
+    /// No request has this kind in this version.
     #[error("BadKind")]
     BadKind,
     /// The number is 4,294,967,295, which no request has.
@@ -51,7 +51,7 @@ pub enum FeedFault {
     /// A header doesn't begin with 0x42 0x51.
     #[error("BadMagic")]
     BadMagic,
-    /// The version of a header isn't 1.
+    /// The version of a header is neither 1 nor 2.
     #[error("BadVersion")]
     BadVersion,
     /// A payload is to have more than [`PAYLOAD_MAX`](crate::PAYLOAD_MAX) bytes.

@@ -1,17 +1,13 @@
 //! What stands in front of a payload.
 
-ghost use Rattle.std.specs.Prelude.{◌≡◌, ◌+◌, ◌<◌, IfSome, IfNone};
-ghost use Rattle.boot_requests.specs.FrameFault.{IsKind};
-ghost use Rattle.boot_requests.specs.Reading.{byte_of};
+ghost use Rattle.std.specs.Prelude.{◌≡◌, ◌↔◌, IfSome, IfNone, IsTrue};
+ghost use Rattle.boot_requests.specs.Kind.{version_of, byte_of, IsVersion, IsKind};
 
 /// The most bytes of a payload.
 pub const PAYLOAD_MAX: usize = 131_072;
 
 /// The two bytes at the front of a frame.
 pub(crate) const MAGIC: [u8; 2] = [0x42, 0x51];
-
-/// The version of the frames that are read and written.
-pub(crate) const VERSION: u8 = 1;
 
 /// The bytes in front of a payload.
 pub(crate) const HEADER_LEN: usize = 12;
@@ -35,21 +31,47 @@ pub(crate) enum Kind {
     Order,
     /// To set BootNext.
     Next,
+    /// To store an entry under the least number that none has.
+    AddFree,
 }
 
 impl Kind {
-    /// The kind that the byte stands for, if it stands for one.
-    pub(crate) fn from_byte(byte: u8) -> Option<Kind>
-        ensures found { IfSome result (λ kind. byte_of kind ≡ byte) }
-        ensures none { IfNone result (¬ IsKind byte) }
+    /// All kinds.
+    const ALL: [Kind; 6] = [
+        Kind::Add,
+        Kind::Replace,
+        Kind::Remove,
+        Kind::Order,
+        Kind::Next,
+        Kind::AddFree,
+    ];
+
+    /// The kind that the version of a frame and the byte stand for, if they stand for one.
+    pub(crate) fn from_bytes(version: u8, byte: u8) -> Option<Kind>
+        ensures found { IfSome result (λ kind.
+            (version_of kind ≡ version) × (byte_of kind ≡ byte)) }
+        ensures none { IfNone result (¬ IsKind version byte) }
     {
-        match byte {
-            1 => Some(Kind::Add),
-            2 => Some(Kind::Replace),
-            3 => Some(Kind::Remove),
-            4 => Some(Kind::Order),
-            5 => Some(Kind::Next),
-            _ => None,
+        Kind::ALL
+            .iter()
+            .copied()
+            .find(|kind| kind.version() == version && kind.byte() == byte)
+    }
+
+    /// Whether some kind has frames of this version.
+    pub(crate) fn has_version(version: u8) -> bool
+        ensures { IsTrue result ↔ IsVersion version }
+    {
+        Kind::ALL.iter().any(|kind| kind.version() == version)
+    }
+
+    /// The version of the kind's frames.
+    pub(crate) fn version(self) -> u8
+        ensures { result ≡ version_of self }
+    {
+        match self {
+            Kind::Add | Kind::Replace | Kind::Remove | Kind::Order | Kind::Next => 1,
+            Kind::AddFree => 2,
         }
     }
 
@@ -63,6 +85,7 @@ impl Kind {
             Kind::Remove => 3,
             Kind::Order => 4,
             Kind::Next => 5,
+            Kind::AddFree => 6,
         }
     }
 }

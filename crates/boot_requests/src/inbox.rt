@@ -53,9 +53,9 @@ impl Inbox {
     /// # Errors
     ///
     /// The first of these faults of the first header that has one: [`FeedFault::BadMagic`] where it doesn't begin with 0x42
-    /// 0x51; [`FeedFault::BadVersion`] where its version isn't 1; [`FeedFault::TooLong`] where it states more than
-    /// [`PAYLOAD_MAX`](crate::PAYLOAD_MAX) bytes. The deliveries in front of it are appended. [`FeedFault::OutOfMemory`]
-    /// where memory was refused: the inbox and the frames are then as they were.
+    /// 0x51; [`FeedFault::BadVersion`] where its version is neither 1 nor 2; [`FeedFault::TooLong`] where it states more
+    /// than [`PAYLOAD_MAX`](crate::PAYLOAD_MAX) bytes. The deliveries in front of it are appended.
+    /// [`FeedFault::OutOfMemory`] where memory was refused: the inbox and the frames are then as they were.
     pub fn feed(&mut self, bytes: &[u8], frames: &mut Vec<Bytes>) -> Result<(), FeedFault>
         // From an inbox that stands for a stream, to one that stands for it and these bytes.
         ensures fed { result ≢ Err FeedFault.OutOfMemory → (stream : List ℕ) (cut : Cut) →

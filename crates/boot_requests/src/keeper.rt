@@ -22,7 +22,7 @@ use crate::event::Event;
 use crate::fault::FrameFault;
 use crate::filling::{apply, apply_followers};
 use crate::laws;
-use crate::outcome::Outcome;
+use crate::mark::Mark;
 use crate::reading::read_frame;
 use crate::reply::Reply;
 use crate::request::Request;
@@ -38,8 +38,8 @@ use uefi_vars::{BootPlan, Vars, laws as vars_laws, plan};
 #[derive(Debug, Drop)]
 pub struct Keeper {
     pub(crate) vars: Vars,
+    pub(crate) mark: Mark,
     pub(crate) window: Window,
-    pub(crate) kept: Vec<Outcome>,
     pub(crate) plan: Option<BootPlan>,
 }
 
@@ -48,16 +48,16 @@ impl Model for Keeper {
     ghost use Rattle.std.specs.FinMap.{code as map_code};
     ghost use Rattle.boot_requests.specs.Turn.{Plain};
     ghost use Rattle.boot_requests.specs.Machine.{machine_of, plain_of};
-    ghost use Rattle.boot_requests.specs.Keeping.{IsStateOf, StandsFor};
+    ghost use Rattle.boot_requests.specs.Slots.{waiting_of, IsKeeper};
 
     ghost Value = { Plain };
 
     ghost coded = { Prim.hlevel (codes, map_code) };
 
     ghost view = { λ k.
-        plain_of (machine_of k.vars k.window.next k.kept.items) k.window.waiting k.plan };
+        plain_of (machine_of k.vars k.mark) (waiting_of k.mark.next k.window) k.plan };
 
-    ghost invariant = { λ k. IsStateOf (machine_of k.vars k.window.next k.kept.items) k.vars };
+    ghost invariant = { λ k. IsKeeper k.vars k.mark k.window };
 }
 
 impl Keeper {
@@ -82,7 +82,7 @@ impl Keeper {
         ensures number { result ≡ self.now.machine.count }
         ensures valid { IsPlain self.now }
     {
-        self.window.next()
+        self.mark.next()
     }
 
     /// How many requests wait for one of a lower number: fewer than [`WIDTH`].
@@ -91,7 +91,7 @@ impl Keeper {
         ensures bound { result < width }
         ensures valid { IsPlain self.now }
     {
-        self.window.len()
+        self.window.len(self.mark.next())
     }
 
     /// What becomes of the keeper with this event, and the answer to it. This keeper stays as it was, so it can be gone on
@@ -183,7 +183,7 @@ impl Keeper {
             Turn self.now (Came number request) (updated self.now answer.0) answer.1) }
     {
         laws::requests_compare_as_values();
-        let next = self.window.next();
+        let next = self.mark.next();
         if number < next {
             return Ok((Update::Nothing, self.again(number)));
         }
@@ -195,7 +195,7 @@ impl Keeper {
             let answer = self.fill(alloc, &request)?;
             return Ok(answer);
         }
-        match self.window.get(number) {
+        match self.window.get(next, number) {
             Some(other) if *other == request => Ok((Update::Nothing, Reply::Waiting(next))),
             Some(_) => Ok((Update::Nothing, Reply::Conflict)),
             None => Ok((Update::Waits(number, request), Reply::Waiting(next))),
@@ -207,12 +207,8 @@ impl Keeper {
         requires { number < self.now.machine.count }
         ensures { result ≡ again (kept_outcome self.now.machine number) }
     {
-        let oldest = self.window.next() - self.kept.len() as u32;
-        if number < oldest {
-            return Reply::Old;
-        }
-        match self.kept.get((number - oldest) as usize) {
-            Some(outcome) => Reply::Repeat(*outcome),
+        match self.mark.outcome(number) {
+            Some(outcome) => Reply::Repeat(outcome),
             None => Reply::Old,
         }
     }
@@ -229,13 +225,10 @@ impl Keeper {
             (updated self.now answer.0).machine.count) }
     {
         let mut vars = self.vars.copy(alloc)?;
-        let next = self.window.next();
-        let (outcome, first) = apply(alloc, &mut vars, next, &self.kept, request)?;
-        let (after, kept) = apply_followers(alloc, &mut vars, &self.window, first)?;
-        Ok((
-            Update::Applied(vars, after, kept),
-            Reply::Applied(outcome, after),
-        ))
+        let (outcome, first) = apply(alloc, &mut vars, &self.mark, request)?;
+        let mark = apply_followers(alloc, &mut vars, &self.window, first)?;
+        let after = mark.next();
+        Ok((Update::Applied(vars, mark), Reply::Applied(outcome, after)))
     }
 
     /// A boot is prepared.
@@ -269,7 +262,7 @@ impl Keeper {
         ensures fits { Fits self.now result.0 }
         ensures turn { Turn self.now Restart (updated self.now result.0) result.1 }
     {
-        (Update::Restarted, Reply::Restarted(self.window.next()))
+        (Update::Restarted, Reply::Restarted(self.mark.next()))
     }
 }
 

@@ -5,6 +5,7 @@ ghost use Rattle.std.specs.List.{AllByRecursion};
 ghost use Rattle.std.specs.FinMap as map;
 ghost use Rattle.uefi_path.specs.Row.{IsByte};
 ghost use Rattle.uefi_option.specs.Attributes.{IsNormal};
+ghost use Rattle.uefi_option.specs.LoadOption.{OptionParts};
 ghost use Rattle.uefi_vars.specs.declared.boot_plan.Choice.{Choice};
 ghost use Rattle.uefi_vars.specs.Vars.{Variables, IsVars};
 ghost use Rattle.uefi_vars.specs.Plan.{PlanParts};
@@ -12,6 +13,7 @@ ghost use Rattle.boot_requests.specs.declared.event.Event.{Event};
 ghost use Rattle.boot_requests.specs.declared.fault.FeedFault.{FeedFault};
 ghost use Rattle.boot_requests.specs.declared.fault.FrameFault.{FrameFault};
 ghost use Rattle.boot_requests.specs.declared.fault.OpenFault.{OpenFault};
+ghost use Rattle.boot_requests.specs.declared.outcome.Code.{Code};
 ghost use Rattle.boot_requests.specs.declared.outcome.Outcome.{Outcome};
 ghost use Rattle.boot_requests.specs.declared.reply.Reply.{Reply};
 ghost use Rattle.boot_requests.specs.declared.request.Request.{Request};
@@ -20,21 +22,22 @@ ghost use Rattle.boot_requests.specs.Request.{IsRequest, payload_of};
 ghost use Rattle.boot_requests.specs.Frame.{SpellsFrame};
 ghost use Rattle.boot_requests.specs.FrameFault.{IsFirstFault};
 ghost use Rattle.boot_requests.specs.State.{State, IsState, IsImage};
-ghost use Rattle.boot_requests.specs.Apply.{HasPlanOf};
+ghost use Rattle.boot_requests.specs.Apply.{stores, stored_by, HasPlanOf};
 ghost use Rattle.boot_requests.specs.Seen.{Seen, Came, Prepare, Hand, IsEvent, IsSeen};
 ghost use Rattle.boot_requests.specs.Changes.{numbers_in, rising};
 ghost use Rattle.boot_requests.specs.Run.{followed, accepted, gap_at, Delivers, AreTaken, AgreeOnNumbers, is_armed, HaveNoHandOrRestart, history, state_at, last_of, sets};
 ghost use Rattle.boot_requests.specs.Reply.{IsReply, AreReplies, AreAnswers, hands};
 ghost use Rattle.boot_requests.specs.Turn.{Plain, plain_start, Turn};
-ghost use Rattle.boot_requests.specs.Keeping.{StandsFor, IsPlain, AreRead, IsLeft, IsStored, AsksFor, IsLast};
-ghost use Rattle.boot_requests.specs.Opening.{IsOpenFault};
+ghost use Rattle.boot_requests.specs.Keeping.{StandsFor, IsPlain, AreRead, IsStored, IsLeft, IsUntouched};
+ghost use Rattle.boot_requests.specs.Opening.{migrated, OpensAs, IsOpenFault};
 ghost use Rattle.boot_requests.specs.Stream.{Cut, IsCut};
 
 use crate::bytes::Bytes;
 use crate::event::Event;
 use crate::fault::{FeedFault, FrameFault, OpenFault};
 use crate::frame::PAYLOAD_MAX;
-use crate::outcome::{KEPT_MAX, Outcome};
+use crate::mark::KEPT_MAX;
+use crate::outcome::{Code, Outcome};
 use crate::reply::Reply;
 use crate::request::{OrderList, Request};
 use crate::window::WIDTH;
@@ -260,6 +263,11 @@ pub fn events_compare_as_values()
     ensures { (a b : Event) → IsTrue (⟦<Event as PartialEq>⟧.eq a b) ↔ (a ≡ b) }
 {}
 
+/// `==` on the codes of outcomes tells whether they are equal.
+pub fn codes_compare_as_values()
+    ensures { (a b : Code) → IsTrue (⟦<Code as PartialEq>⟧.eq a b) ↔ (a ≡ b) }
+{}
+
 /// `==` on outcomes tells whether they are equal.
 pub fn outcomes_compare_as_values()
     ensures { (a b : Outcome) → IsTrue (⟦<Outcome as PartialEq>⟧.eq a b) ↔ (a ≡ b) }
@@ -307,6 +315,27 @@ pub fn an_image_can_be_kept()
     uefi_vars::laws::a_bad_next_gives_no_next();
 }
 
+/// Variables open as at most one state.
+pub fn variables_open_as_one_state()
+    ensures { (m n : State) (vars : Variables) → OpensAs vars m → OpensAs vars n → m ≡ n }
+{}
+
+/// Variables that open as a state have no fault for which they can't be kept.
+pub fn what_opens_has_no_fault()
+    ensures { (m : State) (vars : Variables) (fault : OpenFault) → OpensAs vars m →
+        IsOpenFault vars fault → ⊥ }
+{
+    uefi_vars::laws::a_bad_order_gives_no_order();
+    uefi_vars::laws::a_bad_next_gives_no_next();
+}
+
+/// The image of a state opens as it, and is what it is migrated to.
+pub fn an_image_is_migrated_to_itself()
+    ensures opens { (m : State) (vars : Variables) → IsState m → IsImage m vars → OpensAs vars m }
+    ensures same { (m : State) (vars : Variables) → IsState m → IsImage m vars →
+        migrated vars m ≡ vars }
+{}
+
 /// What happens after a run of frames that were read has a reply.
 pub fn each_event_has_a_reply()
     ensures { (start : State) (run : List Seen) (seen : Seen) → IsState start → AreRead run →
@@ -334,22 +363,26 @@ pub fn a_turn_leads_to_a_plain_state()
     uefi_option::laws::each_option_is_spelled();
 }
 
-/// Where a request to store an entry is answered Applied and Done, and none of the waiting requests that are applied with
-/// it replaces or removes that entry, what is stored of the entry spells the option that was asked for.
+/// Where a request is answered Applied, with an outcome by which it stored an option of an entry, and each of the waiting
+/// requests that are applied with it leaves that entry alone while it is there, what is stored of the entry spells the
+/// option.
 pub fn a_stored_option_is_what_was_asked_for()
-    ensures { (k to : Plain) (number next : ℕ) (request : Request) →
-        IsRequest request → IsLast k.waiting number next request →
-        Turn k (Came number request) to (Reply.Applied Outcome.Done next) → IsStored to.machine request }
+    ensures { (k to : Plain) (number next entry : ℕ) (request : Request) (outcome : Outcome) (option : OptionParts) →
+        IsRequest request → stored_by request outcome ≡ Some (stores entry (Some option)) →
+        IsUntouched k.waiting number next entry →
+        Turn k (Came number request) to (Reply.Applied outcome next) →
+        IsStored (Some option) (map.get to.machine.entries entry) }
 {}
 
-/// An option that is stored as a request asked for is in each plan of that state: as the one that is tried first if
-/// BootNext names its entry, and among the others if the order does and the option is normal.
+/// An option that is stored under its number, as it is after a request that stored it, is in each plan of that state: as
+/// the one that is tried first if BootNext names its entry, and among the others if the order does and the option is
+/// normal.
 pub fn a_plan_holds_what_was_asked_for()
-    ensures next { (m : State) (request : Request) (plan : PlanParts) (choice : Choice) →
-        AsksFor request choice → IsStored m request → HasPlanOf m plan →
+    ensures next { (m : State) (plan : PlanParts) (choice : Choice) →
+        IsStored (Some choice.option) (map.get m.entries choice.number) → HasPlanOf m plan →
         m.next ≡ Some choice.number → plan.next ≡ Some choice }
-    ensures normal { (m : State) (request : Request) (plan : PlanParts) (choice : Choice) →
-        AsksFor request choice → IsStored m request → HasPlanOf m plan →
+    ensures normal { (m : State) (plan : PlanParts) (choice : Choice) →
+        IsStored (Some choice.option) (map.get m.entries choice.number) → HasPlanOf m plan →
         Contains m.order choice.number → IsNormal choice.option.attributes →
         Contains plan.normal choice }
 {

@@ -8,7 +8,7 @@ use crate::reply::Reply;
 use std::alloc::{AllocError, Global};
 
 /// The reply as one line of words with one blank between two, without a line feed: what it is, in lower case, and then the
-/// words of its fault, the name of its outcome, and its number in decimal. A plan is the line of
+/// words of its fault, those of its outcome, and its number in decimal. A plan is the line of
 /// [`BootPlan::words`](uefi_vars::BootPlan::words). The one refusal is for want of memory.
 pub fn reply_line(alloc: Global, reply: &Reply) -> Result<String, AllocError>
     ensures { IfOk result (λ text. string_bytes text ≡ line_of reply.now) }
@@ -19,16 +19,16 @@ pub fn reply_line(alloc: Global, reply: &Reply) -> Result<String, AllocError>
             format!(in alloc; "malformed {words}")
         }
         Reply::Repeat(outcome) => {
-            let name = outcome.name();
-            format!(in alloc; "repeat {name}")
+            let words = outcome.words(alloc)?;
+            format!(in alloc; "repeat {words}")
         }
         Reply::Old => String::from_str(alloc, "old"),
         Reply::Ahead(next) => format!(in alloc; "ahead {next}"),
         Reply::Conflict => String::from_str(alloc, "conflict"),
         Reply::Waiting(next) => format!(in alloc; "waiting {next}"),
         Reply::Applied(outcome, next) => {
-            let name = outcome.name();
-            format!(in alloc; "applied {name} {next}")
+            let words = outcome.words(alloc)?;
+            format!(in alloc; "applied {words} {next}")
         }
         Reply::Prepared(count) => format!(in alloc; "prepared {count}"),
         Reply::AlreadyPrepared => String::from_str(alloc, "already prepared"),

@@ -1,22 +1,21 @@
 //! Variables to a keeper.
 
-ghost use Rattle.std.specs.Prelude.{◌≡◌, ◌≢◌, ◌⊎◌, ◌↔◌, ◌<◌, ℕ, List, length, map, min, Ok, Err, IfOk, IfErr, IfSome, IfNone, MatchOption, MatchResult, IsTrue};
-ghost use Rattle.std.specs.List.{AllByRecursion};
+ghost use Rattle.std.specs.Prelude.{◌≡◌, ◌≢◌, ◌⊎◌, ◌↔◌, ◌<◌, ℕ, List, Err, IfOk, IfErr, OnOk, OnErr, MatchOption, MatchResult, IsTrue, IsFalse};
+ghost use Rattle.std.specs.FinMap as map;
 ghost use Rattle.uefi_path.specs.Answer.{IsUnless};
 ghost use Rattle.uefi_vars.specs.Order.{HasBadOrder};
 ghost use Rattle.boot_requests.specs.declared.fault.OpenFault.{OpenFault};
-ghost use Rattle.boot_requests.specs.Limits.{kept_max};
-ghost use Rattle.boot_requests.specs.State.{State};
-ghost use Rattle.boot_requests.specs.Opening.{HasMark, HasBadMark, IsOpenFault};
+ghost use Rattle.boot_requests.specs.declared.outcome.Outcome.{Outcome};
+ghost use Rattle.boot_requests.specs.State.{State, keep_text, stored_mark};
+ghost use Rattle.boot_requests.specs.Opening.{HasMark, HasSecondMark, HasBadMark, OpensAs, IsOpenFault};
 ghost use Rattle.boot_requests.specs.Turn.{plain_start};
-ghost use Rattle.boot_requests.specs.Keeping.{IsStateOf};
-ghost use Rattle.boot_requests.specs.Machine.{machine_of};
-ghost use Rattle.boot_requests.specs.Marks.{SplitsMark, IsOutcomeByte, outcome_at};
+ghost use Rattle.boot_requests.specs.Machine.{machine_of, with_stored};
+ghost use Rattle.boot_requests.specs.Slots.{waiting_of, IsKeeper};
 
 use crate::fault::OpenFault;
 use crate::keeper::Keeper;
-use crate::outcome::{KEPT_MAX, Outcome};
-use crate::storing::KEEP_STATE;
+use crate::mark::Mark;
+use crate::storing::{KEEP_STATE, store_mark};
 use crate::window::Window;
 use std::alloc::{AllocError, Global};
 use uefi_vars::{BOOT_ORDER, ORDER_MAX, Vars, boot_next, laws};
@@ -32,19 +31,24 @@ pub struct OpenRefused {
 
 impl Keeper {
     /// What keeps these variables, with nothing prepared: BootOrder and BootNext are those of UEFI 2.10, 3.3, and the next
-    /// number and the outcomes that are kept are those of BootKeepState, or 0 and none where it isn't stored.
+    /// number and the outcomes that are kept are those of BootKeepState, or 0 and none where it isn't stored. A
+    /// BootKeepState of version 1 is replaced by one of version 2, with the same next number and outcomes.
     ///
     /// # Errors
     ///
     /// The variables as they were, with [`OpenFault::BadOrder`] where the bytes of BootOrder are odd in number or more than
     /// two for each of [`ORDER_MAX`] numbers; else [`OpenFault::BadNext`] where BootNext has another number of bytes than
-    /// two; else [`OpenFault::BadState`] where the bytes of BootKeepState aren't the version 1, a next number of four
-    /// bytes, little-endian and not 0, how many outcomes are kept, which is the next number or 16 if that is less, and
-    /// a byte below 5 for each of these; else [`OpenFault::OutOfMemory`] where memory for them was refused.
+    /// two; else [`OpenFault::BadState`] where the bytes of BootKeepState are neither those of version 2 nor those of
+    /// version 1; else [`OpenFault::OutOfMemory`] where memory for them was refused. Those of version 2 are the version, a
+    /// next number of four bytes, little-endian and not 0, how many outcomes are kept, and four bytes for each: a code
+    /// below 6, whether an entry is told, and its number in two bytes, little-endian. As many are kept as there were
+    /// requests or 64, if these are fewer, or less, but 16 or all at least; an entry is told with the code 0 alone, and
+    /// its number is 0 where none is. Those of version 1 are the version, the next number, how many outcomes are kept,
+    /// which is 16 or as many as there were requests, and a code below 5 for each.
     pub fn open(alloc: Global, vars: Vars) -> Result<Keeper, OpenRefused>
         ensures opened { IfOk result (λ keeper.
-            (keeper ≡ plain_start keeper.machine) × IsStateOf keeper.machine vars) }
-        ensures only { (m : State) → IsStateOf m vars → MatchResult result
+            (keeper ≡ plain_start keeper.machine) × OpensAs vars keeper.machine) }
+        ensures only { (m : State) → OpensAs vars m → MatchResult result
             (λ keeper. keeper ≡ plain_start m)
             (λ refused. refused.fault ≡ OpenFault.OutOfMemory) }
         ensures fault { IfErr result (λ refused.
@@ -54,30 +58,46 @@ impl Keeper {
             (λ refused. (refused.fault ≡ fault) ⊎ (refused.fault ≡ OpenFault.OutOfMemory)) }
         ensures handed_back { IfErr result (λ refused. refused.vars ≡ vars) }
     {
-        crate::laws::variables_have_one_state();
-        crate::laws::an_image_can_be_kept();
-        match read_state(alloc, &vars) {
-            Ok((next, kept)) => match Window::new(alloc, next) {
-                Ok(window) => Ok(Keeper {
-                    vars,
-                    window,
-                    kept,
-                    plan: None,
-                }),
-                Err(_) => Err(OpenRefused {
-                    fault: OpenFault::OutOfMemory,
-                    vars,
-                }),
-            },
+        crate::laws::variables_open_as_one_state();
+        crate::laws::what_opens_has_no_fault();
+        let mut vars = vars;
+        match read_parts(alloc, &mut vars) {
+            Ok((mark, window)) => Ok(Keeper {
+                vars,
+                mark,
+                window,
+                plan: None,
+            }),
             Err(fault) => Err(OpenRefused { fault, vars }),
         }
     }
 }
 
-/// The next number of the variables, and the outcomes that are kept.
-fn read_state(alloc: Global, vars: &Vars) -> Result<(u32, Vec<Outcome>), OpenFault>
-    ensures found { IfOk result (λ mark.
-        IsStateOf (machine_of vars.now mark.0 mark.1.items) vars.now) }
+/// The mark of the variables, which is stored by the version that is written, and a window in which nothing waits. If they
+/// are refused, the variables stay as they were.
+fn read_parts(alloc: Global, vars: &mut Vars) -> Result<(Mark, Window), OpenFault>
+    ensures opened { IfOk result (λ parts. OpensAs vars.old (machine_of vars.new parts.0)) }
+    ensures stands { IfOk result (λ parts. IsKeeper vars.new parts.0 parts.1) }
+    ensures waiting { IfOk result (λ parts. waiting_of parts.0.next parts.1 ≡ map.empty) }
+    ensures fault { IfErr result (λ fault.
+        fault ≢ OpenFault.OutOfMemory → IsOpenFault vars.old fault) }
+    ensures only_fault { (fault : OpenFault) → IsOpenFault vars.old fault →
+        IsUnless result (Err fault) OpenFault.OutOfMemory }
+    ensures unchanged { IfErr result (λ fault. vars.new ≡ vars.old) }
+{
+    let mark = read_state(alloc, vars)?;
+    let Ok(window) = Window::new(alloc) else {
+        return Err(OpenFault::OutOfMemory);
+    };
+    let Ok(()) = migrate(alloc, vars, &mark) else {
+        return Err(OpenFault::OutOfMemory);
+    };
+    Ok((mark, window))
+}
+
+/// The mark of the variables.
+fn read_state(alloc: Global, vars: &Vars) -> Result<Mark, OpenFault>
+    ensures found { IfOk result (λ mark. OpensAs vars.now (machine_of vars.now mark)) }
     ensures fault { IfErr result (λ fault.
         fault ≢ OpenFault.OutOfMemory → IsOpenFault vars.now fault) }
     ensures only_fault { (fault : OpenFault) → IsOpenFault vars.now fault →
@@ -97,6 +117,32 @@ fn read_state(alloc: Global, vars: &Vars) -> Result<(u32, Vec<Outcome>), OpenFau
     }
 }
 
+/// Stores the mark of the variables by the version that is written, if it is stored by another.
+fn migrate(alloc: Global, vars: &mut Vars, mark: &Mark) -> Result<(), AllocError>
+    requires { HasMark vars.old mark.now.next mark.now.kept }
+    ensures put { OnOk result (vars.new
+        ≡ with_stored vars.old keep_text (stored_mark mark.now.next mark.now.kept)) }
+    ensures unchanged { OnErr result (vars.new ≡ vars.old) }
+{
+    if is_current(vars) {
+        return Ok(());
+    }
+    store_mark(alloc, vars, mark)
+}
+
+/// Whether BootKeepState is stored by the version that is written, or isn't stored.
+fn is_current(vars: &Vars) -> bool
+    ensures current { (count : ℕ) (kept : List Outcome) → IsTrue result →
+        HasMark vars.now count kept → HasSecondMark vars.now count kept }
+    ensures other { (count : ℕ) (kept : List Outcome) → IsFalse result →
+        HasMark vars.now count kept → 0 < count }
+{
+    match vars.get(KEEP_STATE) {
+        Some(bytes) => Mark::is_current(bytes),
+        None => true,
+    }
+}
+
 /// Whether the bytes of BootOrder are no numbers of two bytes each, or are too many.
 fn has_bad_order(vars: &Vars) -> bool
     ensures { IsTrue result ↔ HasBadOrder vars.now }
@@ -107,77 +153,14 @@ fn has_bad_order(vars: &Vars) -> bool
     }
 }
 
-/// The next number of the variables with the outcomes that are kept: `None` where BootKeepState has other bytes.
-fn read_mark(alloc: Global, vars: &Vars) -> Result<Option<(u32, Vec<Outcome>)>, AllocError>
+/// The mark of the variables: `None` where BootKeepState has other bytes.
+fn read_mark(alloc: Global, vars: &Vars) -> Result<Option<Mark>, AllocError>
     ensures { IfOk result (λ found. MatchOption found (HasBadMark vars.now)
-        (λ mark. HasMark vars.now mark.0 mark.1.items)) }
+        (λ mark. HasMark vars.now mark.next mark.kept)) }
 {
     let Some(bytes) = vars.get(KEEP_STATE) else {
-        return Ok(Some((0, Vec::new(alloc))));
+        return Ok(Some(Mark::new(alloc)));
     };
-    let Some((next, outcomes)) = split_mark(bytes) else {
-        return Ok(None);
-    };
-    if !are_outcomes(outcomes) {
-        return Ok(None);
-    }
-    let kept = read_outcomes(alloc, outcomes)?;
-    Ok(Some((next, kept)))
-}
-
-/// The next number that these bytes of BootKeepState have, and the bytes of the outcomes.
-fn split_mark(bytes: &[u8]) -> Option<(u32, &[u8])>
-    ensures found { IfSome result (λ mark. SplitsMark bytes.now mark.0 mark.1.now) }
-    ensures only { IfNone result
-        ((count : ℕ) (outcomes : List ℕ) → SplitsMark bytes.now count outcomes → ⊥) }
-{
-    let [version, a, b, c, d, len, outcomes @ ..] = bytes else {
-        return None;
-    };
-    let next = u32::from_le_bytes([*a, *b, *c, *d]);
-    if *version != 1 || next == 0 || usize::from(*len) != outcomes.len() {
-        return None;
-    }
-    if outcomes.len() != kept_len(next) {
-        return None;
-    }
-    Some((next, outcomes))
-}
-
-/// How many outcomes are kept before this next number.
-fn kept_len(next: u32) -> usize
-    ensures { result ≡ min kept_max next }
-{
-    if next < 16 { next as usize } else { KEPT_MAX }
-}
-
-/// Whether each of the bytes is one of an outcome.
-fn are_outcomes(bytes: &[u8]) -> bool
-    ensures { IsTrue result ↔ AllByRecursion IsOutcomeByte bytes.now }
-{
-    bytes.iter().all(|byte| *byte <= 4)
-}
-
-/// The outcomes of these bytes.
-fn read_outcomes(alloc: Global, bytes: &[u8]) -> Result<Vec<Outcome>, AllocError>
-    ensures { IfOk result (λ kept. kept.items ≡ map outcome_at bytes.now) }
-{
-    let mut kept = Vec::with_capacity(alloc, bytes.len())?;
-    for byte in bytes {
-        kept.push(outcome_at(*byte))?;
-    }
-    Ok(kept)
-}
-
-/// The outcome of this byte.
-fn outcome_at(byte: u8) -> Outcome
-    ensures { result ≡ outcome_at byte }
-{
-    match byte {
-        0 => Outcome::Done,
-        1 => Outcome::Exists,
-        2 => Outcome::Missing,
-        3 => Outcome::OrderRepeats,
-        _ => Outcome::OrderUnknown,
-    }
+    let found = Mark::read(alloc, bytes)?;
+    Ok(found)
 }

@@ -6,15 +6,16 @@ ghost use Rattle.std.specs.Int.{w16, w32, to_le_bytes};
 ghost use Rattle.uefi_path.specs.declared.fault.PathFault.{PathFault};
 ghost use Rattle.uefi_path.specs.Answer.{IsUnless};
 ghost use Rattle.uefi_option.specs.declared.fault.OptionFault.{OptionFault};
+ghost use Rattle.uefi_option.specs.LoadOption.{SpellsOption};
 ghost use Rattle.uefi_vars.specs.Order.{IsEntryNumber};
 ghost use Rattle.boot_requests.specs.declared.fault.FrameFault.{FrameFault};
 ghost use Rattle.boot_requests.specs.declared.request.Request.{Request};
 ghost use Rattle.boot_requests.specs.Frame.{SpellsFrame};
 ghost use Rattle.boot_requests.specs.FrameFault.{IsRaw, IsFirstFault};
-ghost use Rattle.boot_requests.specs.Reading.{byte_of, raw_of, PassesLength, FailsHeader, SplitsFrame, SpellsPayload, IsPayloadFault, SpellsEntry, IsEntryFault};
+ghost use Rattle.boot_requests.specs.Reading.{raw_of, PassesLength, FailsHeader, SplitsFrame, SpellsPayload, IsPayloadFault, SpellsEntry, IsEntryFault, IsOptionFault};
 
 use crate::fault::{FeedFault, FrameFault};
-use crate::frame::{ENTRY_LEN, Kind, MAGIC, NO_NUMBER, PAYLOAD_MAX, VERSION};
+use crate::frame::{ENTRY_LEN, Kind, MAGIC, NO_NUMBER, PAYLOAD_MAX};
 use crate::laws;
 use crate::request::{OrderList, Request};
 use std::alloc::Global;
@@ -84,7 +85,7 @@ pub(crate) fn stated_len(raw: RawFrame<'_>) -> Result<usize, FeedFault>
     if raw.magic != MAGIC {
         return Err(FeedFault::BadMagic);
     }
-    if raw.version != VERSION {
+    if !Kind::has_version(raw.version) {
         return Err(FeedFault::BadVersion);
     }
     let len = raw.len as usize;
@@ -97,7 +98,7 @@ pub(crate) fn stated_len(raw: RawFrame<'_>) -> Result<usize, FeedFault>
 /// The frame that the bytes are, if they are one as far as can be told without reading its payload.
 fn split_frame(bytes: &[u8]) -> Result<Frame<'_>, FrameFault>
     ensures found { IfOk result (λ frame.
-        SplitsFrame bytes.now frame.number (byte_of frame.kind) frame.payload.now) }
+        SplitsFrame bytes.now frame.number frame.kind frame.payload.now) }
     ensures fault { IfErr result (λ fault. IsFirstFault bytes.now fault) }
 {
     let Some(raw) = split_header(bytes) else {
@@ -107,7 +108,7 @@ fn split_frame(bytes: &[u8]) -> Result<Frame<'_>, FrameFault>
     if raw.payload.len() != len {
         return Err(FrameFault::BadSize);
     }
-    let Some(kind) = Kind::from_byte(raw.kind) else {
+    let Some(kind) = Kind::from_bytes(raw.version, raw.kind) else {
         return Err(FrameFault::BadKind);
     };
     if raw.number == NO_NUMBER {
@@ -158,6 +159,17 @@ fn read_entry_option(alloc: Global, bytes: &[u8]) -> Result<(u16, LoadOption), F
     }
 }
 
+/// The load option that the bytes are, all of them.
+fn read_option_alone(alloc: Global, bytes: &[u8]) -> Result<LoadOption, FrameFault>
+    ensures found { IfOk result (λ option. SpellsOption bytes.now option) }
+    ensures fault { IfErr result (λ fault. IsOptionFault bytes.now fault) }
+{
+    match read_option(alloc, bytes) {
+        Ok(option) => Ok(option),
+        Err(fault) => Err(option_fault(fault)),
+    }
+}
+
 /// The numbers of entries that the bytes are.
 fn read_order(alloc: Global, bytes: &[u8]) -> Result<OrderList, FrameFault>
     ensures found { IfOk result (λ order. bytes.now ≡ flat_map (to_le_bytes w16) order) }
@@ -173,8 +185,8 @@ fn read_order(alloc: Global, bytes: &[u8]) -> Result<OrderList, FrameFault>
 
 /// The request of this kind that the payload spells.
 fn read_payload(alloc: Global, kind: Kind, payload: &[u8]) -> Result<Request, FrameFault>
-    ensures found { IfOk result (λ request. SpellsPayload (byte_of kind) payload.now request) }
-    ensures fault { IfErr result (λ fault. IsPayloadFault (byte_of kind) payload.now fault) }
+    ensures found { IfOk result (λ request. SpellsPayload kind payload.now request) }
+    ensures fault { IfErr result (λ fault. IsPayloadFault kind payload.now fault) }
 {
     Ok(match kind {
         Kind::Add => {
@@ -188,6 +200,7 @@ fn read_payload(alloc: Global, kind: Kind, payload: &[u8]) -> Result<Request, Fr
         Kind::Remove => Request::Remove(read_entry(payload)?),
         Kind::Order => Request::Order(read_order(alloc, payload)?),
         Kind::Next => Request::Next(read_entry(payload)?),
+        Kind::AddFree => Request::AddFree(read_option_alone(alloc, payload)?),
     })
 }
 
@@ -203,20 +216,21 @@ fn read_parts(alloc: Global, bytes: &[u8]) -> Result<(u32, Request), FrameFault>
 }
 
 /// Reads the frame that the bytes are, all of them: the number of a request, and the request. In front of the payload
-/// stand twelve bytes: 0x42 0x51, the version 1, the kind of the request, its number in four bytes, and the length of
-/// the payload in four, both little-endian. The payload of [`Request::Add`] (kind 1) and [`Request::Replace`] (2) is the
-/// number of the entry in two bytes and the load option (UEFI 2.10, 3.1.3), that of [`Request::Remove`] (3) and
-/// [`Request::Next`] (5) is the number of the entry, and that of [`Request::Order`] (4) is the numbers, two bytes each.
+/// stand twelve bytes: 0x42 0x51, the version, the kind of the request, its number in four bytes, and the length of the
+/// payload in four, both little-endian. In version 1 the payload of [`Request::Add`] (kind 1) and [`Request::Replace`] (2)
+/// is the number of the entry in two bytes and the load option (UEFI 2.10, 3.1.3), that of [`Request::Remove`] (3) and
+/// [`Request::Next`] (5) is the number of the entry, and that of [`Request::Order`] (4) is the numbers, two bytes each. In
+/// version 2 that of [`Request::AddFree`] (6) is the load option. No version has a kind of the other.
 ///
 /// # Errors
 ///
 /// The first of these faults: [`FrameFault::Short`] where there are fewer than twelve bytes; [`FrameFault::BadMagic`] where
-/// the first two are others; [`FrameFault::BadVersion`] where the version is another; [`FrameFault::TooLong`] where the
-/// payload is to have more than [`PAYLOAD_MAX`] bytes; [`FrameFault::BadSize`] where fewer or more stand behind the twelve;
-/// [`FrameFault::BadKind`] where no request has the kind; [`FrameFault::BadNumber`] where the number is 4,294,967,295;
-/// [`FrameFault::BadPayload`] where the number of an entry isn't whole, or bytes follow it that the kind hasn't;
-/// [`FrameFault::Option`] where the option is none. [`FrameFault::OutOfMemory`] comes where memory was refused, also
-/// before a fault of the option.
+/// the first two are others; [`FrameFault::BadVersion`] where the version is neither 1 nor 2; [`FrameFault::TooLong`] where
+/// the payload is to have more than [`PAYLOAD_MAX`] bytes; [`FrameFault::BadSize`] where fewer or more follow the twelve;
+/// [`FrameFault::BadKind`] where no request has the kind in that version; [`FrameFault::BadNumber`] where the number is
+/// 4,294,967,295; [`FrameFault::BadPayload`] where the number of an entry isn't whole, or bytes follow it that the kind
+/// hasn't; [`FrameFault::Option`] where the option is none. [`FrameFault::OutOfMemory`] comes where memory was refused,
+/// also before a fault of the option.
 pub fn read_frame(alloc: Global, bytes: &[u8]) -> Result<(u32, Request), FrameFault>
     // What is read is spelled so.
     ensures found { IfOk result (λ read. SpellsFrame bytes.now read.0 read.1) }

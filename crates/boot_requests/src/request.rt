@@ -3,8 +3,9 @@
 ghost use Rattle.std.specs.Prelude.{◌≡◌, IfOk};
 ghost use Rattle.std.specs.List.{AllByRecursion};
 ghost use Rattle.uefi_vars.specs.Order.{IsEntryNumber};
-ghost use Rattle.boot_requests.specs.Request.{IsRequest};
+ghost use Rattle.boot_requests.specs.Request.{IsRequest, kind_of};
 
+use crate::frame::Kind;
 use std::alloc::{AllocError, Global};
 use std::marker::Model;
 use uefi_option::LoadOption;
@@ -95,6 +96,9 @@ pub enum Request {
     Order(OrderList),
     /// Sets BootNext to an entry that is there.
     Next(u16),
+    /// Stores an entry under the least number that none has when the request is applied, and appends that number to
+    /// BootOrder. The outcome tells it.
+    AddFree(LoadOption),
 }
 
 impl Request {
@@ -109,6 +113,21 @@ impl Request {
             Request::Remove(entry) => Request::Remove(*entry),
             Request::Order(order) => Request::Order(order.copy(alloc)?),
             Request::Next(entry) => Request::Next(*entry),
+            Request::AddFree(option) => Request::AddFree(option.copy(alloc)?),
         })
+    }
+
+    /// What the request is about.
+    pub(crate) fn kind(&self) -> Kind
+        ensures { result ≡ kind_of self.now }
+    {
+        match self {
+            Request::Add(..) => Kind::Add,
+            Request::Replace(..) => Kind::Replace,
+            Request::Remove(_) => Kind::Remove,
+            Request::Order(_) => Kind::Order,
+            Request::Next(_) => Kind::Next,
+            Request::AddFree(_) => Kind::AddFree,
+        }
     }
 }

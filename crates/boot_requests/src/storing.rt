@@ -1,17 +1,17 @@
 //! Edits of the variables that stand for a state.
 
-ghost use Rattle.std.specs.Prelude.{◌≡◌, ◌<◌, ◌≤◌, length, Some, IfOk, OnOk};
+ghost use Rattle.std.specs.Prelude.{◌≡◌, ◌<◌, ◌≤◌, length, Some, IfOk, OnOk, OnErr};
 ghost use Rattle.std.specs.FinMap as map;
 ghost use Rattle.uefi_option.specs.LoadOption.{option_bytes};
 ghost use Rattle.uefi_vars.specs.Vars.{IsVars};
 ghost use Rattle.uefi_vars.specs.Order.{order_max};
 ghost use Rattle.boot_requests.specs.Apply.{is_in, without, is_there as holds, booted};
-ghost use Rattle.boot_requests.specs.State.{State, IsMark, mark_bytes, outcome_byte};
+ghost use Rattle.boot_requests.specs.State.{State, keep_text, mark_bytes};
 ghost use Rattle.boot_requests.specs.Keeping.{IsStateOf};
 ghost use Rattle.boot_requests.specs.Run.{is_next_entry};
 ghost use Rattle.boot_requests.specs.Edit.{ChangesBy, with_order, with_next, with_entry, without_entry, with_mark, with_last, without_number, without_next};
 
-use crate::outcome::Outcome;
+use crate::mark::Mark;
 use std::alloc::{AllocError, Global};
 use uefi_option::{LoadOption, write_option};
 use uefi_path::append_units;
@@ -23,6 +23,7 @@ pub(crate) const KEEP_STATE: &str = "BootKeepState";
 /// Sets the variable of this name to this data, which it can have.
 fn put(vars: &mut Vars, name: &str, value: &[u8]) -> Result<(), AllocError>
     ensures put { OnOk result (vars.new ≡ map.insert vars.old name.now value.now) }
+    ensures unchanged { OnErr result (vars.new ≡ vars.old) }
     ensures valid { IsVars vars.new }
 {
     match vars.put(name, value) {
@@ -183,46 +184,15 @@ pub(crate) fn forget_next(vars: &mut Vars, number: u16)
 
 // ---- BootKeepState
 
-/// The byte of an outcome.
-fn outcome_byte(outcome: Outcome) -> u8
-    ensures { result ≡ outcome_byte outcome }
+/// Stores a mark whose next number isn't 0.
+pub(crate) fn store_mark(alloc: Global, vars: &mut Vars, mark: &Mark) -> Result<(), AllocError>
+    requires { 0 < mark.now.next }
+    ensures put { OnOk result (vars.new
+        ≡ map.insert vars.old keep_text (mark_bytes mark.now.next mark.now.kept)) }
+    ensures changes { OnOk result (ChangesBy vars.old vars.new (with_mark mark.now)) }
+    ensures unchanged { OnErr result (vars.new ≡ vars.old) }
 {
-    match outcome {
-        Outcome::Done => 0,
-        Outcome::Exists => 1,
-        Outcome::Missing => 2,
-        Outcome::OrderRepeats => 3,
-        Outcome::OrderUnknown => 4,
-    }
-}
-
-/// The bytes of a next number and of the outcomes that are kept.
-fn mark_bytes(alloc: Global, next: u32, kept: &[Outcome]) -> Result<Vec<u8>, AllocError>
-    requires { length kept.now ≤ 16 }
-    ensures { IfOk result (λ bytes. bytes.items ≡ mark_bytes next kept.now) }
-{
-    let mut bytes = Vec::new(alloc);
-    bytes.push(1)?;
-    bytes.extend_from_slice(&next.to_le_bytes())?;
-    bytes.push(kept.len() as u8)?;
-    for outcome in kept {
-        bytes.push(outcome_byte(*outcome))?;
-    }
-    Ok(bytes)
-}
-
-/// Stores a next number, which isn't 0, and the outcomes that are kept.
-pub(crate) fn store_mark(
-    alloc: Global,
-    vars: &mut Vars,
-    next: u32,
-    kept: &[Outcome],
-) -> Result<(), AllocError>
-    requires some { 0 < next }
-    requires mark { IsMark next kept.now }
-    ensures { OnOk result (ChangesBy vars.old vars.new (with_mark next kept.now)) }
-{
-    let bytes = mark_bytes(alloc, next, kept)?;
+    let bytes = mark.bytes(alloc)?;
     put(vars, KEEP_STATE, &bytes)?;
     Ok(())
 }

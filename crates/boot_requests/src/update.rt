@@ -4,7 +4,7 @@ ghost use Rattle.std.specs.Prelude.{◌≡◌, IfOk};
 ghost use Rattle.boot_requests.specs.Update.{Fits, updated};
 
 use crate::keeper::{Keeper, copy_plan};
-use crate::outcome::Outcome;
+use crate::mark::Mark;
 use crate::request::Request;
 use crate::storing::delete_next;
 use std::alloc::{AllocError, Global};
@@ -17,8 +17,8 @@ pub(crate) enum Update {
     Nothing,
     /// The request waits under this number.
     Waits(u32, Request),
-    /// Requests were applied: the variables, the next number and the outcomes that are kept after them.
-    Applied(Vars, u32, Vec<Outcome>),
+    /// Requests were applied: the variables and the mark after them.
+    Applied(Vars, Mark),
     /// This plan is prepared, and BootNext is deleted.
     Prepared(BootPlan),
     /// The plan that was prepared is there no longer.
@@ -36,10 +36,10 @@ impl Keeper {
         match update {
             Update::Nothing => {}
             Update::Waits(number, request) => self.window.keep(number, request),
-            Update::Applied(vars, next, kept) => {
+            Update::Applied(vars, mark) => {
                 self.vars = vars;
-                self.window.pass_to(next);
-                self.kept = kept;
+                self.window.pass_to(self.mark.next(), mark.next());
+                self.mark = mark;
             }
             Update::Prepared(plan) => {
                 delete_next(&mut self.vars);
@@ -59,14 +59,14 @@ impl Keeper {
         ensures { IfOk result (λ keeper. keeper ≡ updated self.now update) }
     {
         match update {
-            Update::Applied(vars, next, kept) => {
+            Update::Applied(vars, mark) => {
                 let plan = copy_plan(alloc, &self.plan)?;
                 let mut window = self.window.copy(alloc)?;
-                window.pass_to(next);
+                window.pass_to(self.mark.next(), mark.next());
                 Ok(Keeper {
                     vars,
+                    mark,
                     window,
-                    kept,
                     plan,
                 })
             }
@@ -83,13 +83,13 @@ impl Keeper {
         ensures { IfOk result (λ keeper. keeper ≡ self.now) }
     {
         let vars = self.vars.copy(alloc)?;
+        let mark = self.mark.copy(alloc)?;
         let window = self.window.copy(alloc)?;
-        let kept = copy_outcomes(alloc, &self.kept)?;
         let plan = copy_plan(alloc, &self.plan)?;
         Ok(Keeper {
             vars,
+            mark,
             window,
-            kept,
             plan,
         })
     }
@@ -100,11 +100,4 @@ fn set_plan(plan: &mut Option<BootPlan>, now: Option<BootPlan>)
     ensures { plan.new ≡ now }
 {
     *plan = now;
-}
-
-/// Equal outcomes.
-fn copy_outcomes(alloc: Global, kept: &[Outcome]) -> Result<Vec<Outcome>, AllocError>
-    ensures { IfOk result (λ copy. copy.items ≡ kept.now) }
-{
-    Vec::from_slice(alloc, kept)
 }

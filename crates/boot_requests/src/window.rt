@@ -1,79 +1,67 @@
 //! The requests that wait for one of a lower number.
 
-ghost use Rattle.std.specs.Prelude.{◌≡◌, ◌+◌, ◌%◌, ◌<◌, ◌≤◌, length, replicate, slice_set, option_copied, Some, None, IfOk};
+ghost use Rattle.std.specs.Prelude.{◌≡◌, ℕ, ◌+◌, ◌<◌, ◌≤◌, length, replicate, slice_set, option_copied, Some, None, IfOk};
 ghost use Rattle.std.specs.FinMap as map;
-ghost use Rattle.boot_requests.specs.Limits.{width, no_number};
+ghost use Rattle.boot_requests.specs.Limits.{width};
 ghost use Rattle.boot_requests.specs.Frame.{IsSent};
-ghost use Rattle.boot_requests.specs.Keeping.{AreWaiting};
-ghost use Rattle.boot_requests.specs.Slots.{parts_of, place_of, above};
+ghost use Rattle.boot_requests.specs.Slots.{place_of, above, waiting_of, IsWindow};
 
 use crate::request::Request;
 use std::alloc::{AllocError, Global};
 use std::marker::Model;
 
 /// How many numbers are taken, the next one included: a request of one of the others waits for those of lower numbers.
-pub const WIDTH: u32 = 16;
+pub const WIDTH: u32 = 64;
 
 /// How many slots there are, one for each of those numbers.
-const SLOTS: usize = 16;
+const SLOTS: usize = WIDTH as usize;
 
 /// The requests that wait for one of a lower number. That of a number stands in the slot of the number modulo
-/// [`SLOTS`], so none is searched for; the slot of the next number is free.
+/// [`SLOTS`], so none is searched for; the slot of the next number is free. Which number that is, the calls are told.
 #[derive(Debug, Drop)]
 pub(crate) struct Window {
-    next: u32,
     slots: Vec<Option<Request>>,
 }
 
 impl Model for Window {
-    ghost use Rattle.std.specs.Coded.{codes};
-    ghost use Rattle.std.specs.FinMap.{code as map_code};
-    ghost use Rattle.boot_requests.specs.Slots.{WindowParts, parts_of, reach, waiting_in, IsWindow};
+    ghost use Rattle.std.specs.Prelude.{◌≡◌, List, Option, length};
+    ghost use Rattle.boot_requests.specs.declared.request.Request.{Request};
+    ghost use Rattle.boot_requests.specs.Limits.{width};
 
-    ghost Value = { WindowParts };
+    ghost Value = { List (Option Request) };
 
-    ghost coded = { Prim.hlevel (codes, map_code) };
+    ghost view = { λ w. w.slots.items };
 
-    ghost view = { λ w. parts_of w.next (waiting_in reach w.next w.slots.items) };
-
-    ghost invariant = { λ w. IsWindow w.next w.slots.items };
+    ghost invariant = { λ w. length w.slots.items ≡ width };
 }
 
 impl Window {
-    /// With this next number, and nothing that waits.
-    pub(crate) fn new(alloc: Global, next: u32) -> Result<Window, AllocError>
-        ensures { IfOk result (λ window. window ≡ parts_of next map.empty) }
+    /// Nothing waits.
+    pub(crate) fn new(alloc: Global) -> Result<Window, AllocError>
+        ensures { IfOk result (λ window. (next : ℕ) →
+            IsWindow next window × (waiting_of next window ≡ map.empty)) }
     {
         let slots = free_slots(alloc, SLOTS)?;
-        Ok(Window { next, slots })
+        Ok(Window { slots })
     }
 
-    /// The next number.
-    pub(crate) fn next(&self) -> u32
-        ensures number { result ≡ self.now.next }
-        ensures valid { AreWaiting self.now.next self.now.waiting }
+    /// The request that waits under this number, which is above the next one, if one does.
+    pub(crate) fn get(&self, next: u32, number: u32) -> Option<&Request>
+        requires { next < number }
+        ensures { option_copied result ≡ map.get (waiting_of next self.now) number }
     {
-        self.next
-    }
-
-    /// The request that waits under this number, if one does.
-    pub(crate) fn get(&self, number: u32) -> Option<&Request>
-        requires { self.now.next < number }
-        ensures { option_copied result ≡ map.get self.now.waiting number }
-    {
-        if number - self.next >= WIDTH {
+        if number - next >= WIDTH {
             return None;
         }
         self.slots[place_of(number as usize)].as_ref()
     }
 
     /// How many requests wait.
-    pub(crate) fn len(&self) -> usize
-        ensures len { result ≡ map.len self.now.waiting }
+    pub(crate) fn len(&self, next: u32) -> usize
+        ensures len { result ≡ map.len (waiting_of next self.now) }
         ensures bound { result < width }
-        ensures valid { AreWaiting self.now.next self.now.waiting }
     {
-        let next = self.next as usize;
+        let next = next as usize;
         let mut count = 0usize;
         for distance in 1..SLOTS {
             if self.slots[place_of(next + distance)].is_some() {
@@ -85,38 +73,37 @@ impl Window {
 
     /// The request waits under this number from now on.
     pub(crate) fn keep(&mut self, number: u32, request: Request)
-        requires above { self.old.next < number }
-        requires near { number < self.old.next + width }
-        requires sent { IsSent number request }
-        ensures { self.new
-            ≡ parts_of self.old.next (map.insert self.old.waiting number request) }
+        ensures { (next : ℕ) → IsWindow next self.old →
+            next < number → number < next + width → IsSent number request →
+            IsWindow next self.new
+            × (waiting_of next self.new ≡ map.insert (waiting_of next self.old) number request) }
     {
         set_slot(&mut self.slots, place_of(number as usize), request);
     }
 
-    /// Makes this the next number. What waits under numbers that are not above it waits no longer.
-    pub(crate) fn pass_to(&mut self, next: u32)
-        requires { self.old.next ≤ next }
-        ensures { self.new ≡ parts_of next (above next self.old.waiting) }
+    /// The next number is the second of these from now on. What waits under numbers that aren't above it waits no longer.
+    pub(crate) fn pass_to(&mut self, next: u32, after: u32)
+        requires { next ≤ after }
+        ensures { IsWindow next self.old → IsWindow after self.new
+            × (waiting_of after self.new ≡ above after (waiting_of next self.old)) }
     {
-        for _number in self.next..next {
-            self.pass();
+        for number in next..after {
+            self.pass(number);
         }
     }
 
-    /// Passes on to the number after the next one. The request that waits under it, if one does, waits no longer.
-    fn pass(&mut self)
-        requires { self.old.next < no_number }
-        ensures { let next = self.old.next + 1 in
-            self.new ≡ parts_of next (map.remove self.old.waiting next) }
+    /// The next number is one more from now on. The request that waits under it, if one does, waits no longer.
+    fn pass(&mut self, next: u32)
+        ensures { IsWindow next self.old → IsWindow (next + 1) self.new
+            × (waiting_of (next + 1) self.new ≡ map.remove (waiting_of next self.old) (next + 1)) }
     {
-        self.next += 1;
-        free_slot(&mut self.slots, place_of(self.next as usize));
+        free_slot(&mut self.slots, place_of(next as usize + 1));
     }
 
     /// Nothing waits any longer.
     pub(crate) fn clear(&mut self)
-        ensures { self.new ≡ parts_of self.old.next map.empty }
+        ensures { (next : ℕ) →
+            IsWindow next self.new × (waiting_of next self.new ≡ map.empty) }
     {
         free_all(&mut self.slots);
     }
@@ -126,10 +113,7 @@ impl Window {
         ensures { IfOk result (λ window. window ≡ self.now) }
     {
         let slots = copy_slots(alloc, &self.slots)?;
-        Ok(Window {
-            next: self.next,
-            slots,
-        })
+        Ok(Window { slots })
     }
 }
 

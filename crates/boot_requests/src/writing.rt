@@ -8,13 +8,12 @@ ghost use Rattle.uefi_option.specs.LoadOption.{list_bytes, option_bytes};
 ghost use Rattle.uefi_vars.specs.Order.{IsEntryNumber};
 ghost use Rattle.boot_requests.specs.declared.fault.FrameFault.{FrameFault};
 ghost use Rattle.boot_requests.specs.Limits.{payload_max, no_number};
-ghost use Rattle.boot_requests.specs.Request.{IsRequest, kind_of, payload_of};
+ghost use Rattle.boot_requests.specs.Request.{IsRequest, payload_of};
 ghost use Rattle.boot_requests.specs.Frame.{header_bytes, SpellsFrame};
-ghost use Rattle.boot_requests.specs.Reading.{byte_of};
 ghost use Rattle.boot_requests.specs.Writing.{IsWriteFault};
 
 use crate::fault::FrameFault;
-use crate::frame::{ENTRY_LEN, HEADER_LEN, Kind, MAGIC, NO_NUMBER, PAYLOAD_MAX, VERSION};
+use crate::frame::{ENTRY_LEN, HEADER_LEN, Kind, MAGIC, NO_NUMBER, PAYLOAD_MAX};
 use crate::request::Request;
 use std::alloc::{AllocError, Global};
 use uefi_option::{LoadOption, write_option};
@@ -59,32 +58,20 @@ fn payload_len(request: &Request) -> Option<usize>
         }
         Request::Remove(_) | Request::Next(_) => Some(ENTRY_LEN),
         Request::Order(order) => order.numbers().len().checked_mul(ENTRY_LEN),
-    }
-}
-
-/// The kind of the request.
-fn kind(request: &Request) -> Kind
-    ensures { byte_of result ≡ kind_of request.now }
-{
-    match request {
-        Request::Add(..) => Kind::Add,
-        Request::Replace(..) => Kind::Replace,
-        Request::Remove(_) => Kind::Remove,
-        Request::Order(_) => Kind::Order,
-        Request::Next(_) => Kind::Next,
+        Request::AddFree(option) => option_len(option),
     }
 }
 
 /// The header of a frame whose payload has so many bytes.
 fn header(kind: Kind, number: u32, len: u32) -> [u8; HEADER_LEN]
-    ensures { result ≡ header_bytes (byte_of kind) number len }
+    ensures { result ≡ header_bytes kind number len }
 {
     let [a, b, c, d] = number.to_le_bytes();
     let [e, f, g, h] = len.to_le_bytes();
     [
         MAGIC[0],
         MAGIC[1],
-        VERSION,
+        kind.version(),
         kind.byte(),
         a,
         b,
@@ -119,6 +106,7 @@ fn append_payload(alloc: Global, request: &Request, out: &mut Vec<u8>) -> Result
             out.extend_from_slice(&entry.to_le_bytes())
         }
         Request::Order(order) => append_numbers(order.numbers(), out),
+        Request::AddFree(option) => out.extend_from_slice(&write_option(alloc, option)?),
     }
 }
 
@@ -146,7 +134,7 @@ pub fn write_frame(alloc: Global, number: u32, request: &Request) -> Result<Vec<
         return Err(FrameFault::BadNumber);
     }
     let mut out = Vec::with_capacity(alloc, HEADER_LEN + len)?;
-    out.extend_from_slice(&header(kind(request), number, len as u32))?;
+    out.extend_from_slice(&header(request.kind(), number, len as u32))?;
     append_payload(alloc, request, &mut out)?;
     Ok(out)
 }

@@ -1,9 +1,11 @@
-use Rattle.std.proofs.Common.{sym, ◌∙◌}
+use Rattle.std.proofs.Common.{sym, ap, ◌∙◌}
 use Rattle.std.proofs.lemmas.Bool.{cond-true, cond-false}
+use Rattle.boot_requests.specs.Outcome.{without_entry}
 use Rattle.boot_requests.proofs.applying.add.Goals as goal
 
 pub returns-then-is_there : goal.returns-then-is_there
-returns-then-is_there c = λ m h. (sym (cond-true _ _ _ (sym (c.is_there.ensures m h) ∙ c.if-is_there.true)), h)
+returns-then-is_there c = rw c.of.ensures (λ m h. (ap without_entry (sym (cond-true _ _ _ (sym (c.is_there.ensures m h) ∙ c.if-is_there.true))), h))
 
 pub returns : goal.returns
-returns c = λ m h. (sym (cond-false _ _ _ (sym (c.is_there.ensures m h) ∙ c.if-is_there.false)), c.in_ok-append_number.ensures _ (c.in_ok-store_entry.ensures m h))
+returns c = rw c.of-2.ensures (λ m h.
+    (ap without_entry (sym (cond-false _ _ _ (sym (c.is_there.ensures m h) ∙ c.if-is_there.false))), c.in_ok-append_number.ensures _ (c.in_ok-store_entry.ensures m h)))

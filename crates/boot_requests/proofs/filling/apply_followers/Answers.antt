@@ -1,51 +1,45 @@
-use Rattle.std.proofs.Common.{◌≡◌, ◌+◌, ◌<◌, List, Option, None, IfSome, sym, ap, subst, ◌∙◌, arith}
+use Rattle.std.proofs.Common.{ℕ, ◌-◌, sym, ap, ◌∙◌, arith}
 use Rattle.std.specs.FinMap.{get}
-use Rattle.boot_requests.specs.declared.request.Request.{Request}
-use Rattle.boot_requests.specs.declared.outcome.Outcome.{Outcome}
-use Rattle.boot_requests.specs.Limits.{width}
-use Rattle.boot_requests.specs.Frame.{IsSent}
 use Rattle.boot_requests.specs.State.{State}
-use Rattle.boot_requests.specs.Apply.{applied}
 use Rattle.boot_requests.specs.Turn.{Plain, plain_start, settled}
 use Rattle.boot_requests.specs.Machine.{machine_of}
+use Rattle.boot_requests.specs.Slots.{waiting_of}
+use Rattle.boot_requests.proofs.Slots.{found_waiting}
 use Rattle.boot_requests.proofs.Fills.{settled_next, settled_here}
 use Rattle.boot_requests.proofs.filling.apply_followers.Goals as goal
 
 pub apply-requires-clause-room : goal.apply-requires-clause-room
 apply-requires-clause-room c =
-    let next = c.args.window.now.next in
-    let number = c.loop-request.number in
-    let held = subst (λ (o : Option Request). IfSome o (λ request. (next < number) × (number < next + width) × IsSent number request)) (sym c.in-Some.ensures) (c.next-number.ensures.valid number) in
-    held.2.1.below
+    let first = c.args.mark.next in
+    let window = c.args.window.now in
+    let held = c.in-Some.ensures ∙ ap (λ (n : ℕ). get (waiting_of (n - 1) window) c.next.result) c.next-next.ensures ∙ ap (λ (n : ℕ). get (waiting_of (first - 1) window) n) c.next.ensures in
+    (found_waiting (first - 1) c.loop-request.now.next window c.in-Some.request.now c.requires.waits held).2.1.below
 
 pub apply-requires-clause-fits : goal.apply-requires-clause-fits
 apply-requires-clause-fits c =
-    let next = c.args.window.now.next in
-    let number = c.loop-request.number in
-    let held = subst (λ (o : Option Request). IfSome o (λ request. (next < number) × (number < next + width) × IsSent number request)) (sym c.in-Some.ensures) (c.next-number.ensures.valid number) in
-    held.2.1.len
+    let first = c.args.mark.next in
+    let window = c.args.window.now in
+    let held = c.in-Some.ensures ∙ ap (λ (n : ℕ). get (waiting_of (n - 1) window) c.next.result) c.next-next.ensures ∙ ap (λ (n : ℕ). get (waiting_of (first - 1) window) n) c.next.ensures in
+    (found_waiting (first - 1) c.loop-request.now.next window c.in-Some.request.now c.requires.waits held).2.1.len
 
 pub loop-request-preserved : goal.loop-request-preserved
 loop-request-preserved c =
-    let next = c.args.window.now.next in
-    let waiting = c.args.window.now.waiting in
-    let number = c.loop-request.number in
-    let request = c.in-Some.request.now in
-    let vars = c.loop-request.vars in
-    let held = subst (λ (o : Option Request). IfSome o (λ r. (next < number) × (number < next + width) × IsSent number r)) (sym c.in-Some.ensures) (c.next-number.ensures.valid number) in
+    let first = c.args.mark.next in
+    let window = c.args.window.now in
+    let waiting = waiting_of (first - 1) window in
+    let held = c.in-Some.ensures ∙ ap (λ (n : ℕ). get (waiting_of (n - 1) window) c.next.result) c.next-next.ensures ∙ ap (λ (n : ℕ). get waiting n) c.next.ensures in
     record {
-      above = omega (arith, c.loop-request.invariant.above);
-      room = omega (arith, held.2.1.below);
+      above = omega (arith, c.loop-request.invariant.above, c.in_ok-_outcome.ensures.number);
       stands = c.in_ok-_outcome.ensures.stands;
       settled =
           ap (λ (s : State). settled (plain_start s) waiting) c.in_ok-_outcome.ensures.state
-          ∙ ap (λ (ks : List Outcome). settled (plain_start (applied (machine_of vars number ks) request)) waiting) c.deref.ensures.value
-          ∙ sym (settled_next (machine_of vars number c.loop-request.now.items) waiting request (sym c.in-Some.ensures)) ∙ c.loop-request.invariant.settled;
+          ∙ sym (settled_next (machine_of c.loop-request.vars c.loop-request.now) waiting c.in-Some.request.now (sym held)) ∙ c.loop-request.invariant.settled;
     }
 
 pub returns-clause-state : goal.returns-clause-state
 returns-clause-state c =
-    let waiting = c.args.window.now.waiting in
-    let m = machine_of c.loop-request.vars c.loop-request.number c.loop-request.now.items in
-    let free : get waiting c.loop-request.number ≡ None = sym c.in_default.ensures in
-    sym (settled_here m waiting free) ∙ ap (λ (k : Plain). k.machine) c.loop-request.invariant.settled
+    let first = c.args.mark.next in
+    let window = c.args.window.now in
+    let waiting = waiting_of (first - 1) window in
+    let free = c.in_default.ensures ∙ ap (λ (n : ℕ). get (waiting_of (n - 1) window) c.next.result) c.next-next.ensures ∙ ap (λ (n : ℕ). get waiting n) c.next.ensures in
+    sym (settled_here (machine_of c.loop-request.vars c.loop-request.now) waiting (sym free)) ∙ ap (λ (k : Plain). k.machine) c.loop-request.invariant.settled

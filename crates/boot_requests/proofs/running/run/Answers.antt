@@ -2,6 +2,12 @@ use Rattle.std.proofs.Common.{arith}
 use Rattle.boot_requests.proofs.Followed.{ran_more, ran_same, ran_turns, ran_run}
 use Rattle.boot_requests.proofs.running.run.Goals as goal
 
+pub returns-in_default-clause-turns : goal.returns-in_default-clause-turns
+returns-in_default-clause-turns c =
+    let same = c.in_default.ensures.refused in
+    ran_turns c.args.keeper c.args.events.now c.args.replies.now.items c.loop-event.event-index c.take_event.new.keeper c.take_event.new.replies.items
+    (ran_same _ _ _ _ _ _ _ _ c.loop-event.invariant same.1 same.0)
+
 pub returns-in_default-clause-run : goal.returns-in_default-clause-run
 returns-in_default-clause-run c =
     let same = c.in_default.ensures.refused in

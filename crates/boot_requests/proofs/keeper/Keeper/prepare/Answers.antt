@@ -13,7 +13,7 @@ returns-then-is_some-clause-turn c =
 
 pub returns-clause-turn : goal.returns-clause-turn
 returns-clause-turn c =
-    let m = machine_of c.self.inside.vars c.self.inside.window.next c.self.inside.kept.items in
+    let m = machine_of c.self.inside.vars c.self.inside.mark in
     let plan = c.in_ok-plan.plan in
     plan_gone c.args.self.now.plan _ _ (ap (λ (k : Plain). is_some k.plan) (sym c.self.view_is) ∙ sym c.is_some.ensures ∙ c.if-is_some.false)
-    (plan, subst (λ (k : Plain). HasPlanOf k.machine plan) c.self.view_is (c.in_ok-plan.ensures m c.self.invariant), refl, ap reply.Prepared c.choice_count-count.ensures)
+    (plan, subst (λ (k : Plain). HasPlanOf k.machine plan) c.self.view_is (c.in_ok-plan.ensures m c.self.invariant.stands), refl, ap reply.Prepared c.choice_count-count.ensures)

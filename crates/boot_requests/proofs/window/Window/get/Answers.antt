@@ -1,21 +1,17 @@
-use Rattle.std.proofs.Common.{◌<◌, length, sym, ap, ◌∙◌, arith}
+use Rattle.std.proofs.Common.{◌<◌, List, Option, length, sym, ap, ◌∙◌, arith}
 use Rattle.std.specs.FinMap.{get}
-use Rattle.boot_requests.specs.Slots.{WindowParts, slot_at}
+use Rattle.boot_requests.specs.declared.request.Request.{Request}
+use Rattle.boot_requests.specs.Slots.{slot_at, waiting_of}
 use Rattle.boot_requests.proofs.Slots.{in_window, beyond_window, same_slot}
 use Rattle.boot_requests.proofs.window.Window.get.Goals as goal
 
 pub returns : goal.returns
 returns c =
-    let next = c.self.inside.next in
     let slots = c.self.inside.slots.items in
-    let next_is = ap (λ (w : WindowParts). w.next) c.self.view_is in
-    let there : c.place_of.result < length slots = omega (arith, c.place_of.ensures.below, c.self.invariant.len) in
+    let there : c.place_of.result < length slots = omega (arith, c.place_of.ensures.below, c.self.invariant) in
     c.as_ref.ensures.value ∙ c.index.ensures ∙ same_slot slots c.place_of.result c.index.result.now there ∙ ap (slot_at slots) c.place_of.ensures.is
-    ∙ sym (in_window next slots c.args.number (omega (arith, c.requires, next_is)) (omega (arith, c.if-number-self-ge-WIDTH.false)))
-    ∙ ap (λ (w : WindowParts). get w.waiting c.args.number) c.self.view_is
+    ∙ sym (in_window c.args.next slots c.args.number c.requires (omega (arith, c.if-number-next-ge-WIDTH.false)))
+    ∙ ap (λ (s : List (Option Request)). get (waiting_of c.args.next s) c.args.number) c.self.view_is
 
-pub returns-then-number-self-ge-WIDTH : goal.returns-then-number-self-ge-WIDTH
-returns-then-number-self-ge-WIDTH c =
-    let next_is = ap (λ (w : WindowParts). w.next) c.self.view_is in
-    sym (beyond_window c.self.inside.next c.self.inside.slots.items c.args.number (omega (arith, c.if-number-self-ge-WIDTH.true, c.requires, next_is)))
-    ∙ ap (λ (w : WindowParts). get w.waiting c.args.number) c.self.view_is
+pub returns-then-number-next-ge-WIDTH : goal.returns-then-number-next-ge-WIDTH
+returns-then-number-next-ge-WIDTH c = sym (beyond_window c.args.next c.args.self.now c.args.number (omega (arith, c.if-number-next-ge-WIDTH.true, c.requires)))

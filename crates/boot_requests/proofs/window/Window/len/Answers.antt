@@ -1,20 +1,19 @@
-use Rattle.std.proofs.Common.{◌≡◌, ◌<◌, ◌+◌, ◌≤◌, length, sym, ap, subst, ◌∙◌, arith}
-use Rattle.boot_requests.specs.Keeping.{AreWaiting}
-use Rattle.boot_requests.specs.Slots.{WindowParts, place_of, slot_at}
-use Rattle.boot_requests.proofs.Slots.{are_waiting, no_slot, count_more, some_count, none_count, same_slot}
+use Rattle.std.proofs.Common.{◌≡◌, ◌<◌, ◌+◌, ◌≤◌, length, sym, ap, ◌∙◌, arith}
+use Rattle.boot_requests.specs.Slots.{place_of, slot_at}
+use Rattle.boot_requests.proofs.Slots.{no_slot, count_more, some_count, none_count, same_slot}
 use Rattle.boot_requests.proofs.window.Window.len.Goals.{then-is_some, else-is_some}
 use Rattle.boot_requests.proofs.window.Window.len.Goals as goal
 
 pub loop-distance-init : goal.loop-distance-init
-loop-distance-init c = record { below = omega arith; count = sym (no_slot c.self.inside.next c.self.inside.slots.items) }
+loop-distance-init c = record { below = omega arith; count = sym (no_slot c.args.next c.self.inside.slots.items) }
 
 pub loop-distance-preserved : goal.loop-distance-preserved
 loop-distance-preserved c =
-    let next = c.self.inside.next in
+    let next = c.args.next in
     let slots = c.self.inside.slots.items in
     let distance = c.loop-distance.distance in
     let count = c.loop-distance.count in
-    let there : c.place_of.result < length slots = omega (arith, c.place_of.ensures.below, c.self.invariant.len) in
+    let there : c.place_of.result < length slots = omega (arith, c.place_of.ensures.below, c.self.invariant) in
     let slot : slot_at slots (place_of (next + distance)) ≡ c.index.result.now =
     sym (c.index.ensures ∙ same_slot slots c.place_of.result c.index.result.now there ∙ ap (slot_at slots) c.place_of.ensures.is) in
     let some : 1 ≤ distance = omega arith in
@@ -30,6 +29,3 @@ loop-distance-preserved c =
             (let none = none_count c.index.result.now (sym c.is_some.ensures ∙ w.if-is_some.false) in omega arith);
       }
     ]
-
-pub returns-clause-valid : goal.returns-clause-valid
-returns-clause-valid c = subst (λ (w : WindowParts). AreWaiting w.next w.waiting) c.self.view_is (are_waiting c.self.inside.next c.self.inside.slots.items c.self.invariant)
