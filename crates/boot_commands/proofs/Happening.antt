@@ -10,11 +10,11 @@ use Rattle.boot_requests.specs.declared.reply.Reply.{Reply}
 use Rattle.boot_requests.specs.declared.fault.OpenFault.{OpenFault}
 use Rattle.boot_requests.specs.declared.fault.OpenFault.TheVariants as opening
 use Rattle.boot_requests.specs.State.{State, IsState, IsImage}
-use Rattle.boot_requests.specs.Opening.{IsOpenFault}
 use Rattle.boot_requests.specs.Seen.{Seen, IsEvent, IsSeen, AreSeen}
 use Rattle.boot_requests.specs.Run.{followed}
 use Rattle.boot_requests.specs.Reply.{AreAnswers}
 use Rattle.boot_requests.specs.Turn.{Plain, plain_start}
+use Rattle.boot_requests.specs.Opening.{OpensAs, IsOpenFault}
 use Rattle.boot_requests.specs.Keeping.{StandsFor, IsStateOf}
 use Rattle.boot_commands.specs.declared.fault.ScriptFault.{ScriptFault}
 use Rattle.boot_commands.specs.declared.fault.ScriptFault.TheVariants as fault
@@ -43,7 +43,7 @@ read_as each (event ∷ events) valid =
 pub happens : (before after : Variables) (events : List Event) (first last : Plain) (old new : List Reply)
     → ((event : Event) → IsEvent event → (seen : Seen) × IsSeen event seen)
     → ((start : State) → StandsFor (plain_start start) start [])
-    → AllByRecursion IsEvent events → first ≡ plain_start first.machine → IsStateOf first.machine before → old ≡ []
+    → AllByRecursion IsEvent events → first ≡ plain_start first.machine → OpensAs before first.machine → old ≡ []
     → length new ≡ length old + length events
     → ((start : State) (past seen : List Seen) → StandsFor first start past → AreSeen (take (length (drop (length old) new)) events) seen
     → StandsFor last start (followed past seen) × AreAnswers start past seen (drop (length old) new))
@@ -103,12 +103,11 @@ module _ (Reads : List ℕ → List Event → Type 0) (IsFaultOf : List ℕ → 
   one_first a b p q = are.one bytes a b p.1 q.1
 
   -- what is run has none
-  no_first : ((m : State) (vars : Variables) (f : OpenFault) → IsState m → IsImage m vars → IsOpenFault vars f → ⊥)
+  no_first : ((m : State) (vars : Variables) (f : OpenFault) → OpensAs vars m → IsOpenFault vars f → ⊥)
       → (after : Variables) (answers : List Reply) (f : ScriptFault) → length bytes ≤ script_max → RunsBy Reads bytes vars after answers → IsFirstFaultBy Reads IsFaultOf bytes vars f → ⊥
   no_first kept after answers fault.TooMuch len runs p = omega arith
   no_first kept after answers (fault.Open f) len runs p =
-      let opened = runs.happens.opened in
-      kept runs.happens.start vars f opened.is opened.image p.3
+      kept runs.happens.start vars f runs.happens.opened p.3
   no_first kept after answers f len runs p = are.none bytes f runs.events p.1 runs.read
 
 -- ---- scripts and streams
@@ -198,7 +197,7 @@ module _ (Reads : List ℕ → List Event → Type 0) (IsFaultOf : List ℕ → 
     pub answer_few : (r : Result Variables ScriptFault) → IsAnswer events vars old new r → r ≢ Err fault.TooMuch
     answer_few r h is = (subst (IsAnswer events vars old new) is h).0
 
-    only : ((m : State) (vars : Variables) (f : OpenFault) → IsState m → IsImage m vars → IsOpenFault vars f → ⊥)
+    only : ((m : State) (vars : Variables) (f : OpenFault) → OpensAs vars m → IsOpenFault vars f → ⊥)
         → (r : Result Variables ScriptFault) → IsAnswer events vars old new r → (f : ScriptFault) → IsFirstFaultBy Reads IsFaultOf bytes vars f → IsFaultUnless r f
     only kept (Ok after) h f first = absurd (no_first Reads IsFaultOf are bytes vars kept after h.0 f len (by after h.0 h.1) first)
     only kept (Err fault.Write) h f first = absurd (no_first Reads IsFaultOf are bytes vars kept h.0 h.1 f len (by h.0 h.1 h.2) first)
@@ -206,6 +205,6 @@ module _ (Reads : List ℕ → List Event → Type 0) (IsFaultOf : List ℕ → 
     only kept (Err (fault.Open g)) h f first = inl (ap (λ (g : ScriptFault). Err g) (one_first Reads IsFaultOf are bytes vars (fault.Open g) f (len, events, read, h.0) first))
     only kept (Err g) h f first = absurd h.0
 
-    pub answer_only : ((m : State) (vars : Variables) (f : OpenFault) → IsState m → IsImage m vars → IsOpenFault vars f → ⊥)
+    pub answer_only : ((m : State) (vars : Variables) (f : OpenFault) → OpensAs vars m → IsOpenFault vars f → ⊥)
         → (r : Result Variables ScriptFault) → IsAnswer events vars old new r → IfSome remaining (λ b. (f : ScriptFault) → IsFirstFaultBy Reads IsFaultOf b vars f → IsFaultUnless r f)
     answer_only kept r h = at_bytes remaining left bytes (λ b. (f : ScriptFault) → IsFirstFaultBy Reads IsFaultOf b vars f → IsFaultUnless r f) all (only kept r h)

@@ -11,7 +11,8 @@ use Rattle.uefi_vars.specs.Vars.{Variables}
 use Rattle.boot_requests.specs.declared.event.Event.{Event}
 use Rattle.boot_requests.specs.declared.event.Event.TheVariants as event
 use Rattle.boot_requests.specs.declared.reply.Reply.{Reply}
-use Rattle.boot_requests.specs.State.{State, IsState, IsImage}
+use Rattle.boot_requests.specs.State.{State, IsImage}
+use Rattle.boot_requests.specs.Opening.{OpensAs}
 use Rattle.boot_requests.specs.Seen.{Seen, IsSeen, AreSeen}
 use Rattle.boot_requests.specs.Run.{followed, state_at}
 use Rattle.boot_requests.specs.Reply.{IsReply, AreAnswers}
@@ -142,10 +143,10 @@ one_list_of_answers law start run (s ∷ seen) (a ∷ x) (b ∷ y) p q =
 
 module _ (Reads : List ℕ → List Event → Type 0) (one : (bytes : List ℕ) (a b : List Event) → Reads bytes a → Reads bytes b → a ≡ b)
     (as_one : (event : Event) (a b : Seen) → IsSeen event a → IsSeen event b → a ≡ b)
-    (one_state : (m n : State) (vars : Variables) → IsState m → IsState n → IsImage m vars → IsImage n vars → m ≡ n)
+    (one_state : (m n : State) (vars : Variables) → OpensAs vars m → OpensAs vars n → m ≡ n)
     (bytes : List ℕ) (before a b : Variables) (x y : List Reply) (p : RunsBy Reads bytes before a x) (q : RunsBy Reads bytes before b y) where
   same_start : p.happens.start ≡ q.happens.start
-  same_start = one_state p.happens.start q.happens.start before p.happens.opened.is q.happens.opened.is p.happens.opened.image q.happens.opened.image
+  same_start = one_state p.happens.start q.happens.start before p.happens.opened q.happens.opened
 
   same_seen : p.happens.seen ≡ q.happens.seen
   same_seen =

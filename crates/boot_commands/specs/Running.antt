@@ -8,6 +8,7 @@ use Rattle.boot_requests.specs.State.{State}
 use Rattle.boot_requests.specs.Seen.{Seen, AreSeen}
 use Rattle.boot_requests.specs.Run.{followed, state_at}
 use Rattle.boot_requests.specs.Reply.{AreAnswers}
+use Rattle.boot_requests.specs.Opening.{OpensAs}
 use Rattle.boot_requests.specs.Keeping.{IsStateOf}
 use Rattle.boot_requests.specs.Words.{line_of}
 use Rattle.boot_commands.specs.Script.{line_feed, IsScript}
@@ -16,12 +17,12 @@ use Rattle.boot_commands.specs.Script.{line_feed, IsScript}
 abbrev pub answer_lines : List Reply → List ℕ
 answer_lines answers = flat_map (λ answer. line_of answer ++ line_feed ∷ []) answers
 
--- From variables that stand for a state, these events lead to other variables, and have these answers, one each: the events
+-- From variables that open as a state, these events lead to other variables, and have these answers, one each: the events
 -- are read, the answers are those of the run of what was read, and the variables stand for the state after that run.
 pub record Happens (before : Variables) (events : List Event) (after : Variables) (answers : List Reply) : Type 0 where
   pub start : State
   pub seen : List Seen
-  pub opened : IsStateOf start before
+  pub opened : OpensAs before start
   pub read : AreSeen events seen
   pub answered : AreAnswers start [] seen answers
   pub left : IsStateOf (state_at start (followed [] seen)) after

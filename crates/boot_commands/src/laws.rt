@@ -50,7 +50,7 @@ pub fn a_script_has_one_run()
         Runs text before a x → Runs text before b y → x ≡ y }
 {
     laws::an_event_is_seen_as_one();
-    laws::variables_have_one_state();
+    laws::variables_open_as_one_state();
     laws::an_event_has_one_reply();
     laws::a_state_has_one_image();
 }
@@ -89,7 +89,7 @@ pub fn a_stream_has_one_run()
 {
     laws::a_stream_has_one_cut();
     laws::an_event_is_seen_as_one();
-    laws::variables_have_one_state();
+    laws::variables_open_as_one_state();
     laws::an_event_has_one_reply();
     laws::a_state_has_one_image();
 }

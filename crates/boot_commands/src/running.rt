@@ -10,7 +10,7 @@ ghost use Rattle.boot_requests.specs.declared.fault.FeedFault.{FeedFault};
 ghost use Rattle.boot_requests.specs.declared.fault.OpenFault.{OpenFault};
 ghost use Rattle.boot_requests.specs.Seen.{IsEvent};
 ghost use Rattle.boot_requests.specs.Turn.{plain_start};
-ghost use Rattle.boot_requests.specs.Keeping.{IsStateOf};
+ghost use Rattle.boot_requests.specs.Opening.{OpensAs};
 ghost use Rattle.boot_commands.specs.declared.fault.ScriptFault.{ScriptFault};
 ghost use Rattle.boot_commands.specs.Running.{answer_lines, Happens, Runs, RunsBy};
 ghost use Rattle.boot_commands.specs.ScriptFault.{script_max, IsVarsFault, IsFirstFault, IsFirstStreamFault, IsFaultUnless, MayComeOfScript, MayComeOfStream, failed_read, failed_write};
@@ -80,7 +80,7 @@ pub fn run_script<R: Source, W: Sink>(
     ensures read_flag { R.failed reader.new ≡ failed_read result }
     ensures write_flag { W.failed writer.new ≡ failed_write result }
 {
-    laws::an_image_can_be_kept();
+    laws::what_opens_has_no_fault();
     let text = read_all(alloc, reader)?;
     let events = read_script(alloc, &text)?;
     answer(alloc, &events, writer, vars)
@@ -138,7 +138,7 @@ pub fn run_stream<R: Source, W: Sink>(
     ensures read_flag { R.failed reader.new ≡ failed_read result }
     ensures write_flag { W.failed writer.new ≡ failed_write result }
 {
-    laws::an_image_can_be_kept();
+    laws::what_opens_has_no_fault();
     laws::a_stream_has_one_cut();
     let stream = read_all(alloc, reader)?;
     let events = read_stream(alloc, &stream)?;
@@ -194,7 +194,7 @@ fn happen(alloc: Global, events: &[Event], vars: Vars) -> Result<(Vars, Vec<Repl
 /// What keeps the variables.
 fn open(alloc: Global, vars: Vars) -> Result<Keeper, ScriptFault>
     ensures opened { IfOk result (λ keeper.
-        (keeper ≡ plain_start keeper.machine) × IsStateOf keeper.machine vars) }
+        (keeper ≡ plain_start keeper.machine) × OpensAs vars keeper.machine) }
     ensures fault { IfErr result (λ fault. fault ≢ ScriptFault.OutOfMemory → IsVarsFault vars fault) }
 {
     match Keeper::open(alloc, vars) {

@@ -116,6 +116,7 @@ fn of_members(alloc: Global, call: &str, case: &Value) -> Result<String> {
         "is_normal" => options::meaning(alloc, case),
         "change" => sets::change(alloc, case),
         "entry_name" => sets::name(alloc, case),
+        "lowest_free" => sets::free(alloc, case),
         "boot_order" => sets::order(alloc, case),
         "boot_next" => sets::next(alloc, case),
         "entry_option" => sets::option(alloc, case),

@@ -28,8 +28,8 @@ fn of_request(alloc: Global, bytes: &[u8], number: u32, request: &Request) -> Re
     )?)
 }
 
-/// A request in words: its kind, the number of its entry in four hexadecimal digits, and the bytes of its option, or the
-/// numbers of its order.
+/// A request in words: its kind, the number of its entry in four hexadecimal digits, if it has one, and the bytes of its
+/// option, or the numbers of its order.
 fn words(alloc: Global, request: &Request) -> Result<String> {
     match request {
         Request::Add(entry, option) => words_with_option(alloc, "Add", *entry, option),
@@ -37,6 +37,11 @@ fn words(alloc: Global, request: &Request) -> Result<String> {
         Request::Remove(entry) => Ok(format!(in alloc; "Remove {entry:04X}")?),
         Request::Order(order) => words_of_order(alloc, order),
         Request::Next(entry) => Ok(format!(in alloc; "Next {entry:04X}")?),
+        Request::AddFree(option) => {
+            let bytes = write_option(alloc, option)?;
+            let digits = hex::encode(alloc, bytes.as_slice())?;
+            Ok(format!(in alloc; "AddFree {digits}")?)
+        }
     }
 }
 
@@ -81,6 +86,7 @@ fn request_of(alloc: Global, words: &str) -> Result<Request> {
         "Remove" => Ok(Request::Remove(entry_of(rest)?)),
         "Order" => Ok(Request::Order(order_of(alloc, rest)?)),
         "Next" => Ok(Request::Next(entry_of(rest)?)),
+        "AddFree" => Ok(Request::AddFree(option_of(alloc, rest)?)),
         _ => bail!("no request {kind}"),
     }
 }

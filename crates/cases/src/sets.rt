@@ -8,8 +8,8 @@ use anyhow::{Result, bail};
 use serde_json::Value;
 use std::alloc::Global;
 use uefi_vars::{
-    PutFault, Vars, boot_next, boot_order, entry_name, entry_number, entry_option, read_set,
-    write_set,
+    PutFault, Vars, boot_next, boot_order, entry_name, entry_number, entry_option, lowest_free,
+    read_set, write_set,
 };
 
 /// The variables that a case has in its member `vars`.
@@ -146,6 +146,15 @@ pub fn number(alloc: Global, name: &str) -> Result<String> {
             let named = entry_name(number).as_slice() == name.as_bytes();
             Ok(format!(in alloc; "{number}{}", unless(named, ", named otherwise"))?)
         }
+        None => Ok(String::from_str(alloc, "none")?),
+    }
+}
+
+/// `lowest_free`: the number, or `none`.
+pub fn free(alloc: Global, case: &Value) -> Result<String> {
+    let vars = stated(alloc, case)?;
+    match lowest_free(&vars) {
+        Some(number) => Ok(format!(in alloc; "{number:04X}")?),
         None => Ok(String::from_str(alloc, "none")?),
     }
 }

@@ -5,7 +5,7 @@ use crate::checks::paths::is_shown;
 use crate::streams::Fed;
 use anyhow::{Result, bail};
 use boot_requests::{
-    Bytes, Event, FeedFault, FrameFault, KEPT_MAX, Keeper, OpenFault, OrderList, Outcome,
+    Bytes, Code, Event, FeedFault, FrameFault, KEPT_MAX, Keeper, OpenFault, OrderList, Outcome,
     PAYLOAD_MAX, Reply, Request, WIDTH, reply_line, write_frame,
 };
 use std::alloc::Global;
@@ -50,7 +50,7 @@ pub fn check(alloc: Global, findings: &mut Findings) -> Result<()> {
 }
 
 fn limits() -> bool {
-    PAYLOAD_MAX == 131_072 && WIDTH == 16 && KEPT_MAX == 16
+    PAYLOAD_MAX == 131_072 && WIDTH == 64 && KEPT_MAX == 64
 }
 
 fn frame_faults(alloc: Global) -> Result<bool> {
@@ -109,8 +109,21 @@ fn open_faults(alloc: Global) -> Result<bool> {
     Ok(true)
 }
 
+/// The outcome of this code that tells no entry.
+fn outcome(code: Code) -> Outcome {
+    Outcome { code, entry: None }
+}
+
+/// The outcome of a request by which this entry was added.
+fn added(entry: u16) -> Outcome {
+    Outcome {
+        code: Code::Done,
+        entry: Some(entry),
+    }
+}
+
 /// Replies and their lines.
-fn replies() -> [(Reply, &'static str); 16] {
+fn replies() -> [(Reply, &'static str); 19] {
     let path_fault = OptionFault::Path(10, PathFault::ShortHeader(28));
     [
         (Reply::Malformed(FrameFault::Short), "malformed Short"),
@@ -118,23 +131,26 @@ fn replies() -> [(Reply, &'static str); 16] {
             Reply::Malformed(FrameFault::Option(path_fault)),
             "malformed Option Path 10 ShortHeader 28",
         ),
-        (Reply::Repeat(Outcome::Done), "repeat Done"),
-        (Reply::Repeat(Outcome::Exists), "repeat Exists"),
+        (Reply::Repeat(outcome(Code::Done)), "repeat Done"),
+        (Reply::Repeat(outcome(Code::Exists)), "repeat Exists"),
+        (Reply::Repeat(added(0x000F)), "repeat Done 000F"),
         (Reply::Old, "old"),
         (Reply::Ahead(17), "ahead 17"),
         (Reply::Conflict, "conflict"),
         (Reply::Waiting(0), "waiting 0"),
-        (Reply::Applied(Outcome::Done, 3), "applied Done 3"),
+        (Reply::Applied(outcome(Code::Done), 3), "applied Done 3"),
+        (Reply::Applied(added(0xABCD), 5), "applied Done ABCD 5"),
+        (Reply::Applied(outcome(Code::NoFree), 1), "applied NoFree 1"),
         (
-            Reply::Applied(Outcome::Missing, u32::MAX),
+            Reply::Applied(outcome(Code::Missing), u32::MAX),
             "applied Missing 4294967295",
         ),
         (
-            Reply::Applied(Outcome::OrderRepeats, 2),
+            Reply::Applied(outcome(Code::OrderRepeats), 2),
             "applied OrderRepeats 2",
         ),
         (
-            Reply::Applied(Outcome::OrderUnknown, 3),
+            Reply::Applied(outcome(Code::OrderUnknown), 3),
             "applied OrderUnknown 3",
         ),
         (Reply::Prepared(2), "prepared 2"),

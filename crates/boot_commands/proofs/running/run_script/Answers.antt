@@ -49,7 +49,7 @@ returns-clause-only_fault g c =
     let len : length c.in_ok-text.text.items ≤ 67108864 = omega (arith, c.in_ok-text.text.ok.0, c.in_ok-text.ensures.limit) in
     let read = rw c.deref.ensures.value at c.in_ok-events.ensures.found in
     let answered = rw c.deref-2.ensures.value at c.answer.ensures.answer in
-    answer_only IsScript IsLineFault of_script _ _ _ _ c.in_ok-text.ensures.all len _ _ _ read c.an_image_can_be_kept.ensures c.answer.result answered
+    answer_only IsScript IsLineFault of_script _ _ _ _ c.in_ok-text.ensures.all len _ _ _ read c.what_opens_has_no_fault.ensures c.answer.result answered
 
 pub returns-in_err-text-clause-may_come : goal.returns-in_err-text-clause-may_come
 returns-in_err-text-clause-may_come g c =
