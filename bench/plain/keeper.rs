@@ -6,7 +6,7 @@ use crate::plan::{ORDER_MAX, boot_order, entry_name};
 use crate::set::Vars;
 use std::error::Error;
 
-const KEPT_MAX: usize = 16;
+const KEPT_MAX: usize = 64;
 
 #[derive(Clone, Copy, Debug, PartialEq, Eq)]
 pub enum Outcome {
@@ -87,10 +87,12 @@ impl Keeper {
         if self.kept.len() > KEPT_MAX {
             self.kept.remove(0);
         }
-        let mut state = vec![1];
+        let mut state = vec![2];
         state.extend_from_slice(&self.next.to_le_bytes());
         state.push(self.kept.len() as u8);
-        state.extend(self.kept.iter().map(|outcome| *outcome as u8));
+        for outcome in &self.kept {
+            state.extend_from_slice(&[*outcome as u8, 0, 0, 0]);
+        }
         self.vars.put("BootKeepState", state);
     }
 }

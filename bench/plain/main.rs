@@ -4,18 +4,19 @@
 //! values that both sides are timed on.
 //!
 //! `plain make KIND SIZE FILE` writes a value to a file: a `path` of so many nodes, the same for a
-//! `view`, an `option` of so many paths, a `set` of so many entries, the same for a `copy`, a `step` or
-//! a `run`, an `idle` one, of which no entry is active, one whose BootOrder has `repeat`s, a `frame`
-//! with a payload of so many bytes, or a `stream` of so many bytes at least. Behind the number of
-//! entries may stand an `x` and how many bytes they have, all but the first. `plain time KIND FILE`
-//! times the value in a file and prints one line: what the value has, and, behind a colon, the shortest
-//! time of each call in nanoseconds. The files `.._tasks` say what these are. The times have the growth
-//! of what is made in them, and not its drop. Each answer is compared outside of them, and a wrong one
-//! ends the program.
+//! `view`, an `option` of so many paths, a `set` of so many entries, the same for a `copy`, a `free`
+//! number, a `step` or a `run`, an `idle` one, of which no entry is active, one whose BootOrder has
+//! `repeat`s, a `frame` with a payload of so many bytes, or a `stream` of so many bytes at least. Behind
+//! the number of entries may stand an `x` and how many bytes they have, all but the first. `plain time
+//! KIND FILE` times the value in a file and prints one line: what the value has, and, behind a colon,
+//! the shortest time of each call in nanoseconds. The files `.._tasks` say what these are. The times
+//! have the growth of what is made in them, and not its drop. Each answer is compared outside of them,
+//! and a wrong one ends the program.
 
 mod copy_tasks;
 mod frame;
 mod frame_tasks;
+mod free_tasks;
 mod inbox;
 mod keeper;
 mod mixed;
@@ -63,13 +64,14 @@ fn time_value(kind: &str, bytes: &[u8]) -> Result<(), Box<dyn Error>> {
         "option" => print_times(&option_tasks::held(bytes)?, || option_tasks::times(bytes)),
         "set" => print_times(&set_tasks::held(bytes)?, || set_tasks::times(bytes)),
         "copy" => print_times(&copy_tasks::held(bytes)?, || copy_tasks::times(bytes)),
+        "free" => print_times(&free_tasks::held(bytes)?, || free_tasks::times(bytes)),
         "idle" | "repeat" => print_times(&plan_tasks::held(bytes)?, || plan_tasks::times(bytes)),
         "frame" => print_times(&frame_tasks::held(bytes)?, || frame_tasks::times(bytes)),
         "step" => print_times(&step_tasks::held(bytes)?, || step_tasks::times(bytes)),
         "stream" => print_times(&stream_tasks::held(bytes)?, || stream_tasks::times(bytes)),
         "run" => print_times(&run_tasks::held(bytes)?, || run_tasks::times(bytes)),
         _ => Err(
-            "the kinds are path, view, option, set, copy, idle, repeat, frame, stream, step and run".into(),
+            "the kinds are path, view, option, set, copy, free, idle, repeat, frame, stream, step and run".into(),
         ),
     }
 }

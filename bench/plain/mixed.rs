@@ -55,13 +55,13 @@ pub fn value_of(kind: &str, size: &str) -> Result<Vec<u8>, Box<dyn Error>> {
     match kind {
         "path" | "view" => Ok(path_of(count)),
         "option" => option_of(ACTIVE, count),
-        "set" | "copy" | "step" | "run" => set_of(ACTIVE, count, len, count),
+        "set" | "copy" | "free" | "step" | "run" => set_of(ACTIVE, count, len, count),
         "idle" => set_of(INACTIVE, count, len, count),
         "repeat" => set_of(ACTIVE, count, len, REPEATED),
         "frame" => frame_of(count),
         "stream" => stream_of(count),
         _ => Err(
-            "the kinds are path, view, option, set, copy, idle, repeat, frame, stream, step and run".into(),
+            "the kinds are path, view, option, set, copy, free, idle, repeat, frame, stream, step and run".into(),
         ),
     }
 }

@@ -77,6 +77,35 @@ fn read_choice(vars: &Vars, number: u16) -> Option<Choice> {
     Some(Choice { number, option })
 }
 
+/// The least number under which no entry is stored, if not all are taken.
+pub fn lowest_free(vars: &Vars) -> Option<u16> {
+    let mut free: u16 = 0;
+    for name in vars.names() {
+        if entry_number(name) == Some(free) {
+            free = free.checked_add(1)?;
+        }
+    }
+    Some(free)
+}
+
+/// The number of the entry that has this name, if it is that of an entry.
+fn entry_number(name: &str) -> Option<u16> {
+    let [b'B', b'o', b'o', b't', digits @ ..] = name.as_bytes() else {
+        return None;
+    };
+    let digits: &[u8; 4] = digits.try_into().ok()?;
+    let mut number = 0;
+    for digit in digits {
+        let value = match digit {
+            b'0'..=b'9' => digit - b'0',
+            b'A'..=b'F' => digit - b'A' + 10,
+            _ => return None,
+        };
+        number = number << 4 | u16::from(value);
+    }
+    Some(number)
+}
+
 /// `Boot` and the four hexadecimal digits of the number, in upper case.
 pub fn entry_name(number: u16) -> [u8; 8] {
     let mut name = *b"Boot0000";

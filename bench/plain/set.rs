@@ -43,6 +43,11 @@ impl Vars {
         self.0.len()
     }
 
+    /// The names, in their order.
+    pub fn names(&self) -> impl Iterator<Item = &str> {
+        self.0.iter().map(|(name, _)| name.as_str())
+    }
+
     /// The data of the variable of this name.
     pub fn get(&self, name: &str) -> Option<&[u8]> {
         Some(&self.0[self.place(name).ok()?].1)
