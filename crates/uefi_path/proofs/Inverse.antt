@@ -7,8 +7,8 @@ use Rattle.std.specs.Int.{w8, w16, w32, w64, to_le_bytes}
 use Rattle.std.proofs.lemmas.List.{length-append, length-drop, take_at, drop_at, take-append-drop}
 use Rattle.std.proofs.lemmas.Bool.{leb-true, le-leb, eqb-true, eq-eqb, and_parts, cond_both, false≢true}
 use Rattle.uefi_path.specs.declared.node.Node.{Node}
-use Rattle.uefi_path.specs.declared.node.Node.TheVariants.{Pci, VendorHw, Acpi, Usb, VendorMsg, Mac, Ipv4, Sata, Nvme, Uri, HardDrive, VendorMedia, FilePath, Other}
-use Rattle.uefi_path.specs.Row.{IsByte, Row, row, IsRow, IsListed, pci, acpi, usb, mac, ipv4, sata, nvme, uri, vendor_hw, vendor_msg, vendor_media, hard_drive, file_path}
+use Rattle.uefi_path.specs.declared.node.Node.TheVariants.{Pci, VendorHw, Acpi, Usb, VendorMsg, Mac, Ipv4, Sata, Vlan, Nvme, Uri, HardDrive, Cdrom, VendorMedia, FilePath, Other}
+use Rattle.uefi_path.specs.Row.{IsByte, Row, row, IsRow, IsListed, pci, acpi, usb, mac, ipv4, sata, vlan, nvme, uri, vendor_hw, vendor_msg, vendor_media, hard_drive, cdrom, file_path}
 use Rattle.uefi_path.specs.Node.{row_of, IsNode, IsTyped, HasTypedNode}
 use Rattle.uefi_path.specs.Parts.{VendorParts, vendor_parts, vendor_bytes, vendor_of, IsVendor, name_bytes, Ipv4Parts, AreIpv4Parts, ipv4_fields, HardDriveParts, AreHardDriveParts, hard_drive_fields}
 use Rattle.uefi_path.specs.Reading.{has_shape, has_type, number_at, bytes_at, ipv4_at, hard_drive_at, fixed_node_of, list_node_of, typed_node_of, name_of, node_of}
@@ -108,6 +108,14 @@ sata_found r is shape =
     (then_field w16 _ wide_16 0 r.body fits (omega arith) (then_field w16 _ wide_16 2 r.body fits (omega arith) (then_field w16 _ wide_16 4 r.body fits (omega arith) (no_field 6 r.body (omega arith)))))
     (number_below w16 _ wide_16 0 r.body fits (omega arith), number_below w16 _ wide_16 2 r.body fits (omega arith), number_below w16 _ wide_16 4 r.body fits (omega arith)) tt
 
+vlan_found : (r : Row) → IsRow r → HasShape 3 20 2 r → IsFound r (Vlan (number_at w16 0 r.body))
+vlan_found r is shape =
+    let fits = bytes_from_recursion r.body is.body in
+    let long : length r.body ≡ 2 = shape.len-is in
+    fixed_found 3 20 2 r shape (λ body len. vlan len) _ _ refl
+    (then_field w16 _ wide_16 0 r.body fits (omega arith) (no_field 2 r.body (omega arith)))
+    (number_below w16 _ wide_16 0 r.body fits (omega arith)) tt
+
 nvme_found : (r : Row) → IsRow r → HasShape 3 23 12 r → IsFound r (Nvme (number_at w32 0 r.body) (bytes_at 4 8 r.body))
 nvme_found r is shape =
     let fits = bytes_from_recursion r.body is.body in
@@ -131,6 +139,14 @@ hard_drive_found r is shape =
       format = number_below w8 _ wide_8 36 r.body fits (omega arith);
       signature_kind = number_below w8 _ wide_8 37 r.body fits (omega arith);
     }) tt
+
+cdrom_found : (r : Row) → IsRow r → HasShape 4 2 20 r → IsFound r (Cdrom (number_at w32 0 r.body) (number_at w64 4 r.body) (number_at w64 12 r.body))
+cdrom_found r is shape =
+    let fits = bytes_from_recursion r.body is.body in
+    let long : length r.body ≡ 20 = shape.len-is in
+    fixed_found 4 2 20 r shape (λ body len. cdrom len) _ _ refl
+    (then_field w32 _ wide_32 0 r.body fits (omega arith) (then_field w64 _ wide_64 4 r.body fits (omega arith) (then_field w64 _ wide_64 12 r.body fits (omega arith) (no_field 20 r.body (omega arith)))))
+    (number_below w32 _ wide_32 0 r.body fits (omega arith), number_below w64 _ wide_64 4 r.body fits (omega arith), number_below w64 _ wide_64 12 r.body fits (omega arith)) tt
 
 -- the row has this type and sub-type
 type_is : (kind sub : ℕ) (r : Row) → has_type kind sub r ≡ true → row kind sub r.body ≡ r
@@ -176,9 +192,11 @@ fixed_node_found r is =
     cond_both _ _ _ P (λ e. mac_found r is (shape_is 3 11 33 r e)) (λ _.
     cond_both _ _ _ P (λ e. ipv4_found r is (shape_is 3 12 23 r e)) (λ _.
     cond_both _ _ _ P (λ e. sata_found r is (shape_is 3 18 6 r e)) (λ _.
+    cond_both _ _ _ P (λ e. vlan_found r is (shape_is 3 20 2 r e)) (λ _.
     cond_both _ _ _ P (λ e. nvme_found r is (shape_is 3 23 12 r e)) (λ _.
     cond_both _ _ _ P (λ e. hard_drive_found r is (shape_is 4 1 38 r e)) (λ _.
-    tt))))))))
+    cond_both _ _ _ P (λ e. cdrom_found r is (shape_is 4 2 20 r e)) (λ _.
+    tt))))))))))
 
 pub list_node_found : (r : Row) → IsRow r → IfSome (list_node_of r) (IsFound r)
 list_node_found r is =
@@ -212,9 +230,11 @@ typed_node_listed _ (vendor_msg {body} long) = rw (le-leb 16 (length body) long)
 typed_node_listed _ (mac {body} len) = rw (eq-eqb (length body) 33 len) refl
 typed_node_listed _ (ipv4 {body} len) = rw (eq-eqb (length body) 23 len) refl
 typed_node_listed _ (sata {body} len) = rw (eq-eqb (length body) 6 len) refl
+typed_node_listed _ (vlan {body} len) = rw (eq-eqb (length body) 2 len) refl
 typed_node_listed _ (nvme {body} len) = rw (eq-eqb (length body) 12 len) refl
 typed_node_listed _ (uri {body}) = refl
 typed_node_listed _ (hard_drive {body} len) = rw (eq-eqb (length body) 38 len) refl
+typed_node_listed _ (cdrom {body} len) = rw (eq-eqb (length body) 20 len) refl
 typed_node_listed _ (vendor_media {body} long) = rw (le-leb 16 (length body) long) refl
 typed_node_listed _ (file_path {body} closed) = file_some (name_of body) (name_listed body closed)
 
@@ -279,6 +299,9 @@ sata_again body hba multiplier lun valid all =
     let at_2 = behind 2 0 body refl all in
     rw (number_again w16 _ wide_16 0 body valid.0 all, number_again w16 _ wide_16 2 body valid.1 at_2, number_again w16 _ wide_16 4 body valid.2 (behind 2 2 body refl at_2)) refl
 
+vlan_again : (body : List ℕ) (id : ℕ) → IsNode (Vlan id) → FieldsFrom 0 body (to_le_bytes w16 id ∷ []) → Vlan (number_at w16 0 body) ≡ Vlan id
+vlan_again body id valid all = rw (number_again w16 _ wide_16 0 body valid all) refl
+
 nvme_again : (body eui : List ℕ) (namespace : ℕ) → IsNode (Nvme namespace eui) → FieldsFrom 0 body (to_le_bytes w32 namespace ∷ eui ∷ [])
     → Nvme (number_at w32 0 body) (bytes_at 4 8 body) ≡ Nvme namespace eui
 nvme_again body eui namespace valid all =
@@ -299,6 +322,12 @@ hard_drive_again body p valid all =
       number_again w8 _ wide_8 36 body valid.format at_36,
       number_again w8 _ wide_8 37 body valid.signature_kind at_37,
     ) refl
+
+cdrom_again : (body : List ℕ) (entry start size : ℕ) → IsNode (Cdrom entry start size) → FieldsFrom 0 body (to_le_bytes w32 entry ∷ to_le_bytes w64 start ∷ to_le_bytes w64 size ∷ [])
+    → Cdrom (number_at w32 0 body) (number_at w64 4 body) (number_at w64 12 body) ≡ Cdrom entry start size
+cdrom_again body entry start size valid all =
+    let at_4 = behind 4 0 body refl all in
+    rw (number_again w32 _ wide_32 0 body valid.0 all, number_again w64 _ wide_64 4 body valid.1 at_4, number_again w64 _ wide_64 12 body valid.2 (behind 8 4 body refl at_4)) refl
 
 mac_length : (address : List ℕ) (if_kind : ℕ) → length address ≡ 32 → HasLength (address ∷ to_le_bytes w8 if_kind ∷ []) 33
 mac_length address if_kind long = then_length 32 address long (then_length 1 (to_le_bytes w8 if_kind) refl no_length)
@@ -349,6 +378,7 @@ node_of-row_of (Ipv4 parts) valid =
     as_typed (row 3 12 body) (Ipv4 (ipv4_at body)) (rw (eq-eqb (length body) 23 (ipv4_length parts valid).is) refl)
     ∙ ap (λ (p : Ipv4Parts). Ipv4 p) (ipv4_again body parts valid (record { are = refl }))
 node_of-row_of (Sata hba multiplier lun) valid = sata_again (row_of (Sata hba multiplier lun)).body hba multiplier lun valid (record { are = refl })
+node_of-row_of (Vlan id) valid = vlan_again (row_of (Vlan id)).body id valid (record { are = refl })
 node_of-row_of (Nvme namespace eui) valid =
     let body = (row_of (Nvme namespace eui)).body in
     as_typed (row 3 23 body) (Nvme (number_at w32 0 body) (bytes_at 4 8 body)) (rw (eq-eqb (length body) 12 (nvme_length namespace eui valid.1.0).is) refl)
@@ -358,6 +388,7 @@ node_of-row_of (HardDrive parts) valid =
     let body = (row_of (HardDrive parts)).body in
     as_typed (row 4 1 body) (HardDrive (hard_drive_at body)) (rw (eq-eqb (length body) 38 (hard_drive_length parts valid).is) refl)
     ∙ ap (λ (p : HardDriveParts). HardDrive p) (hard_drive_again body parts valid (record { are = refl }))
+node_of-row_of (Cdrom entry start size) valid = cdrom_again (row_of (Cdrom entry start size)).body entry start size valid (record { are = refl })
 node_of-row_of (VendorMedia p) valid =
     ap (λ (found : Option VendorParts). unwrap_or (option_map (λ (q : VendorParts). VendorMedia q) found) (Other (row 4 3 (vendor_bytes p)))) (vendor_again p valid)
 node_of-row_of (FilePath units) valid =
@@ -393,6 +424,9 @@ row_of_is_row (Ipv4 p) valid =
 row_of_is_row (Sata hba multiplier lun) valid =
     let fields = then_bytes w16 _ wide_16 hba (then_bytes w16 _ wide_16 multiplier (then_bytes w16 _ wide_16 lun no_bytes)) in
     (record { kind = omega arith; sub = omega arith; body = fields.bytes; len = omega arith }, omega arith)
+row_of_is_row (Vlan id) valid =
+    let fields = then_bytes w16 _ wide_16 id no_bytes in
+    (record { kind = omega arith; sub = omega arith; body = fields.bytes; len = omega arith }, omega arith)
 row_of_is_row (Nvme namespace eui) valid =
     let fields = then_bytes w32 _ wide_32 namespace (then_octets 8 eui valid.1 no_bytes) in
     (record { kind = omega arith; sub = omega arith; body = fields.bytes; len = omega (arith, (nvme_length namespace eui valid.1.0).is) }, omega arith)
@@ -401,6 +435,9 @@ row_of_is_row (HardDrive p) valid =
     let fields = then_bytes w32 _ wide_32 p.partition (then_bytes w64 _ wide_64 p.start (then_bytes w64 _ wide_64 p.size (
     then_octets 16 p.signature valid.signature (then_bytes w8 _ wide_8 p.format (then_bytes w8 _ wide_8 p.signature_kind no_bytes))))) in
     (record { kind = omega arith; sub = omega arith; body = fields.bytes; len = omega (arith, (hard_drive_length p valid).is) }, omega arith)
+row_of_is_row (Cdrom entry start size) valid =
+    let fields = then_bytes w32 _ wide_32 entry (then_bytes w64 _ wide_64 start (then_bytes w64 _ wide_64 size no_bytes)) in
+    (record { kind = omega arith; sub = omega arith; body = fields.bytes; len = omega arith }, omega arith)
 row_of_is_row (VendorMedia p) valid = (vendor_row 4 3 p valid (omega arith) (omega arith), omega arith)
 row_of_is_row (FilePath units) valid = (record { kind = omega arith; sub = omega arith; body = name_of_bytes units; len = omega (arith, valid.1, name_length units) }, omega arith)
 row_of_is_row (Other other) valid = (valid.row, valid.no_end)
@@ -434,9 +471,11 @@ listed_from_typed r (VendorMsg p) valid same own = subst IsListed same (vendor_m
 listed_from_typed r (Mac address if_kind) valid same own = subst IsListed same (mac (mac_length address if_kind valid.0.0).is)
 listed_from_typed r (Ipv4 parts) valid same own = subst IsListed same (ipv4 (ipv4_length parts valid).is)
 listed_from_typed r (Sata hba multiplier lun) valid same own = subst IsListed same (sata refl)
+listed_from_typed r (Vlan id) valid same own = subst IsListed same (vlan refl)
 listed_from_typed r (Nvme namespace eui) valid same own = subst IsListed same (nvme (nvme_length namespace eui valid.1.0).is)
 listed_from_typed r (Uri bytes) valid same own = subst IsListed same uri
 listed_from_typed r (HardDrive parts) valid same own = subst IsListed same (hard_drive (hard_drive_length parts valid).is)
+listed_from_typed r (Cdrom entry start size) valid same own = subst IsListed same (cdrom refl)
 listed_from_typed r (VendorMedia p) valid same own = subst IsListed same (vendor_media (vendor_long p valid))
 listed_from_typed r (FilePath units) valid same own = subst IsListed same (file_path (name_closed units valid.0))
 listed_from_typed r (Other other) valid same own = absurd own

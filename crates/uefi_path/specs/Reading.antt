@@ -5,7 +5,7 @@ use Rattle.std.specs.Prelude.{Option, Some, None, unwrap_or, ◌==◌, ◌&&◌,
 use Rattle.std.specs.Option.{option_map, option_or}
 use Rattle.std.specs.Int.{Width, byte_len, w8, w16, w32, w64, from_le_bytes}
 use Rattle.uefi_path.specs.declared.node.Node.{Node}
-use Rattle.uefi_path.specs.declared.node.Node.TheVariants.{Pci, Acpi, Usb, Mac, Ipv4, Sata, Nvme, HardDrive}
+use Rattle.uefi_path.specs.declared.node.Node.TheVariants.{Pci, Acpi, Usb, Mac, Ipv4, Sata, Vlan, Nvme, HardDrive, Cdrom}
 use Rattle.uefi_path.specs.declared.node.Node.TheVariants.{VendorHw, VendorMsg, Uri, VendorMedia, FilePath, Other}
 use Rattle.uefi_path.specs.declared.fault.PathFault.{PathFault}
 use Rattle.uefi_path.specs.declared.fault.PathFault.TheVariants.{BadLength, PastEnd, BadEnd}
@@ -64,8 +64,11 @@ fixed_node_of r =
     Some (Ipv4 (ipv4_at r.body)) when has_shape 3 12 23 r otherwise
     Some (Sata (number_at w16 0 r.body) (number_at w16 2 r.body) (number_at w16 4 r.body))
     when has_shape 3 18 6 r otherwise
+    Some (Vlan (number_at w16 0 r.body)) when has_shape 3 20 2 r otherwise
     Some (Nvme (number_at w32 0 r.body) (bytes_at 4 8 r.body)) when has_shape 3 23 12 r otherwise
     Some (HardDrive (hard_drive_at r.body)) when has_shape 4 1 38 r otherwise
+    Some (Cdrom (number_at w32 0 r.body) (number_at w64 4 r.body) (number_at w64 12 r.body))
+    when has_shape 4 2 20 r otherwise
     None
 
 -- the node of a row that holds a list, where the data is one of its type

@@ -59,9 +59,11 @@ pub data IsListed : Row → Type 0 where
   mac : {body : List ℕ} → length body ≡ 33 → IsListed (row 3 11 body)
   ipv4 : {body : List ℕ} → length body ≡ 23 → IsListed (row 3 12 body)
   sata : {body : List ℕ} → length body ≡ 6 → IsListed (row 3 18 body)
+  vlan : {body : List ℕ} → length body ≡ 2 → IsListed (row 3 20 body)
   nvme : {body : List ℕ} → length body ≡ 12 → IsListed (row 3 23 body)
   uri : {body : List ℕ} → IsListed (row 3 24 body)
   hard_drive : {body : List ℕ} → length body ≡ 38 → IsListed (row 4 1 body)
+  cdrom : {body : List ℕ} → length body ≡ 20 → IsListed (row 4 2 body)
   vendor_media : {body : List ℕ} → 16 ≤ length body → IsListed (row 4 3 body)
   file_path : {body : List ℕ} → IsClosed body → IsListed (row 4 4 body)
 

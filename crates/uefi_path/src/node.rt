@@ -64,6 +64,11 @@ pub enum Node {
         /// The logical unit.
         lun: u16,
     },
+    /// A virtual local network (10.3.4.14).
+    Vlan {
+        /// The identifier of the network.
+        id: u16,
+    },
     /// A namespace of NVM Express (10.3.4).
     Nvme {
         /// The identifier of the namespace.
@@ -75,6 +80,15 @@ pub enum Node {
     Uri(UriNode),
     /// A partition of a hard drive (10.3.5.1).
     HardDrive(HardDriveNode),
+    /// A boot entry of a CD-ROM (10.3.5.2).
+    Cdrom {
+        /// The number of the boot entry in the boot catalog.
+        entry: u32,
+        /// The first block of the partition on the medium.
+        start: u64,
+        /// How many blocks the partition has.
+        size: u64,
+    },
     /// A medium that a vendor defines (10.3.5.3).
     VendorMedia(Vendor),
     /// A file of a file system (10.3.5.4).
@@ -130,6 +144,9 @@ impl Node {
             } => {
                 let _ = (*hba, *multiplier, *lun);
             }
+            Node::Vlan { id } => {
+                let _id = *id;
+            }
             Node::Nvme { namespace, eui } => {
                 let _namespace = *namespace;
                 let _ = field(eui);
@@ -139,6 +156,9 @@ impl Node {
             }
             Node::HardDrive(node) => {
                 let _ = node.signature();
+            }
+            Node::Cdrom { entry, start, size } => {
+                let _ = (*entry, *start, *size);
             }
             Node::FilePath(node) => {
                 let _ = node.units();
@@ -183,12 +203,18 @@ impl Node {
                 multiplier: *multiplier,
                 lun: *lun,
             },
+            Node::Vlan { id } => Node::Vlan { id: *id },
             Node::Nvme { namespace, eui } => Node::Nvme {
                 namespace: *namespace,
                 eui: octets(*eui),
             },
             Node::Uri(node) => Node::Uri(node.copy(alloc)?),
             Node::HardDrive(node) => Node::HardDrive(node.copied()),
+            Node::Cdrom { entry, start, size } => Node::Cdrom {
+                entry: *entry,
+                start: *start,
+                size: *size,
+            },
             Node::VendorMedia(vendor) => Node::VendorMedia(vendor.copy(alloc)?),
             Node::FilePath(node) => Node::FilePath(node.copy(alloc)?),
             Node::Other(other) => Node::Other(other.copy(alloc)?),

@@ -7,7 +7,7 @@ ghost use Rattle.uefi_path.specs.Node.{row_of, IsNode};
 ghost use Rattle.uefi_path.specs.Reading.{fixed_node_of, list_node_of, node_of};
 ghost use Rattle.uefi_path.specs.Writing.{Extends};
 
-use crate::fields::{NodeBytes, bytes_at, field, u8_at, u16_at, u32_at};
+use crate::fields::{NodeBytes, bytes_at, field, u8_at, u16_at, u32_at, u64_at};
 use crate::file::{FileNode, is_path_name};
 use crate::generic::{BODY_MAX, HEADER_LEN};
 use crate::hard_drive::HardDriveNode;
@@ -64,6 +64,12 @@ macro_rules! match_one_length {
                 };
                 $then
             }
+            (3, 20, 2) => {
+                let $node = Node::Vlan {
+                    id: u16_at($body, 0),
+                };
+                $then
+            }
             (3, 23, 12) => {
                 let $node = Node::Nvme {
                     namespace: u32_at($body, 0),
@@ -73,6 +79,14 @@ macro_rules! match_one_length {
             }
             (4, 1, 38) => {
                 let $node = Node::HardDrive(HardDriveNode::from_bytes($body));
+                $then
+            }
+            (4, 2, 20) => {
+                let $node = Node::Cdrom {
+                    entry: u32_at($body, 0),
+                    start: u64_at($body, 4),
+                    size: u64_at($body, 12),
+                };
                 $then
             }
             _ => $other,
@@ -117,9 +131,11 @@ impl Node {
             Node::Mac { address, .. } => Shape::new(3, 11, field(address).len() + 1),
             Node::Ipv4(node) => Shape::new(3, 12, node.data_len()),
             Node::Sata { .. } => Shape::new(3, 18, 6),
+            Node::Vlan { .. } => Shape::new(3, 20, 2),
             Node::Nvme { eui, .. } => Shape::new(3, 23, 4 + field(eui).len()),
             Node::Uri(node) => Shape::new(3, 24, node.bytes().len()),
             Node::HardDrive(node) => Shape::new(4, 1, node.data_len()),
+            Node::Cdrom { .. } => Shape::new(4, 2, 20),
             Node::VendorMedia(vendor) => Shape::new(4, 3, vendor.data_len()),
             Node::FilePath(node) => Shape::new(4, 4, node.data_len()),
             Node::Other(other) => Shape::new(other.kind(), other.sub(), other.body().len()),
@@ -257,6 +273,11 @@ impl Node {
                 node.put(&lun.to_le_bytes());
                 node.append_to(out)
             }
+            Node::Vlan { id } => {
+                let mut node = NodeBytes::<6>::new(header);
+                node.put(&id.to_le_bytes());
+                node.append_to(out)
+            }
             Node::Nvme { namespace, eui } => {
                 let mut node = NodeBytes::<16>::new(header);
                 node.put(&namespace.to_le_bytes());
@@ -268,6 +289,13 @@ impl Node {
                 out.extend_from_slice(node.bytes())
             }
             Node::HardDrive(node) => node.append(header, out),
+            Node::Cdrom { entry, start, size } => {
+                let mut node = NodeBytes::<24>::new(header);
+                node.put(&entry.to_le_bytes());
+                node.put(&start.to_le_bytes());
+                node.put(&size.to_le_bytes());
+                node.append_to(out)
+            }
             Node::VendorMedia(vendor) => vendor.append(header, out),
             Node::FilePath(node) => node.append(header, out),
             Node::Other(other) => {
