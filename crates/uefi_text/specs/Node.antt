@@ -5,8 +5,8 @@ use Rattle.std.specs.Int.{w32, to_le_bytes}
 use Rattle.std.specs.Str.Parse.{AllDigits, digits_value}
 use Rattle.uefi_path.specs.declared.node.Node.{Node}
 use Rattle.uefi_path.specs.Standard.{pci_root_hid, pcie_root_hid}
-use Rattle.uefi_path.specs.declared.node.Node.TheVariants.{Pci, VendorHw, Acpi, Usb, VendorMsg, Mac, Ipv4, Sata, Nvme}
-use Rattle.uefi_path.specs.declared.node.Node.TheVariants.{Uri, HardDrive, VendorMedia, FilePath}
+use Rattle.uefi_path.specs.declared.node.Node.TheVariants.{Pci, VendorHw, Acpi, Usb, VendorMsg, Mac, Ipv4, Sata, Vlan, Nvme}
+use Rattle.uefi_path.specs.declared.node.Node.TheVariants.{Uri, HardDrive, Cdrom, VendorMedia, FilePath}
 use Rattle.uefi_path.specs.Parts.{VendorParts, ipv4_parts, hard_drive_parts}
 use Rattle.uefi_path.specs.Row.{row}
 use Rattle.uefi_path.specs.Node.{row_of}
@@ -110,6 +110,8 @@ pub data MeansNode : Segment → Node → Type 0 where
       → IsAddress local l → IsAddress gateway g → IsAddress mask m
       → MeansNode (named (codes "IPv4") (remote ∷ protocol ∷ origin ∷ local ∷ gateway ∷ mask ∷ []))
       (Ipv4 (ipv4_parts l r 0 0 p f g m))
+  vlan : {id : List ℕ} {i : ℕ} → IsNumber id i
+      → MeansNode (named (codes "Vlan") (id ∷ [])) (Vlan i)
   uri : {bytes : List ℕ} → AllByRecursion IsUriByte bytes
       → MeansNode (named (codes "Uri") (bytes ∷ [])) (Uri bytes)
   file : {units : List ℕ} → AllByRecursion IsNameUnit units
@@ -124,6 +126,8 @@ pub data MeansNode : Segment → Node → Type 0 where
       → IsNumber partition p → IsMbrSignature signature g → IsNumber start st → IsNumber size si
       → MeansNode (named (codes "HD") (partition ∷ codes "MBR" ∷ signature ∷ start ∷ size ∷ []))
       (HardDrive (hard_drive_parts p st si g 1 1))
+  cdrom : {entry start size : List ℕ} {e st si : ℕ} → IsNumber entry e → IsNumber start st → IsNumber size si
+      → MeansNode (named (codes "CDROM") (entry ∷ start ∷ size ∷ [])) (Cdrom e st si)
   vendor_hw : {arguments : List (List ℕ)} {vendor : VendorParts} → IsVendorText arguments vendor
       → MeansNode (named (codes "VenHw") arguments) (VendorHw vendor)
   vendor_msg : {arguments : List (List ℕ)} {vendor : VendorParts} → IsVendorText arguments vendor

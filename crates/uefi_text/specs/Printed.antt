@@ -4,8 +4,8 @@ use Rattle.std.specs.Prelude.{decimal, codes, if◌then◌else◌}
 use Rattle.std.specs.List.{list_all}
 use Rattle.std.specs.Int.{w16, w32, to_be_bytes, from_le_bytes}
 use Rattle.uefi_path.specs.declared.node.Node.{Node}
-use Rattle.uefi_path.specs.declared.node.Node.TheVariants.{Pci, VendorHw, Acpi, Usb, VendorMsg, Mac, Ipv4, Sata, Nvme}
-use Rattle.uefi_path.specs.declared.node.Node.TheVariants.{Uri, HardDrive, VendorMedia, FilePath, Other}
+use Rattle.uefi_path.specs.declared.node.Node.TheVariants.{Pci, VendorHw, Acpi, Usb, VendorMsg, Mac, Ipv4, Sata, Vlan, Nvme}
+use Rattle.uefi_path.specs.declared.node.Node.TheVariants.{Uri, HardDrive, Cdrom, VendorMedia, FilePath, Other}
 use Rattle.uefi_path.specs.Parts.{VendorParts, Ipv4Parts, HardDriveParts}
 use Rattle.uefi_path.specs.Row.{Row}
 use Rattle.uefi_path.specs.Node.{row_of}
@@ -95,6 +95,7 @@ segment_of (Mac address if_kind) =
 segment_of (Ipv4 parts) = if is_plain_ipv4 parts then ipv4_segment parts else generic_segment (row_of (Ipv4 parts))
 segment_of (Sata hba multiplier lun) =
     named (codes "Sata") (number_text hba ∷ number_text multiplier ∷ number_text lun ∷ [])
+segment_of (Vlan id) = named (codes "Vlan") (number_text id ∷ [])
 segment_of (Nvme namespace eui) = named (codes "NVMe") (number_text namespace ∷ eui_text eui ∷ [])
 segment_of (Uri bytes) =
     if list_all (is_plain_from 0x21) bytes then named (codes "Uri") (bytes ∷ [])
@@ -103,6 +104,8 @@ segment_of (HardDrive parts) =
     if is_gpt parts then partition_segment parts (codes "GPT") (guid_text parts.signature)
     else (if is_mbr parts then partition_segment parts (codes "MBR") (mbr_text parts.signature)
     else generic_segment (row_of (HardDrive parts)))
+segment_of (Cdrom entry start size) =
+    named (codes "CDROM") (number_text entry ∷ number_text start ∷ number_text size ∷ [])
 segment_of (VendorMedia vendor) = vendor_segment (codes "VenMedia") vendor
 segment_of (FilePath units) =
     if list_all (is_plain_from 0x20) units then named (codes "File") (units ∷ [])

@@ -13,7 +13,7 @@ use Rattle.uuid.specs.Parts.{swap_fields}
 use Rattle.std.specs.Str.Parse.{digits_value}
 use Rattle.std.specs.Int.{w32, to_le_bytes}
 use Rattle.uefi_path.specs.declared.node.Node.{Node}
-use Rattle.uefi_path.specs.declared.node.Node.TheVariants.{Pci, Acpi, Usb, Mac, Ipv4, Sata, Nvme, HardDrive}
+use Rattle.uefi_path.specs.declared.node.Node.TheVariants.{Pci, Acpi, Usb, Mac, Ipv4, Sata, Vlan, Nvme, HardDrive, Cdrom}
 use Rattle.uefi_path.specs.declared.node.Node.TheVariants.{Uri, FilePath, VendorHw, VendorMsg, VendorMedia}
 use Rattle.uefi_text.specs.declared.fault.SegmentFault.{SegmentFault}
 use Rattle.uefi_text.specs.declared.fault.SegmentFault.TheVariants.{BadSegment, BadNumber, OutOfRange, BadEnd, OutOfMemory}
@@ -220,6 +220,12 @@ sata_of arguments = do
   lun ← number_up_to 0xFFFF three.2
   Some (Sata hba multiplier lun)
 
+unfoldable pub vlan_of : List (List ℕ) → Option Node
+vlan_of arguments = do
+  one ← one_of arguments
+  id ← number_up_to 0xFFFF one
+  Some (Vlan id)
+
 unfoldable pub root_of : ℕ → List (List ℕ) → Option Node
 root_of hid arguments = do
   one ← one_of arguments
@@ -276,6 +282,14 @@ hard_drive_of arguments = do
   start ← number_up_to 0xFFFFFFFFFFFFFFFF last.1
   size ← number_up_to 0xFFFFFFFFFFFFFFFF last.2
   Some (HardDrive (hard_drive_parts partition start size signature.0 signature.1 signature.1))
+
+unfoldable pub cdrom_of : List (List ℕ) → Option Node
+cdrom_of arguments = do
+  three ← three_of arguments
+  entry ← number_up_to 0xFFFFFFFF three.0
+  start ← number_up_to 0xFFFFFFFFFFFFFFFF three.1
+  size ← number_up_to 0xFFFFFFFFFFFFFFFF three.2
+  Some (Cdrom entry start size)
 
 abbrev pub uri_of : List ℕ → Option Node
 uri_of text = if list_all (is_plain_from 0x21) text && nat_le (length text) body_max then Some (Uri text) else None

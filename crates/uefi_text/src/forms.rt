@@ -7,7 +7,7 @@ ghost use Rattle.uefi_path.specs.Row.{row};
 ghost use Rattle.uefi_path.specs.Standard.{body_max, vendor_body_max};
 ghost use Rattle.uefi_text.specs.Answering.{AnswersNamed, AnswersSegment, AnswersRow};
 ghost use Rattle.uefi_text.specs.Cutting.{HasBareName};
-ghost use Rattle.uefi_text.specs.Reading.{Reads, arguments_of, pci_of, usb_of, sata_of, root_of, nvme_of, acpi_of, mac_node_of, ipv4_of, hard_drive_of, signature_of, ReadsAs, Makes, uri_of, file_of, vendor_of, vendor_hw_of, vendor_msg_of, vendor_media_of, is_data, data_bytes, generic_of};
+ghost use Rattle.uefi_text.specs.Reading.{Reads, arguments_of, pci_of, usb_of, sata_of, vlan_of, root_of, nvme_of, acpi_of, mac_node_of, ipv4_of, hard_drive_of, cdrom_of, signature_of, ReadsAs, Makes, uri_of, file_of, vendor_of, vendor_hw_of, vendor_msg_of, vendor_media_of, is_data, data_bytes, generic_of};
 ghost use Rattle.std.specs.Int.{w32, to_le_bytes};
 
 use crate::argument::{
@@ -69,6 +69,9 @@ fn named_node(alloc: Global, name: &[u8], inside: &[u8]) -> Result<Node, Segment
     if is_named(name, b"IPv4") {
         return ipv4(inside);
     }
+    if is_named(name, b"Vlan") {
+        return vlan(inside);
+    }
     if is_named(name, b"Uri") {
         return uri(alloc, inside);
     }
@@ -77,6 +80,9 @@ fn named_node(alloc: Global, name: &[u8], inside: &[u8]) -> Result<Node, Segment
     }
     if is_named(name, b"HD") {
         return hard_drive(inside);
+    }
+    if is_named(name, b"CDROM") {
+        return cdrom(inside);
     }
     if is_named(name, b"VenHw") {
         return vendor_hw(alloc, inside);
@@ -164,6 +170,16 @@ fn sata(inside: &[u8]) -> Result<Node, SegmentFault>
         multiplier,
         lun,
     })
+}
+
+#[inline(never)]
+#[tactic(auto, unfolding(crate::specs::Reading::vlan_of))]
+fn vlan(inside: &[u8]) -> Result<Node, SegmentFault>
+    ensures { Reads result (vlan_of (arguments_of inside.now)) }
+{
+    let id = one(inside, b',')?;
+    let id = u16_of(id, 0)?;
+    Ok(Node::Vlan { id })
 }
 
 #[inline(never)]
@@ -267,6 +283,18 @@ fn mbr_signature(number: u32) -> [u8; 16]
 {
     let [a, b, c, d] = number.to_le_bytes();
     [a, b, c, d, 0, 0, 0, 0, 0, 0, 0, 0, 0, 0, 0, 0]
+}
+
+#[inline(never)]
+#[tactic(auto, unfolding(crate::specs::Reading::cdrom_of))]
+fn cdrom(inside: &[u8]) -> Result<Node, SegmentFault>
+    ensures { Reads result (cdrom_of (arguments_of inside.now)) }
+{
+    let (entry, start, size) = three(inside, b',')?;
+    let entry = u32_of(entry, 0)?;
+    let start = u64_of(start, 1)?;
+    let size = u64_of(size, 2)?;
+    Ok(Node::Cdrom { entry, start, size })
 }
 
 #[inline(never)]

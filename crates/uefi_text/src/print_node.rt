@@ -74,6 +74,10 @@ impl fmt::Display for NodeText<'_> {
                 let lun = Number(u64::from(*lun));
                 write!(f, "Sata({hba},{multiplier},{lun})")
             }
+            Node::Vlan { id } => {
+                let id = Number(u64::from(*id));
+                write!(f, "Vlan({id})")
+            }
             Node::Nvme { namespace, eui } => {
                 let namespace = Number(u64::from(*namespace));
                 let eui = Eui(eui);
@@ -81,6 +85,12 @@ impl fmt::Display for NodeText<'_> {
             }
             Node::Uri(node) => uri(f, node),
             Node::HardDrive(node) => hard_drive(f, node),
+            Node::Cdrom { entry, start, size } => {
+                let entry = Number(u64::from(*entry));
+                let start = Number(*start);
+                let size = Number(*size);
+                write!(f, "CDROM({entry},{start},{size})")
+            }
             Node::VendorMedia(vendor) => vendor_node(f, "VenMedia", vendor),
             Node::FilePath(node) => file(f, node),
             Node::Other(node) => generic(f, node.kind(), node.sub(), node.body()),

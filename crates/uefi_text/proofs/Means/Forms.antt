@@ -2,7 +2,7 @@
 use Rattle.std.proofs.Common.{◌≡◌, ◌<◌, ◌≤◌, ◌^◌, ℕ, List, [], ◌∷◌, length, refl, sym, ap, subst, codes, ◌≢◌, ◌⊎◌, suc, ◌∙◌, inl, inr, arith}
 use Rattle.std.specs.List.{AllByRecursion}
 use Rattle.uefi_path.specs.declared.node.Node.{Node}
-use Rattle.uefi_path.specs.declared.node.Node.TheVariants.{Pci, VendorHw, Acpi, Usb, VendorMsg, Mac, Ipv4, Sata, Nvme, Uri, HardDrive, VendorMedia, FilePath, Other}
+use Rattle.uefi_path.specs.declared.node.Node.TheVariants.{Pci, VendorHw, Acpi, Usb, VendorMsg, Mac, Ipv4, Sata, Vlan, Nvme, Uri, HardDrive, Cdrom, VendorMedia, FilePath, Other}
 use Rattle.uefi_path.specs.Parts.{VendorParts, IsVendor, ipv4_parts, IsUri, IsPathName, hard_drive_parts}
 use Rattle.uefi_path.specs.Row.{AreBytes, Row, row, row_bytes, IsByte, IsRow}
 use Rattle.uefi_path.specs.Node.{IsNode, row_of, SpellsNode}
@@ -13,7 +13,7 @@ use Rattle.uefi_path.specs.Standard.{pci_root_hid, pcie_root_hid}
 use Rattle.uefi_text.specs.Node.{IsMacAddress, IsOrigin, IsUriByte, IsNameUnit, IsVendorText, IsOptionalData}
 use Rattle.uefi_text.specs.Path.{IsNodeText}
 use Rattle.uefi_text.proofs.Means.One.{same_argument, behind_two}
-use Rattle.uefi_text.proofs.Means.Reads.{pci_form, usb_form, sata_form, nvme_form, pci_root_form, pcie_root_form, acpi_form, mac_form, ipv4_form, uri_form, file_form, hard_drive_form, vendor_hw_form, vendor_msg_form, vendor_media_form, ReadsPci, ReadsUsb, ReadsSata, ReadsNvme, ReadsRoot, IsHid, ReadsAcpi, ReadsMac, ReadsIpv4, ReadsUri, ReadsFile, IsSignature, ReadsHardDrive, ReadsVendor, generic_form, ReadsGeneric}
+use Rattle.uefi_text.proofs.Means.Reads.{pci_form, usb_form, sata_form, nvme_form, pci_root_form, pcie_root_form, acpi_form, mac_form, ipv4_form, vlan_form, uri_form, file_form, hard_drive_form, cdrom_form, vendor_hw_form, vendor_msg_form, vendor_media_form, ReadsPci, ReadsUsb, ReadsSata, ReadsNvme, ReadsRoot, IsHid, ReadsAcpi, ReadsMac, ReadsIpv4, ReadsVlan, ReadsUri, ReadsFile, IsSignature, ReadsHardDrive, ReadsCdrom, ReadsVendor, generic_form, ReadsGeneric}
 use Rattle.uefi_text.proofs.Means.Inside.{reads_named}
 
 -- the text is read as the number, which is below the limit
@@ -59,6 +59,26 @@ sata_arguments hba multiplier lun node means =
     let p : ReadsSata (hba ∷ multiplier ∷ lun ∷ []) node = reads_named (codes "Sata") (hba ∷ multiplier ∷ lun ∷ []) node sata_form refl means in
     let fits : IsNode (Sata p.h p.m p.l) = subst IsNode p.is means.valid in
     (p.h, p.m, p.l, below (2 ^ 16) hba p.hba p.h (same_argument 0 _ _ p.are) p.hba_is fits.0, below (2 ^ 16) multiplier p.multiplier p.m (same_argument 1 _ _ p.are) p.multiplier_is fits.1, below (2 ^ 16) lun p.lun p.l (same_argument 2 _ _ p.are) p.lun_is fits.2, p.is)
+
+-- Vlan
+pub vlan_count : (arguments : List (List ℕ)) (node : Node) → IsNodeText (named (codes "Vlan") arguments) node → length arguments ≡ 1
+vlan_count arguments node means = let p : ReadsVlan arguments node = reads_named (codes "Vlan") arguments node vlan_form refl means in ap length p.are
+
+pub vlan_arguments : (id : List ℕ) (node : Node) → IsNodeText (named (codes "Vlan") (id ∷ [])) node → (i : ℕ) × ReadsBelow (2 ^ 16) id i × (node ≡ Vlan i)
+vlan_arguments id node means =
+    let p : ReadsVlan (id ∷ []) node = reads_named (codes "Vlan") (id ∷ []) node vlan_form refl means in
+    let fits : IsNode (Vlan p.i) = subst IsNode p.is means.valid in
+    (p.i, below (2 ^ 16) id p.id p.i (same_argument 0 _ _ p.are) p.id_is fits, p.is)
+
+-- CDROM
+pub cdrom_count : (arguments : List (List ℕ)) (node : Node) → IsNodeText (named (codes "CDROM") arguments) node → length arguments ≡ 3
+cdrom_count arguments node means = let p : ReadsCdrom arguments node = reads_named (codes "CDROM") arguments node cdrom_form refl means in ap length p.are
+
+pub cdrom_arguments : (entry start size : List ℕ) (node : Node) → IsNodeText (named (codes "CDROM") (entry ∷ start ∷ size ∷ [])) node → (e : ℕ) × (st : ℕ) × (si : ℕ) × ReadsBelow (2 ^ 32) entry e × ReadsBelow (2 ^ 64) start st × ReadsBelow (2 ^ 64) size si × (node ≡ Cdrom e st si)
+cdrom_arguments entry start size node means =
+    let p : ReadsCdrom (entry ∷ start ∷ size ∷ []) node = reads_named (codes "CDROM") (entry ∷ start ∷ size ∷ []) node cdrom_form refl means in
+    let fits : IsNode (Cdrom p.e p.st p.si) = subst IsNode p.is means.valid in
+    (p.e, p.st, p.si, below (2 ^ 32) entry p.entry p.e (same_argument 0 _ _ p.are) p.entry_is fits.0, below (2 ^ 64) start p.start p.st (same_argument 1 _ _ p.are) p.start_is fits.1, below (2 ^ 64) size p.size p.si (same_argument 2 _ _ p.are) p.size_is fits.2, p.is)
 
 -- NVMe
 pub nvme_count : (arguments : List (List ℕ)) (node : Node) → IsNodeText (named (codes "NVMe") arguments) node → length arguments ≡ 2
@@ -197,9 +217,11 @@ node_is_no_end (VendorMsg _) valid e = omega (arith, e)
 node_is_no_end (Mac _ _) valid e = omega (arith, e)
 node_is_no_end (Ipv4 _) valid e = omega (arith, e)
 node_is_no_end (Sata _ _ _) valid e = omega (arith, e)
+node_is_no_end (Vlan _) valid e = omega (arith, e)
 node_is_no_end (Nvme _ _) valid e = omega (arith, e)
 node_is_no_end (Uri _) valid e = omega (arith, e)
 node_is_no_end (HardDrive _) valid e = omega (arith, e)
+node_is_no_end (Cdrom _ _ _) valid e = omega (arith, e)
 node_is_no_end (VendorMedia _) valid e = omega (arith, e)
 node_is_no_end (FilePath _) valid e = omega (arith, e)
 node_is_no_end (Other other) valid e = valid.no_end e

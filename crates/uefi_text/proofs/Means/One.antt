@@ -1,7 +1,7 @@
 -- A segment means at most one node.
 use Rattle.std.proofs.Common.{◌≡◌, ℕ, List, [], ◌∷◌, get_or, refl, sym, ap, subst, ◌∙◌, inl, inr, codes, arith}
 use Rattle.uefi_path.specs.declared.node.Node.{Node}
-use Rattle.uefi_path.specs.declared.node.Node.TheVariants.{Pci, VendorHw, Acpi, Usb, VendorMsg, Mac, Ipv4, Sata, Nvme, Uri, HardDrive, VendorMedia, FilePath}
+use Rattle.uefi_path.specs.declared.node.Node.TheVariants.{Pci, VendorHw, Acpi, Usb, VendorMsg, Mac, Ipv4, Sata, Vlan, Nvme, Uri, HardDrive, Cdrom, VendorMedia, FilePath}
 use Rattle.uefi_path.specs.Parts.{VendorParts, vendor_parts, ipv4_parts, hard_drive_parts}
 use Rattle.uefi_path.specs.Row.{row, row_bytes}
 use Rattle.uefi_path.specs.Node.{row_of, IsNode, SpellsNode}
@@ -10,7 +10,7 @@ use Rattle.uefi_path.specs.Standard.{pci_root_hid, pcie_root_hid}
 use Rattle.uefi_text.specs.Node.{IsOptionalData, IsVendorText}
 use Rattle.uefi_text.specs.Path.{IsNodeText}
 use Rattle.uefi_text.proofs.Means.Texts.{first_code, number_one, hex_one, address_one, eui_one, guid_one, pnp_one, pnp_is_no_number, mac_address_one, mbr_signature_one, origin_one}
-use Rattle.uefi_text.proofs.Means.Reads.{Form, pci_form, usb_form, sata_form, nvme_form, pci_root_form, pcie_root_form, acpi_form, mac_form, ipv4_form, uri_form, file_form, hard_drive_form, vendor_hw_form, vendor_msg_form, vendor_media_form, generic_form, no_form, form_of, ReadsPci, ReadsUsb, ReadsSata, ReadsNvme, ReadsRoot, IsHid, ReadsAcpi, ReadsMac, ReadsIpv4, ReadsUri, ReadsFile, IsSignature, ReadsHardDrive, ReadsVendor, ReadsGeneric, ReadsAs, ReadsSegment, reads_of}
+use Rattle.uefi_text.proofs.Means.Reads.{Form, pci_form, usb_form, sata_form, nvme_form, pci_root_form, pcie_root_form, acpi_form, mac_form, ipv4_form, vlan_form, uri_form, file_form, hard_drive_form, cdrom_form, vendor_hw_form, vendor_msg_form, vendor_media_form, generic_form, no_form, form_of, ReadsPci, ReadsUsb, ReadsSata, ReadsNvme, ReadsRoot, IsHid, ReadsAcpi, ReadsMac, ReadsIpv4, ReadsVlan, ReadsUri, ReadsFile, IsSignature, ReadsHardDrive, ReadsCdrom, ReadsVendor, ReadsGeneric, ReadsAs, ReadsSegment, reads_of}
 
 -- what the crate of paths proves as a law: bytes spell at most one node
 abbrev pub BytesSpellOneNode : Type 0
@@ -48,6 +48,19 @@ nvme_one arguments m n p q =
     let ns : p.n ≡ q.n = number_one p.namespace q.namespace p.n q.n (same_argument 0 _ _ are) p.namespace_is q.namespace_is in
     let es : p.eui ≡ q.eui = eui_one p.identifier q.identifier p.eui q.eui (same_argument 1 _ _ are) p.identifier_is q.identifier_is in
     p.is ∙ ap (λ x. Nvme x p.eui) ns ∙ ap (λ (x : List ℕ). Nvme q.n x) es ∙ sym q.is
+
+vlan_one : (arguments : List (List ℕ)) (m n : Node) → ReadsVlan arguments m → ReadsVlan arguments n → m ≡ n
+vlan_one arguments m n p q =
+    let is' : p.i ≡ q.i = number_one p.id q.id p.i q.i (same_argument 0 _ _ (sym p.are ∙ q.are)) p.id_is q.id_is in
+    p.is ∙ ap (λ x. Vlan x) is' ∙ sym q.is
+
+cdrom_one : (arguments : List (List ℕ)) (m n : Node) → ReadsCdrom arguments m → ReadsCdrom arguments n → m ≡ n
+cdrom_one arguments m n p q =
+    let are = sym p.are ∙ q.are in
+    let es : p.e ≡ q.e = number_one p.entry q.entry p.e q.e (same_argument 0 _ _ are) p.entry_is q.entry_is in
+    let starts : p.st ≡ q.st = number_one p.start q.start p.st q.st (same_argument 1 _ _ are) p.start_is q.start_is in
+    let sizes : p.si ≡ q.si = number_one p.size q.size p.si q.si (same_argument 2 _ _ are) p.size_is q.size_is in
+    p.is ∙ ap (λ x. Cdrom x p.st p.si) es ∙ ap (λ x. Cdrom q.e x p.si) starts ∙ ap (λ x. Cdrom q.e q.st x) sizes ∙ sym q.is
 
 root_one : (hid : ℕ) (arguments : List (List ℕ)) (m n : Node) → ReadsRoot hid arguments m → ReadsRoot hid arguments n → m ≡ n
 root_one hid arguments m n p q =
@@ -163,9 +176,11 @@ reads_one law pcie_root_form arguments m n valid valid' p q = root_one pcie_root
 reads_one law acpi_form arguments m n valid valid' p q = acpi_one arguments m n p q
 reads_one law mac_form arguments m n valid valid' p q = mac_one arguments m n p q
 reads_one law ipv4_form arguments m n valid valid' p q = ipv4_one arguments m n p q
+reads_one law vlan_form arguments m n valid valid' p q = vlan_one arguments m n p q
 reads_one law uri_form arguments m n valid valid' p q = uri_one arguments m n p q
 reads_one law file_form arguments m n valid valid' p q = file_one arguments m n p q
 reads_one law hard_drive_form arguments m n valid valid' p q = hard_drive_one arguments m n p q
+reads_one law cdrom_form arguments m n valid valid' p q = cdrom_one arguments m n p q
 reads_one law vendor_hw_form arguments m n valid valid' p q = vendor_one (λ v. VendorHw v) arguments m n p q
 reads_one law vendor_msg_form arguments m n valid valid' p q = vendor_one (λ v. VendorMsg v) arguments m n p q
 reads_one law vendor_media_form arguments m n valid valid' p q = vendor_one (λ v. VendorMedia v) arguments m n p q

@@ -8,7 +8,7 @@ use Rattle.std.proofs.lemmas.Nat.{le_bytes_4}
 use Rattle.std.specs.Int.{w32, to_le_bytes, from_le_bytes}
 use Rattle.std.specs.List.{AllByRecursion, list_all}
 use Rattle.uefi_path.specs.declared.node.Node.{Node}
-use Rattle.uefi_path.specs.declared.node.Node.TheVariants.{Pci, VendorHw, Acpi, Usb, VendorMsg, Mac, Ipv4, Sata, Nvme, Uri, HardDrive, VendorMedia, FilePath, Other}
+use Rattle.uefi_path.specs.declared.node.Node.TheVariants.{Pci, VendorHw, Acpi, Usb, VendorMsg, Mac, Ipv4, Sata, Vlan, Nvme, Uri, HardDrive, Cdrom, VendorMedia, FilePath, Other}
 use Rattle.uefi_path.specs.Parts.{VendorParts, IsVendor, Ipv4Parts, ipv4_parts, AreIpv4Parts, HardDriveParts, hard_drive_parts, AreHardDriveParts}
 use Rattle.uefi_path.specs.Row.{Row, row_bytes, IsByte, AreBytes}
 use Rattle.uefi_path.specs.Node.{row_of, IsNode, SpellsNode}
@@ -175,6 +175,7 @@ segment_means law (Ipv4 parts) valid =
     chosen (λ s. means.MeansNode s (Ipv4 parts)) (is_plain_ipv4 parts) (ipv4_segment parts) (generic_segment (row_of (Ipv4 parts)))
     (λ e. ipv4_printed parts valid e) (λ _. generic_printed law (Ipv4 parts) valid)
 segment_means law (Sata hba multiplier lun) valid = means.sata (number_printed hba (omega (arith, valid.0))) (number_printed multiplier (omega (arith, valid.1))) (number_printed lun (omega (arith, valid.2)))
+segment_means law (Vlan id) valid = means.vlan (number_printed id (omega (arith, valid)))
 segment_means law (Nvme namespace eui) valid = means.nvme (number_printed namespace (omega (arith, valid.0))) (eui_printed eui valid.1.1)
 segment_means law (Uri bytes) valid =
     chosen (λ s. means.MeansNode s (Uri bytes)) (list_all (is_plain_from 0x21) bytes) (named (codes "Uri") (bytes ∷ [])) (generic_segment (row_of (Uri bytes)))
@@ -186,6 +187,7 @@ segment_means law (HardDrive parts) valid =
     chosen (λ s. means.MeansNode s (HardDrive parts)) (is_gpt parts) gpt (if is_mbr parts then mbr else other)
     (λ e. gpt_printed parts valid e)
     (λ _. chosen (λ s. means.MeansNode s (HardDrive parts)) (is_mbr parts) mbr other (λ e. mbr_printed parts valid e) (λ _. generic_printed law (HardDrive parts) valid))
+segment_means law (Cdrom entry start size) valid = means.cdrom (number_printed entry (omega (arith, valid.0))) (number_printed start valid.1) (number_printed size valid.2)
 segment_means law (VendorMedia vendor) valid = means.vendor_media (vendor_text_printed vendor valid)
 segment_means law (FilePath units) valid =
     chosen (λ s. means.MeansNode s (FilePath units)) (list_all (is_plain_from 0x20) units) (named (codes "File") (units ∷ [])) (generic_segment (row_of (FilePath units)))

@@ -3,7 +3,7 @@ use Rattle.std.proofs.Common.{◌≡◌, ◌≤◌, ◌⊎◌, ◌==◌, ℕ, Bo
 use Rattle.std.specs.Cmp.Lexicographic.{pointwise}
 use Rattle.std.specs.List.{AllByRecursion}
 use Rattle.uefi_path.specs.declared.node.Node.{Node}
-use Rattle.uefi_path.specs.declared.node.Node.TheVariants.{Pci, VendorHw, Acpi, Usb, VendorMsg, Mac, Ipv4, Sata, Nvme, Uri, HardDrive, VendorMedia, FilePath}
+use Rattle.uefi_path.specs.declared.node.Node.TheVariants.{Pci, VendorHw, Acpi, Usb, VendorMsg, Mac, Ipv4, Sata, Vlan, Nvme, Uri, HardDrive, Cdrom, VendorMedia, FilePath}
 use Rattle.uefi_path.specs.Parts.{VendorParts, ipv4_parts, hard_drive_parts}
 use Rattle.uefi_path.specs.Row.{row}
 use Rattle.uefi_path.specs.Node.{row_of}
@@ -25,9 +25,11 @@ pub data Form : Type 0 where
   acpi_form : Form
   mac_form : Form
   ipv4_form : Form
+  vlan_form : Form
   uri_form : Form
   file_form : Form
   hard_drive_form : Form
+  cdrom_form : Form
   vendor_hw_form : Form
   vendor_msg_form : Form
   vendor_media_form : Form
@@ -48,14 +50,16 @@ form_of name =
     (cond (is_named name (codes "Acpi")) acpi_form
     (cond (is_named name (codes "MAC")) mac_form
     (cond (is_named name (codes "IPv4")) ipv4_form
+    (cond (is_named name (codes "Vlan")) vlan_form
     (cond (is_named name (codes "Uri")) uri_form
     (cond (is_named name (codes "File")) file_form
     (cond (is_named name (codes "HD")) hard_drive_form
+    (cond (is_named name (codes "CDROM")) cdrom_form
     (cond (is_named name (codes "VenHw")) vendor_hw_form
     (cond (is_named name (codes "VenMsg")) vendor_msg_form
     (cond (is_named name (codes "VenMedia")) vendor_media_form
     (cond (is_named name (codes "Path")) generic_form
-    no_form)))))))))))))))
+    no_form)))))))))))))))))
 
 pub record ReadsPci (arguments : List (List ℕ)) (node : Node) : Type 0 where
   pub device : List ℕ
@@ -155,6 +159,13 @@ pub record ReadsIpv4 (arguments : List (List ℕ)) (node : Node) : Type 0 where
   pub mask_is : IsAddress mask m
   pub is : node ≡ Ipv4 (ipv4_parts l r 0 0 p f g m)
 
+pub record ReadsVlan (arguments : List (List ℕ)) (node : Node) : Type 0 where
+  pub id : List ℕ
+  pub i : ℕ
+  pub are : arguments ≡ id ∷ []
+  pub id_is : IsNumber id i
+  pub is : node ≡ Vlan i
+
 pub record ReadsUri (arguments : List (List ℕ)) (node : Node) : Type 0 where
   pub bytes : List ℕ
   pub are : arguments ≡ bytes ∷ []
@@ -191,6 +202,19 @@ pub record ReadsHardDrive (arguments : List (List ℕ)) (node : Node) : Type 0 w
   pub size_is : IsNumber size si
   pub is : node ≡ HardDrive (hard_drive_parts p st si g kind kind)
 
+pub record ReadsCdrom (arguments : List (List ℕ)) (node : Node) : Type 0 where
+  pub entry : List ℕ
+  pub start : List ℕ
+  pub size : List ℕ
+  pub e : ℕ
+  pub st : ℕ
+  pub si : ℕ
+  pub are : arguments ≡ entry ∷ start ∷ size ∷ []
+  pub entry_is : IsNumber entry e
+  pub start_is : IsNumber start st
+  pub size_is : IsNumber size si
+  pub is : node ≡ Cdrom e st si
+
 -- a vendor's node of a type
 pub record ReadsVendor (of : VendorParts → Node) (arguments : List (List ℕ)) (node : Node) : Type 0 where
   pub vendor : VendorParts
@@ -221,9 +245,11 @@ ReadsAs pcie_root_form arguments node = ReadsRoot pcie_root_hid arguments node
 ReadsAs acpi_form arguments node = ReadsAcpi arguments node
 ReadsAs mac_form arguments node = ReadsMac arguments node
 ReadsAs ipv4_form arguments node = ReadsIpv4 arguments node
+ReadsAs vlan_form arguments node = ReadsVlan arguments node
 ReadsAs uri_form arguments node = ReadsUri arguments node
 ReadsAs file_form arguments node = ReadsFile arguments node
 ReadsAs hard_drive_form arguments node = ReadsHardDrive arguments node
+ReadsAs cdrom_form arguments node = ReadsCdrom arguments node
 ReadsAs vendor_hw_form arguments node = ReadsVendor (λ v. VendorHw v) arguments node
 ReadsAs vendor_msg_form arguments node = ReadsVendor (λ v. VendorMsg v) arguments node
 ReadsAs vendor_media_form arguments node = ReadsVendor (λ v. VendorMedia v) arguments node
@@ -246,11 +272,13 @@ reads_of s n (means.acpi_pnp hid_is uid_is) = record { hid = _; uid = _; h = _; 
 reads_of s n (means.acpi hid_is uid_is) = record { hid = _; uid = _; h = _; u = _; are = refl; hid_is = inr hid_is; uid_is = uid_is; is = refl }
 reads_of s n (means.mac address_is if_kind_is plain) = record { address = _; if_kind = _; bytes = _; k = _; are = refl; address_is = address_is; if_kind_is = if_kind_is; plain = plain; is = refl }
 reads_of s n (means.ipv4 remote_is protocol_is origin_is local_is gateway_is mask_is) = record { remote = _; protocol = _; origin = _; local = _; gateway = _; mask = _; r = _; p = _; f = _; l = _; g = _; m = _; are = refl; remote_is = remote_is; protocol_is = protocol_is; origin_is = origin_is; local_is = local_is; gateway_is = gateway_is; mask_is = mask_is; is = refl }
+reads_of s n (means.vlan id_is) = record { id = _; i = _; are = refl; id_is = id_is; is = refl }
 reads_of s n (means.uri plain) = record { bytes = _; are = refl; plain = plain; is = refl }
 reads_of s n (means.file plain) = record { units = _; are = refl; plain = plain; is = refl }
 reads_of s n (means.bare_file plain) = (plain, refl)
 reads_of s n (means.hd_gpt partition_is guid_is start_is size_is) = record { partition = _; format = _; signature = _; start = _; size = _; p = _; kind = 2; g = _; st = _; si = _; are = refl; partition_is = partition_is; signature_is = inl (refl, guid_is, refl); start_is = start_is; size_is = size_is; is = refl }
 reads_of s n (means.hd_mbr partition_is signature_is start_is size_is) = record { partition = _; format = _; signature = _; start = _; size = _; p = _; kind = 1; g = _; st = _; si = _; are = refl; partition_is = partition_is; signature_is = inr (refl, signature_is, refl); start_is = start_is; size_is = size_is; is = refl }
+reads_of s n (means.cdrom entry_is start_is size_is) = record { entry = _; start = _; size = _; e = _; st = _; si = _; are = refl; entry_is = entry_is; start_is = start_is; size_is = size_is; is = refl }
 reads_of s n (means.vendor_hw are) = record { vendor = _; are = are; is = refl }
 reads_of s n (means.vendor_msg are) = record { vendor = _; are = are; is = refl }
 reads_of s n (means.vendor_media are) = record { vendor = _; are = are; is = refl }

@@ -7,7 +7,7 @@ use Rattle.uefi_path.specs.declared.node.Node.{Node}
 use Rattle.uefi_text.specs.declared.fault.SegmentFault.{SegmentFault}
 use Rattle.uefi_text.specs.Segment.{Segment, named, bare, comma}
 use Rattle.uefi_text.specs.Path.{IsNodeText}
-use Rattle.uefi_text.specs.Node.{MeansNode, pci, usb, sata, nvme, pci_root, pcie_root, acpi_pnp, acpi, mac, ipv4, uri, file, bare_file, hd_gpt, hd_mbr, vendor_hw, vendor_msg, vendor_media, generic}
+use Rattle.uefi_text.specs.Node.{MeansNode, pci, usb, sata, nvme, pci_root, pcie_root, acpi_pnp, acpi, mac, ipv4, vlan, uri, file, bare_file, hd_gpt, hd_mbr, cdrom, vendor_hw, vendor_msg, vendor_media, generic}
 use Rattle.uefi_text.specs.Reading.{Reads, Makes, arguments_of}
 use Rattle.uefi_text.specs.Answering.{MeansNamed, AnswersNamed}
 use Rattle.uefi_text.proofs.Read.Arguments.{split_joined}
@@ -75,9 +75,11 @@ pub record OnNames (P : List ℕ → Type 0) : Type 0 where
   pub acpi_name : P (codes "Acpi")
   pub mac_name : P (codes "MAC")
   pub ipv4_name : P (codes "IPv4")
+  pub vlan_name : P (codes "Vlan")
   pub uri_name : P (codes "Uri")
   pub file_name : P (codes "File")
   pub hd_name : P (codes "HD")
+  pub cdrom_name : P (codes "CDROM")
   pub vendor_hw_name : P (codes "VenHw")
   pub vendor_msg_name : P (codes "VenMsg")
   pub vendor_media_name : P (codes "VenMedia")
@@ -94,11 +96,13 @@ on_name P names _ _ (acpi_pnp x0 x1) = names.acpi_name
 on_name P names _ _ (acpi x0 x1) = names.acpi_name
 on_name P names _ _ (mac x0 x1 x2) = names.mac_name
 on_name P names _ _ (ipv4 x0 x1 x2 x3 x4 x5) = names.ipv4_name
+on_name P names _ _ (vlan x0) = names.vlan_name
 on_name P names _ _ (uri x0) = names.uri_name
 on_name P names _ _ (file x0) = names.file_name
 on_name P names _ _ (bare_file x0) = tt
 on_name P names _ _ (hd_gpt x0 x1 x2 x3) = names.hd_name
 on_name P names _ _ (hd_mbr x0 x1 x2 x3) = names.hd_name
+on_name P names _ _ (cdrom x0 x1 x2) = names.cdrom_name
 on_name P names _ _ (vendor_hw x0) = names.vendor_hw_name
 on_name P names _ _ (vendor_msg x0) = names.vendor_msg_name
 on_name P names _ _ (vendor_media x0) = names.vendor_media_name

@@ -14,7 +14,7 @@ use Rattle.uefi_text.specs.declared.fault.SegmentFault.TheVariants.{BadSegment, 
 use Rattle.uefi_text.specs.declared.segment.Segment as code
 use Rattle.uefi_text.specs.declared.segment.Segment.TheVariants.{Named, Bare}
 use Rattle.uefi_text.specs.Segment.{Segment, named, bare, segment_text}
-use Rattle.uefi_text.specs.Node.{pci, usb, sata, nvme, pci_root, pcie_root, acpi_pnp, acpi, mac, ipv4, uri, file, hd_gpt, hd_mbr, vendor_hw, vendor_msg, vendor_media, generic}
+use Rattle.uefi_text.specs.Node.{pci, usb, sata, nvme, pci_root, pcie_root, acpi_pnp, acpi, mac, ipv4, vlan, uri, file, hd_gpt, hd_mbr, cdrom, vendor_hw, vendor_msg, vendor_media, generic}
 use Rattle.uefi_text.specs.Node.{MeansNode, bare_file, IsBareName, IsBareUnit, IsNameUnit}
 use Rattle.uefi_text.specs.Path.{IsNodeText}
 use Rattle.uefi_text.specs.Fault.{IsPlaceOf, BeginsWithNode}
@@ -66,11 +66,13 @@ bare_inverse _ _ (acpi_pnp x0 x1) text e = cc
 bare_inverse _ _ (acpi x0 x1) text e = cc
 bare_inverse _ _ (mac x0 x1 x2) text e = cc
 bare_inverse _ _ (ipv4 x0 x1 x2 x3 x4 x5) text e = cc
+bare_inverse _ _ (vlan x0) text e = cc
 bare_inverse _ _ (uri x0) text e = cc
 bare_inverse _ _ (file x0) text e = cc
 bare_inverse _ _ (bare_file {units} x0) text e = let same : units ≡ text = cc in (subst IsBareName same x0, ap (λ (u : List ℕ). FilePath u) same)
 bare_inverse _ _ (hd_gpt x0 x1 x2 x3) text e = cc
 bare_inverse _ _ (hd_mbr x0 x1 x2 x3) text e = cc
+bare_inverse _ _ (cdrom x0 x1 x2) text e = cc
 bare_inverse _ _ (vendor_hw x0) text e = cc
 bare_inverse _ _ (vendor_msg x0) text e = cc
 bare_inverse _ _ (vendor_media x0) text e = cc

@@ -2,14 +2,14 @@
 use Rattle.std.proofs.Common.{◌≡◌, ◌<◌, ℕ, List, [], ◌∷◌, ap, sym, subst, ◌+◌, lit<, arith}
 use Rattle.std.specs.Prelude.{Some, codes}
 use Rattle.uefi_path.specs.declared.node.Node.{Node}
-use Rattle.uefi_path.specs.declared.node.Node.TheVariants.{Pci, Acpi, Usb, Sata}
+use Rattle.uefi_path.specs.declared.node.Node.TheVariants.{Pci, Acpi, Usb, Sata, Vlan, Cdrom}
 use Rattle.uefi_text.specs.Segment.{named}
 use Rattle.uefi_path.specs.Standard.{pci_root_hid, pcie_root_hid}
-use Rattle.uefi_text.specs.Node.{pci, usb, sata, pci_root, pcie_root}
+use Rattle.uefi_text.specs.Node.{pci, usb, sata, vlan, pci_root, pcie_root, cdrom}
 use Rattle.uefi_text.specs.Path.{IsNodeText}
-use Rattle.uefi_text.specs.Reading.{two_of, three_of, number_up_to, pci_of, usb_of, sata_of, root_of}
+use Rattle.uefi_text.specs.Reading.{two_of, three_of, number_up_to, pci_of, usb_of, sata_of, vlan_of, root_of, cdrom_of}
 use Rattle.uefi_text.proofs.Read.Numbers.{bind_some, some_same, up_to_found, up_to_again}
-use Rattle.uefi_text.proofs.Means.Forms.{pci_count, pci_arguments, usb_count, usb_arguments, sata_count, sata_arguments, pci_root_count, pci_root_arguments, pcie_root_count, pcie_root_arguments}
+use Rattle.uefi_text.proofs.Means.Forms.{pci_count, pci_arguments, usb_count, usb_arguments, sata_count, sata_arguments, vlan_count, vlan_arguments, cdrom_count, cdrom_arguments, pci_root_count, pci_root_arguments, pcie_root_count, pcie_root_arguments}
 
 pub pci_found : (arguments : List (List ℕ)) (node : Node) → pci_of arguments ≡ Some node → IsNodeText (named (codes "Pci") arguments) node
 unfolding pci_of two_of
@@ -92,6 +92,25 @@ sata_again (hba ∷ multiplier ∷ lun ∷ []) node is =
     let a2 = up_to_again 0xFFFF lun p.2 p.5.is (let fits = p.5.fits in omega arith) in
     rw (a0, a1, a2) (ap (λ (n : Node). Some n) (sym p.6))
 
+pub vlan_found : (arguments : List (List ℕ)) (node : Node) → vlan_of arguments ≡ Some node → IsNodeText (named (codes "Vlan") arguments) node
+unfolding vlan_of
+vlan_found ([]) node e = cc
+vlan_found (_ ∷ _ ∷ more) node e = cc
+vlan_found (id ∷ []) node e =
+    let r0 = bind_some (number_up_to 0xFFFF id) _ node e in
+    let n0 = up_to_found 0xFFFF id r0.0 r0.1 in
+    let under0 : r0.0 < 0xFFFF + 1 = let le = n0.1 in omega arith in
+    subst (IsNodeText (named (codes "Vlan") (id ∷ []))) (some_same (Vlan r0.0) node r0.2) (record { valid = under0; means = vlan n0.0 })
+
+pub vlan_again : (arguments : List (List ℕ)) (node : Node) → IsNodeText (named (codes "Vlan") arguments) node → vlan_of arguments ≡ Some node
+unfolding vlan_of
+vlan_again ([]) node is = let len = vlan_count _ node is in absurd (omega (arith, len))
+vlan_again (_ ∷ _ ∷ more) node is = let len = vlan_count _ node is in absurd (omega (arith, len))
+vlan_again (id ∷ []) node is =
+    let p = vlan_arguments id node is in
+    let a0 = up_to_again 0xFFFF id p.0 p.1.is (let fits = p.1.fits in omega arith) in
+    rw a0 (ap (λ (n : Node). Some n) (sym p.2))
+
 pub root_found : (arguments : List (List ℕ)) (node : Node) → root_of pci_root_hid arguments ≡ Some node → IsNodeText (named (codes "PciRoot") arguments) node
 unfolding root_of
 root_found ([]) node e = cc
@@ -129,3 +148,34 @@ pcie_again (uid ∷ []) node is =
     let p = pcie_root_arguments uid node is in
     let a0 = up_to_again 0xFFFFFFFF uid p.0 p.1.is (let fits = p.1.fits in omega arith) in
     rw a0 (ap (λ (n : Node). Some n) (sym p.2))
+
+pub cdrom_found : (arguments : List (List ℕ)) (node : Node) → cdrom_of arguments ≡ Some node → IsNodeText (named (codes "CDROM") arguments) node
+unfolding cdrom_of three_of two_of
+cdrom_found ([]) node e = cc
+cdrom_found (_ ∷ []) node e = cc
+cdrom_found (_ ∷ _ ∷ []) node e = cc
+cdrom_found (_ ∷ _ ∷ _ ∷ _ ∷ more) node e = cc
+cdrom_found (entry ∷ start ∷ size ∷ []) node e =
+    let r0 = bind_some (number_up_to 0xFFFFFFFF entry) _ node e in
+    let n0 = up_to_found 0xFFFFFFFF entry r0.0 r0.1 in
+    let r1 = bind_some (number_up_to 0xFFFFFFFFFFFFFFFF start) _ node r0.2 in
+    let n1 = up_to_found 0xFFFFFFFFFFFFFFFF start r1.0 r1.1 in
+    let r2 = bind_some (number_up_to 0xFFFFFFFFFFFFFFFF size) _ node r1.2 in
+    let n2 = up_to_found 0xFFFFFFFFFFFFFFFF size r2.0 r2.1 in
+    let under0 : r0.0 < 0xFFFFFFFF + 1 = let le = n0.1 in omega arith in
+    let under1 : r1.0 < 0xFFFFFFFFFFFFFFFF + 1 = let le = n1.1 in omega arith in
+    let under2 : r2.0 < 0xFFFFFFFFFFFFFFFF + 1 = let le = n2.1 in omega arith in
+    subst (IsNodeText (named (codes "CDROM") (entry ∷ start ∷ size ∷ []))) (some_same (Cdrom r0.0 r1.0 r2.0) node r2.2) (record { valid = (under0, under1, under2); means = cdrom n0.0 n1.0 n2.0 })
+
+pub cdrom_again : (arguments : List (List ℕ)) (node : Node) → IsNodeText (named (codes "CDROM") arguments) node → cdrom_of arguments ≡ Some node
+unfolding cdrom_of three_of two_of
+cdrom_again ([]) node is = let len = cdrom_count _ node is in absurd (omega (arith, len))
+cdrom_again (_ ∷ []) node is = let len = cdrom_count _ node is in absurd (omega (arith, len))
+cdrom_again (_ ∷ _ ∷ []) node is = let len = cdrom_count _ node is in absurd (omega (arith, len))
+cdrom_again (_ ∷ _ ∷ _ ∷ _ ∷ more) node is = let len = cdrom_count _ node is in absurd (omega (arith, len))
+cdrom_again (entry ∷ start ∷ size ∷ []) node is =
+    let p = cdrom_arguments entry start size node is in
+    let a0 = up_to_again 0xFFFFFFFF entry p.0 p.3.is (let fits = p.3.fits in omega arith) in
+    let a1 = up_to_again 0xFFFFFFFFFFFFFFFF start p.1 p.4.is (let fits = p.4.fits in omega arith) in
+    let a2 = up_to_again 0xFFFFFFFFFFFFFFFF size p.2 p.5.is (let fits = p.5.fits in omega arith) in
+    rw (a0, a1, a2) (ap (λ (n : Node). Some n) (sym p.6))

@@ -1,13 +1,13 @@
 use Rattle.std.proofs.Common.{ℕ, List, sym, subst, refl, ◌∙◌, true≢false}
 use Rattle.std.specs.Prelude.{codes}
 use Rattle.uefi_path.specs.Standard.{pci_root_hid, pcie_root_hid}
-use Rattle.uefi_text.specs.Reading.{pci_of, usb_of, sata_of, root_of, acpi_of, nvme_of, mac_node_of, ipv4_of, hard_drive_of, vendor_hw_of, vendor_msg_of, vendor_media_of, uri_of, file_of}
+use Rattle.uefi_text.specs.Reading.{pci_of, usb_of, sata_of, vlan_of, root_of, acpi_of, nvme_of, mac_node_of, ipv4_of, hard_drive_of, cdrom_of, vendor_hw_of, vendor_msg_of, vendor_media_of, uri_of, file_of}
 use Rattle.uefi_text.specs.Answering.{AnswersNamed}
 use Rattle.uefi_text.proofs.Read.Answers.{cut_answers, whole_answers, makes, no_form}
 use Rattle.uefi_text.proofs.Read.Forms.{nvme_found, nvme_again, acpi_found, acpi_again, mac_node_found, mac_node_again, ipv4_found, ipv4_again, hard_drive_found, hard_drive_again}
 use Rattle.uefi_text.proofs.Read.Whole.{uri_found, uri_again, file_found, file_again}
 use Rattle.uefi_text.proofs.Read.Generic.{hw_found, hw_again, msg_found, msg_again, media_found, media_again, generic_answers}
-use Rattle.uefi_text.proofs.Read.Segments.{pci_found, pci_again, usb_found, usb_again, sata_found, sata_again, root_found, root_again, pcie_found, pcie_again}
+use Rattle.uefi_text.proofs.Read.Segments.{pci_found, pci_again, usb_found, usb_again, sata_found, sata_again, vlan_found, vlan_again, cdrom_found, cdrom_again, root_found, root_again, pcie_found, pcie_again}
 use Rattle.uefi_text.proofs.forms.named_node.Goals as goal
 
 pub returns-then-is_named : goal.returns-then-is_named
@@ -57,37 +57,47 @@ returns-then-is_named-9 c =
 
 pub returns-then-is_named-10 : goal.returns-then-is_named-10
 returns-then-is_named-10 c =
-    subst (λ (n : List ℕ). AnswersNamed n c.args.inside.now c.uri.result) (sym (c.is_named-10.ensures.0 c.if-is_named-10.true))
-    (whole_answers (codes "Uri") c.args.inside.now c.uri.result uri_of uri_found (uri_again c.args.inside.now) c.uri.ensures)
+    subst (λ (n : List ℕ). AnswersNamed n c.args.inside.now c.vlan.result) (sym (c.is_named-10.ensures.0 c.if-is_named-10.true))
+    (cut_answers (codes "Vlan") c.args.inside.now c.vlan.result vlan_of refl vlan_found vlan_again (makes c.vlan.result _ c.vlan.ensures))
 
 pub returns-then-is_named-11 : goal.returns-then-is_named-11
 returns-then-is_named-11 c =
-    subst (λ (n : List ℕ). AnswersNamed n c.args.inside.now c.file.result) (sym (c.is_named-11.ensures.0 c.if-is_named-11.true))
-    (whole_answers (codes "File") c.args.inside.now c.file.result file_of file_found (file_again c.args.inside.now) c.file.ensures)
+    subst (λ (n : List ℕ). AnswersNamed n c.args.inside.now c.uri.result) (sym (c.is_named-11.ensures.0 c.if-is_named-11.true))
+    (whole_answers (codes "Uri") c.args.inside.now c.uri.result uri_of uri_found (uri_again c.args.inside.now) c.uri.ensures)
 
 pub returns-then-is_named-12 : goal.returns-then-is_named-12
 returns-then-is_named-12 c =
-    subst (λ (n : List ℕ). AnswersNamed n c.args.inside.now c.hard_drive.result) (sym (c.is_named-12.ensures.0 c.if-is_named-12.true))
-    (cut_answers (codes "HD") c.args.inside.now c.hard_drive.result hard_drive_of refl hard_drive_found hard_drive_again (makes c.hard_drive.result _ c.hard_drive.ensures))
+    subst (λ (n : List ℕ). AnswersNamed n c.args.inside.now c.file.result) (sym (c.is_named-12.ensures.0 c.if-is_named-12.true))
+    (whole_answers (codes "File") c.args.inside.now c.file.result file_of file_found (file_again c.args.inside.now) c.file.ensures)
 
 pub returns-then-is_named-13 : goal.returns-then-is_named-13
 returns-then-is_named-13 c =
-    subst (λ (n : List ℕ). AnswersNamed n c.args.inside.now c.vendor_hw.result) (sym (c.is_named-13.ensures.0 c.if-is_named-13.true))
-    (cut_answers (codes "VenHw") c.args.inside.now c.vendor_hw.result vendor_hw_of refl hw_found hw_again c.vendor_hw.ensures)
+    subst (λ (n : List ℕ). AnswersNamed n c.args.inside.now c.hard_drive.result) (sym (c.is_named-13.ensures.0 c.if-is_named-13.true))
+    (cut_answers (codes "HD") c.args.inside.now c.hard_drive.result hard_drive_of refl hard_drive_found hard_drive_again (makes c.hard_drive.result _ c.hard_drive.ensures))
 
 pub returns-then-is_named-14 : goal.returns-then-is_named-14
 returns-then-is_named-14 c =
-    subst (λ (n : List ℕ). AnswersNamed n c.args.inside.now c.vendor_msg.result) (sym (c.is_named-14.ensures.0 c.if-is_named-14.true))
-    (cut_answers (codes "VenMsg") c.args.inside.now c.vendor_msg.result vendor_msg_of refl msg_found msg_again c.vendor_msg.ensures)
+    subst (λ (n : List ℕ). AnswersNamed n c.args.inside.now c.cdrom.result) (sym (c.is_named-14.ensures.0 c.if-is_named-14.true))
+    (cut_answers (codes "CDROM") c.args.inside.now c.cdrom.result cdrom_of refl cdrom_found cdrom_again (makes c.cdrom.result _ c.cdrom.ensures))
 
 pub returns-then-is_named-15 : goal.returns-then-is_named-15
 returns-then-is_named-15 c =
-    subst (λ (n : List ℕ). AnswersNamed n c.args.inside.now c.vendor_media.result) (sym (c.is_named-15.ensures.0 c.if-is_named-15.true))
-    (cut_answers (codes "VenMedia") c.args.inside.now c.vendor_media.result vendor_media_of refl media_found media_again c.vendor_media.ensures)
+    subst (λ (n : List ℕ). AnswersNamed n c.args.inside.now c.vendor_hw.result) (sym (c.is_named-15.ensures.0 c.if-is_named-15.true))
+    (cut_answers (codes "VenHw") c.args.inside.now c.vendor_hw.result vendor_hw_of refl hw_found hw_again c.vendor_hw.ensures)
 
 pub returns-then-is_named-16 : goal.returns-then-is_named-16
 returns-then-is_named-16 c =
-    subst (λ (n : List ℕ). AnswersNamed n c.args.inside.now c.generic.result) (sym (c.is_named-16.ensures.0 c.if-is_named-16.true))
+    subst (λ (n : List ℕ). AnswersNamed n c.args.inside.now c.vendor_msg.result) (sym (c.is_named-16.ensures.0 c.if-is_named-16.true))
+    (cut_answers (codes "VenMsg") c.args.inside.now c.vendor_msg.result vendor_msg_of refl msg_found msg_again c.vendor_msg.ensures)
+
+pub returns-then-is_named-17 : goal.returns-then-is_named-17
+returns-then-is_named-17 c =
+    subst (λ (n : List ℕ). AnswersNamed n c.args.inside.now c.vendor_media.result) (sym (c.is_named-17.ensures.0 c.if-is_named-17.true))
+    (cut_answers (codes "VenMedia") c.args.inside.now c.vendor_media.result vendor_media_of refl media_found media_again c.vendor_media.ensures)
+
+pub returns-then-is_named-18 : goal.returns-then-is_named-18
+returns-then-is_named-18 c =
+    subst (λ (n : List ℕ). AnswersNamed n c.args.inside.now c.generic.result) (sym (c.is_named-18.ensures.0 c.if-is_named-18.true))
     (generic_answers c.each_node_is_spelled.ensures c.args.inside.now c.generic.result c.generic.ensures)
 
 pub returns : goal.returns
@@ -102,11 +112,13 @@ returns c =
       acpi_name = λ e. true≢false (sym (c.is_named-7.ensures.1 (sym e)) ∙ c.if-is_named-7.false);
       mac_name = λ e. true≢false (sym (c.is_named-8.ensures.1 (sym e)) ∙ c.if-is_named-8.false);
       ipv4_name = λ e. true≢false (sym (c.is_named-9.ensures.1 (sym e)) ∙ c.if-is_named-9.false);
-      uri_name = λ e. true≢false (sym (c.is_named-10.ensures.1 (sym e)) ∙ c.if-is_named-10.false);
-      file_name = λ e. true≢false (sym (c.is_named-11.ensures.1 (sym e)) ∙ c.if-is_named-11.false);
-      hd_name = λ e. true≢false (sym (c.is_named-12.ensures.1 (sym e)) ∙ c.if-is_named-12.false);
-      vendor_hw_name = λ e. true≢false (sym (c.is_named-13.ensures.1 (sym e)) ∙ c.if-is_named-13.false);
-      vendor_msg_name = λ e. true≢false (sym (c.is_named-14.ensures.1 (sym e)) ∙ c.if-is_named-14.false);
-      vendor_media_name = λ e. true≢false (sym (c.is_named-15.ensures.1 (sym e)) ∙ c.if-is_named-15.false);
-      generic_name = λ e. true≢false (sym (c.is_named-16.ensures.1 (sym e)) ∙ c.if-is_named-16.false);
+      vlan_name = λ e. true≢false (sym (c.is_named-10.ensures.1 (sym e)) ∙ c.if-is_named-10.false);
+      uri_name = λ e. true≢false (sym (c.is_named-11.ensures.1 (sym e)) ∙ c.if-is_named-11.false);
+      file_name = λ e. true≢false (sym (c.is_named-12.ensures.1 (sym e)) ∙ c.if-is_named-12.false);
+      hd_name = λ e. true≢false (sym (c.is_named-13.ensures.1 (sym e)) ∙ c.if-is_named-13.false);
+      cdrom_name = λ e. true≢false (sym (c.is_named-14.ensures.1 (sym e)) ∙ c.if-is_named-14.false);
+      vendor_hw_name = λ e. true≢false (sym (c.is_named-15.ensures.1 (sym e)) ∙ c.if-is_named-15.false);
+      vendor_msg_name = λ e. true≢false (sym (c.is_named-16.ensures.1 (sym e)) ∙ c.if-is_named-16.false);
+      vendor_media_name = λ e. true≢false (sym (c.is_named-17.ensures.1 (sym e)) ∙ c.if-is_named-17.false);
+      generic_name = λ e. true≢false (sym (c.is_named-18.ensures.1 (sym e)) ∙ c.if-is_named-18.false);
     }) m)
