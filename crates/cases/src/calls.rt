@@ -31,13 +31,13 @@ fn with_variables(alloc: Global, case: &Value, mut answer: String) -> Result<Str
 pub fn answer(alloc: Global, call: &str, case: &Value) -> Result<String> {
     match case.get("input") {
         None => of_members(alloc, call, case),
-        Some(input) if takes_text(call) => of_text(alloc, call, &text_of(alloc, input)?),
+        Some(input) if takes_text(call) => {
+            let text = text_of(alloc, input)?;
+            of_input(alloc, call, case, Input::Text(&text))
+        }
         Some(input) => {
             let bytes = bytes_of(alloc, input)?;
-            match case.get("cuts") {
-                None => of_bytes(alloc, call, &bytes),
-                Some(cuts) => of_cuts(alloc, call, &bytes, ends_of(cuts)?),
-            }
+            of_input(alloc, call, case, Input::Bytes(&bytes))
         }
     }
 }
@@ -50,14 +50,54 @@ fn takes_text(call: &str) -> bool {
     )
 }
 
-/// What a call of bytes answers to each front of the bytes from one length to another: one answer, or the first that differs.
-fn of_cuts(alloc: Global, call: &str, bytes: &[u8], (first, last): (u64, u64)) -> Result<String> {
+/// What a call takes.
+#[derive(Clone, Copy)]
+enum Input<'a> {
+    Text(&'a str),
+    Bytes(&'a [u8]),
+}
+
+/// What a call answers to its input, or to the fronts of it that the case states.
+fn of_input(alloc: Global, call: &str, case: &Value, input: Input<'_>) -> Result<String> {
+    match case.get("cuts") {
+        None => of_whole(alloc, call, input),
+        Some(cuts) => of_cuts(alloc, call, input, ends_of(cuts)?),
+    }
+}
+
+fn of_whole(alloc: Global, call: &str, input: Input<'_>) -> Result<String> {
+    match input {
+        Input::Text(text) => of_text(alloc, call, text),
+        Input::Bytes(bytes) => of_bytes(alloc, call, bytes),
+    }
+}
+
+/// What a call answers to the first `len` bytes of its input.
+fn of_front(alloc: Global, call: &str, input: Input<'_>, len: usize) -> Result<String> {
+    let front = match input {
+        Input::Text(text) => text
+            .split_at_checked(len)
+            .map(|(front, _)| Input::Text(front)),
+        Input::Bytes(bytes) => bytes
+            .split_at_checked(len)
+            .map(|(front, _)| Input::Bytes(front)),
+    };
+    match front {
+        Some(front) => of_whole(alloc, call, front),
+        None => bail!("the input can't be cut at {len}"),
+    }
+}
+
+/// What a call answers to each front of its input from one length to another: one answer, or the first that differs.
+fn of_cuts(
+    alloc: Global,
+    call: &str,
+    input: Input<'_>,
+    (first, last): (u64, u64),
+) -> Result<String> {
     let mut told: Option<String> = None;
     for len in first..=last {
-        let Some((front, _)) = bytes.split_at_checked(usize::try_from(len)?) else {
-            bail!("the input has no {len} bytes");
-        };
-        let answer = of_bytes(alloc, call, front)?;
+        let answer = of_front(alloc, call, input, usize::try_from(len)?)?;
         match &told {
             None => told = Some(answer),
             Some(before) if before.as_str() == answer.as_str() => {}

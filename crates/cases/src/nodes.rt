@@ -29,11 +29,15 @@ impl fmt::Display for Words<'_> {
                 multiplier,
                 lun,
             } => write!(f, "Sata hba {hba} multiplier {multiplier} lun {lun}"),
+            Node::Vlan { id } => write!(f, "Vlan id {id}"),
             Node::Nvme { namespace, eui } => {
                 write!(f, "Nvme namespace {namespace} eui {}", Digits(eui))
             }
             Node::Uri(uri) => write!(f, "Uri {}", Digits(uri.bytes())),
             Node::HardDrive(partition) => write!(f, "HardDrive {}", Partition(partition)),
+            Node::Cdrom { entry, start, size } => {
+                write!(f, "Cdrom entry {entry} start {start} size {size}")
+            }
             Node::VendorMedia(vendor) => write!(f, "VendorMedia {}", VendorParts(vendor)),
             Node::FilePath(file) => write!(f, "FilePath{}", Units(file.units())),
             Node::Other(other) => {
