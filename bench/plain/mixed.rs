@@ -6,7 +6,7 @@ use std::error::Error;
 /// Type, sub-type and lengths of data of the nodes, which follow one another in this order. At each
 /// round a node takes the next of its lengths. The last two rows are kept as bytes: the one has a
 /// type without a case of its own, and the other a length that is not its type's.
-const ROWS: [(u8, u8, &[usize]); 15] = [
+const ROWS: [(u8, u8, &[usize]); 17] = [
     (1, 1, &[2]),
     (1, 4, &[16, 24, 80]),
     (2, 1, &[8]),
@@ -15,9 +15,11 @@ const ROWS: [(u8, u8, &[usize]); 15] = [
     (3, 11, &[33]),
     (3, 12, &[23]),
     (3, 18, &[6]),
+    (3, 20, &[2]),
     (3, 23, &[12]),
     (3, 24, &[0, 31, 90]),
     (4, 1, &[38]),
+    (4, 2, &[20]),
     (4, 3, &[16, 32, 64]),
     (4, 4, &[2, 26, 66]),
     (5, 1, &[0, 13, 40]),

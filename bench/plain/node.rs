@@ -26,6 +26,9 @@ pub enum Node {
         multiplier: u16,
         lun: u16,
     },
+    Vlan {
+        id: u16,
+    },
     Nvme {
         namespace: u32,
         eui: [u8; 8],
@@ -35,6 +38,11 @@ pub enum Node {
     VendorMsg(Vendor),
     VendorMedia(Vendor),
     HardDrive(HardDrive),
+    Cdrom {
+        entry: u32,
+        start: u64,
+        size: u64,
+    },
     /// The units of the name, without the zero that ends it.
     FilePath(Vec<u16>),
     Other {

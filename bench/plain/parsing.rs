@@ -280,6 +280,19 @@ fn named(name: &[u8], arguments: Arguments<'_>) -> Result<Node, Fault> {
                 lun: lun.number(0xffff)? as u16,
             })
         }
+        b"Vlan" => {
+            let [id] = arguments.parts()?;
+            let id = id.number(0xffff)? as u16;
+            Ok(Node::Vlan { id })
+        }
+        b"CDROM" => {
+            let [entry, start, size] = arguments.parts()?;
+            Ok(Node::Cdrom {
+                entry: entry.number(0xffff_ffff)? as u32,
+                start: start.number(u64::MAX)?,
+                size: size.number(u64::MAX)?,
+            })
+        }
         b"NVMe" => {
             let [namespace, eui] = arguments.parts()?;
             Ok(Node::Nvme {

@@ -34,12 +34,16 @@ fn print_node(node: &Node, text: &mut String) -> fmt::Result {
             multiplier,
             lun,
         } => write!(text, "Sata({hba:#x},{multiplier:#x},{lun:#x})"),
+        Node::Vlan { id } => write!(text, "Vlan({id:#x})"),
         Node::Nvme { namespace, eui } => print_nvme(*namespace, eui, text),
         Node::Uri(bytes) => print_uri(bytes, text),
         Node::VendorHw(vendor) => print_vendor("VenHw", vendor, text),
         Node::VendorMsg(vendor) => print_vendor("VenMsg", vendor, text),
         Node::VendorMedia(vendor) => print_vendor("VenMedia", vendor, text),
         Node::HardDrive(drive) => print_hard_drive(drive, text),
+        Node::Cdrom { entry, start, size } => {
+            write!(text, "CDROM({entry:#x},{start:#x},{size:#x})")
+        }
         Node::FilePath(units) => print_file(units, text),
         Node::Other { kind, sub, body } => print_generic(*kind, *sub, &[body], text),
     }

@@ -139,12 +139,20 @@ pub fn node(kind: u8, sub: u8, body: &[u8]) -> Node {
             multiplier: u16_at(body, 2),
             lun: u16_at(body, 4),
         },
+        (3, 20, 2) => Node::Vlan {
+            id: u16_at(body, 0),
+        },
         (3, 23, 12) => Node::Nvme {
             namespace: u32_at(body, 0),
             eui: bytes_at(body, 4),
         },
         (3, 24, _) => Node::Uri(body.to_vec()),
         (4, 1, 38) => Node::HardDrive(hard_drive(body)),
+        (4, 2, 20) => Node::Cdrom {
+            entry: u32_at(body, 0),
+            start: u64_at(body, 4),
+            size: u64_at(body, 12),
+        },
         (4, 3, 16..) => Node::VendorMedia(vendor(body)),
         (4, 4, _) if is_text(body) => Node::FilePath(units(&body[..body.len() - 2]).collect()),
         _ => Node::Other {

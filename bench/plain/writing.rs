@@ -49,6 +49,10 @@ fn write_node(node: &Node, out: &mut Vec<u8>) {
             out.extend_from_slice(&multiplier.to_le_bytes());
             out.extend_from_slice(&lun.to_le_bytes());
         }
+        Node::Vlan { id } => {
+            write_header(3, 20, 2, out);
+            out.extend_from_slice(&id.to_le_bytes());
+        }
         Node::Nvme { namespace, eui } => {
             write_header(3, 23, 12, out);
             out.extend_from_slice(&namespace.to_le_bytes());
@@ -62,6 +66,12 @@ fn write_node(node: &Node, out: &mut Vec<u8>) {
         Node::VendorMsg(vendor) => write_vendor(3, 10, vendor, out),
         Node::VendorMedia(vendor) => write_vendor(4, 3, vendor, out),
         Node::HardDrive(drive) => write_hard_drive(drive, out),
+        Node::Cdrom { entry, start, size } => {
+            write_header(4, 2, 20, out);
+            out.extend_from_slice(&entry.to_le_bytes());
+            out.extend_from_slice(&start.to_le_bytes());
+            out.extend_from_slice(&size.to_le_bytes());
+        }
         Node::FilePath(units) => {
             write_header(4, 4, 2 * units.len() + 2, out);
             out.extend(units.iter().flat_map(|unit| unit.to_le_bytes()));
