@@ -10,3 +10,4 @@ pub mod Equality
 -- what private contracts cite
 pub mod Shared
 pub mod Reading
+pub mod Writing

@@ -3,7 +3,9 @@
 //! A [`LoadOption`] is what stands in a variable `Boot####`: attributes, a description, device paths and
 //! optional data. [`read_option`] reads one from its bytes, all of them, [`make_option`] makes one of its
 //! parts, and [`write_option`] gives its one spelling, so an option that was read is written as it was.
-//! [`check_option`] finds the same parts where they stand in the bytes, as an [`OptionView`], and takes no memory.
+//! [`append_option`] puts that spelling behind bytes that are there, and [`option_len`] tells its length without
+//! writing it. [`check_option`] finds the same parts where they stand in the bytes, as an [`OptionView`], and takes no
+//! memory.
 #![tactic(auto)]
 
 mod attributes;
@@ -27,4 +29,4 @@ pub use making::make_option;
 pub use reading::{check_option, read_option};
 pub use text::description_text;
 pub use view::OptionView;
-pub use writing::write_option;
+pub use writing::{append_option, option_len, write_option};

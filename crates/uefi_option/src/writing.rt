@@ -1,10 +1,11 @@
 //! Load options to bytes.
 
-ghost use Rattle.std.specs.Prelude.{◌≡◌, ◌<◌, ◌≤◌, ◌^◌, ◌++◌, length, IfOk, OnOk, OnSome};
+ghost use Rattle.std.specs.Prelude.{◌≡◌, ◌<◌, ◌≤◌, ◌^◌, ◌++◌, length, IfOk, OnOk, OnErr, OnSome};
 ghost use Rattle.std.specs.List.{AllByRecursion};
 ghost use Rattle.std.specs.Option.{SomeIff};
 ghost use Rattle.uefi_path.specs.Path.{IsPath};
 ghost use Rattle.uefi_option.specs.LoadOption.{list_max, list_bytes, option_bytes, IsOption};
+ghost use Rattle.uefi_option.specs.Writing.{Extends};
 
 use crate::load_option::LoadOption;
 use std::alloc::{AllocError, Global};
@@ -28,8 +29,17 @@ pub(crate) fn list_len(paths: &[Path]) -> Option<u16>
     Some(len)
 }
 
-/// How many bytes the spelling of an option has, of which its list has `list`: `None` where `usize` can't hold it.
-fn option_len(option: &LoadOption, list: u16) -> Option<usize>
+/// How many bytes the list of the option has.
+fn stated_len(option: &LoadOption) -> u16
+    ensures len { result ≡ length (list_bytes option.now.paths) }
+    ensures valid { IsOption option.now }
+{
+    // Two bytes can state the length of any option's list.
+    list_len(option.paths()).unwrap()
+}
+
+/// How many bytes the spelling of the option has, of which its list has `list`: `None` if `usize` can't count them.
+fn len_around(option: &LoadOption, list: u16) -> Option<usize>
     requires { list ≡ length (list_bytes option.now.paths) }
     ensures { let len = length (option_bytes option.now) in SomeIff result (len < 2 ^ 64) len }
 {
@@ -42,14 +52,64 @@ fn option_len(option: &LoadOption, list: u16) -> Option<usize>
         .checked_add(option.optional().len())
 }
 
-/// Appends the spellings of paths one after the other.
-fn append_paths(paths: &[Path], out: &mut Vec<u8>) -> Result<(), AllocError>
-    ensures { OnOk result (out.new.items ≡ out.old.items ++ list_bytes paths.now) }
+/// How many bytes the spelling of a load option has (UEFI 2.10, 3.1.3): `None` if `usize` can't count them. Nothing is
+/// written.
+pub fn option_len(option: &LoadOption) -> Option<usize>
+    ensures len { let len = length (option_bytes option.now) in SomeIff result (len < 2 ^ 64) len }
+    ensures valid { IsOption option.now }
+{
+    len_around(option, stated_len(option))
+}
+
+/// Appends the spellings of paths one after the other. An `Err` may leave a part of them.
+fn append_paths(paths: &[Path], bytes: &mut Vec<u8>) -> Result<(), AllocError>
+    ensures ok { OnOk result (bytes.new.items ≡ bytes.old.items ++ list_bytes paths.now) }
+    ensures err { OnErr result (Extends bytes.old.items bytes.new.items) }
 {
     for path in paths {
-        write_path(path, out)?;
+        write_path(path, bytes)?;
     }
     Ok(())
+}
+
+/// Appends the spelling of the option, whose list has `list` bytes. An `Err` may leave a part of it.
+fn append_parts(option: &LoadOption, list: u16, bytes: &mut Vec<u8>) -> Result<(), AllocError>
+    requires { list ≡ length (list_bytes option.now.paths) }
+    ensures ok { OnOk result (bytes.new.items ≡ bytes.old.items ++ option_bytes option.now) }
+    ensures err { OnErr result (Extends bytes.old.items bytes.new.items) }
+{
+    bytes.extend_from_slice(&option.attributes().to_le_bytes())?;
+    bytes.extend_from_slice(&list.to_le_bytes())?;
+    append_units(option.description(), bytes)?;
+    bytes.extend_from_slice(&0u16.to_le_bytes())?;
+    append_paths(option.paths(), bytes)?;
+    bytes.extend_from_slice(option.optional())
+}
+
+/// Appends the spelling of a load option (UEFI 2.10, 3.1.3): its attributes in four bytes and the length of its list in
+/// two, little-endian, the units of its description and a zero unit, two bytes each, the spellings of its paths, and its
+/// optional data. Room for it is made once.
+///
+/// # Errors
+///
+/// `AllocError` if memory was refused; `bytes` then has the bytes that it had.
+pub fn append_option(option: &LoadOption, bytes: &mut Vec<u8>) -> Result<(), AllocError>
+    ensures ok { OnOk result (bytes.new.items ≡ bytes.old.items ++ option_bytes option.now) }
+    ensures err { OnErr result (bytes.new.items ≡ bytes.old.items) }
+    ensures valid { IsOption option.now }
+{
+    let list = stated_len(option);
+    // More bytes than `usize` can count find no room.
+    let Some(len) = len_around(option, list) else {
+        return Err(AllocError);
+    };
+    bytes.reserve(len)?;
+    let start = bytes.len();
+    let written = append_parts(option, list, bytes);
+    if written.is_err() {
+        bytes.truncate(start);
+    }
+    written
 }
 
 /// The spelling of a load option (UEFI 2.10, 3.1.3): its attributes in four bytes and the length of its list in two,
@@ -59,14 +119,7 @@ pub fn write_option(alloc: Global, option: &LoadOption) -> Result<Vec<u8>, Alloc
     ensures written { IfOk result (λ out. out.items ≡ option_bytes option.now) }
     ensures valid { IsOption option.now }
 {
-    // The paths of an option are never more than two bytes can state.
-    let len = list_len(option.paths()).unwrap();
-    let mut out = Vec::with_capacity(alloc, option_len(option, len).unwrap_or(0))?;
-    out.extend_from_slice(&option.attributes().to_le_bytes())?;
-    out.extend_from_slice(&len.to_le_bytes())?;
-    append_units(option.description(), &mut out)?;
-    out.extend_from_slice(&0u16.to_le_bytes())?;
-    append_paths(option.paths(), &mut out)?;
-    out.extend_from_slice(option.optional())?;
+    let mut out = Vec::new(alloc);
+    append_option(option, &mut out)?;
     Ok(out)
 }

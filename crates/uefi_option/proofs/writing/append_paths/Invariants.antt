@@ -4,5 +4,5 @@ use Rattle.uefi_option.proofs.writing.append_paths.Given as goal
 
 abbrev pub invariant-loop-path : goal.invariant-loop-path
 invariant-loop-path l = record {
-  written : l.out.items ≡ l.fn.out.items ++ list_bytes (take l.path-index l.paths);
+  written : l.bytes.items ≡ l.fn.bytes.items ++ list_bytes (take l.path-index l.paths);
 }
