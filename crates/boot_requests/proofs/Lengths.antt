@@ -1,21 +1,10 @@
--- How many bytes options and orders have.
-use Rattle.std.proofs.Common.{◌≡◌, ℕ, ◌+◌, ◌*◌, ◌<◌, ◌^◌, List, ◌++◌, length, Option, ap, subst, ◌∙◌, arith}
+-- How many bytes orders have.
+use Rattle.std.proofs.Common.{◌≡◌, ℕ, ◌*◌, ◌<◌, ◌^◌, List, length, Option, ap, subst, arith}
 use Rattle.std.specs.Option.{SomeIff}
-use Rattle.std.proofs.lemmas.List.{length-append}
-use Rattle.uefi_option.specs.LoadOption.{OptionParts, description_bytes, list_bytes, option_bytes}
 use Rattle.boot_requests.specs.declared.request.Request.{Request}
 use Rattle.boot_requests.specs.declared.request.Request.TheVariants.{Order}
 use Rattle.boot_requests.specs.Request.{payload_of}
 use Rattle.boot_requests.proofs.TwoBytes.{bytes_of, length-bytes_of}
-
-length-description : (units : List ℕ) → length (description_bytes units) ≡ 2 * length units + 2
-length-description units = length-append (bytes_of units) _ ∙ omega (arith, length-bytes_of units)
-
-pub length-option_bytes : (o : OptionParts) → length (option_bytes o) ≡ 8 + 2 * length o.description + length (list_bytes o.paths) + length o.optional
-length-option_bytes o =
-    let behind = list_bytes o.paths ++ o.optional in
-    let front : length (option_bytes o) ≡ 6 + length (description_bytes o.description ++ behind) = omega arith in
-    front ∙ omega (arith, length-append (description_bytes o.description) behind, length-append (list_bytes o.paths) o.optional, length-description o.description)
 
 -- what is counted is the length
 pub counted : (r : Option ℕ) (n len : ℕ) → n ≡ len → SomeIff r (n < 2 ^ 64) n → SomeIff r (len < 2 ^ 64) len

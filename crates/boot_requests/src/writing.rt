@@ -4,7 +4,6 @@ ghost use Rattle.std.specs.Prelude.{◌≡◌, ◌↔◌, ◌<◌, ◌≤◌, �
 ghost use Rattle.std.specs.Option.{SomeIff};
 ghost use Rattle.std.specs.List.{AllByRecursion};
 ghost use Rattle.uefi_path.specs.Units.{units_bytes};
-ghost use Rattle.uefi_option.specs.LoadOption.{list_bytes, option_bytes};
 ghost use Rattle.uefi_vars.specs.Order.{IsEntryNumber};
 ghost use Rattle.boot_requests.specs.declared.fault.FrameFault.{FrameFault};
 ghost use Rattle.boot_requests.specs.Limits.{payload_max, no_number};
@@ -16,37 +15,8 @@ use crate::fault::FrameFault;
 use crate::frame::{ENTRY_LEN, HEADER_LEN, Kind, MAGIC, NO_NUMBER, PAYLOAD_MAX};
 use crate::request::Request;
 use std::alloc::{AllocError, Global};
-use uefi_option::{LoadOption, write_option};
-use uefi_path::{Path, append_units, path_len};
-
-/// The bytes of an option's attributes, of the length of its list, and of the zero unit behind its description.
-const OPTION_HEADER_LEN: usize = 8;
-
-/// The bytes of a unit.
-const UNIT_LEN: usize = 2;
-
-/// How many bytes the spellings of the paths have together, if `usize` can count them.
-fn paths_len(paths: &[Path]) -> Option<usize>
-    ensures { let len = length (list_bytes paths.now) in SomeIff result (len < 2 ^ 64) len }
-{
-    let mut len: usize = 0;
-    for path in paths {
-        len = len.checked_add(path_len(path)?)?;
-    }
-    Some(len)
-}
-
-/// How many bytes the spelling of the option has, if `usize` can count them.
-fn option_len(option: &LoadOption) -> Option<usize>
-    ensures { let len = length (option_bytes option.now) in SomeIff result (len < 2 ^ 64) len }
-{
-    let units = option.description().len().checked_mul(UNIT_LEN)?;
-    let paths = paths_len(option.paths())?;
-    OPTION_HEADER_LEN
-        .checked_add(units)?
-        .checked_add(paths)?
-        .checked_add(option.optional().len())
-}
+use uefi_option::{append_option, option_len};
+use uefi_path::append_units;
 
 /// How many bytes the payload of the request has, if `usize` can count them.
 fn payload_len(request: &Request) -> Option<usize>
@@ -93,20 +63,20 @@ fn append_numbers(numbers: &[u16], out: &mut Vec<u8>) -> Result<(), AllocError>
 }
 
 /// Appends the payload of the request.
-fn append_payload(alloc: Global, request: &Request, out: &mut Vec<u8>) -> Result<(), AllocError>
+fn append_payload(request: &Request, out: &mut Vec<u8>) -> Result<(), AllocError>
     ensures written { OnOk result (out.new.items ≡ out.old.items ++ payload_of request.now) }
     ensures valid { OnOk result (IsRequest request.now) }
 {
     match request {
         Request::Add(entry, option) | Request::Replace(entry, option) => {
             out.extend_from_slice(&entry.to_le_bytes())?;
-            out.extend_from_slice(&write_option(alloc, option)?)
+            append_option(option, out)
         }
         Request::Remove(entry) | Request::Next(entry) => {
             out.extend_from_slice(&entry.to_le_bytes())
         }
         Request::Order(order) => append_numbers(order.numbers(), out),
-        Request::AddFree(option) => out.extend_from_slice(&write_option(alloc, option)?),
+        Request::AddFree(option) => append_option(option, out),
     }
 }
 
@@ -135,6 +105,6 @@ pub fn write_frame(alloc: Global, number: u32, request: &Request) -> Result<Vec<
     }
     let mut out = Vec::with_capacity(alloc, HEADER_LEN + len)?;
     out.extend_from_slice(&header(request.kind(), number, len as u32))?;
-    append_payload(alloc, request, &mut out)?;
+    append_payload(request, &mut out)?;
     Ok(out)
 }
