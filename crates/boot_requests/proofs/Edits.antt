@@ -1,11 +1,11 @@
 -- Edits of variables that stand for a state: each leaves variables that stand for the state that is edited so.
-use Rattle.std.proofs.Common.{◌≡◌, ◌≢◌, ℕ, ◌<◌, true, false, List, [], ◌∷◌, length, Option, Some, None, IfSome, inl, inr, refl, sym, ap, subst, ◌∙◌, ⊎_elim, arith}
+use Rattle.std.proofs.Common.{◌≡◌, ◌≢◌, ℕ, ◌<◌, true, false, List, [], ◌∷◌, length, Option, Some, None, IfSome, is_some, inl, inr, refl, sym, ap, subst, ◌∙◌, ⊎_elim, arith}
 use Rattle.std.specs.Int.{w16, to_le_bytes}
 use Rattle.std.specs.FinMap.{get, insert, remove}
-use Rattle.std.proofs.lemmas.Bool.{cond-true, cond-false, ne_eqb}
+use Rattle.std.proofs.lemmas.Bool.{cond-true, cond-false, ne_eqb, false≢true}
 use Rattle.uefi_path.specs.Units.{units_bytes}
 use Rattle.uefi_vars.specs.Name.{entry_text, order_text, next_text}
-use Rattle.uefi_vars.specs.Vars.{Variables, IsData, IsVariable, IsVars, entry_of}
+use Rattle.uefi_vars.specs.Vars.{Variables, IsData, entry_of}
 use Rattle.uefi_vars.specs.Order.{IsEntryNumber, IsOrder, stored_order, stored_next}
 use Rattle.boot_requests.specs.declared.outcome.Outcome.{Outcome}
 use Rattle.boot_requests.specs.State.{State, IsMark, IsBootName, keep_text, mark_bytes, stored_mark}
@@ -119,12 +119,10 @@ module _ (m : State) (old new : Variables) where
   mark_put count kept some fits e h =
       subst (IsStateOf (record m { count = count; kept = kept })) (ap (with_stored old keep_text) (mark_stored count kept some) ∙ sym e) (mark_edited m old count kept fits h)
 
-  pub entry_stored : (number : ℕ) (bytes : List ℕ) → IsEntryNumber number → new ≡ insert old (entry_text number) bytes → IsVars new → IsStateOf m old → IsStateOf (record m { entries = insert m.entries number bytes }) new
+  pub entry_stored : (number : ℕ) (bytes : List ℕ) → IsEntryNumber number → new ≡ insert old (entry_text number) bytes → IsData bytes → IsStateOf m old → IsStateOf (record m { entries = insert m.entries number bytes }) new
   entry_stored number bytes fits e valid h =
-      let there : get new (entry_text number) ≡ Some bytes = ap (λ (v : Variables). get v (entry_text number)) e ∙ stored_here old (entry_text number) (Some bytes) in
-      let variable = subst (λ (o : Option (List ℕ)). IfSome o (λ value. IsVariable (entry_text number, value))) there (valid (entry_text number)) in
       subst (IsStateOf (record m { entries = insert m.entries number bytes })) (sym e)
-      (entry_edited m old (insert m.entries number bytes) number (Some bytes) fits variable.1 (entry_put m.entries number bytes) (λ k differ. entry_put_apart m.entries number bytes k differ) h)
+      (entry_edited m old (insert m.entries number bytes) number (Some bytes) fits valid (entry_put m.entries number bytes) (λ k differ. entry_put_apart m.entries number bytes k differ) h)
 
   pub entry_taken : (number : ℕ) → IsEntryNumber number → new ≡ remove old (entry_text number) → IsStateOf m old → IsStateOf (record m { entries = remove m.entries number }) new
   entry_taken number fits e h =
@@ -138,7 +136,16 @@ module _ (m : State) (vars : Variables) where
   pub next_kept : (next : Option ℕ) → next ≡ m.next → IsStateOf m vars → IsStateOf (record m { next = next }) vars
   next_kept next e h = subst (λ (o : Option ℕ). IsStateOf (record m { next = o }) vars) (sym e) h
 
--- ---- BootNext without a number
+-- ---- BootNext, and BootNext without a number
+
+abbrev stored_len : Option (List ℕ) → ℕ
+stored_len None = 0
+stored_len (Some bytes) = length bytes
+
+-- what is stored of it are two bytes
+pub two_bytes : (next : Option ℕ) (bytes : List ℕ) → Some bytes ≡ stored_next next → length bytes ≡ 2
+two_bytes None bytes e = absurd (false≢true (sym (ap is_some e)))
+two_bytes (Some number) bytes e = ap stored_len e
 
 pub next_named : (next : Option ℕ) (number : ℕ) → is_next_entry next number ≡ true → next_without next number ≡ None
 next_named None number h = refl

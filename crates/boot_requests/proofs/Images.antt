@@ -18,6 +18,7 @@ use Rattle.boot_requests.specs.declared.fault.OpenFault.TheVariants as fault
 use Rattle.boot_requests.specs.State.{State, IsState, IsImage, IsBootName, IsMark, keep_text, mark_bytes, stored_mark}
 use Rattle.boot_requests.specs.Outcome.{without_entry, code_byte, outcome_bytes}
 use Rattle.boot_requests.specs.Opening.{first_mark_bytes, IsFirstMark, HasMark, migrated, OpensAs, IsOpenFault}
+use Rattle.boot_requests.specs.Keeping.{IsStateOf}
 use Rattle.boot_requests.specs.Machine.{Entries, with_stored, with_entries, machine_of, image_of}
 use Rattle.boot_requests.specs.Marks.{mark_of}
 use Rattle.boot_requests.proofs.Stored.{stored_here, stored_apart, stored_again, same_name_or_not, same_number_or_not, names_apart, order_is_no_entry, next_is_no_entry, keep_is_no_entry, order_is_not_next, order_is_not_keep, next_is_not_keep}
@@ -193,6 +194,10 @@ image_is m = record {
   other = λ name odd. stored_apart _ keep_text _ name (λ e. odd (subst IsBootName e is_keep_name)) ∙ stored_apart _ next_text _ name (λ e. odd (subst IsBootName e is_next_name))
       ∙ stored_apart _ order_text _ name (λ e. odd (subst IsBootName e is_order_name)) ∙ with_entry_apart (2 ^ 16) m.entries m.others name (λ k h e. odd (subst IsBootName e (is_entry_name k h)));
 }
+
+-- the image of the state that variables stand for is the variables
+pub image_again : (m : State) (vars : Variables) → IsStateOf m vars → image_of m ≡ vars
+image_again m vars h = one_image m (image_of m) vars (image_is m) h.image
 
 -- ---- the name of the mark
 

@@ -2,6 +2,7 @@
 use Rattle.std.specs.Prelude.{◌≡◌, ℕ, List, Option}
 use Rattle.std.specs.FinMap.{insert, remove}
 use Rattle.uefi_vars.specs.Vars.{Variables}
+use Rattle.uefi_vars.specs.Made.{NameChanges, made}
 use Rattle.boot_requests.specs.declared.request.Request.{Request}
 use Rattle.boot_requests.specs.declared.outcome.Outcome.{Outcome}
 use Rattle.boot_requests.specs.State.{State, MarkParts}
@@ -11,6 +12,10 @@ use Rattle.boot_requests.specs.Keeping.{IsStateOf}
 -- from the variables of a state to those of the state that is changed so
 abbrev pub ChangesBy : Variables → Variables → (State → State) → Type 0
 ChangesBy old new change = (m : State) → IsStateOf m old → IsStateOf (change m) new
+
+-- with these changes more, variables of a state become those of the state that is changed so, whichever they are
+abbrev pub GathersBy : NameChanges → NameChanges → (State → State) → Type 0
+GathersBy old new change = (vars : Variables) → ChangesBy (made vars old) (made vars new) change
 
 -- the request comes to this, and its effect leads from the variables of a state to those of another
 abbrev pub CarriesOut : Variables → Variables → Request → Outcome → Type 0

@@ -1,8 +1,9 @@
-//! Requests to what they do to the variables that stand for a state.
+//! Requests to what they change of the variables that stand for a state.
 
 ghost use Rattle.std.specs.Prelude.{◌≡◌, ◌≤◌, ℕ, false, length, slice_index_or, IfOk};
 ghost use Rattle.std.specs.List.{list_all};
 ghost use Rattle.uefi_vars.specs.Order.{order_max};
+ghost use Rattle.uefi_vars.specs.Made.{made};
 ghost use Rattle.boot_requests.specs.declared.request.Request.{Request};
 ghost use Rattle.boot_requests.specs.Limits.{payload_max};
 ghost use Rattle.boot_requests.specs.Request.{payload_of};
@@ -19,57 +20,70 @@ use crate::storing::{
 };
 use std::alloc::{AllocError, Global};
 use uefi_option::LoadOption;
-use uefi_vars::{Vars, lowest_free};
+use uefi_vars::{Changes, Vars};
 
 /// How many numbers entries can have.
 const NUMBERS: usize = 65_536;
 
-/// Does to the variables what the request asks for, where it can be done. What came of it. Where memory is refused, the
-/// variables may be of no use any more.
+/// An order of so many numbers or fewer is searched for a repeat without memory.
+const FEW: usize = 16;
+
+/// Gathers what the request asks for, if it can be done to the variables as the changes so far make them. What came of it.
+/// If memory is refused, the changes may be of no use any more.
 pub(crate) fn carry_out(
     alloc: Global,
-    vars: &mut Vars,
+    vars: &Vars,
+    changes: &mut Changes,
     request: &Request,
 ) -> Result<Outcome, AllocError>
     requires { length (payload_of request.now) ≤ payload_max }
-    ensures { IfOk result (CarriesOut vars.old vars.new request.now) }
+    ensures { IfOk result
+        (CarriesOut (made vars.now changes.old) (made vars.now changes.new) request.now) }
 {
     match request {
-        Request::Add(number, option) => add(alloc, vars, *number, option),
-        Request::Replace(number, option) => replace(alloc, vars, *number, option),
-        Request::Remove(number) => remove(alloc, vars, *number),
-        Request::Order(order) => set_order(alloc, vars, order.numbers()),
-        Request::Next(number) => set_next(vars, *number),
-        Request::AddFree(option) => add_free(alloc, vars, option),
+        Request::Add(number, option) => add(alloc, vars, changes, *number, option),
+        Request::Replace(number, option) => replace(alloc, vars, changes, *number, option),
+        Request::Remove(number) => remove(alloc, vars, changes, *number),
+        Request::Order(order) => set_order(alloc, vars, changes, order.numbers()),
+        Request::Next(number) => set_next(vars, changes, *number),
+        Request::AddFree(option) => add_free(alloc, vars, changes, option),
     }
 }
 
 /// Stores an entry that isn't there, and appends its number to BootOrder.
 fn add(
     alloc: Global,
-    vars: &mut Vars,
+    vars: &Vars,
+    changes: &mut Changes,
     number: u16,
     option: &LoadOption,
 ) -> Result<Outcome, AllocError>
-    ensures { IfOk result (CarriesOut vars.old vars.new (Request.Add number option.now)) }
+    ensures { IfOk result (CarriesOut (made vars.now changes.old) (made vars.now changes.new)
+        (Request.Add number option.now)) }
 {
-    if is_there(vars, number) {
+    if is_there(vars, changes, number) {
         return Ok(Outcome::of(Code::Exists));
     }
-    store_entry(alloc, vars, number, option)?;
-    append_number(alloc, vars, number)?;
+    store_entry(alloc, changes, number, option)?;
+    append_number(alloc, vars, changes, number)?;
     Ok(Outcome::of(Code::Done))
 }
 
 /// Stores an entry under the least number that none has, and appends that number to BootOrder.
-fn add_free(alloc: Global, vars: &mut Vars, option: &LoadOption) -> Result<Outcome, AllocError>
-    ensures { IfOk result (CarriesOut vars.old vars.new (Request.AddFree option.now)) }
+fn add_free(
+    alloc: Global,
+    vars: &Vars,
+    changes: &mut Changes,
+    option: &LoadOption,
+) -> Result<Outcome, AllocError>
+    ensures { IfOk result (CarriesOut (made vars.now changes.old) (made vars.now changes.new)
+        (Request.AddFree option.now)) }
 {
-    let Some(number) = lowest_free(vars) else {
+    let Some(number) = changes.lowest_free(vars) else {
         return Ok(Outcome::of(Code::NoFree));
     };
-    store_entry(alloc, vars, number, option)?;
-    append_number(alloc, vars, number)?;
+    store_entry(alloc, changes, number, option)?;
+    append_number(alloc, vars, changes, number)?;
     Ok(Outcome {
         code: Code::Done,
         entry: Some(number),
@@ -79,61 +93,99 @@ fn add_free(alloc: Global, vars: &mut Vars, option: &LoadOption) -> Result<Outco
 /// Stores an entry in the place of one that is there.
 fn replace(
     alloc: Global,
-    vars: &mut Vars,
+    vars: &Vars,
+    changes: &mut Changes,
     number: u16,
     option: &LoadOption,
 ) -> Result<Outcome, AllocError>
-    ensures { IfOk result (CarriesOut vars.old vars.new (Request.Replace number option.now)) }
+    ensures { IfOk result (CarriesOut (made vars.now changes.old) (made vars.now changes.new)
+        (Request.Replace number option.now)) }
 {
-    if !is_there(vars, number) {
+    if !is_there(vars, changes, number) {
         return Ok(Outcome::of(Code::Missing));
     }
-    store_entry(alloc, vars, number, option)?;
+    store_entry(alloc, changes, number, option)?;
     Ok(Outcome::of(Code::Done))
 }
 
 /// Takes out an entry, its number from BootOrder, and a BootNext that names it.
-fn remove(alloc: Global, vars: &mut Vars, number: u16) -> Result<Outcome, AllocError>
-    ensures { IfOk result (CarriesOut vars.old vars.new (Request.Remove number)) }
+fn remove(
+    alloc: Global,
+    vars: &Vars,
+    changes: &mut Changes,
+    number: u16,
+) -> Result<Outcome, AllocError>
+    ensures { IfOk result (CarriesOut (made vars.now changes.old) (made vars.now changes.new)
+        (Request.Remove number)) }
 {
-    if !is_there(vars, number) {
+    if !is_there(vars, changes, number) {
         return Ok(Outcome::of(Code::Missing));
     }
-    take_entry(vars, number);
-    remove_number(alloc, vars, number)?;
-    forget_next(vars, number);
+    take_entry(changes, number)?;
+    remove_number(alloc, vars, changes, number)?;
+    forget_next(vars, changes, number)?;
     Ok(Outcome::of(Code::Done))
 }
 
 /// Sets BootOrder to numbers of entries that are there, each once.
-fn set_order(alloc: Global, vars: &mut Vars, numbers: &[u16]) -> Result<Outcome, AllocError>
+fn set_order(
+    alloc: Global,
+    vars: &Vars,
+    changes: &mut Changes,
+    numbers: &[u16],
+) -> Result<Outcome, AllocError>
     requires { length numbers.now ≤ order_max }
-    ensures { IfOk result (CarriesOut vars.old vars.new (Request.Order numbers.now)) }
+    ensures { IfOk result (CarriesOut (made vars.now changes.old) (made vars.now changes.new)
+        (Request.Order numbers.now)) }
 {
     let repeated = has_repeat(alloc, numbers)?;
     if repeated {
         return Ok(Outcome::of(Code::OrderRepeats));
     }
-    if !are_there(vars, numbers) {
+    if !are_there(vars, changes, numbers) {
         return Ok(Outcome::of(Code::OrderUnknown));
     }
-    store_order(alloc, vars, numbers)?;
+    store_order(alloc, changes, numbers)?;
     Ok(Outcome::of(Code::Done))
 }
 
 /// Sets BootNext to an entry that is there.
-fn set_next(vars: &mut Vars, number: u16) -> Result<Outcome, AllocError>
-    ensures { IfOk result (CarriesOut vars.old vars.new (Request.Next number)) }
+fn set_next(vars: &Vars, changes: &mut Changes, number: u16) -> Result<Outcome, AllocError>
+    ensures { IfOk result (CarriesOut (made vars.now changes.old) (made vars.now changes.new)
+        (Request.Next number)) }
 {
-    if !is_there(vars, number) {
+    if !is_there(vars, changes, number) {
         return Ok(Outcome::of(Code::Missing));
     }
-    store_next(vars, number)?;
+    store_next(changes, number)?;
     Ok(Outcome::of(Code::Done))
 }
 
 /// Whether some number stands twice among those.
 fn has_repeat(alloc: Global, numbers: &[u16]) -> Result<bool, AllocError>
+    ensures { IfOk result (λ found. found ≡ repeats numbers.now) }
+{
+    if numbers.len() <= FEW {
+        Ok(has_repeat_of_few(numbers))
+    } else {
+        has_repeat_of_many(alloc, numbers)
+    }
+}
+
+/// Whether some number stands twice among those: each is compared with those before it. This takes no memory.
+fn has_repeat_of_few(numbers: &[u16]) -> bool
+    ensures { result ≡ repeats numbers.now }
+{
+    for (i, number) in numbers.iter().enumerate() {
+        if numbers[..i].contains(number) {
+            return true;
+        }
+    }
+    false
+}
+
+/// Whether some number stands twice among those: each is marked, in marks for all numbers that there are.
+fn has_repeat_of_many(alloc: Global, numbers: &[u16]) -> Result<bool, AllocError>
     ensures { IfOk result (λ found. found ≡ repeats numbers.now) }
 {
     let mut marked = no_marks(alloc, NUMBERS)?;
@@ -156,11 +208,12 @@ fn no_marks(alloc: Global, len: usize) -> Result<Vec<bool>, AllocError>
 }
 
 /// Whether an entry is stored under each of these numbers.
-fn are_there(vars: &Vars, numbers: &[u16]) -> bool
-    ensures { (m : State) → IsStateOf m vars.now → result ≡ list_all (holds m) numbers.now }
+fn are_there(vars: &Vars, changes: &Changes, numbers: &[u16]) -> bool
+    ensures { (m : State) → IsStateOf m (made vars.now changes.now) →
+        result ≡ list_all (holds m) numbers.now }
 {
     for number in numbers {
-        if !is_there(vars, *number) {
+        if !is_there(vars, changes, *number) {
             return false;
         }
     }

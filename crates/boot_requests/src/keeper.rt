@@ -30,7 +30,7 @@ use crate::update::Update;
 use crate::window::{WIDTH, Window};
 use std::alloc::{AllocError, Global};
 use std::marker::Model;
-use uefi_vars::{BootPlan, Vars, laws as vars_laws, plan};
+use uefi_vars::{BootPlan, Changes, Vars, laws as vars_laws, plan};
 
 /// What keeps the boot entries of a machine: its variables, the number of the request that is to be applied next, what came
 /// of the last ones, the requests that wait for one of a lower number, and the plan that is prepared. What waits and the
@@ -224,11 +224,15 @@ impl Keeper {
             ≡ Reply.Applied (outcome_of self.now.machine request.now)
             (updated self.now answer.0).machine.count) }
     {
-        let mut vars = self.vars.copy(alloc)?;
-        let (outcome, first) = apply(alloc, &mut vars, &self.mark, request)?;
-        let mark = apply_followers(alloc, &mut vars, &self.window, first)?;
+        let vars = &self.vars;
+        let mut changes = Changes::new(alloc);
+        let (outcome, first) = apply(alloc, vars, &mut changes, &self.mark, request)?;
+        let mark = apply_followers(alloc, vars, &mut changes, &self.window, first)?;
         let after = mark.next();
-        Ok((Update::Applied(vars, mark), Reply::Applied(outcome, after)))
+        Ok((
+            Update::Applied(changes, mark),
+            Reply::Applied(outcome, after),
+        ))
     }
 
     /// A boot is prepared.

@@ -18,7 +18,7 @@ use crate::mark::Mark;
 use crate::storing::{KEEP_STATE, store_mark};
 use crate::window::Window;
 use std::alloc::{AllocError, Global};
-use uefi_vars::{BOOT_ORDER, ORDER_MAX, Vars, boot_next, laws};
+use uefi_vars::{BOOT_ORDER, Changes, ORDER_MAX, Vars, boot_next, laws};
 
 /// Variables that weren't kept, with the reason.
 #[derive(Debug, Drop)]
@@ -127,7 +127,10 @@ fn migrate(alloc: Global, vars: &mut Vars, mark: &Mark) -> Result<(), AllocError
     if is_current(vars) {
         return Ok(());
     }
-    store_mark(alloc, vars, mark)
+    let mut changes = Changes::new(alloc);
+    store_mark(alloc, &mut changes, mark)?;
+    vars.make(changes)?;
+    Ok(())
 }
 
 /// Whether BootKeepState is stored by the version that is written, or isn't stored.

@@ -17,8 +17,8 @@ use std::alloc::{AllocError, Global};
 
 /// What becomes of the keeper with these events, one after the other, as [`Keeper::step`] has it. The reply to each is
 /// appended to those that are there. False says that memory was refused: the keeper is then the one after as many of the
-/// events, the first ones, as replies were appended. The variables are copied where a request is applied, and nowhere
-/// else.
+/// events, the first ones, as replies were appended. The variables aren't copied: what an event changes of them is gathered
+/// first, and then made.
 pub fn run(
     alloc: Global,
     keeper: Keeper,
@@ -70,8 +70,9 @@ fn take_event(
         ((replies.new.items ≡ replies.old.items) × (keeper.new ≡ keeper.old)) }
 {
     let (update, reply) = keeper.take_turn(alloc, event)?;
-    replies.push(reply)?;
-    keeper.update(update);
+    replies.reserve(1)?;
+    keeper.update(update)?;
+    replies.push_reserved(reply);
     Ok(())
 }
 

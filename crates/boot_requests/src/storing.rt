@@ -1,32 +1,33 @@
-//! Edits of the variables that stand for a state.
+//! Edits of the variables that stand for a state, gathered as changes.
 
-ghost use Rattle.std.specs.Prelude.{◌≡◌, ◌<◌, ◌≤◌, length, Some, IfOk, OnOk, OnErr};
+ghost use Rattle.std.specs.Prelude.{◌≡◌, ◌<◌, ◌≤◌, ◌==◌, length, Some, IfOk, OnOk};
+ghost use Rattle.std.specs.Int.{w16, from_le_bytes};
 ghost use Rattle.std.specs.FinMap as map;
 ghost use Rattle.uefi_option.specs.LoadOption.{option_bytes};
-ghost use Rattle.uefi_vars.specs.Vars.{IsVars};
+ghost use Rattle.uefi_vars.specs.Vars.{Variables};
+ghost use Rattle.uefi_vars.specs.Made.{made};
 ghost use Rattle.uefi_vars.specs.Order.{order_max};
 ghost use Rattle.boot_requests.specs.Apply.{is_in, without, is_there as holds, booted};
 ghost use Rattle.boot_requests.specs.State.{State, keep_text, mark_bytes};
 ghost use Rattle.boot_requests.specs.Keeping.{IsStateOf};
 ghost use Rattle.boot_requests.specs.Run.{is_next_entry};
-ghost use Rattle.boot_requests.specs.Edit.{ChangesBy, with_order, with_next, with_entry, without_entry, with_mark, with_last, without_number, without_next};
+ghost use Rattle.boot_requests.specs.Edit.{ChangesBy, GathersBy, with_order, with_next, with_entry, without_entry, with_mark, with_last, without_number, without_next};
 
 use crate::mark::Mark;
 use std::alloc::{AllocError, Global};
 use uefi_option::{LoadOption, write_option};
-use uefi_path::append_units;
-use uefi_vars::{BOOT_NEXT, BOOT_ORDER, ORDER_MAX, Vars, boot_next, boot_order};
+use uefi_path::{append_units, read_units};
+use uefi_vars::{BOOT_NEXT, BOOT_ORDER, Changes, ORDER_MAX, Vars};
 
 /// The name of the next number and the outcomes that are kept.
 pub(crate) const KEEP_STATE: &str = "BootKeepState";
 
-/// Sets the variable of this name to this data, which it can have.
-fn put(vars: &mut Vars, name: &str, value: &[u8]) -> Result<(), AllocError>
-    ensures put { OnOk result (vars.new ≡ map.insert vars.old name.now value.now) }
-    ensures unchanged { OnErr result (vars.new ≡ vars.old) }
-    ensures valid { IsVars vars.new }
+/// The variable of this name gets this data, which it can have.
+fn put(changes: &mut Changes, name: &str, value: &[u8]) -> Result<(), AllocError>
+    ensures { OnOk result ((vars : Variables) →
+        made vars changes.new ≡ map.insert (made vars changes.old) name.now value.now) }
 {
-    match vars.put(name, value) {
+    match changes.put(name, value) {
         Ok(()) => Ok(()),
         Err(_) => Err(AllocError),
     }
@@ -35,62 +36,71 @@ fn put(vars: &mut Vars, name: &str, value: &[u8]) -> Result<(), AllocError>
 // ---- entries
 
 /// Whether an entry is stored under this number, whatever its bytes are.
-pub(crate) fn is_there(vars: &Vars, number: u16) -> bool
-    ensures { (m : State) → IsStateOf m vars.now → result ≡ holds m number }
+pub(crate) fn is_there(vars: &Vars, changes: &Changes, number: u16) -> bool
+    ensures { (m : State) → IsStateOf m (made vars.now changes.now) → result ≡ holds m number }
 {
-    vars.entry(number).is_some()
+    changes.entry(vars, number).is_some()
 }
 
 /// Stores the option under this number.
 pub(crate) fn store_entry(
     alloc: Global,
-    vars: &mut Vars,
+    changes: &mut Changes,
     number: u16,
     option: &LoadOption,
 ) -> Result<(), AllocError>
     ensures { OnOk result
-        (ChangesBy vars.old vars.new (with_entry number (option_bytes option.now))) }
+        (GathersBy changes.old changes.new (with_entry number (option_bytes option.now))) }
 {
     let bytes = write_option(alloc, option)?;
-    match vars.put_entry(number, &bytes) {
+    match changes.put_entry(number, &bytes) {
         Ok(()) => Ok(()),
         Err(_) => Err(AllocError),
     }
 }
 
 /// Takes out the entry of this number.
-pub(crate) fn take_entry(vars: &mut Vars, number: u16)
-    ensures { ChangesBy vars.old vars.new (without_entry number) }
+pub(crate) fn take_entry(changes: &mut Changes, number: u16) -> Result<(), AllocError>
+    ensures { OnOk result (GathersBy changes.old changes.new (without_entry number)) }
 {
-    vars.remove_entry(number);
+    changes.remove_entry(number)?;
+    Ok(())
 }
 
 // ---- BootOrder
 
-/// The numbers of BootOrder.
-fn read_order(alloc: Global, vars: &Vars) -> Result<Vec<u16>, AllocError>
+/// The numbers of BootOrder, of which there are no more than a state has.
+fn read_order(alloc: Global, vars: &Vars, changes: &Changes) -> Result<Vec<u16>, AllocError>
     ensures order { IfOk result (λ order.
-        (m : State) → IsStateOf m vars.now → order.items ≡ m.order) }
+        (m : State) → IsStateOf m (made vars.now changes.now) → order.items ≡ m.order) }
     ensures len { IfOk result (λ order. length order.items ≤ order_max) }
 {
-    match boot_order(alloc, vars) {
-        Ok(order) => Ok(order),
-        Err(_) => Err(AllocError),
+    let Some(bytes) = changes.get(vars, BOOT_ORDER) else {
+        return Ok(Vec::new(alloc));
+    };
+    let order = read_units(alloc, bytes)?;
+    if order.len() > ORDER_MAX {
+        return Err(AllocError);
     }
+    Ok(order)
 }
 
 /// Makes BootOrder these numbers. An empty one is deleted.
-pub(crate) fn store_order(alloc: Global, vars: &mut Vars, order: &[u16]) -> Result<(), AllocError>
+pub(crate) fn store_order(
+    alloc: Global,
+    changes: &mut Changes,
+    order: &[u16],
+) -> Result<(), AllocError>
     requires { length order.now ≤ order_max }
-    ensures { OnOk result (ChangesBy vars.old vars.new (with_order order.now)) }
+    ensures { OnOk result (GathersBy changes.old changes.new (with_order order.now)) }
 {
     if order.is_empty() {
-        vars.remove(BOOT_ORDER);
+        changes.remove(BOOT_ORDER)?;
         return Ok(());
     }
     let mut bytes = Vec::new(alloc);
     append_units(order, &mut bytes)?;
-    put(vars, BOOT_ORDER, &bytes)?;
+    put(changes, BOOT_ORDER, &bytes)?;
     Ok(())
 }
 
@@ -102,10 +112,16 @@ fn is_in(numbers: &[u16], number: u16) -> bool
 }
 
 /// Appends the number to BootOrder, unless it is there or BootOrder is full.
-pub(crate) fn append_number(alloc: Global, vars: &mut Vars, number: u16) -> Result<(), AllocError>
-    ensures { OnOk result (ChangesBy vars.old vars.new (with_last number)) }
+pub(crate) fn append_number(
+    alloc: Global,
+    vars: &Vars,
+    changes: &mut Changes,
+    number: u16,
+) -> Result<(), AllocError>
+    ensures { OnOk result
+        (ChangesBy (made vars.now changes.old) (made vars.now changes.new) (with_last number)) }
 {
-    let mut order = read_order(alloc, vars)?;
+    let mut order = read_order(alloc, vars, changes)?;
     if is_in(&order, number) {
         return Ok(());
     }
@@ -113,7 +129,7 @@ pub(crate) fn append_number(alloc: Global, vars: &mut Vars, number: u16) -> Resu
         return Ok(());
     }
     order.push(number)?;
-    store_order(alloc, vars, &order)?;
+    store_order(alloc, changes, &order)?;
     Ok(())
 }
 
@@ -131,29 +147,35 @@ fn without(alloc: Global, numbers: &[u16], number: u16) -> Result<Vec<u16>, Allo
 }
 
 /// Takes the number out of BootOrder, wherever it stands.
-pub(crate) fn remove_number(alloc: Global, vars: &mut Vars, number: u16) -> Result<(), AllocError>
-    ensures { OnOk result (ChangesBy vars.old vars.new (without_number number)) }
+pub(crate) fn remove_number(
+    alloc: Global,
+    vars: &Vars,
+    changes: &mut Changes,
+    number: u16,
+) -> Result<(), AllocError>
+    ensures { OnOk result
+        (ChangesBy (made vars.now changes.old) (made vars.now changes.new) (without_number number)) }
 {
-    let order = read_order(alloc, vars)?;
+    let order = read_order(alloc, vars, changes)?;
     if !is_in(&order, number) {
         return Ok(());
     }
     let others = without(alloc, &order, number)?;
-    store_order(alloc, vars, &others)?;
+    store_order(alloc, changes, &others)?;
     Ok(())
 }
 
 // ---- BootNext
 
 /// Makes BootNext this number.
-pub(crate) fn store_next(vars: &mut Vars, number: u16) -> Result<(), AllocError>
-    ensures { OnOk result (ChangesBy vars.old vars.new (with_next (Some number))) }
+pub(crate) fn store_next(changes: &mut Changes, number: u16) -> Result<(), AllocError>
+    ensures { OnOk result (GathersBy changes.old changes.new (with_next (Some number))) }
 {
-    put(vars, BOOT_NEXT, &number.to_le_bytes())?;
+    put(changes, BOOT_NEXT, &number.to_le_bytes())?;
     Ok(())
 }
 
-/// Deletes BootNext.
+/// Deletes BootNext at once, which takes no memory.
 pub(crate) fn delete_next(vars: &mut Vars)
     ensures { ChangesBy vars.old vars.new booted }
 {
@@ -161,38 +183,52 @@ pub(crate) fn delete_next(vars: &mut Vars)
 }
 
 /// Whether BootNext is this number.
-fn names_next(vars: &Vars, number: u16) -> bool
-    ensures { (m : State) → IsStateOf m vars.now → result ≡ is_next_entry m.next number }
+fn names_next(vars: &Vars, changes: &Changes, number: u16) -> bool
+    ensures { (m : State) → IsStateOf m (made vars.now changes.now) →
+        result ≡ is_next_entry m.next number }
 {
-    let Ok(named) = boot_next(vars) else {
-        return false;
-    };
-    match named {
-        Some(next) => next == number,
+    match changes.get(vars, BOOT_NEXT) {
+        Some(bytes) => is_number(bytes, number),
         None => false,
     }
 }
 
-/// Deletes a BootNext that is this number.
-pub(crate) fn forget_next(vars: &mut Vars, number: u16)
-    ensures { ChangesBy vars.old vars.new (without_next number) }
+/// Whether two bytes, little-endian, are this number.
+fn is_number(bytes: &[u8], number: u16) -> bool
+    ensures { length bytes.now ≡ 2 → result ≡ (from_le_bytes w16 bytes.now == number) }
 {
-    if names_next(vars, number) {
-        delete_next(vars);
+    match bytes {
+        [low, high] => u16::from_le_bytes([*low, *high]) == number,
+        _ => false,
     }
+}
+
+/// Deletes a BootNext that is this number.
+pub(crate) fn forget_next(vars: &Vars, changes: &mut Changes, number: u16) -> Result<(), AllocError>
+    ensures { OnOk result
+        (ChangesBy (made vars.now changes.old) (made vars.now changes.new) (without_next number)) }
+{
+    if !names_next(vars, changes, number) {
+        return Ok(());
+    }
+    changes.remove(BOOT_NEXT)?;
+    Ok(())
 }
 
 // ---- BootKeepState
 
 /// Stores a mark whose next number isn't 0.
-pub(crate) fn store_mark(alloc: Global, vars: &mut Vars, mark: &Mark) -> Result<(), AllocError>
+pub(crate) fn store_mark(
+    alloc: Global,
+    changes: &mut Changes,
+    mark: &Mark,
+) -> Result<(), AllocError>
     requires { 0 < mark.now.next }
-    ensures put { OnOk result (vars.new
-        ≡ map.insert vars.old keep_text (mark_bytes mark.now.next mark.now.kept)) }
-    ensures changes { OnOk result (ChangesBy vars.old vars.new (with_mark mark.now)) }
-    ensures unchanged { OnErr result (vars.new ≡ vars.old) }
+    ensures put { OnOk result ((vars : Variables) → made vars changes.new
+        ≡ map.insert (made vars changes.old) keep_text (mark_bytes mark.now.next mark.now.kept)) }
+    ensures changes { OnOk result (GathersBy changes.old changes.new (with_mark mark.now)) }
 {
     let bytes = mark.bytes(alloc)?;
-    put(vars, KEEP_STATE, &bytes)?;
+    put(changes, KEEP_STATE, &bytes)?;
     Ok(())
 }

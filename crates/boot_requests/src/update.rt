@@ -1,6 +1,6 @@
 //! What an event changes of a keeper.
 
-ghost use Rattle.std.specs.Prelude.{◌≡◌, IfOk};
+ghost use Rattle.std.specs.Prelude.{◌≡◌, IfOk, OnOk, OnErr};
 ghost use Rattle.boot_requests.specs.Update.{Fits, updated};
 
 use crate::keeper::{Keeper, copy_plan};
@@ -8,17 +8,17 @@ use crate::mark::Mark;
 use crate::request::Request;
 use crate::storing::delete_next;
 use std::alloc::{AllocError, Global};
-use uefi_vars::{BootPlan, Vars};
+use uefi_vars::{BootPlan, Changes};
 
-/// What an event changes of a keeper, with all the memory that this takes.
+/// What an event changes of a keeper, with all the memory that this takes but that for the names of new variables.
 #[derive(Debug, Drop)]
 pub(crate) enum Update {
     /// All stays as it is.
     Nothing,
     /// The request waits under this number.
     Waits(u32, Request),
-    /// Requests were applied: the variables and the mark after them.
-    Applied(Vars, Mark),
+    /// Requests were applied: what they change of the variables, and the mark after them.
+    Applied(Changes, Mark),
     /// This plan is prepared, and BootNext is deleted.
     Prepared(BootPlan),
     /// The plan that was prepared is there no longer.
@@ -28,16 +28,17 @@ pub(crate) enum Update {
 }
 
 impl Keeper {
-    /// Changes the keeper so. This takes no memory.
-    pub(crate) fn update(&mut self, update: Update)
+    /// Changes the keeper so, or not at all if there is no memory for the names of new variables.
+    pub(crate) fn update(&mut self, update: Update) -> Result<(), AllocError>
         requires { Fits self.old update }
-        ensures { self.new ≡ updated self.old update }
+        ensures updated { OnOk result (self.new ≡ updated self.old update) }
+        ensures unchanged { OnErr result (self.new ≡ self.old) }
     {
         match update {
             Update::Nothing => {}
             Update::Waits(number, request) => self.window.keep(number, request),
-            Update::Applied(vars, mark) => {
-                self.vars = vars;
+            Update::Applied(changes, mark) => {
+                self.vars.make(changes)?;
                 self.window.pass_to(self.mark.next(), mark.next());
                 self.mark = mark;
             }
@@ -51,31 +52,17 @@ impl Keeper {
                 set_plan(&mut self.plan, None);
             }
         }
+        Ok(())
     }
 
-    /// A keeper that is changed so, while this one stays. Where requests were applied, the old variables aren't copied.
+    /// A keeper that is changed so, while this one stays.
     pub(crate) fn updated(&self, alloc: Global, update: Update) -> Result<Keeper, AllocError>
         requires { Fits self.now update }
         ensures { IfOk result (λ keeper. keeper ≡ updated self.now update) }
     {
-        match update {
-            Update::Applied(vars, mark) => {
-                let plan = copy_plan(alloc, &self.plan)?;
-                let mut window = self.window.copy(alloc)?;
-                window.pass_to(self.mark.next(), mark.next());
-                Ok(Keeper {
-                    vars,
-                    mark,
-                    window,
-                    plan,
-                })
-            }
-            other => {
-                let mut keeper = self.copy(alloc)?;
-                keeper.update(other);
-                Ok(keeper)
-            }
-        }
+        let mut keeper = self.copy(alloc)?;
+        keeper.update(update)?;
+        Ok(keeper)
     }
 
     /// An equal keeper.

@@ -2,6 +2,7 @@ pub mod Bytes
 pub mod Chosen
 pub mod Faults
 pub mod LowestFree
+pub mod Made
 pub mod MapChanges
 pub mod Maps
 pub mod Names

@@ -49,7 +49,7 @@ module _ {K X : Type 0} (R : K → K → Ordering) where
   find_below key (e ∷ es) h = ap (λ r. cond (is_eq r) (Some e.1) (find R key es)) h.0 ∙ find_below key es h.1
 
 module _ {K X : Type 0} {R : K → K → Ordering} (same : IsAntisymmetric R) (P : K × X → Type 0) where
-  found_each : (es : List (K × X)) → AllByRecursion P es → (q : K) → IsEach P q (find R q es)
+  pub found_each : (es : List (K × X)) → AllByRecursion P es → (q : K) → IsEach P q (find R q es)
   found_each [] h q = tt
   found_each (e ∷ es) h q =
       elim (R q e.0) as (λ r. R q e.0 ≡ r → IsEach P q (cond (is_eq r) (Some e.1) (find R q es))) [
@@ -73,7 +73,7 @@ module _ {K X : Type 0} {R : K → K → Ordering} (same : IsAntisymmetric R) (P
       (subst (λ r. IsEach P e.0 (cond (is_eq r) (Some e.1) (find R e.0 es))) (tied_itself o e.0) (h e.0), each_found o es parts.1 (λ q. found_behind e es parts.0 q (h q)))
 
   -- a new entry with the property, put among some, leaves all with it
-  put_each : (key : K) (value : X) (es : List (K × X)) → P (key, value) → AllByRecursion P es → AllByRecursion P (put R key value es)
+  pub put_each : (key : K) (value : X) (es : List (K × X)) → P (key, value) → AllByRecursion P es → AllByRecursion P (put R key value es)
   put_each key value [] p h = (p, tt)
   put_each key value (e ∷ es) p h =
       elim (R key e.0) as (λ r. R key e.0 ≡ r → AllByRecursion P (by_order r ((key, value) ∷ e ∷ es) ((e.0, value) ∷ es) (e ∷ put R key value es))) [
@@ -117,6 +117,12 @@ module _ (variables : List Variable) (held : AreVariables (pairs_of variables)) 
 pub vars_of_none : vars_of [] ≡ empty
 vars_of_none = empty_of_len (vars_of []) (len-vars_of [] (record { rising = tt; each = tt }))
 
+-- a value put among pairs whose names rise is one put into the map
+pub from_sorted-put_any : {X : Type 0} (pairs : List (List ℕ × X)) → T (is_sorted name_cmp pairs) → (name : List ℕ) (value : X) → from_sorted (put name_cmp name value pairs) ≡ insert (from_sorted {R = name_cmp} pairs) name value
+from_sorted-put_any pairs rising name value =
+    same_entries_map _ _ (entries-from_sorted name_cmp _ (is_sorted-put name_cmp nat_list_cmp_total name value pairs rising)
+    ∙ ap (put name_cmp name value) (sym (entries-from_sorted name_cmp pairs rising)) ∙ sym (entries-insert nat_list_cmp_total (from_sorted pairs) name value))
+
 -- what a change of the pairs makes of the map
 module _ (pairs : List (List ℕ × List ℕ)) (held : AreVariables pairs) (name : List ℕ) where
   pub AreVariables-put : (value : List ℕ) → IsVariable (name, value) → AreVariables (put name_cmp name value pairs)
@@ -132,9 +138,7 @@ module _ (pairs : List (List ℕ × List ℕ)) (held : AreVariables pairs) (name
   }
 
   pub from_sorted-put : (value : List ℕ) → from_sorted (put name_cmp name value pairs) ≡ insert (from_sorted {R = name_cmp} pairs) name value
-  from_sorted-put value =
-      same_entries_map _ _ (entries-from_sorted name_cmp _ (is_sorted-put name_cmp nat_list_cmp_total name value pairs held.rising)
-      ∙ ap (put name_cmp name value) (sym (entries-from_sorted name_cmp pairs held.rising)) ∙ sym (entries-insert nat_list_cmp_total (from_sorted pairs) name value))
+  from_sorted-put value = from_sorted-put_any pairs held.rising name value
 
   pub from_sorted-without : from_sorted (without name pairs) ≡ remove (from_sorted {R = name_cmp} pairs) name
   from_sorted-without = same_map nat_list_cmp_total name_cmp-IsAntisymmetric _ _ (λ q.

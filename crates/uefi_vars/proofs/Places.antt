@@ -150,7 +150,7 @@ module _ {A K X : Type 0} (R : K → K → Ordering) (o : IsTotalOrder R) (f : A
   in_order (x ∷ y ∷ xs) rising zero d low high = ap is_lt (after R o (f y).0 (f x).0 (sorted_parts R (f x) (map f (y ∷ xs)) rising).0.0)
   in_order (x ∷ y ∷ xs) rising (suc k) d low high = simp unary_clauses (simp unary_clauses at (in_order (y ∷ xs) (sorted_parts R (f x) (map f (y ∷ xs)) rising).1 k d (omega arith) (omega arith)))
 
-module _ {A : Type 0} (f : A → List ℕ × List ℕ) (xs : List A) (rising : T (is_sorted name_cmp (map f xs))) (name : List ℕ) where
+module _ {A X : Type 0} (f : A → List ℕ × X) (xs : List A) (rising : T (is_sorted name_cmp (map f xs))) (name : List ℕ) where
   named_at : (place : ℕ) → place < length xs → HoldsAt (λ x. name_cmp (f x).0 name ≡ Equal) xs place → IsAt (map f xs) name place
   named_at place within equal =
       let named : IsSomeAnd (slice_get (map f xs) place) (λ p. p.0 ≡ name) = one_at f (λ p. p.0 ≡ name) xs place within (λ d. name_cmp-IsAntisymmetric _ name (equal d)) in

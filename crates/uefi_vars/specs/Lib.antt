@@ -1,6 +1,7 @@
 -- what public contracts and the laws cite
 pub mod Name
 pub mod Vars
+pub mod Made
 pub mod Iter
 pub mod Set
 pub mod Fault
@@ -12,6 +13,7 @@ pub mod Equality
 pub mod PlanEquality
 -- what private contracts cite
 pub mod Records
+pub mod ChangeRecords
 pub mod Reading
 pub mod ByNumber
 pub mod Choosing

@@ -31,22 +31,22 @@ abbrev pub without : List ℕ → List (List ℕ × List ℕ) → List (List ℕ
 without name pairs = where_key name_cmp (λ other. not (eq_by_cmp name_cmp name other)) pairs
 
 -- the names before this place are below the name
-abbrev pub AreBelow : List (List ℕ × List ℕ) → List ℕ → ℕ → Type 0
+abbrev pub AreBelow : {X : Type 0} → List (List ℕ × X) → List ℕ → ℕ → Type 0
 AreBelow pairs name place = AllByRecursion (λ p. name_cmp p.0 name ≡ Less) (take place pairs)
 
 -- those from this place on are above it
-abbrev pub AreAbove : List (List ℕ × List ℕ) → List ℕ → ℕ → Type 0
+abbrev pub AreAbove : {X : Type 0} → List (List ℕ × X) → List ℕ → ℕ → Type 0
 AreAbove pairs name place = AllByRecursion (λ p. name_cmp name p.0 ≡ Less) (drop place pairs)
 
 -- the pair at this place has the name
-pub record IsAt (pairs : List (List ℕ × List ℕ)) (name : List ℕ) (place : ℕ) : Type 0 where
+pub record IsAt {X : Type 0} (pairs : List (List ℕ × X)) (name : List ℕ) (place : ℕ) : Type 0 where
   pub within : place < length pairs
   pub named : IsSomeAnd (slice_get pairs place) (λ p. p.0 ≡ name)
   pub below : AreBelow pairs name place
   pub above : AreAbove pairs name (suc place)
 
 -- no pair has the name, which would go to this place
-pub record IsGap (pairs : List (List ℕ × List ℕ)) (name : List ℕ) (place : ℕ) : Type 0 where
+pub record IsGap {X : Type 0} (pairs : List (List ℕ × X)) (name : List ℕ) (place : ℕ) : Type 0 where
   pub within : place ≤ length pairs
   pub below : AreBelow pairs name place
   pub above : AreAbove pairs name place

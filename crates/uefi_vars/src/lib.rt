@@ -3,12 +3,13 @@
 //!
 //! [`Vars`] is a finite map from names to data. [`read_set`] reads one from the bytes of a set file, all of them, and
 //! [`write_set`] gives its one spelling. Load options stand under the names that [`entry_name`] gives, and [`entry_option`]
-//! reads one; [`lowest_free`] finds a number for one more. [`boot_order`] and [`boot_next`] read which of them are to be
+//! reads one; [`lowest_free`] finds a number for one more. [`Changes`] gathers what is to change, which [`Vars::make`] makes. [`boot_order`] and [`boot_next`] read which of them are to be
 //! tried, [`plan`] puts together what a boot would try, and [`plan_numbers`] its numbers alone.
 #![tactic(auto)]
 
 mod boot_plan;
 mod by_number;
+mod changes;
 mod choosing;
 mod fault;
 mod free;
@@ -21,6 +22,7 @@ mod vars;
 mod writing;
 
 pub use boot_plan::{BootPlan, Choice, PlanNumbers};
+pub use changes::Changes;
 pub use fault::{PutFault, SetFault, VarFault};
 pub use free::lowest_free;
 pub use name::{BOOT_NEXT, BOOT_ORDER, NAME_MAX, entry_name, entry_number};

@@ -1,13 +1,20 @@
 //! The variables of a machine as one value.
 
-ghost use Rattle.std.specs.Prelude.{◌≡◌, ◌≢◌, ◌⊎◌, ◌↔◌, ◌<◌, ℕ, List, [], length, slice_get, is_some, Err, IfOk, IfErr, OnOk, OnErr, IsTrue};
+ghost use Rattle.std.specs.Prelude.{◌≡◌, ◌≢◌, ◌⊎◌, ◌↔◌, ◌<◌, ◌≤◌, ◌+◌, ℕ, List, [], length, slice_get, is_some, Err, IfOk, IfErr, OnOk, OnErr, IsTrue};
 ghost use Rattle.std.specs.Option.{option_map};
+ghost use Rattle.std.specs.List.{AllByRecursion};
+ghost use Rattle.std.specs.Vec.{vec_len, vec_capacity};
+ghost use Rattle.std.specs.Rc.{rc_slice_items};
+ghost use Rattle.std.specs.String.{string_bytes};
 ghost use Rattle.std.specs.FinMap as map;
 ghost use Rattle.uefi_vars.specs.declared.fault.PutFault.{PutFault};
 ghost use Rattle.uefi_vars.specs.Name.{IsName, entry_text};
 ghost use Rattle.uefi_vars.specs.Vars.{name_cmp, data_max, IsVariable, IsVars, entry_of};
 ghost use Rattle.uefi_vars.specs.Records.{pair_of, pairs_of, AreVariables, vars_of, without, IsAt, IsGap};
+ghost use Rattle.uefi_vars.specs.Made.{made, with_data, after_each, IsChange};
+ghost use Rattle.uefi_vars.specs.ChangeRecords.{change_of, each_of};
 
+use crate::changes::{Change, Changes};
 use crate::fault::PutFault;
 use crate::name::{entry_name, is_name, name_text};
 use std::alloc::{AllocError, Global};
@@ -286,6 +293,76 @@ impl Vars {
     {
         erase(&mut self.variables, &entry_name(number))
     }
+
+    /// Makes these changes, or none of them if memory for the new names is refused.
+    ///
+    /// # Errors
+    ///
+    /// [`AllocError`] if memory was refused.
+    pub fn make(&mut self, changes: Changes) -> Result<(), AllocError>
+        ensures made { OnOk result (self.new ≡ made self.old changes) }
+        ensures unchanged { OnErr result (self.new ≡ self.old) }
+        ensures valid { IsVars self.new }
+    {
+        make_each(&mut self.variables, changes.into_each())
+    }
+}
+
+/// Makes the changes, which are in the order of their names, one after the other. Nothing changes if there is no memory for
+/// the new names.
+fn make_each(variables: &mut Vec<Variable>, changes: Vec<Change>) -> Result<(), AllocError>
+    requires rising { AreVariables (pairs_of variables.old.items) }
+    requires valid { AllByRecursion IsChange (each_of changes.items) }
+    ensures made { OnOk result (vars_of variables.new.items
+        ≡ after_each (vars_of variables.old.items) (each_of changes.items)) }
+    ensures unchanged { OnErr result (variables.new.items ≡ variables.old.items) }
+    ensures held { AreVariables (pairs_of variables.new.items) }
+{
+    variables.reserve(changes.len())?;
+    for change in changes {
+        make_one(variables, change);
+    }
+    Ok(())
+}
+
+/// Makes one change. There is room for a new name.
+fn make_one(variables: &mut Vec<Variable>, change: Change)
+    requires rising { AreVariables (pairs_of variables.old.items) }
+    requires valid { IsChange (change_of change) }
+    requires room { vec_len variables.old < vec_capacity variables.old }
+    ensures made { vars_of variables.new.items
+        ≡ with_data (vars_of variables.old.items) (change_of change).0 (change_of change).1 }
+    ensures held { AreVariables (pairs_of variables.new.items) }
+    ensures len { vec_len variables.new ≤ vec_len variables.old + 1 }
+    ensures capacity { vec_capacity variables.old ≤ vec_capacity variables.new }
+{
+    let Change { name, data } = change;
+    match data {
+        Some(data) => place(variables, name, data),
+        None => {
+            erase(variables, name.as_bytes());
+        }
+    }
+}
+
+/// Sets the variable of this name to this data. There is room for a new name.
+fn place(variables: &mut Vec<Variable>, name: String, value: RcSlice<u8>)
+    requires rising { AreVariables (pairs_of variables.old.items) }
+    requires valid { IsVariable (string_bytes name, rc_slice_items value) }
+    requires room { vec_len variables.old < vec_capacity variables.old }
+    ensures stored { pairs_of variables.new.items
+        ≡ map.put name_cmp (string_bytes name) (rc_slice_items value) (pairs_of variables.old.items) }
+    ensures held { AreVariables (pairs_of variables.new.items) }
+    ensures len { vec_len variables.new ≤ vec_len variables.old + 1 }
+    ensures capacity { vec_capacity variables.old ≤ vec_capacity variables.new }
+{
+    match search(variables, name.as_bytes()) {
+        Ok(place) => variables[place].data = value,
+        Err(place) => {
+            let inserted = variables.insert(place, Variable { name, data: value });
+            prove!(inserted.is_ok());
+        }
+    }
 }
 
 /// Where the variable of this name stands among those, which are in the order of their names, or else where it would.
@@ -331,6 +408,8 @@ fn erase(variables: &mut Vec<Variable>, name: &[u8]) -> bool
     ensures was { result ≡ is_some (map.find name_cmp name.now (pairs_of variables.old.items)) }
     ensures erased { pairs_of variables.new.items ≡ without name.now (pairs_of variables.old.items) }
     ensures held { AreVariables (pairs_of variables.new.items) }
+    ensures len { vec_len variables.new ≤ vec_len variables.old }
+    ensures capacity { vec_capacity variables.new ≡ vec_capacity variables.old }
 {
     match search(variables, name) {
         Ok(place) => {

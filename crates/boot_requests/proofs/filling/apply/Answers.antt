@@ -1,4 +1,5 @@
 use Rattle.std.proofs.Common.{refl, sym, subst, ◌∙◌}
+use Rattle.uefi_vars.specs.Made.{made}
 use Rattle.boot_requests.specs.declared.outcome.Outcome.{Outcome}
 use Rattle.boot_requests.specs.Outcome.{IsOutcome}
 use Rattle.boot_requests.specs.Machine.{machine_of}
@@ -9,18 +10,18 @@ use Rattle.boot_requests.proofs.filling.apply.Goals as goal
 
 pub after-requires-clause-valid : goal.after-requires-clause-valid
 after-requires-clause-valid c =
-    let m = machine_of c.args.vars.now c.args.mark.now in
+    let m = machine_of (made c.args.vars.now c.args.changes.now) c.args.mark.now in
     let edited = c.in_ok-outcome.ensures m c.requires.stands in
     subst (λ (o : Outcome). IsOutcome o) (sym edited.0) (outcome_valid m c.args.request.now)
 
 pub returns-clause-state : goal.returns-clause-state
 returns-clause-state c =
-    let m = machine_of c.args.vars.now c.args.mark.now in
+    let m = machine_of (made c.args.vars.now c.args.changes.now) c.args.mark.now in
     let edited = c.in_ok-outcome.ensures m c.requires.stands in
-    read_again _ _ _ refl (c.in_ok-store_mark.ensures.changes _ edited.1) ∙ applied_is m c.args.request.now c.in_ok-outcome.outcome c.in_ok-after.after edited.0 c.in_ok-after.ensures
+    read_again _ _ _ refl (c.in_ok-store_mark.ensures.changes c.args.vars.now _ edited.1) ∙ applied_is m c.args.request.now c.in_ok-outcome.outcome c.in_ok-after.after edited.0 c.in_ok-after.ensures
 
 pub returns-clause-stands : goal.returns-clause-stands
 returns-clause-stands c =
-    let m = machine_of c.args.vars.now c.args.mark.now in
+    let m = machine_of (made c.args.vars.now c.args.changes.now) c.args.mark.now in
     let edited = c.in_ok-outcome.ensures m c.requires.stands in
-    stands_again _ _ _ refl (c.in_ok-store_mark.ensures.changes _ edited.1)
+    stands_again _ _ _ refl (c.in_ok-store_mark.ensures.changes c.args.vars.now _ edited.1)

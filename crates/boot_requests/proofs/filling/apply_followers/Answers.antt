@@ -1,5 +1,6 @@
 use Rattle.std.proofs.Common.{ℕ, ◌-◌, sym, ap, ◌∙◌, arith}
 use Rattle.std.specs.FinMap.{get}
+use Rattle.uefi_vars.specs.Made.{made}
 use Rattle.boot_requests.specs.State.{State}
 use Rattle.boot_requests.specs.Turn.{Plain, plain_start, settled}
 use Rattle.boot_requests.specs.Machine.{machine_of}
@@ -33,7 +34,7 @@ loop-request-preserved c =
       stands = c.in_ok-_outcome.ensures.stands;
       settled =
           ap (λ (s : State). settled (plain_start s) waiting) c.in_ok-_outcome.ensures.state
-          ∙ sym (settled_next (machine_of c.loop-request.vars c.loop-request.now) waiting c.in-Some.request.now (sym held)) ∙ c.loop-request.invariant.settled;
+          ∙ sym (settled_next (machine_of (made c.args.vars.now c.loop-request.changes) c.loop-request.now) waiting c.in-Some.request.now (sym held)) ∙ c.loop-request.invariant.settled;
     }
 
 pub returns-clause-state : goal.returns-clause-state
@@ -42,4 +43,4 @@ returns-clause-state c =
     let window = c.args.window.now in
     let waiting = waiting_of (first - 1) window in
     let free = c.in_default.ensures ∙ ap (λ (n : ℕ). get (waiting_of (n - 1) window) c.next.result) c.next-next.ensures ∙ ap (λ (n : ℕ). get waiting n) c.next.ensures in
-    sym (settled_here (machine_of c.loop-request.vars c.loop-request.now) waiting (sym free)) ∙ ap (λ (k : Plain). k.machine) c.loop-request.invariant.settled
+    sym (settled_here (machine_of (made c.args.vars.now c.loop-request.changes) c.loop-request.now) waiting (sym free)) ∙ ap (λ (k : Plain). k.machine) c.loop-request.invariant.settled

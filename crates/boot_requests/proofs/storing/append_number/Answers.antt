@@ -1,5 +1,6 @@
 use Rattle.std.proofs.Common.{◌≡◌, ◌≤◌, ◌<◌, ℕ, List, [], ◌∷◌, ◌++◌, length, false, sym, ap, subst, ◌∙◌, arith}
 use Rattle.uefi_vars.specs.Order.{order_max}
+use Rattle.uefi_vars.specs.Made.{made}
 use Rattle.boot_requests.specs.Apply.{is_in}
 use Rattle.boot_requests.specs.Keeping.{IsStateOf}
 use Rattle.boot_requests.proofs.Edits.{order_kept}
@@ -9,7 +10,7 @@ use Rattle.boot_requests.proofs.storing.append_number.Goals as goal
 pub returns-then-is_in : goal.returns-then-is_in
 returns-then-is_in c = λ m h.
     let order = c.deref.ensures.value ∙ c.in_ok-order.ensures.order m h in
-    order_kept m c.args.vars.now _ (appended_there m.order c.args.number (ap (λ (o : List ℕ). is_in o c.args.number) (sym order) ∙ sym c.is_in.ensures ∙ c.if-is_in.true)) h
+    order_kept m _ _ (appended_there m.order c.args.number (ap (λ (o : List ℕ). is_in o c.args.number) (sym order) ∙ sym c.is_in.ensures ∙ c.if-is_in.true)) h
 
 pub returns-then-len-ge-ORDER_MAX : goal.returns-then-len-ge-ORDER_MAX
 returns-then-len-ge-ORDER_MAX c = λ m h.
@@ -17,7 +18,7 @@ returns-then-len-ge-ORDER_MAX c = λ m h.
     let new : is_in m.order c.args.number ≡ false = ap (λ (o : List ℕ). is_in o c.args.number) (sym order) ∙ sym c.is_in.ensures ∙ c.if-is_in.false in
     let len : length c.in_ok-order.order.items ≡ length m.order = ap length (c.in_ok-order.ensures.order m h) in
     let full : order_max ≤ length m.order = omega (arith, len, c.if-len-ge-ORDER_MAX.true, c.len.ensures) in
-    order_kept m c.args.vars.now _ (appended_full m.order c.args.number new full) h
+    order_kept m _ _ (appended_full m.order c.args.number new full) h
 
 pub returns : goal.returns
 returns c = λ m h.
@@ -26,4 +27,4 @@ returns c = λ m h.
     let len : length c.in_ok-order.order.items ≡ length m.order = ap length (c.in_ok-order.ensures.order m h) in
     let room : length m.order < order_max = omega (arith, len, c.if-len-ge-ORDER_MAX.false, c.len.ensures) in
     let pushed = c.deref-2.ensures.value ∙ c.in_ok-push.ensures.items ∙ ap (λ (o : List ℕ). o ++ c.args.number ∷ []) (c.in_ok-order.ensures.order m h) ∙ sym (appended_last m.order c.args.number new room) in
-    subst (λ (o : List ℕ). IsStateOf (record m { order = o }) c.store_order.new.vars) pushed (c.in_ok-store_order.ensures m h)
+    subst (λ (o : List ℕ). IsStateOf (record m { order = o }) (made c.args.vars.now c.store_order.new.changes)) pushed (c.in_ok-store_order.ensures c.args.vars.now m h)

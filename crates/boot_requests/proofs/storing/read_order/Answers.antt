@@ -1,4 +1,13 @@
+use Rattle.std.proofs.Common.{sym, ap, ◌∙◌}
+use Rattle.boot_requests.specs.State.{State}
+use Rattle.boot_requests.specs.Machine.{order_in}
+use Rattle.boot_requests.proofs.Machines.{machine_is}
 use Rattle.boot_requests.proofs.storing.read_order.Goals as goal
 
-pub returns-in-Ok-clause-order : goal.returns-in-Ok-clause-order
-returns-in-Ok-clause-order c = λ m h. c.in-Ok.ensures.only m.order (record { is = h.is.order; stored = h.image.order })
+pub returns-in_default-clause-order : goal.returns-in_default-clause-order
+returns-in_default-clause-order c = λ m h.
+    c.new.ensures.items ∙ sym (ap (λ (s : State). s.order) (machine_is m _ h) ∙ ap order_in (sym c.in_default.ensures))
+
+pub returns-clause-order : goal.returns-clause-order
+returns-clause-order c = λ m h.
+    c.in_ok-order.ensures ∙ sym (ap (λ (s : State). s.order) (machine_is m _ h) ∙ ap order_in (sym c.in-Some.ensures))

@@ -2,11 +2,12 @@ use Rattle.std.proofs.Common.{◌≡◌, ◌<◌, ◌^◌, arith}
 use Rattle.std.specs.Int.{w16, to_le_bytes}
 use Rattle.std.specs.FinMap.{insert}
 use Rattle.uefi_vars.specs.Name.{next_text}
+use Rattle.uefi_vars.specs.Made.{made}
 use Rattle.boot_requests.proofs.Edits.{next_stored}
 use Rattle.boot_requests.proofs.storing.store_next.Goals as goal
 
 pub returns : goal.returns
-returns c = λ m h.
+returns c = λ vars m h.
     let fits : c.args.number < 2 ^ 16 = omega (arith, c.ranges.number.fits) in
-    let put : c.put.new.vars ≡ insert c.args.vars.now next_text (to_le_bytes w16 c.args.number) = cc (c.in_ok-put.ensures.put) in
-    next_stored m c.args.vars.now c.put.new.vars c.args.number fits put h
+    let put : made vars c.put.new.changes ≡ insert (made vars c.args.changes.now) next_text (to_le_bytes w16 c.args.number) = cc (c.in_ok-put.ensures vars) in
+    next_stored m _ _ c.args.number fits put h

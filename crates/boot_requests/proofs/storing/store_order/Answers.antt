@@ -5,20 +5,21 @@ use Rattle.std.proofs.lemmas.List.Elements.{recursion_from_All, All-from_get_or}
 use Rattle.uefi_path.specs.Units.{units_bytes}
 use Rattle.uefi_vars.specs.Name.{order_text}
 use Rattle.uefi_vars.specs.Order.{IsEntryNumber}
+use Rattle.uefi_vars.specs.Made.{made}
 use Rattle.boot_requests.proofs.Edits.{order_stored, order_deleted}
 use Rattle.boot_requests.proofs.storing.store_order.Goals as goal
 
 pub returns-then-is_empty : goal.returns-then-is_empty
-returns-then-is_empty c = λ m h.
-    order_deleted m c.args.vars.now _ c.args.order.now (eqb-true (length c.args.order.now) 0 (sym c.is_empty.ensures ∙ c.if-is_empty.true)) c.remove.ensures.removed h
+returns-then-is_empty c = λ vars m h.
+    order_deleted m _ _ c.args.order.now (eqb-true (length c.args.order.now) 0 (sym c.is_empty.ensures ∙ c.if-is_empty.true)) (c.in_ok-remove.ensures.removed vars) h
 
 pub returns : goal.returns
-returns c = λ m h.
+returns c = λ vars m h.
     let order = c.args.order.now in
-    let old = c.args.vars.now in
+    let old = made vars c.args.changes.now in
     let some = eqb-false (length order) 0 (sym c.is_empty.ensures ∙ c.if-is_empty.false) in
-    order_stored m old c.put.new.vars order
+    order_stored m old _ order
     (record { numbers = recursion_from_All IsEntryNumber order (All-from_get_or IsEntryNumber order 0 (λ i _. omega (arith, c.type_inv.order i))); len = c.requires })
     (omega (arith, some))
-    (c.in_ok-put.ensures.put ∙ ap (λ (b : List ℕ). insert old order_text b) (c.deref.ensures.value ∙ c.in_ok-append_units.ensures.ok ∙ ap (λ (b : List ℕ). b ++ units_bytes order) c.new-bytes.ensures.items))
+    (c.in_ok-put.ensures vars ∙ ap (λ (b : List ℕ). insert old order_text b) (c.deref.ensures.value ∙ c.in_ok-append_units.ensures.ok ∙ ap (λ (b : List ℕ). b ++ units_bytes order) c.new-bytes.ensures.items))
     h

@@ -1,4 +1,4 @@
-use Rattle.std.proofs.Common.{is_some, sym, ap, subst, ◌∙◌}
+use Rattle.std.proofs.Common.{is_some, refl, sym, ap, subst, ◌∙◌, arith}
 use Rattle.std.proofs.lemmas.Cmp.{nat_list_cmp_total}
 use Rattle.uefi_vars.specs.Vars.{name_cmp}
 use Rattle.uefi_vars.specs.Records.{pair_of, pairs_of, AreVariables, IsAt, IsGap}
@@ -18,6 +18,8 @@ returns-in-Ok c =
       was = sym (ap is_some found ∙ some_at (λ e. e.1) (pairs_of variables) place at.within);
       erased = erased;
       held = subst AreVariables (sym erased) (AreVariables-without (pairs_of variables) c.requires name);
+      len = omega (arith, c.remove.ensures.len);
+      capacity = c.remove.ensures.capacity;
     }
 
 pub returns-in-Err : goal.returns-in-Err
@@ -30,4 +32,6 @@ returns-in-Err c =
       was = sym (ap is_some (find_gap name_cmp nat_list_cmp_total name (pairs_of variables) place gap.below gap.above));
       erased = sym (without_gap name_cmp nat_list_cmp_total name (pairs_of variables) place gap.below gap.above);
       held = c.requires;
+      len = omega arith;
+      capacity = refl;
     }

@@ -1,6 +1,6 @@
 use Rattle.std.proofs.Common.{◌≡◌, ℕ, ◌<◌, false, take, length, get_or}
 use Rattle.boot_requests.specs.Apply.{is_in, repeats}
-use Rattle.boot_requests.proofs.applying.has_repeat.Given as goal
+use Rattle.boot_requests.proofs.applying.has_repeat_of_many.Given as goal
 
 abbrev pub invariant-loop-number : goal.invariant-loop-number
 invariant-loop-number l = record {

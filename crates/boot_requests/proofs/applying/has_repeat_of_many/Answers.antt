@@ -2,7 +2,7 @@ use Rattle.std.proofs.Common.{◌≡◌, ◌<◌, ◌+◌, ℕ, true, false, len
 use Rattle.std.proofs.Math.ListN.{set, length-set}
 use Rattle.boot_requests.specs.Apply.{is_in}
 use Rattle.boot_requests.proofs.OrderLists.{twice, once_more, marks_more, same_item}
-use Rattle.boot_requests.proofs.applying.has_repeat.Goals as goal
+use Rattle.boot_requests.proofs.applying.has_repeat_of_many.Goals as goal
 
 pub loop-number-init : goal.loop-number-init
 loop-number-init c = record { len = c.in_ok-marked.ensures.len; marked = λ k h. c.in_ok-marked.ensures.unset k; once = refl }
