@@ -1,6 +1,6 @@
 //! Scripts and streams, run over variables.
 
-ghost use Rattle.std.specs.Prelude.{◌≡◌, ◌≢◌, ℕ, ◌+◌, ◌≤◌, List, length, Err, IfOk, IfErr, IfSome, OnOk, OnErr, false};
+ghost use Rattle.std.specs.Prelude.{◌≡◌, ◌≢◌, ℕ, ◌+◌, ◌≤◌, List, [], ◌∷◌, ◌++◌, length, Err, IfOk, IfErr, IfSome, OnOk, OnErr, false};
 ghost use Rattle.std.specs.List.{AllByRecursion};
 ghost use Rattle.std.specs.String.{string_bytes};
 ghost use Rattle.std.specs.Io.KnownBytes.{Keeps, Appends, IsAtEnd};
@@ -15,7 +15,7 @@ ghost use Rattle.boot_commands.specs.declared.fault.ScriptFault.{ScriptFault};
 ghost use Rattle.boot_commands.specs.Running.{answer_lines, Happens, Runs, RunsBy};
 ghost use Rattle.boot_commands.specs.ScriptFault.{script_max, IsVarsFault, IsFirstFault, IsFirstStreamFault, IsFaultUnless, MayComeOfScript, MayComeOfStream, failed_read, failed_write};
 ghost use Rattle.boot_commands.specs.Source.{ReadsAll, Takes, TakesAtMost, AppendsFront};
-ghost use Rattle.boot_commands.specs.Answering.{IsAnswer};
+ghost use Rattle.boot_commands.specs.Answering.{AppendsAnswers, IsAnswer};
 ghost use Rattle.boot_commands.specs.Stream.{IsStream};
 
 use crate::fault::ScriptFault;
@@ -25,6 +25,7 @@ use crate::stream::read_stream;
 use crate::transfer::{read_all, write_all};
 use boot_requests::{Event, Keeper, Reply, laws, reply_line, run};
 use std::alloc::{AllocError, Global};
+use std::slice;
 use uefi_vars::Vars;
 
 /// Runs a script over variables, writes what is answered to each of its events on a line of its own, and returns the
@@ -162,33 +163,41 @@ fn answer<W: Sink>(
     Ok(vars)
 }
 
-/// The variables after these events, and the lines that answer them.
+/// The variables after these events, and the lines that answer them. Each event is answered before the next one is taken,
+/// and only the line of its answer is kept: a plan holds its options, and its line only their numbers.
 fn answers_to(alloc: Global, events: &[Event], vars: Vars) -> Result<(Vars, String), ScriptFault>
     requires { AllByRecursion IsEvent events.now }
     ensures done { IfOk result (λ done. (answers : List Reply) × Happens vars events.now done.0 answers
         × (string_bytes done.1 ≡ answer_lines answers)) }
     ensures fault { IfErr result (λ fault. fault ≢ ScriptFault.OutOfMemory → IsVarsFault vars fault) }
 {
-    let (vars, replies) = happen(alloc, events, vars)?;
-    let lines = answer_lines(alloc, &replies)?;
-    Ok((vars, lines))
-}
-
-/// The variables after these events, and the replies to these.
-fn happen(alloc: Global, events: &[Event], vars: Vars) -> Result<(Vars, Vec<Reply>), ScriptFault>
-    requires { AllByRecursion IsEvent events.now }
-    ensures done { IfOk result (λ done. Happens vars events.now done.0 done.1.items) }
-    ensures fault { IfErr result (λ fault. fault ≢ ScriptFault.OutOfMemory → IsVarsFault vars fault) }
-{
     laws::a_start_stands_for_no_events();
     laws::each_event_is_seen();
-    let keeper = open(alloc, vars)?;
-    let mut replies = Vec::new(alloc);
-    let (keeper, whole) = run(alloc, keeper, events, &mut replies);
-    if !whole {
-        return Err(ScriptFault::OutOfMemory);
+    let mut keeper = open(alloc, vars)?;
+    let mut lines = String::new(alloc);
+    for event in events {
+        keeper = answer_event(alloc, keeper, event, &mut lines)?;
     }
-    Ok((keeper.into_vars(), replies))
+    Ok((keeper.into_vars(), lines))
+}
+
+/// The keeper after this event. The line of the answer to it is appended.
+fn answer_event(
+    alloc: Global,
+    keeper: Keeper,
+    event: &Event,
+    lines: &mut String,
+) -> Result<Keeper, AllocError>
+    ensures { IfOk result (λ after.
+        AppendsAnswers keeper (event.now ∷ []) after (string_bytes lines.old) (string_bytes lines.new)) }
+{
+    let mut replies = Vec::new(alloc);
+    let (keeper, whole) = run(alloc, keeper, slice::from_ref(event), &mut replies);
+    if !whole {
+        return Err(AllocError);
+    }
+    append_lines(alloc, &replies, lines)?;
+    Ok(keeper)
 }
 
 /// What keeps the variables.
@@ -203,15 +212,15 @@ fn open(alloc: Global, vars: Vars) -> Result<Keeper, ScriptFault>
     }
 }
 
-/// The lines of the replies, each ended by a line feed.
-fn answer_lines(alloc: Global, replies: &[Reply]) -> Result<String, AllocError>
-    ensures { IfOk result (λ lines. string_bytes lines ≡ answer_lines replies.now) }
+/// Appends the lines of the replies, each ended by a line feed.
+fn append_lines(alloc: Global, replies: &[Reply], lines: &mut String) -> Result<(), AllocError>
+    ensures { OnOk result
+        (string_bytes lines.new ≡ string_bytes lines.old ++ answer_lines replies.now) }
 {
-    let mut lines = String::new(alloc);
     for reply in replies {
         let line = reply_line(alloc, reply)?;
         lines.push_str(&line)?;
         lines.push('\n')?;
     }
-    Ok(lines)
+    Ok(())
 }
