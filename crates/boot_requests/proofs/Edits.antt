@@ -7,12 +7,13 @@ use Rattle.uefi_path.specs.Units.{units_bytes}
 use Rattle.uefi_vars.specs.Name.{entry_text, order_text, next_text}
 use Rattle.uefi_vars.specs.Vars.{Variables, IsData, entry_of}
 use Rattle.uefi_vars.specs.Order.{IsEntryNumber, IsOrder, stored_order, stored_next}
+use Rattle.uefi_vars.specs.Made.{with_data}
 use Rattle.boot_requests.specs.declared.outcome.Outcome.{Outcome}
 use Rattle.boot_requests.specs.State.{State, IsMark, IsBootName, keep_text, mark_bytes, stored_mark}
 use Rattle.boot_requests.specs.Apply.{next_without, booted}
 use Rattle.boot_requests.specs.Run.{is_next_entry}
 use Rattle.boot_requests.specs.Keeping.{IsStateOf}
-use Rattle.boot_requests.specs.Machine.{Entries, with_stored}
+use Rattle.boot_requests.specs.Machine.{Entries}
 use Rattle.boot_requests.proofs.Stored.{stored_here, stored_apart, entry_put, entry_put_apart, entry_gone, entry_gone_apart, same_number_or_not, names_apart, order_is_no_entry, next_is_no_entry, keep_is_no_entry, order_is_not_next, order_is_not_keep, next_is_not_keep}
 
 -- names of a state's parts
@@ -32,7 +33,7 @@ is_keep_name = inr (inr (inr refl))
 pub other_apart : (boot name : List ℕ) → IsBootName boot → ¬ IsBootName name → boot ≢ name
 other_apart boot name is other e = other (subst IsBootName e is)
 
-pub order_edited : (m : State) (vars : Variables) (order : List ℕ) → IsOrder order → IsStateOf m vars → IsStateOf (record m { order = order }) (with_stored vars order_text (stored_order order))
+pub order_edited : (m : State) (vars : Variables) (order : List ℕ) → IsOrder order → IsStateOf m vars → IsStateOf (record m { order = order }) (with_data vars order_text (stored_order order))
 order_edited m vars order fits h = record {
   is = record { entries = h.is.entries; order = fits; next = h.is.next; mark = h.is.mark; others = h.is.others };
   image = record {
@@ -44,7 +45,7 @@ order_edited m vars order fits h = record {
   };
 }
 
-pub next_edited : (m : State) (vars : Variables) (next : Option ℕ) → IfSome next IsEntryNumber → IsStateOf m vars → IsStateOf (record m { next = next }) (with_stored vars next_text (stored_next next))
+pub next_edited : (m : State) (vars : Variables) (next : Option ℕ) → IfSome next IsEntryNumber → IsStateOf m vars → IsStateOf (record m { next = next }) (with_data vars next_text (stored_next next))
 next_edited m vars next fits h = record {
   is = record { entries = h.is.entries; order = h.is.order; next = fits; mark = h.is.mark; others = h.is.others };
   image = record {
@@ -56,7 +57,7 @@ next_edited m vars next fits h = record {
   };
 }
 
-pub mark_edited : (m : State) (vars : Variables) (count : ℕ) (kept : List Outcome) → IsMark count kept → IsStateOf m vars → IsStateOf (record m { count = count; kept = kept }) (with_stored vars keep_text (stored_mark count kept))
+pub mark_edited : (m : State) (vars : Variables) (count : ℕ) (kept : List Outcome) → IsMark count kept → IsStateOf m vars → IsStateOf (record m { count = count; kept = kept }) (with_data vars keep_text (stored_mark count kept))
 mark_edited m vars count kept fits h = record {
   is = record { entries = h.is.entries; order = h.is.order; next = h.is.next; mark = fits; others = h.is.others };
   image = record {
@@ -78,7 +79,7 @@ numbered number (Some bytes) p valid = (p, valid)
 
 -- what is under the number is this, and what is under others stays
 pub entry_edited : (m : State) (vars : Variables) (entries : Entries) (number : ℕ) (stored : Option (List ℕ)) → IsEntryNumber number → IfSome stored IsData → get entries number ≡ stored → ((k : ℕ) → number ≢ k → get entries k ≡ get m.entries k)
-    → IsStateOf m vars → IsStateOf (record m { entries = entries }) (with_stored vars (entry_text number) stored)
+    → IsStateOf m vars → IsStateOf (record m { entries = entries }) (with_data vars (entry_text number) stored)
 entry_edited m vars entries number stored fits valid here others h = record {
   is = record {
     entries = λ k. ⊎_elim (λ same. subst (λ (j : ℕ). IfSome (get entries j) (λ bytes. IsEntryNumber j × IsData bytes)) same (subst (λ (o : Option (List ℕ)). IfSome o (λ bytes. IsEntryNumber number × IsData bytes)) (sym here) (numbered number stored fits valid)))
@@ -89,7 +90,7 @@ entry_edited m vars entries number stored fits valid here others h = record {
     others = h.is.others;
   };
   image = record {
-    entry = λ k p. ⊎_elim (λ same. subst (λ (j : ℕ). entry_of (with_stored vars (entry_text number) stored) j ≡ get entries j) same (stored_here vars (entry_text number) stored ∙ sym here))
+    entry = λ k p. ⊎_elim (λ same. subst (λ (j : ℕ). entry_of (with_data vars (entry_text number) stored) j ≡ get entries j) same (stored_here vars (entry_text number) stored ∙ sym here))
         (λ differ. stored_apart vars (entry_text number) stored (entry_text k) (λ e. differ (names_apart number k fits p e)) ∙ h.image.entry k p ∙ sym (others k differ)) (same_number_or_not number k);
     order = stored_apart vars (entry_text number) stored order_text (order_is_no_entry number) ∙ h.image.order;
     next = stored_apart vars (entry_text number) stored next_text (next_is_no_entry number) ∙ h.image.next;
@@ -117,7 +118,7 @@ module _ (m : State) (old new : Variables) where
 
   pub mark_put : (count : ℕ) (kept : List Outcome) → 0 < count → IsMark count kept → new ≡ insert old keep_text (mark_bytes count kept) → IsStateOf m old → IsStateOf (record m { count = count; kept = kept }) new
   mark_put count kept some fits e h =
-      subst (IsStateOf (record m { count = count; kept = kept })) (ap (with_stored old keep_text) (mark_stored count kept some) ∙ sym e) (mark_edited m old count kept fits h)
+      subst (IsStateOf (record m { count = count; kept = kept })) (ap (with_data old keep_text) (mark_stored count kept some) ∙ sym e) (mark_edited m old count kept fits h)
 
   pub entry_stored : (number : ℕ) (bytes : List ℕ) → IsEntryNumber number → new ≡ insert old (entry_text number) bytes → IsData bytes → IsStateOf m old → IsStateOf (record m { entries = insert m.entries number bytes }) new
   entry_stored number bytes fits e valid h =

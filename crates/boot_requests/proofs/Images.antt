@@ -11,6 +11,7 @@ use Rattle.uefi_path.specs.Row.{IsByte}
 use Rattle.uefi_vars.specs.Name.{IsNameByte, IsName, entry_text, order_text, next_text}
 use Rattle.uefi_vars.specs.Vars.{Variables, IsData, IsVariable, IsVars}
 use Rattle.uefi_vars.specs.Order.{IsEntryNumber, IsOrder, stored_order, stored_next, HasOrder, HasNext, HasBadOrder, HasBadNext}
+use Rattle.uefi_vars.specs.Made.{with_data}
 use Rattle.boot_requests.specs.declared.outcome.Code.{Code}
 use Rattle.boot_requests.specs.declared.outcome.Outcome.{Outcome}
 use Rattle.boot_requests.specs.declared.fault.OpenFault.{OpenFault}
@@ -19,7 +20,7 @@ use Rattle.boot_requests.specs.State.{State, IsState, IsImage, IsBootName, IsMar
 use Rattle.boot_requests.specs.Outcome.{without_entry, code_byte, outcome_bytes}
 use Rattle.boot_requests.specs.Opening.{first_mark_bytes, IsFirstMark, HasMark, migrated, OpensAs, IsOpenFault}
 use Rattle.boot_requests.specs.Keeping.{IsStateOf}
-use Rattle.boot_requests.specs.Machine.{Entries, with_stored, with_entries, machine_of, image_of}
+use Rattle.boot_requests.specs.Machine.{Entries, with_entries, machine_of, image_of}
 use Rattle.boot_requests.specs.Marks.{mark_of}
 use Rattle.boot_requests.proofs.Stored.{stored_here, stored_apart, stored_again, same_name_or_not, same_number_or_not, names_apart, order_is_no_entry, next_is_no_entry, keep_is_no_entry, order_is_not_next, order_is_not_keep, next_is_not_keep}
 use Rattle.boot_requests.proofs.Edits.{mark_stored, is_entry_name, is_order_name, is_next_name, is_keep_name}
@@ -88,12 +89,12 @@ one_state m n vars p q f g =
 pub one_opening : (m n : State) (vars : Variables) → OpensAs vars m → OpensAs vars n → m ≡ n
 one_opening m n vars p q =
     let same = one_mark vars m.count n.count m.kept n.kept p.mark q.mark in
-    let put : migrated vars m ≡ migrated vars n = λ i. with_stored vars keep_text (stored_mark (same.0 i) (same.1 i)) in
+    let put : migrated vars m ≡ migrated vars n = λ i. with_data vars keep_text (stored_mark (same.0 i) (same.1 i)) in
     one_state m n (migrated vars m) p.is q.is p.image (subst (IsImage n) (sym put) q.image)
 
 -- an image has its mark by version 2 already
 pub migrated_same : (m : State) (vars : Variables) → IsImage m vars → migrated vars m ≡ vars
-migrated_same m vars f = ap (with_stored vars keep_text) (sym f.mark) ∙ stored_again vars keep_text
+migrated_same m vars f = ap (with_data vars keep_text) (sym f.mark) ∙ stored_again vars keep_text
 
 pub image_opens : (m : State) (vars : Variables) → IsState m → IsImage m vars → OpensAs vars m
 image_opens m vars is f =
@@ -115,9 +116,9 @@ named : (name : List ℕ) (stored : Option (List ℕ)) → IsName name → IfSom
 named name None is valid = tt
 named name (Some bytes) is valid = (is, valid)
 
-pub still_valid : (vars : Variables) (name : List ℕ) (stored : Option (List ℕ)) → IsVars vars → IsName name → IfSome stored IsData → IsVars (with_stored vars name stored)
+pub still_valid : (vars : Variables) (name : List ℕ) (stored : Option (List ℕ)) → IsVars vars → IsName name → IfSome stored IsData → IsVars (with_data vars name stored)
 still_valid vars name stored valid is whole other =
-    ⊎_elim (λ same. subst (λ (n : List ℕ). IfSome (get (with_stored vars name stored) n) (λ value. IsVariable (n, value))) same
+    ⊎_elim (λ same. subst (λ (n : List ℕ). IfSome (get (with_data vars name stored) n) (λ value. IsVariable (n, value))) same
     (subst (λ (o : Option (List ℕ)). IfSome o (λ value. IsVariable (name, value))) (sym (stored_here vars name stored)) (named name stored is whole)))
     (λ differ. subst (λ (o : Option (List ℕ)). IfSome o (λ value. IsVariable (other, value))) (sym (stored_apart vars name stored other differ)) (valid other))
     (same_name_or_not name other)
@@ -160,7 +161,7 @@ with_entry_at : (limit : ℕ) (entries : Entries) (vars : Variables) (k : ℕ) �
 unfolding with_entries
 with_entry_at zero entries vars k fits h = absurd (omega (arith, h))
 with_entry_at (suc number) entries vars k fits h =
-    ⊎_elim (λ same. subst (λ (j : ℕ). get (with_stored (with_entries number entries vars) (entry_text number) (get entries number)) (entry_text j) ≡ get entries j) same (stored_here _ (entry_text number) (get entries number)))
+    ⊎_elim (λ same. subst (λ (j : ℕ). get (with_data (with_entries number entries vars) (entry_text number) (get entries number)) (entry_text j) ≡ get entries j) same (stored_here _ (entry_text number) (get entries number)))
     (λ differ. stored_apart _ (entry_text number) (get entries number) (entry_text k) (λ e. differ (names_apart number k (omega (arith, fits)) (omega (arith, h, fits)) e))
     ∙ with_entry_at number entries vars k (omega (arith, fits)) (let apart : number ≢ k = differ in omega (arith, h, apart)))
     (same_number_or_not number k)

@@ -11,10 +11,11 @@ use Rattle.uefi_vars.specs.Name.{entry_text, order_text, next_text}
 use Rattle.uefi_vars.specs.Vars.{Variables, IsData, IsVariable, IsVars, entry_of}
 use Rattle.uefi_vars.specs.Order.{IsEntryNumber, IsOrder, stored_order, stored_next, HasOrder, HasNext}
 use Rattle.uefi_path.specs.Units.{units_of, units_bytes}
+use Rattle.uefi_vars.specs.Made.{with_data}
 use Rattle.boot_requests.specs.State.{State, IsImage, MarkParts, IsBootName, keep_text, stored_mark}
 use Rattle.boot_requests.specs.Opening.{HasMark, OpensAs}
 use Rattle.boot_requests.specs.Keeping.{IsStateOf}
-use Rattle.boot_requests.specs.Machine.{with_entry, with_stored, entries_below, others_below, order_in, next_in, machine_of}
+use Rattle.boot_requests.specs.Machine.{with_entry, entries_below, others_below, order_in, next_in, machine_of}
 use Rattle.boot_requests.specs.Marks.{mark_in}
 use Rattle.boot_requests.proofs.Stored.{stored_here, stored_apart, still_none, entry_here, entry_apart, same_name_or_not, same_number_or_not, keep_is_no_entry, order_is_not_keep, next_is_not_keep}
 use Rattle.boot_requests.proofs.Edits.{is_entry_name, is_order_name, is_next_name, is_keep_name, other_apart}
@@ -60,7 +61,7 @@ no_entry_below : (limit : ℕ) (vars : Variables) (k : ℕ) → k < limit → ge
 unfolding others_below
 no_entry_below zero vars k h = absurd (omega (arith, h))
 no_entry_below (suc number) vars k h =
-    ⊎_elim (λ same. subst (λ (j : ℕ). get (with_stored (others_below number vars) (entry_text number) None) (entry_text j) ≡ None) same (stored_here _ (entry_text number) None))
+    ⊎_elim (λ same. subst (λ (j : ℕ). get (with_data (others_below number vars) (entry_text number) None) (entry_text j) ≡ None) same (stored_here _ (entry_text number) None))
     (λ differ. still_none _ (entry_text number) (entry_text k) (no_entry_below number vars k (let apart : number ≢ k = differ in omega (arith, h, apart))))
     (same_number_or_not number k)
 
@@ -199,7 +200,7 @@ read_again m vars mark e h = sym (machine_is m vars h ∙ ap (machine_of vars) e
 
 -- ---- opened variables with their mark by version 2
 
-module _ (old new : Variables) (mark : MarkParts) (opens : OpensAs old (machine_of old mark)) (put : new ≡ with_stored old keep_text (stored_mark mark.next mark.kept)) where
+module _ (old new : Variables) (mark : MarkParts) (opens : OpensAs old (machine_of old mark)) (put : new ≡ with_data old keep_text (stored_mark mark.next mark.kept)) where
   migrated_stands : IsStateOf (machine_of old mark) new
   migrated_stands = record { is = opens.is; image = subst (IsImage (machine_of old mark)) (sym put) opens.image }
 

@@ -11,10 +11,11 @@ use Rattle.std.proofs.lemmas.Map.Lookups.{CmpEqualImpliesEq, exact_bytes, exact_
 use Rattle.std.proofs.lemmas.Map.Views.{tells_apart}
 use Rattle.uefi_vars.specs.Name.{upper_digit, entry_text, order_text, next_text}
 use Rattle.uefi_vars.specs.Vars.{Variables}
+use Rattle.uefi_vars.specs.Made.{with_data}
 use Rattle.boot_requests.specs.declared.request.Request.{Request}
 use Rattle.boot_requests.specs.State.{keep_text}
 use Rattle.boot_requests.specs.Window.{Requests}
-use Rattle.boot_requests.specs.Machine.{Entries, with_entry, with_stored}
+use Rattle.boot_requests.specs.Machine.{Entries, with_entry}
 
 -- ---- maps
 
@@ -50,25 +51,25 @@ same_number_or_not = same_or_not nat_cmp_total exact_unsigned
 
 -- ---- variables
 
-pub stored_here : (vars : Variables) (name : List ℕ) (stored : Option (List ℕ)) → get (with_stored vars name stored) name ≡ stored
+pub stored_here : (vars : Variables) (name : List ℕ) (stored : Option (List ℕ)) → get (with_data vars name stored) name ≡ stored
 stored_here vars name None = remove_here nat_list_cmp_total exact_bytes vars name
 stored_here vars name (Some bytes) = insert_here nat_list_cmp_total exact_bytes vars name bytes
 
-pub stored_apart : (vars : Variables) (name : List ℕ) (stored : Option (List ℕ)) (other : List ℕ) → name ≢ other → get (with_stored vars name stored) other ≡ get vars other
+pub stored_apart : (vars : Variables) (name : List ℕ) (stored : Option (List ℕ)) (other : List ℕ) → name ≢ other → get (with_data vars name stored) other ≡ get vars other
 stored_apart vars name None other differ = remove_apart nat_list_cmp_total exact_bytes vars name other differ
 stored_apart vars name (Some bytes) other differ = insert_apart nat_list_cmp_total exact_bytes vars name bytes other differ
 
 -- what is stored already changes nothing
-pub stored_again : (vars : Variables) (name : List ℕ) → with_stored vars name (get vars name) ≡ vars
+pub stored_again : (vars : Variables) (name : List ℕ) → with_data vars name (get vars name) ≡ vars
 stored_again vars name = same_map nat_list_cmp_total (slice_cmp-IsAntisymmetric nat_cmp-IsAntisymmetric) _ _ (λ other. ⊎_elim
-    (λ same. subst (λ (n : List ℕ). get (with_stored vars name (get vars name)) n ≡ get vars n) same (stored_here vars name (get vars name)))
+    (λ same. subst (λ (n : List ℕ). get (with_data vars name (get vars name)) n ≡ get vars n) same (stored_here vars name (get vars name)))
     (λ differ. stored_apart vars name (get vars name) other differ)
     (same_name_or_not name other))
 
 -- what isn't stored isn't after a removal
-pub still_none : (vars : Variables) (name other : List ℕ) → get vars other ≡ None → get (with_stored vars name None) other ≡ None
+pub still_none : (vars : Variables) (name other : List ℕ) → get vars other ≡ None → get (with_data vars name None) other ≡ None
 still_none vars name other none =
-    ⊎_elim (λ same. subst (λ (k : List ℕ). get (with_stored vars name None) k ≡ None) same (stored_here vars name None))
+    ⊎_elim (λ same. subst (λ (k : List ℕ). get (with_data vars name None) k ≡ None) same (stored_here vars name None))
     (λ differ. stored_apart vars name None other differ ∙ none) (same_name_or_not name other)
 
 -- ---- entries

@@ -2,9 +2,10 @@
 use Rattle.std.specs.Prelude.{ℕ, zero, suc, List, [], Option, Some, None, ◌^◌}
 use Rattle.std.specs.Ordering.{nat_cmp}
 use Rattle.std.specs.Int.{w16, from_le_bytes}
-use Rattle.std.specs.FinMap.{FinMap, empty, get, insert, remove}
+use Rattle.std.specs.FinMap.{FinMap, empty, get, insert}
 use Rattle.uefi_vars.specs.Name.{entry_text, order_text, next_text}
 use Rattle.uefi_vars.specs.Vars.{Variables, entry_of}
+use Rattle.uefi_vars.specs.Made.{with_data}
 use Rattle.uefi_vars.specs.Order.{stored_order, stored_next}
 use Rattle.uefi_path.specs.Units.{units_of}
 use Rattle.uefi_vars.specs.Plan.{PlanParts}
@@ -21,11 +22,6 @@ abbrev pub with_entry : Entries → ℕ → Option (List ℕ) → Entries
 with_entry entries number None = entries
 with_entry entries number (Some bytes) = insert entries number bytes
 
--- the variables with this under the name, or with nothing
-abbrev pub with_stored : Variables → List ℕ → Option (List ℕ) → Variables
-with_stored vars name None = remove vars name
-with_stored vars name (Some bytes) = insert vars name bytes
-
 -- ---- of variables
 
 -- the entries with numbers below the limit
@@ -35,8 +31,8 @@ entries_below (suc number) vars = with_entry (entries_below number vars) number 
 
 -- the variables without those entries, and without those that stand for the rest of a state
 unfoldable pub others_below : ℕ → Variables → Variables
-others_below zero vars = with_stored (with_stored (with_stored vars order_text None) next_text None) keep_text None
-others_below (suc number) vars = with_stored (others_below number vars) (entry_text number) None
+others_below zero vars = with_data (with_data (with_data vars order_text None) next_text None) keep_text None
+others_below (suc number) vars = with_data (others_below number vars) (entry_text number) None
 
 abbrev pub order_in : Option (List ℕ) → List ℕ
 order_in None = []
@@ -67,12 +63,12 @@ plain_of m waiting plan = record { machine = m; waiting = waiting; plan = plan }
 unfoldable pub with_entries : ℕ → Entries → Variables → Variables
 with_entries zero entries vars = vars
 with_entries (suc number) entries vars =
-    with_stored (with_entries number entries vars) (entry_text number) (get entries number)
+    with_data (with_entries number entries vars) (entry_text number) (get entries number)
 
 -- the image of the state
 abbrev pub image_of : State → Variables
 image_of m =
     let entries = with_entries (2 ^ 16) m.entries m.others in
-    let order = with_stored entries order_text (stored_order m.order) in
-    let next = with_stored order next_text (stored_next m.next) in
-    with_stored next keep_text (stored_mark m.count m.kept)
+    let order = with_data entries order_text (stored_order m.order) in
+    let next = with_data order next_text (stored_next m.next) in
+    with_data next keep_text (stored_mark m.count m.kept)

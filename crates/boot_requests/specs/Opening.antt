@@ -5,6 +5,7 @@ use Rattle.std.specs.Int.{w32, to_le_bytes}
 use Rattle.std.specs.FinMap.{get}
 use Rattle.uefi_vars.specs.Vars.{Variables}
 use Rattle.uefi_vars.specs.Order.{HasBadOrder, HasBadNext}
+use Rattle.uefi_vars.specs.Made.{with_data}
 use Rattle.boot_requests.specs.declared.outcome.Code.{Code}
 use Rattle.boot_requests.specs.declared.outcome.Code.TheVariants.{NoFree}
 use Rattle.boot_requests.specs.declared.outcome.Outcome.{Outcome}
@@ -13,7 +14,6 @@ use Rattle.boot_requests.specs.declared.fault.OpenFault.TheVariants as fault
 use Rattle.boot_requests.specs.Limits.{kept_min}
 use Rattle.boot_requests.specs.Outcome.{without_entry, code_byte}
 use Rattle.boot_requests.specs.State.{State, IsState, IsImage, IsMark, keep_text, stored_mark}
-use Rattle.boot_requests.specs.Machine.{with_stored}
 
 -- ---- version 1 of BootKeepState
 
@@ -58,7 +58,7 @@ HasBadMark vars = (count : ℕ) (kept : List Outcome) → HasMark vars count kep
 
 -- the variables with the mark of this state, by version 2
 abbrev pub migrated : Variables → State → Variables
-migrated vars m = with_stored vars keep_text (stored_mark m.count m.kept)
+migrated vars m = with_data vars keep_text (stored_mark m.count m.kept)
 
 -- the variables open as this state: its mark is stored, by either version, and with the mark by version 2 they are its image
 pub record OpensAs (vars : Variables) (m : State) : Type 0 where

@@ -4,12 +4,13 @@ ghost use Rattle.std.specs.Prelude.{◌≡◌, ◌≢◌, ◌⊎◌, ◌↔◌, 
 ghost use Rattle.std.specs.FinMap as map;
 ghost use Rattle.uefi_path.specs.Answer.{IsUnless};
 ghost use Rattle.uefi_vars.specs.Order.{HasBadOrder};
+ghost use Rattle.uefi_vars.specs.Made.{with_data};
 ghost use Rattle.boot_requests.specs.declared.fault.OpenFault.{OpenFault};
 ghost use Rattle.boot_requests.specs.declared.outcome.Outcome.{Outcome};
 ghost use Rattle.boot_requests.specs.State.{State, keep_text, stored_mark};
 ghost use Rattle.boot_requests.specs.Opening.{HasMark, HasSecondMark, HasBadMark, OpensAs, IsOpenFault};
 ghost use Rattle.boot_requests.specs.Turn.{plain_start};
-ghost use Rattle.boot_requests.specs.Machine.{machine_of, with_stored};
+ghost use Rattle.boot_requests.specs.Machine.{machine_of};
 ghost use Rattle.boot_requests.specs.Slots.{waiting_of, IsKeeper};
 
 use crate::fault::OpenFault;
@@ -121,7 +122,7 @@ fn read_state(alloc: Global, vars: &Vars) -> Result<Mark, OpenFault>
 fn migrate(alloc: Global, vars: &mut Vars, mark: &Mark) -> Result<(), AllocError>
     requires { HasMark vars.old mark.now.next mark.now.kept }
     ensures put { OnOk result (vars.new
-        ≡ with_stored vars.old keep_text (stored_mark mark.now.next mark.now.kept)) }
+        ≡ with_data vars.old keep_text (stored_mark mark.now.next mark.now.kept)) }
     ensures unchanged { OnErr result (vars.new ≡ vars.old) }
 {
     if is_current(vars) {

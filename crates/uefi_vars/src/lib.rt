@@ -2,9 +2,10 @@
 //! version 2.10, chapter 3).
 //!
 //! [`Vars`] is a finite map from names to data. [`read_set`] reads one from the bytes of a set file, all of them, and
-//! [`write_set`] gives its one spelling. Load options stand under the names that [`entry_name`] gives, and [`entry_option`]
-//! reads one; [`lowest_free`] finds a number for one more. [`Changes`] gathers what is to change, which [`Vars::make`] makes. [`boot_order`] and [`boot_next`] read which of them are to be
-//! tried, [`plan`] puts together what a boot would try, and [`plan_numbers`] its numbers alone.
+//! [`write_set`] gives its one spelling. [`Changes`] gathers what is to become of variables, and [`Vars::make`] makes it.
+//! Load options stand under the names that [`entry_name`] gives, and [`entry_option`] reads one; [`lowest_free`] finds a
+//! number for one more. [`boot_order`] and [`boot_next`] read which of them are to be tried, [`plan`] puts together what a
+//! boot would try, and [`plan_numbers`] its numbers alone.
 #![tactic(auto)]
 
 mod boot_plan;

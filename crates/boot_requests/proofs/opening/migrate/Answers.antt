@@ -1,8 +1,8 @@
 use Rattle.std.proofs.Common.{sym, ap, ◌∙◌}
 use Rattle.std.specs.FinMap.{insert}
 use Rattle.uefi_vars.specs.Vars.{Variables}
+use Rattle.uefi_vars.specs.Made.{with_data}
 use Rattle.boot_requests.specs.State.{keep_text, mark_bytes}
-use Rattle.boot_requests.specs.Machine.{with_stored}
 use Rattle.boot_requests.proofs.Edits.{mark_stored}
 use Rattle.boot_requests.proofs.Stored.{stored_again}
 use Rattle.boot_requests.proofs.opening.migrate.Goals as goal
@@ -12,7 +12,7 @@ returns-then-is_current-clause-put c =
     let vars = c.args.vars.now in
     let mark = c.args.mark.now in
     let second = c.is_current.ensures.current mark.next mark.kept c.if-is_current.true c.requires in
-    sym (ap (with_stored vars keep_text) (sym second.stored) ∙ stored_again vars keep_text)
+    sym (ap (with_data vars keep_text) (sym second.stored) ∙ stored_again vars keep_text)
 
 pub returns-clause-put : goal.returns-clause-put
 returns-clause-put c =
@@ -20,4 +20,4 @@ returns-clause-put c =
     let mark = c.args.mark.now in
     let some = c.is_current.ensures.other mark.next mark.kept c.if-is_current.false c.requires in
     c.in_ok-make.ensures.made ∙ c.in_ok-store_mark.ensures.put vars ∙ ap (λ (v : Variables). insert v keep_text (mark_bytes mark.next mark.kept)) (c.new-changes.ensures vars)
-    ∙ ap (with_stored vars keep_text) (sym (mark_stored mark.next mark.kept some))
+    ∙ ap (with_data vars keep_text) (sym (mark_stored mark.next mark.kept some))
