@@ -10,7 +10,7 @@ use Rattle.std.proofs.lemmas.Cmp.{tied_itself, nat_list_cmp_total}
 use Rattle.std.proofs.lemmas.List.{take_all, length-map}
 use Rattle.std.proofs.lemmas.List.Elements.{All-head, All-tail, All-more, All-weaker, All-from_recursion}
 use Rattle.std.proofs.lemmas.Option.{slice_get-map, slice_get_read, slice_get_within, get_or_from_slice_get}
-use Rattle.uefi_vars.specs.declared.vars.Variable.{Variable}
+use Rattle.uefi_vars.specs.declared.named.Named.{Named}
 use Rattle.uefi_vars.specs.Name.{entry_text}
 use Rattle.uefi_vars.specs.Vars.{Variables, name_cmp, entry_of}
 use Rattle.uefi_vars.specs.Records.{pair_of, pairs_of}
@@ -43,13 +43,13 @@ find_none name (p ∷ pairs) none =
     ] refl
 
 -- where all are passed, nothing is stored
-pub none_stored : (vars : Variables) (variables : List Variable) (i number : ℕ) → pairs_of variables ≡ entries vars → length variables ≤ i → IsPassed vars i number → entry_of vars number ≡ None
+pub none_stored : (vars : Variables) (variables : List (Named (List ℕ))) (i number : ℕ) → pairs_of variables ≡ entries vars → length variables ≤ i → IsPassed vars i number → entry_of vars number ≡ None
 none_stored vars variables i number pairs past passed =
     let end : length (entries vars) ≤ i = omega (arith, ap length pairs, length-map variables pair_of) in
     get-entries vars (entry_text number) ∙ find_none (entry_text number) (entries vars) (subst (All (HasOther (entry_text number))) (take_all i (entries vars) end) passed)
 
 -- the variable at a place
-pub item_at : (vars : Variables) (variables : List Variable) (i : ℕ) (variable : Variable) → pairs_of variables ≡ entries vars → i < length variables → variable ≡ get_or variables i variable → slice_get (entries vars) i ≡ Some (pair_of variable)
+pub item_at : (vars : Variables) (variables : List (Named (List ℕ))) (i : ℕ) (variable : Named (List ℕ)) → pairs_of variables ≡ entries vars → i < length variables → variable ≡ get_or variables i variable → slice_get (entries vars) i ≡ Some (pair_of variable)
 item_at vars variables i variable pairs within is =
     ap (λ (ps : List Pair). slice_get ps i) (sym pairs) ∙ slice_get-map pair_of variables i ∙ ap (option_map pair_of) (slice_get_read variables (length variables) i variable refl within is)
 

@@ -6,10 +6,11 @@ use Rattle.std.specs.declared.cmp.Ordering.TheVariants.{Less, Equal, Greater}
 use Rattle.std.specs.FinMap.{empty, entries, entries_sorted, entries-from_sorted, from_sorted, get, get-entries, get-from_sorted, get-empty, get-insert, get-remove, same_map, insert}
 use Rattle.std.specs.FinMap.Entries.{find, put, is_sorted, is_sorted-put}
 use Rattle.std.proofs.lemmas.Cmp.{nat_list_cmp_total}
-use Rattle.uefi_vars.specs.declared.changes.Change.{Change}
+use Rattle.uefi_vars.specs.declared.named.Named.{Named}
 use Rattle.uefi_vars.specs.Vars.{Variables, name_cmp, IsVariable, IsVars}
 use Rattle.uefi_vars.specs.Made.{NameChanges, with_data, after_each, made, IsChange}
-use Rattle.uefi_vars.specs.ChangeRecords.{each_of, AreChanges, changes_of}
+use Rattle.uefi_vars.specs.Records.{pairs_of}
+use Rattle.uefi_vars.specs.ChangeRecords.{AreChanges, changes_of}
 use Rattle.uefi_vars.proofs.Maps.{name_cmp-IsAntisymmetric, sorted_parts, find_below, put_each, found_each, from_sorted-put_any}
 
 -- what is changed, or else what was before
@@ -58,19 +59,19 @@ made-insert vars changes name d = same_map nat_list_cmp_total name_cmp-IsAntisym
 
 -- ---- changes as they are held
 
-module _ (changes : List Change) (held : AreChanges (each_of changes)) where
-  pub entries-changes_of : entries (changes_of changes) ≡ each_of changes
-  entries-changes_of = entries-from_sorted name_cmp (each_of changes) held.rising
+module _ (changes : List (Named (Option (List ℕ)))) (held : AreChanges (pairs_of changes)) where
+  pub entries-changes_of : entries (changes_of changes) ≡ pairs_of changes
+  entries-changes_of = entries-from_sorted name_cmp (pairs_of changes) held.rising
 
-  pub get-changes_of : (name : List ℕ) → get (changes_of changes) name ≡ find name_cmp name (each_of changes)
-  get-changes_of name = get-from_sorted name_cmp (each_of changes) name held.rising
+  pub get-changes_of : (name : List ℕ) → get (changes_of changes) name ≡ find name_cmp name (pairs_of changes)
+  get-changes_of name = get-from_sorted name_cmp (pairs_of changes) name held.rising
 
   -- the data then, if the name is changed
-  pub get_changed : (vars : Variables) (name : List ℕ) (d : Option (List ℕ)) → find name_cmp name (each_of changes) ≡ Some d → get (made vars (changes_of changes)) name ≡ d
+  pub get_changed : (vars : Variables) (name : List ℕ) (d : Option (List ℕ)) → find name_cmp name (pairs_of changes) ≡ Some d → get (made vars (changes_of changes)) name ≡ d
   get_changed vars name d found = get_made vars (changes_of changes) name ∙ ap (λ f. or_before f (get vars name)) (get-changes_of name ∙ found)
 
   -- and if it isn't
-  pub get_unchanged : (vars : Variables) (name : List ℕ) → find name_cmp name (each_of changes) ≡ None → get (made vars (changes_of changes)) name ≡ get vars name
+  pub get_unchanged : (vars : Variables) (name : List ℕ) → find name_cmp name (pairs_of changes) ≡ None → get (made vars (changes_of changes)) name ≡ get vars name
   get_unchanged vars name found = get_made vars (changes_of changes) name ∙ ap (λ f. or_before f (get vars name)) (get-changes_of name ∙ found)
 
   is_either : (name : List ℕ) (f : Option (Option (List ℕ))) (before : Option (List ℕ)) → IfSome f (λ d. IsChange (name, d)) → IfSome before (λ value. IsVariable (name, value)) → IfSome (or_before f before) (λ value. IsVariable (name, value))
@@ -81,7 +82,7 @@ module _ (changes : List Change) (held : AreChanges (each_of changes)) where
   pub IsVars-made : (vars : Variables) → IsVars vars → IsVars (made vars (changes_of changes))
   IsVars-made vars is name =
       subst (λ f. IfSome f (λ value. IsVariable (name, value))) (sym (get_made vars (changes_of changes) name))
-      (is_either name _ _ (subst (λ f. IfSome f (λ d. IsChange (name, d))) (sym (get-changes_of name)) (found_each name_cmp-IsAntisymmetric IsChange (each_of changes) held.each name)) (is name))
+      (is_either name _ _ (subst (λ f. IfSome f (λ d. IsChange (name, d))) (sym (get-changes_of name)) (found_each name_cmp-IsAntisymmetric IsChange (pairs_of changes) held.each name)) (is name))
 
 pub none_of : {A : Type 0} (items : List A) → length items ≡ 0 → items ≡ []
 none_of [] none = refl

@@ -9,7 +9,7 @@ use Rattle.std.specs.FinMap.{IsAntisymmetric, empty, entries, entries_sorted, en
 use Rattle.std.specs.FinMap.Entries.{find, put, by_order, is_sorted, below_all, is_sorted-put, is_sorted-where_key, find-where_key}
 use Rattle.std.proofs.lemmas.Cmp.{tied_itself, alike_right, eq_by_cmp_equiv, nat_list_cmp_total}
 use Rattle.std.proofs.lemmas.List.{length-map}
-use Rattle.uefi_vars.specs.declared.vars.Variable.{Variable}
+use Rattle.uefi_vars.specs.declared.named.Named.{Named}
 use Rattle.uefi_vars.specs.Vars.{Variables, name_cmp, IsVariable, IsVars}
 use Rattle.uefi_vars.specs.Records.{pair_of, pairs_of, AreVariables, vars_of, without}
 
@@ -101,7 +101,7 @@ pub IsVars-from_sorted : (pairs : List (List ℕ × List ℕ)) → T (is_sorted 
 IsVars-from_sorted pairs rising h q = subst (IsEach IsVariable q) (sym (get-from_sorted name_cmp pairs q rising)) (found_each name_cmp-IsAntisymmetric IsVariable pairs h q)
 
 -- variables as they are held, and the map that they are
-module _ (variables : List Variable) (held : AreVariables (pairs_of variables)) where
+module _ (variables : List (Named (List ℕ))) (held : AreVariables (pairs_of variables)) where
   pub entries-vars_of : entries (vars_of variables) ≡ pairs_of variables
   entries-vars_of = entries-from_sorted name_cmp (pairs_of variables) held.rising
 

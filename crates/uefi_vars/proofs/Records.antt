@@ -11,7 +11,7 @@ use Rattle.std.specs.FinMap.{is_sorted}
 use Rattle.std.specs.FinMap.Entries.{below_all}
 use Rattle.std.proofs.lemmas.List.{length-append}
 use Rattle.std.proofs.lemmas.Nat.{from_le_bytes-to_le_bytes_4}
-use Rattle.uefi_vars.specs.declared.vars.Variable.{Variable}
+use Rattle.uefi_vars.specs.declared.named.Named.{Named}
 use Rattle.uefi_vars.specs.Vars.{name_cmp, IsData, IsVariable}
 use Rattle.uefi_vars.specs.Set.{name_bytes, data_bytes, record_bytes, records_bytes}
 use Rattle.uefi_vars.specs.Fault.{IsAbove}
@@ -51,10 +51,10 @@ same_record v w x y is-v is-w e =
     (ap (λ (name : List ℕ). (name, v.1)) names.0 ∙ ap (λ (value : List ℕ). (w.0, value)) values.0, values.1)
 
 -- the records before one variable and its own have no more bytes than all
-pub length-records_bytes-take : (variables : List Variable) (i : ℕ) (variable : Variable) → i < length variables → variable ≡ get_or variables i variable → length (records_bytes (pairs_of (take i variables))) + length (record_bytes (pair_of variable)) ≤ length (records_bytes (pairs_of variables))
+pub length-records_bytes-take : (variables : List (Named (List ℕ))) (i : ℕ) (variable : Named (List ℕ)) → i < length variables → variable ≡ get_or variables i variable → length (records_bytes (pairs_of (take i variables))) + length (record_bytes (pair_of variable)) ≤ length (records_bytes (pairs_of variables))
 length-records_bytes-take [] i variable within is = absurd (omega (arith, within))
 length-records_bytes-take (v ∷ variables) zero variable within is =
-    let same = ap (λ (w : Variable). length (record_bytes (pair_of w))) is in
+    let same = ap (λ (w : Named (List ℕ)). length (record_bytes (pair_of w))) is in
     omega (arith, same, length-append (record_bytes (pair_of v)) (records_bytes (pairs_of variables)))
 length-records_bytes-take (v ∷ variables) (suc i) variable within is =
     omega (

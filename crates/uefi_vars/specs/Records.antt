@@ -1,29 +1,33 @@
--- How a set is held: variables in the order of their names.
-use Rattle.std.specs.Prelude.{◌≡◌, ℕ, suc, ◌<◌, ◌≤◌, T, not, List, map, length, take, drop, slice_get, IsSomeAnd}
+-- How variables, and changes of variables, are held: in the order of their names.
+use Rattle.std.specs.Prelude.{◌≡◌, ℕ, suc, ◌<◌, ◌≤◌, T, not, List, map, length, take, drop, slice_get, IsSomeAnd, ⊤}
 use Rattle.std.specs.List.{AllByRecursion}
 use Rattle.std.specs.Ordering.{eq_by_cmp}
-use Rattle.std.specs.Rc.{rc_slice_items}
-use Rattle.std.specs.String.{string_bytes}
 use Rattle.std.specs.declared.cmp.Ordering.TheVariants.{Less}
 use Rattle.std.specs.FinMap.{is_sorted, from_sorted}
 use Rattle.std.specs.FinMap.Entries.{where_key}
-use Rattle.uefi_vars.specs.declared.vars.Variable.{Variable}
+use Rattle.uefi_vars.specs.declared.named.Named.{Named}
+use Rattle.uefi_vars.specs.declared.named.Place.{Place}
+use Rattle.uefi_vars.specs.declared.named.Place.TheVariants.{Taken, Free}
 use Rattle.uefi_vars.specs.Vars.{Variables, name_cmp, IsVariable}
 
--- a variable as the pair of its name and its data
-abbrev pub pair_of : Variable → List ℕ × List ℕ
-pair_of variable = (string_bytes variable.name, rc_slice_items variable.data)
+-- a name with what is kept under it, as a pair
+abbrev pub pair_of : {X : Type 0} → Named X → List ℕ × X
+pair_of item = (item.name, item.kept)
 
-abbrev pub pairs_of : List Variable → List (List ℕ × List ℕ)
-pairs_of variables = map pair_of variables
+abbrev pub pairs_of : {X : Type 0} → List (Named X) → List (List ℕ × X)
+pairs_of items = map pair_of items
+
+-- names that rise strictly
+abbrev pub IsRising : {X : Type 0} → List (List ℕ × X) → Type 0
+IsRising pairs = T (is_sorted name_cmp pairs)
 
 -- names that rise strictly, and variables that may stand in a set
 pub record AreVariables (pairs : List (List ℕ × List ℕ)) : Type 0 where
-  pub rising : T (is_sorted name_cmp pairs)
+  pub rising : IsRising pairs
   pub each : AllByRecursion IsVariable pairs
 
 -- the map that they are
-abbrev pub vars_of : List Variable → Variables
+abbrev pub vars_of : List (Named (List ℕ)) → Variables
 vars_of variables = from_sorted (pairs_of variables)
 
 -- the pairs of other names
@@ -50,3 +54,13 @@ pub record IsGap {X : Type 0} (pairs : List (List ℕ × X)) (name : List ℕ) (
   pub within : place ≤ length pairs
   pub below : AreBelow pairs name place
   pub above : AreAbove pairs name place
+
+-- what is kept under the name goes here
+abbrev pub IsPlace : {X : Type 0} → List (List ℕ × X) → List ℕ → Place → Type 0
+IsPlace pairs name (Taken place) = IsAt pairs name place
+IsPlace pairs name (Free place held) = IsGap pairs name place × (held ≡ name)
+
+-- a new name has room, in a list of this length and this capacity
+abbrev pub HasRoom : ℕ → ℕ → Place → Type 0
+HasRoom len capacity (Taken place) = ⊤
+HasRoom len capacity (Free place held) = len < capacity

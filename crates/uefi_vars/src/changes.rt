@@ -1,43 +1,27 @@
 //! What is to become of variables, before it is made.
 
-ghost use Rattle.std.specs.Prelude.{◌≡◌, ◌≢◌, ◌↔◌, ◌<◌, [], length, Some, None, Err, OnOk, OnErr, IfOk, IfErr};
+ghost use Rattle.std.specs.Prelude.{◌≡◌, ◌≢◌, ◌↔◌, ◌<◌, [], length, Some, None, Err, OnOk, OnErr, IfOk, IfErr, IsErrAnd};
 ghost use Rattle.std.specs.Option.{option_map};
-ghost use Rattle.std.specs.Rc.{rc_slice_items};
 ghost use Rattle.std.specs.FinMap as map;
 ghost use Rattle.uefi_vars.specs.declared.fault.PutFault.{PutFault};
 ghost use Rattle.uefi_vars.specs.Name.{IsName, entry_text};
 ghost use Rattle.uefi_vars.specs.Vars.{Variables, name_cmp, data_max, IsVariable, entry_of};
 ghost use Rattle.uefi_vars.specs.Made.{made, IsChange};
-ghost use Rattle.uefi_vars.specs.ChangeRecords.{change_of, each_of, AreChanges};
-ghost use Rattle.uefi_vars.specs.Records.{IsAt, IsGap};
+ghost use Rattle.uefi_vars.specs.ChangeRecords.{AreChanges};
+ghost use Rattle.uefi_vars.specs.Records.{pairs_of};
 ghost use Rattle.uefi_vars.specs.Free.{IsLowestFreeIfAny};
 
-use crate::fault::PutFault;
+use crate::fault::{PutFault, PutRefusal};
 use crate::free::lowest_free;
-use crate::name::{entry_name, is_name, name_text};
-use crate::vars::{DATA_MAX, Vars};
-use std::alloc::{AllocError, Global};
+use crate::name::{entry_name, name_text};
+use crate::named::{Named, find, make_place, set_at};
+use crate::shared::Shared;
+use crate::vars::{Vars, check_variable};
+use std::alloc::{AllocError, AllocFailed, Global};
 use std::marker::Model;
-use std::rc::RcSlice;
 
 /// What is to become of the variable of a name: it gets this data, or it is taken out.
-#[derive(Debug, Drop)]
-pub(crate) struct Change {
-    pub(crate) name: String,
-    pub(crate) data: Option<RcSlice<u8>>,
-}
-
-impl Change {
-    /// The new data, if the variable isn't taken out.
-    fn data(&self) -> Option<&[u8]>
-        ensures { option_map (λ bytes. bytes.now) result ≡ (change_of self.now).1 }
-    {
-        match &self.data {
-            Some(data) => Some(data.as_slice()),
-            None => None,
-        }
-    }
-}
+pub(crate) type Change = Named<Option<Shared>>;
 
 /// What is to become of variables: which names get new data, and which are taken out. [`Vars::make`] makes all of it, or
 /// nothing if memory is refused. Until then each call that reads is given the variables, and answers as if it were made.
@@ -56,11 +40,12 @@ impl Model for Changes {
 
     ghost coded = { map.code (coded_list coded_ℕ) (coded_option (coded_list coded_ℕ)) };
 
-    ghost use Rattle.uefi_vars.specs.ChangeRecords.{each_of, AreChanges, changes_of};
+    ghost use Rattle.uefi_vars.specs.ChangeRecords.{AreChanges, changes_of};
+    ghost use Rattle.uefi_vars.specs.Records.{pairs_of};
 
     ghost view = { λ c. changes_of c.changes.items };
 
-    ghost invariant = { λ c. AreChanges (each_of c.changes.items) };
+    ghost invariant = { λ c. AreChanges (pairs_of c.changes.items) };
 }
 
 impl Changes {
@@ -75,8 +60,8 @@ impl Changes {
 
     /// The changes, in the order of their names.
     pub(crate) fn into_each(self) -> Vec<Change>
-        ensures each { each_of result.items ≡ map.entries self }
-        ensures held { AreChanges (each_of result.items) }
+        ensures each { pairs_of result.items ≡ map.entries self }
+        ensures held { AreChanges (pairs_of result.items) }
     {
         self.changes
     }
@@ -86,8 +71,9 @@ impl Changes {
         ensures { option_map (λ bytes. bytes.now) result
             ≡ map.get (made vars.now self.now) name.now }
     {
-        match find_change(&self.changes, name.as_bytes()) {
-            Some(change) => change.data(),
+        match find(&self.changes, name.as_bytes()) {
+            Some(Some(data)) => Some(data.as_slice()),
+            Some(None) => None,
             None => vars.get(name),
         }
     }
@@ -144,17 +130,38 @@ impl Changes {
             ↔ (IsName name.now × (data_max < length value.now)) }
     {
         let changes = &mut self.changes;
-        if !is_name(name.as_bytes()) {
-            return Err(PutFault::BadName);
+        check_variable(name, value)?;
+        let value = Vec::from_slice(*changes.allocator(), value)?;
+        store(changes, name, value)?;
+        Ok(())
+    }
+
+    /// The variable of this name is to get the bytes of this list, as by [`Changes::put`], but the list is taken over instead
+    /// of copied. A refusal changes nothing, and hands the list back.
+    ///
+    /// # Errors
+    ///
+    /// The list, with the fault, which is as for [`Changes::put`]: [`PutFault::BadName`], else [`PutFault::EmptyData`], else
+    /// [`PutFault::DataTooLong`], else [`PutFault::OutOfMemory`].
+    pub fn put_vec(&mut self, name: &str, value: Vec<u8>) -> Result<(), PutRefusal>
+        ensures put { OnOk result ((vars : Variables) →
+            made vars self.new ≡ map.insert (made vars self.old) name.now value.items) }
+        ensures valid { OnOk result (IsVariable (name.now, value.items)) }
+        ensures unchanged { OnErr result (self.new ≡ self.old) }
+        ensures value_returned { IfErr result (λ refusal. refusal.value.items ≡ value.items) }
+
+        ensures bad_name { IsErrAnd result (λ refusal. refusal.fault ≡ PutFault.BadName)
+            ↔ (¬ IsName name.now) }
+        ensures empty_data { IsErrAnd result (λ refusal. refusal.fault ≡ PutFault.EmptyData)
+            ↔ (IsName name.now × (value.items ≡ [])) }
+        ensures data_too_long { IsErrAnd result (λ refusal. refusal.fault ≡ PutFault.DataTooLong)
+            ↔ (IsName name.now × (data_max < length value.items)) }
+    {
+        let changes = &mut self.changes;
+        if let Err(fault) = check_variable(name, value.as_slice()) {
+            return Err(PutRefusal { fault, value });
         }
-        if value.is_empty() {
-            return Err(PutFault::EmptyData);
-        }
-        if value.len() > DATA_MAX {
-            return Err(PutFault::DataTooLong);
-        }
-        let data = RcSlice::from_slice(*changes.allocator(), value)?;
-        set_change(changes, name, Some(data))?;
+        store(changes, name, value)?;
         Ok(())
     }
 
@@ -180,6 +187,31 @@ impl Changes {
         self.put(name_text(&name), value)
     }
 
+    /// The entry of this number, the variable `Boot####` (UEFI 2.10, 3.1.1), is to get the bytes of this list, as by
+    /// [`Changes::put_entry`], but the list is taken over instead of copied. A refusal changes nothing, and hands the list
+    /// back.
+    ///
+    /// # Errors
+    ///
+    /// The list, with the fault, which is as for [`Changes::put_entry`]: [`PutFault::EmptyData`], else
+    /// [`PutFault::DataTooLong`], else [`PutFault::OutOfMemory`].
+    pub fn put_entry_vec(&mut self, number: u16, value: Vec<u8>) -> Result<(), PutRefusal>
+        ensures put { OnOk result ((vars : Variables) →
+            made vars self.new ≡ map.insert (made vars self.old) (entry_text number) value.items) }
+        ensures valid { OnOk result (IsVariable (entry_text number, value.items)) }
+        ensures unchanged { OnErr result (self.new ≡ self.old) }
+        ensures value_returned { IfErr result (λ refusal. refusal.value.items ≡ value.items) }
+
+        ensures named { IfErr result (λ refusal. refusal.fault ≢ PutFault.BadName) }
+        ensures empty_data { IsErrAnd result (λ refusal. refusal.fault ≡ PutFault.EmptyData)
+            ↔ (value.items ≡ []) }
+        ensures data_too_long { IsErrAnd result (λ refusal. refusal.fault ≡ PutFault.DataTooLong)
+            ↔ (data_max < length value.items) }
+    {
+        let name = entry_name(number);
+        self.put_vec(name_text(&name), value)
+    }
+
     /// The variable of this name is to be taken out, if there is one then. A refusal changes nothing.
     ///
     /// # Errors
@@ -190,7 +222,7 @@ impl Changes {
             made vars self.new ≡ map.remove (made vars self.old) name.now) }
         ensures unchanged { OnErr result (self.new ≡ self.old) }
     {
-        set_change(&mut self.changes, name, None)?;
+        store_removal(&mut self.changes, name)?;
         Ok(())
     }
 
@@ -210,47 +242,37 @@ impl Changes {
     }
 }
 
-/// Where the change of this name stands among those, which are in the order of their names, or else where it would.
-fn search_change(changes: &[Change], name: &[u8]) -> Result<usize, usize>
-    requires { AreChanges (each_of changes.now) }
-    ensures found { IfOk result (IsAt (each_of changes.now) name.now) }
-    ensures absent { IfErr result (IsGap (each_of changes.now) name.now) }
-{
-    changes.binary_search_by(|change| change.name.as_bytes().cmp(name))
-}
-
-/// The change of this name, if there is one.
-fn find_change<'a>(changes: &'a [Change], name: &[u8]) -> Option<&'a Change>
-    requires { AreChanges (each_of changes.now) }
-    ensures { option_map (λ change. (change_of change.now).1) result
-        ≡ map.find name_cmp name.now (each_of changes.now) }
-{
-    match search_change(changes, name) {
-        Ok(place) => Some(&changes[place]),
-        Err(_) => None,
-    }
-}
-
-/// Sets what is to become of the variable of this name.
-fn set_change(
-    changes: &mut Vec<Change>,
-    name: &str,
-    value: Option<RcSlice<u8>>,
-) -> Result<(), AllocError>
-    requires rising { AreChanges (each_of changes.old.items) }
-    requires valid { IsChange (name.now, option_map rc_slice_items value) }
-    ensures stored { OnOk result (each_of changes.new.items
-        ≡ map.put name_cmp name.now (option_map rc_slice_items value) (each_of changes.old.items)) }
+/// The variable of this name is to get the bytes of this list, which is taken over, or handed back if memory is refused.
+fn store(changes: &mut Vec<Change>, name: &str, value: Vec<u8>) -> Result<(), AllocFailed<Vec<u8>>>
+    requires rising { AreChanges (pairs_of changes.old.items) }
+    requires valid { IsVariable (name.now, value.items) }
+    ensures stored { OnOk result (pairs_of changes.new.items
+        ≡ map.put name_cmp name.now (Some value.items) (pairs_of changes.old.items)) }
     ensures unchanged { OnErr result (changes.new.items ≡ changes.old.items) }
-    ensures held { AreChanges (each_of changes.new.items) }
+    ensures held { AreChanges (pairs_of changes.new.items) }
+    ensures value_returned { IfErr result (λ refusal. refusal.value ≡ value) }
 {
-    let alloc = *changes.allocator();
-    match search_change(changes, name.as_bytes()) {
-        Ok(place) => changes[place].data = value,
-        Err(place) => {
-            let name = String::from_str(alloc, name)?;
-            changes.insert(place, Change { name, data: value })?;
+    let Ok(place) = make_place(changes, name) else {
+        return Err(AllocFailed { value });
+    };
+    match Shared::from_vec(value) {
+        Ok(data) => {
+            set_at(changes, place, Some(data));
+            Ok(())
         }
+        Err(refusal) => Err(refusal),
     }
+}
+
+/// The variable of this name is to be taken out.
+fn store_removal(changes: &mut Vec<Change>, name: &str) -> Result<(), AllocError>
+    requires { AreChanges (pairs_of changes.old.items) }
+    ensures stored { OnOk result (pairs_of changes.new.items
+        ≡ map.put name_cmp name.now None (pairs_of changes.old.items)) }
+    ensures unchanged { OnErr result (changes.new.items ≡ changes.old.items) }
+    ensures held { AreChanges (pairs_of changes.new.items) }
+{
+    let place = make_place(changes, name)?;
+    set_at(changes, place, None);
     Ok(())
 }

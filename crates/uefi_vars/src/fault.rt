@@ -26,6 +26,16 @@ pub enum PutFault {
     OutOfMemory,
 }
 
+/// Why a variable isn't put among the others, with the list that was to be its data, which is handed back.
+#[derive(Debug, Drop, Error)]
+#[error("{fault}")]
+pub struct PutRefusal {
+    /// Why.
+    pub fault: PutFault,
+    /// The list, as it was handed in.
+    pub value: Vec<u8>,
+}
+
 /// Why bytes are no set file. The number is the offset of the record with the fault, in bytes from the first byte of the
 /// file; a bad magic stands at 0.
 #[derive(Clone, Copy, Debug, PartialEq, Eq, Hash, Error)]
@@ -141,6 +151,26 @@ impl<T: Drop> From<AllocFailed<T>> for PutFault {
 
     fn from(_refusal: AllocFailed<T>) -> PutFault {
         PutFault::OutOfMemory
+    }
+}
+
+impl From<PutRefusal> for PutFault {
+    ghost from_gives = { λ refusal made. made ≡ refusal.fault };
+
+    fn from(refusal: PutRefusal) -> PutFault {
+        refusal.fault
+    }
+}
+
+impl From<AllocFailed<Vec<u8>>> for PutRefusal {
+    ghost from_gives = { λ refusal made.
+        (made.fault ≡ put.OutOfMemory) × (made.value ≡ refusal.value) };
+
+    fn from(refusal: AllocFailed<Vec<u8>>) -> PutRefusal {
+        PutRefusal {
+            fault: PutFault::OutOfMemory,
+            value: refusal.value,
+        }
     }
 }
 

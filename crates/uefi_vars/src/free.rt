@@ -16,7 +16,7 @@ pub fn lowest_free(vars: &Vars) -> Option<u16>
     let mut free = 0;
     // The names of entries rise with their numbers, so the entry of the next number can't have come before.
     for variable in vars.variables() {
-        if entry_number(&variable.name) == Some(free) {
+        if entry_number(variable.name.as_str()) == Some(free) {
             free = free.checked_add(1)?;
         }
     }

@@ -16,15 +16,17 @@ mod fault;
 mod free;
 pub mod laws;
 mod name;
+mod named;
 mod order;
 mod planning;
 mod reading;
+mod shared;
 mod vars;
 mod writing;
 
 pub use boot_plan::{BootPlan, Choice, PlanNumbers};
 pub use changes::Changes;
-pub use fault::{PutFault, SetFault, VarFault};
+pub use fault::{PutFault, PutRefusal, SetFault, VarFault};
 pub use free::lowest_free;
 pub use name::{BOOT_NEXT, BOOT_ORDER, NAME_MAX, entry_name, entry_number};
 pub use order::{ORDER_MAX, boot_next, boot_order};

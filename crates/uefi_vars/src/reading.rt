@@ -1,21 +1,24 @@
 //! Bytes to variables.
 
-ghost use Rattle.std.specs.Prelude.{◌≡◌, ◌≢◌, ◌↔◌, ◌≤◌, [], length, drop, IfOk, IfErr, Ok, Err, IsTrue};
+ghost use Rattle.std.specs.Prelude.{◌≡◌, ◌≢◌, ◌↔◌, ◌<◌, ◌≤◌, ◌^◌, ◌++◌, [], List, ℕ, length, drop, IfOk, IfErr, Ok, Err, IsTrue};
 ghost use Rattle.std.specs.List.Sorted.{IsStrictlySortedBy};
 ghost use Rattle.uefi_path.specs.Answer.{IsUnless};
 ghost use Rattle.uefi_vars.specs.declared.fault.SetFault.{SetFault};
+ghost use Rattle.uefi_vars.specs.Name.{IsName};
 ghost use Rattle.uefi_vars.specs.Vars.{Variables, name_cmp};
-ghost use Rattle.uefi_vars.specs.Set.{SpellsSet};
+ghost use Rattle.uefi_vars.specs.Set.{record_bytes, SpellsSet};
 ghost use Rattle.uefi_vars.specs.Fault.{HasNoMagic, IsAbove, IsFirstFault};
-ghost use Rattle.uefi_vars.specs.Records.{pairs_of};
+ghost use Rattle.uefi_vars.specs.Records.{pair_of, pairs_of};
 ghost use Rattle.uefi_vars.specs.Reading.{names_of, SplitsName, IsNameFault, SplitsData, IsDataFault, HasRecords, HasRecordsFault};
 
 use crate::fault::SetFault;
 use crate::laws;
 use crate::name::{NAME_MAX, is_name, name_text};
+use crate::named::Named;
+use crate::shared::{Shared, SharedText};
 use crate::vars::{DATA_MAX, Variable, Vars};
-use crate::writing::MAGIC;
-use std::alloc::Global;
+use crate::writing::{DATA_LEN_SIZE, MAGIC, NAME_LEN_SIZE};
+use std::alloc::{AllocError, Global};
 
 /// The name at the front of a record, which stands at this place, and the bytes behind it.
 fn split_name(bytes: &[u8], place: usize) -> Result<(&str, &[u8]), SetFault>
@@ -69,14 +72,35 @@ fn rises(variables: &[Variable], name: &str) -> bool
     }
 }
 
-/// The variables whose records the bytes are from this place on, one after the other.
-fn read_variables(alloc: Global, bytes: &[u8], start: usize) -> Result<Vec<Variable>, SetFault>
-    requires { start ≤ length bytes.now }
-    ensures found { IfOk result (λ variables.
-        HasRecords (drop start bytes.now) (pairs_of variables.items) []) }
-    ensures fault { IfErr result (λ fault.
-        fault ≢ SetFault.OutOfMemory → HasRecordsFault (drop start bytes.now) start fault) }
+/// The variable of this name and this data, whose record stands at this place of the file. It shares the file's bytes.
+fn shared_variable(
+    file: &Shared,
+    place: usize,
+    name: &str,
+    value: &[u8],
+) -> Result<Variable, AllocError>
+    requires fits { length file.now < 2 ^ 64 }
+    requires name { IsName name.now }
+    requires record { (rest : List ℕ) × (drop place file.now ≡ record_bytes (name.now, value.now) ++ rest) }
+    ensures { IfOk result (λ variable. pair_of variable ≡ (name.now, value.now)) }
 {
+    let name_start = place + NAME_LEN_SIZE;
+    let value_start = name_start + name.len() + DATA_LEN_SIZE;
+    Ok(Named {
+        name: SharedText::from_utf8(file.part(name_start, name.len())?),
+        kept: file.part(value_start, value.len())?,
+    })
+}
+
+/// The variables whose records the file's bytes are from this place on, one after the other. They share the file's bytes.
+fn read_variables(alloc: Global, file: &Shared, start: usize) -> Result<Vec<Variable>, SetFault>
+    requires { start ≤ length file.now }
+    ensures found { IfOk result (λ variables.
+        HasRecords (drop start file.now) (pairs_of variables.items) []) }
+    ensures fault { IfErr result (λ fault.
+        fault ≢ SetFault.OutOfMemory → HasRecordsFault (drop start file.now) start fault) }
+{
+    let bytes = file.as_slice();
     let mut variables = Vec::new(alloc);
     let mut rest = &bytes[start..];
     while !rest.is_empty() {
@@ -86,7 +110,7 @@ fn read_variables(alloc: Global, bytes: &[u8], start: usize) -> Result<Vec<Varia
             return Err(SetFault::NotRising(place));
         }
         let (data, behind) = split_data(behind, place)?;
-        variables.push(Variable::new(alloc, name, data)?)?;
+        variables.push(shared_variable(file, place, name, data)?)?;
         rest = behind;
     }
     Ok(variables)
@@ -101,13 +125,16 @@ fn read_magic_and_variables(alloc: Global, bytes: &[u8]) -> Result<Vars, SetFaul
     if !bytes.starts_with(&MAGIC) {
         return Err(SetFault::BadMagic(0));
     }
-    let variables = read_variables(alloc, bytes, MAGIC.len())?;
+    let file = Shared::from_slice(alloc, bytes)?;
+    let variables = read_variables(alloc, &file, MAGIC.len())?;
     Ok(Vars::from_variables(variables))
 }
 
 /// Reads the variables whose set file the bytes are, all of them. The file has this crate's own format, not one of the
 /// standard's: the four bytes `BVS1` and, for each variable, in the rising order of the names' bytes, the length of its
-/// name in one byte, its name, the length of its data in four bytes, little-endian, and its data.
+/// name in one byte, its name, the length of its data in four bytes, little-endian, and its data. The bytes are copied once,
+/// all together: the names and the data of the variables are parts of the copy, which stays in memory as long as one of the
+/// variables, or a copy of one, is there.
 ///
 /// # Errors
 ///

@@ -1,56 +1,30 @@
 //! The variables of a machine as one value.
 
-ghost use Rattle.std.specs.Prelude.{◌≡◌, ◌≢◌, ◌↔◌, ◌<◌, ◌≤◌, ◌+◌, [], length, slice_get, is_some, Err, IfOk, IfErr, OnOk, OnErr, IsTrue};
+ghost use Rattle.std.specs.Prelude.{◌≡◌, ◌≢◌, ◌↔◌, ◌<◌, ◌≤◌, ◌+◌, [], length, slice_get, is_some, Err, IfOk, IfErr, IsErrAnd, OnOk, OnErr, IsTrue};
 ghost use Rattle.std.specs.Option.{option_map};
 ghost use Rattle.std.specs.List.{AllByRecursion};
 ghost use Rattle.std.specs.Vec.{vec_len, vec_capacity};
-ghost use Rattle.std.specs.Rc.{rc_slice_items};
-ghost use Rattle.std.specs.String.{string_bytes};
 ghost use Rattle.std.specs.FinMap as map;
 ghost use Rattle.uefi_vars.specs.declared.fault.PutFault.{PutFault};
 ghost use Rattle.uefi_vars.specs.Name.{IsName, entry_text};
 ghost use Rattle.uefi_vars.specs.Vars.{name_cmp, data_max, IsVariable, IsVars, entry_of};
-ghost use Rattle.uefi_vars.specs.Records.{pair_of, pairs_of, AreVariables, vars_of, without, IsAt, IsGap};
+ghost use Rattle.uefi_vars.specs.Records.{pair_of, pairs_of, AreVariables, vars_of, without};
 ghost use Rattle.uefi_vars.specs.Made.{made, with_data, after_each, IsChange};
-ghost use Rattle.uefi_vars.specs.ChangeRecords.{change_of, each_of};
 
 use crate::changes::{Change, Changes};
-use crate::fault::PutFault;
+use crate::fault::{PutFault, PutRefusal};
 use crate::name::{entry_name, is_name, name_text};
-use std::alloc::{AllocError, Global};
+use crate::named::{Named, find, make_place, place_of, search, set_at};
+use crate::shared::Shared;
+use std::alloc::{AllocError, AllocFailed, Global};
 use std::marker::Model;
-use std::rc::RcSlice;
 
 /// The most bytes that the data of a variable has.
 pub const DATA_MAX: usize = 1_048_576;
 
-/// A variable: its name, and its data, which its copies share. Shared data is never written into: a variable that is set
-/// gets new data.
-#[derive(Debug, PartialEq, Eq, Drop)]
-pub(crate) struct Variable {
-    pub(crate) name: String,
-    pub(crate) data: RcSlice<u8>,
-}
-
-impl Variable {
-    /// A variable of this name and this data, which are copied.
-    pub(crate) fn new(alloc: Global, name: &str, value: &[u8]) -> Result<Variable, AllocError>
-        ensures { IfOk result (λ variable. pair_of variable ≡ (name.now, value.now)) }
-    {
-        let name = String::from_str(alloc, name)?;
-        let data = RcSlice::from_slice(alloc, value)?;
-        Ok(Variable { name, data })
-    }
-
-    /// An equal variable, which shares the data.
-    fn copy(&self, alloc: Global) -> Result<Variable, AllocError>
-        ensures { IfOk result (λ copy. pair_of copy ≡ pair_of self.now) }
-    {
-        let name = String::from_str(alloc, &self.name)?;
-        let data = self.data.clone()?;
-        Ok(Variable { name, data })
-    }
-}
+/// A variable: its name and its data, of which its copies share the bytes. Nobody writes into shared bytes: a variable that
+/// is set gets new ones.
+pub(crate) type Variable = Named<Shared>;
 
 /// The variables of a machine: a finite map from names to data. A name has one to [`NAME_MAX`](crate::NAME_MAX) characters
 /// from 0x21 to 0x7E. No variable is without data, since setting a variable to no data deletes it (UEFI 2.10, 8.2), and none
@@ -122,7 +96,7 @@ impl<'a> Iterator for Iter<'a> {
     fn next(&mut self) -> Option<(&'a str, &'a [u8])> {
         let (variable, others) = self.variables.split_first()?;
         self.variables = others;
-        Some((variable.name.as_str(), variable.data.as_slice()))
+        Some((variable.name.as_str(), variable.kept.as_slice()))
     }
 }
 
@@ -160,8 +134,10 @@ impl Vars {
         &self.variables
     }
 
-    /// An equal value. The two share the data of the variables, so this takes memory for the names alone, and no later
-    /// change of one shows in the other. The one refusal is for want of memory.
+    /// An equal value. The two share the bytes of the names and of the data, so this takes memory for one list alone, and no
+    /// later change of one shows in the other. Bytes stay in memory as long as one value has them: those of a list that
+    /// [`Vars::put_vec`] took over, and those of a whole file that [`read_set`](crate::read_set) read, as long as one variable
+    /// of that file is in one of the values. The one refusal is for want of memory.
     pub fn copy(&self, alloc: Global) -> Result<Vars, AllocError>
         ensures equal { IfOk result (λ vars. vars ≡ self.now) }
         ensures valid { IsVars self.now }
@@ -191,7 +167,7 @@ impl Vars {
         ensures value { option_map (λ bytes. bytes.now) result ≡ map.get self.now name.now }
         ensures valid { IsVars self.now }
     {
-        find(&self.variables, name.as_bytes())
+        find_data(&self.variables, name.as_bytes())
     }
 
     /// The data of the entry of this number, the variable `Boot####` (UEFI 2.10, 3.1.1), if there is one.
@@ -199,7 +175,7 @@ impl Vars {
         ensures value { option_map (λ bytes. bytes.now) result ≡ entry_of self.now number }
         ensures valid { IsVars self.now }
     {
-        find(&self.variables, &entry_name(number))
+        find_data(&self.variables, &entry_name(number))
     }
 
     /// The variable at this place in the rising order of the names' bytes, counted from 0: its name and its data, if there
@@ -210,7 +186,7 @@ impl Vars {
         ensures valid { IsVars self.now }
     {
         let variable = self.variables.get(index)?;
-        Some((variable.name.as_str(), variable.data.as_slice()))
+        Some((variable.name.as_str(), variable.kept.as_slice()))
     }
 
     /// The variables in the rising order of the names' bytes, each as its name and its data.
@@ -242,14 +218,35 @@ impl Vars {
         ensures valid { IsVars self.new }
     {
         let variables = &mut self.variables;
-        if !is_name(name.as_bytes()) {
-            return Err(PutFault::BadName);
-        }
-        if value.is_empty() {
-            return Err(PutFault::EmptyData);
-        }
-        if value.len() > DATA_MAX {
-            return Err(PutFault::DataTooLong);
+        check_variable(name, value)?;
+        let value = Vec::from_slice(*variables.allocator(), value)?;
+        store(variables, name, value)?;
+        Ok(())
+    }
+
+    /// Sets the variable of this name to the bytes of this list, as [`Vars::put`] does, but takes the list over instead of
+    /// copying it. A refusal changes nothing, and hands the list back.
+    ///
+    /// # Errors
+    ///
+    /// The list, with the fault, which is as for [`Vars::put`]: [`PutFault::BadName`], else [`PutFault::EmptyData`], else
+    /// [`PutFault::DataTooLong`], else [`PutFault::OutOfMemory`].
+    pub fn put_vec(&mut self, name: &str, value: Vec<u8>) -> Result<(), PutRefusal>
+        ensures put { OnOk result (self.new ≡ map.insert self.old name.now value.items) }
+        ensures unchanged { OnErr result (self.new ≡ self.old) }
+        ensures value_returned { IfErr result (λ refusal. refusal.value.items ≡ value.items) }
+
+        ensures bad_name { IsErrAnd result (λ refusal. refusal.fault ≡ PutFault.BadName)
+            ↔ (¬ IsName name.now) }
+        ensures empty_data { IsErrAnd result (λ refusal. refusal.fault ≡ PutFault.EmptyData)
+            ↔ (IsName name.now × (value.items ≡ [])) }
+        ensures data_too_long { IsErrAnd result (λ refusal. refusal.fault ≡ PutFault.DataTooLong)
+            ↔ (IsName name.now × (data_max < length value.items)) }
+        ensures valid { IsVars self.new }
+    {
+        let variables = &mut self.variables;
+        if let Err(fault) = check_variable(name, value.as_slice()) {
+            return Err(PutRefusal { fault, value });
         }
         store(variables, name, value)?;
         Ok(())
@@ -276,6 +273,30 @@ impl Vars {
         self.put(name_text(&name), value)
     }
 
+    /// Sets the entry of this number, the variable `Boot####` (UEFI 2.10, 3.1.1), to the bytes of this list, as
+    /// [`Vars::put_entry`] does, but takes the list over instead of copying it. A refusal changes nothing, and hands the list
+    /// back.
+    ///
+    /// # Errors
+    ///
+    /// The list, with the fault, which is as for [`Vars::put_entry`]: [`PutFault::EmptyData`], else
+    /// [`PutFault::DataTooLong`], else [`PutFault::OutOfMemory`].
+    pub fn put_entry_vec(&mut self, number: u16, value: Vec<u8>) -> Result<(), PutRefusal>
+        ensures put { OnOk result (self.new ≡ map.insert self.old (entry_text number) value.items) }
+        ensures unchanged { OnErr result (self.new ≡ self.old) }
+        ensures value_returned { IfErr result (λ refusal. refusal.value.items ≡ value.items) }
+
+        ensures named { IfErr result (λ refusal. refusal.fault ≢ PutFault.BadName) }
+        ensures empty_data { IsErrAnd result (λ refusal. refusal.fault ≡ PutFault.EmptyData)
+            ↔ (value.items ≡ []) }
+        ensures data_too_long { IsErrAnd result (λ refusal. refusal.fault ≡ PutFault.DataTooLong)
+            ↔ (data_max < length value.items) }
+        ensures valid { IsVars self.new }
+    {
+        let name = entry_name(number);
+        self.put_vec(name_text(&name), value)
+    }
+
     /// Takes out the variable of this name. Whether there was one.
     pub fn remove(&mut self, name: &str) -> bool
         ensures was { result ≡ map.contains_key self.old name.now }
@@ -294,7 +315,8 @@ impl Vars {
         erase(&mut self.variables, &entry_name(number))
     }
 
-    /// Makes these changes, or none of them if memory for the new names is refused.
+    /// Makes these changes, or none of them if memory for more variables is refused. Their names and data are taken over, and
+    /// not copied.
     ///
     /// # Errors
     ///
@@ -308,13 +330,33 @@ impl Vars {
     }
 }
 
+/// Whether this name and this data may stand in a set.
+pub(crate) fn check_variable(name: &str, value: &[u8]) -> Result<(), PutFault>
+    ensures valid { OnOk result (IsVariable (name.now, value.now)) }
+    ensures bad_name { (result ≡ Err PutFault.BadName) ↔ (¬ IsName name.now) }
+    ensures empty_data { (result ≡ Err PutFault.EmptyData) ↔ (IsName name.now × (value.now ≡ [])) }
+    ensures data_too_long { (result ≡ Err PutFault.DataTooLong)
+        ↔ (IsName name.now × (data_max < length value.now)) }
+{
+    if !is_name(name.as_bytes()) {
+        return Err(PutFault::BadName);
+    }
+    if value.is_empty() {
+        return Err(PutFault::EmptyData);
+    }
+    if value.len() > DATA_MAX {
+        return Err(PutFault::DataTooLong);
+    }
+    Ok(())
+}
+
 /// Makes the changes, which are in the order of their names, one after the other. Nothing changes if there is no memory for
-/// the new names.
+/// more variables.
 fn make_each(variables: &mut Vec<Variable>, changes: Vec<Change>) -> Result<(), AllocError>
     requires rising { AreVariables (pairs_of variables.old.items) }
-    requires valid { AllByRecursion IsChange (each_of changes.items) }
+    requires valid { AllByRecursion IsChange (pairs_of changes.items) }
     ensures made { OnOk result (vars_of variables.new.items
-        ≡ after_each (vars_of variables.old.items) (each_of changes.items)) }
+        ≡ after_each (vars_of variables.old.items) (pairs_of changes.items)) }
     ensures unchanged { OnErr result (variables.new.items ≡ variables.old.items) }
     ensures held { AreVariables (pairs_of variables.new.items) }
 {
@@ -328,78 +370,71 @@ fn make_each(variables: &mut Vec<Variable>, changes: Vec<Change>) -> Result<(), 
 /// Makes one change. There is room for a new name.
 fn make_one(variables: &mut Vec<Variable>, change: Change)
     requires rising { AreVariables (pairs_of variables.old.items) }
-    requires valid { IsChange (change_of change) }
+    requires valid { IsChange (pair_of change) }
     requires room { vec_len variables.old < vec_capacity variables.old }
     ensures made { vars_of variables.new.items
-        ≡ with_data (vars_of variables.old.items) (change_of change).0 (change_of change).1 }
+        ≡ with_data (vars_of variables.old.items) (pair_of change).0 (pair_of change).1 }
     ensures held { AreVariables (pairs_of variables.new.items) }
     ensures len { vec_len variables.new ≤ vec_len variables.old + 1 }
     ensures capacity { vec_capacity variables.old ≤ vec_capacity variables.new }
 {
-    let Change { name, data } = change;
-    match data {
-        Some(data) => place(variables, name, data),
+    let Named { name, kept } = change;
+    match kept {
+        Some(data) => move_in(variables, Named { name, kept: data }),
         None => {
             erase(variables, name.as_bytes());
         }
     }
 }
 
-/// Sets the variable of this name to this data. There is room for a new name.
-fn place(variables: &mut Vec<Variable>, name: String, value: RcSlice<u8>)
+/// The data of the variable of this name, if there is one.
+fn find_data<'a>(variables: &'a [Variable], name: &[u8]) -> Option<&'a [u8]>
+    requires { AreVariables (pairs_of variables.now) }
+    ensures { option_map (λ bytes. bytes.now) result ≡ map.find name_cmp name.now (pairs_of variables.now) }
+{
+    Some(find(variables, name)?.as_slice())
+}
+
+/// Puts this variable among those, in place of one of its name. There is room for a new name.
+fn move_in(variables: &mut Vec<Variable>, variable: Variable)
     requires rising { AreVariables (pairs_of variables.old.items) }
-    requires valid { IsVariable (string_bytes name, rc_slice_items value) }
+    requires valid { IsVariable (pair_of variable) }
     requires room { vec_len variables.old < vec_capacity variables.old }
     ensures stored { pairs_of variables.new.items
-        ≡ map.put name_cmp (string_bytes name) (rc_slice_items value) (pairs_of variables.old.items) }
+        ≡ map.put name_cmp variable.name variable.kept (pairs_of variables.old.items) }
     ensures held { AreVariables (pairs_of variables.new.items) }
     ensures len { vec_len variables.new ≤ vec_len variables.old + 1 }
     ensures capacity { vec_capacity variables.old ≤ vec_capacity variables.new }
 {
-    match search(variables, name.as_bytes()) {
-        Ok(place) => variables[place].data = value,
-        Err(place) => {
-            let inserted = variables.insert(place, Variable { name, data: value });
-            prove!(inserted.is_ok());
-        }
-    }
+    let Named { name, kept } = variable;
+    let place = place_of(variables, name);
+    set_at(variables, place, kept);
 }
 
-/// Where the variable of this name stands among those, which are in the order of their names, or else where it would.
-fn search(variables: &[Variable], name: &[u8]) -> Result<usize, usize>
-    requires { AreVariables (pairs_of variables.now) }
-    ensures found { IfOk result (IsAt (pairs_of variables.now) name.now) }
-    ensures absent { IfErr result (IsGap (pairs_of variables.now) name.now) }
-{
-    variables.binary_search_by(|variable| variable.name.as_bytes().cmp(name))
-}
-
-/// The data of the variable of this name, if there is one.
-fn find<'a>(variables: &'a [Variable], name: &[u8]) -> Option<&'a [u8]>
-    requires { AreVariables (pairs_of variables.now) }
-    ensures { option_map (λ bytes. bytes.now) result ≡ map.find name_cmp name.now (pairs_of variables.now) }
-{
-    match search(variables, name) {
-        Ok(place) => Some(variables[place].data.as_slice()),
-        Err(_) => None,
-    }
-}
-
-/// Sets the variable of this name to this data.
-fn store(variables: &mut Vec<Variable>, name: &str, value: &[u8]) -> Result<(), AllocError>
+/// Sets the variable of this name to the bytes of this list, which is taken over, or handed back if memory is refused.
+fn store(
+    variables: &mut Vec<Variable>,
+    name: &str,
+    value: Vec<u8>,
+) -> Result<(), AllocFailed<Vec<u8>>>
     requires rising { AreVariables (pairs_of variables.old.items) }
-    requires valid { IsVariable (name.now, value.now) }
+    requires valid { IsVariable (name.now, value.items) }
     ensures stored { OnOk result (pairs_of variables.new.items
-        ≡ map.put name_cmp name.now value.now (pairs_of variables.old.items)) }
+        ≡ map.put name_cmp name.now value.items (pairs_of variables.old.items)) }
     ensures unchanged { OnErr result (variables.new.items ≡ variables.old.items) }
     ensures held { AreVariables (pairs_of variables.new.items) }
+    ensures value_returned { IfErr result (λ refusal. refusal.value ≡ value) }
 {
-    let alloc = *variables.allocator();
-    match search(variables, name.as_bytes()) {
-        Ok(place) => variables[place].data = RcSlice::from_slice(alloc, value)?,
-        Err(place) => variables.insert(place, Variable::new(alloc, name, value)?)?,
+    let Ok(place) = make_place(variables, name) else {
+        return Err(AllocFailed { value });
+    };
+    match Shared::from_vec(value) {
+        Ok(data) => {
+            set_at(variables, place, data);
+            Ok(())
+        }
+        Err(refusal) => Err(refusal),
     }
-    Ok(())
 }
 
 /// Takes out the variable of this name. Whether there was one.
@@ -420,13 +455,23 @@ fn erase(variables: &mut Vec<Variable>, name: &[u8]) -> bool
     }
 }
 
-/// Equal variables, which share the data, if there is memory for their names.
+/// An equal variable, which shares the bytes.
+fn copy_variable(variable: &Variable) -> Result<Variable, AllocError>
+    ensures { IfOk result (λ copy. pair_of copy ≡ pair_of variable.now) }
+{
+    Ok(Named {
+        name: variable.name.copy()?,
+        kept: variable.kept.copy()?,
+    })
+}
+
+/// Equal variables, which share the bytes.
 fn copy_variables(alloc: Global, variables: &[Variable]) -> Result<Vec<Variable>, AllocError>
     ensures { IfOk result (λ copies. pairs_of copies.items ≡ pairs_of variables.now) }
 {
     let mut copies = Vec::with_capacity(alloc, variables.len())?;
     for variable in variables {
-        copies.push(variable.copy(alloc)?)?;
+        copies.push(copy_variable(variable)?)?;
     }
     Ok(copies)
 }

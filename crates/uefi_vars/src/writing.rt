@@ -13,8 +13,11 @@ use std::alloc::{AllocError, Global};
 /// What a set file begins with: `BVS1`.
 pub(crate) const MAGIC: [u8; 4] = [0x42, 0x56, 0x53, 0x31];
 
-/// How many bytes of a record state the lengths of its name and of its data.
-const LENGTHS_LEN: usize = 5;
+/// How many bytes of a record state the length of its name.
+pub(crate) const NAME_LEN_SIZE: usize = 1;
+
+/// How many bytes of a record state the length of its data.
+pub(crate) const DATA_LEN_SIZE: usize = 4;
 
 /// How many bytes the record of a variable has.
 fn record_len(variable: &Variable) -> usize
@@ -22,7 +25,9 @@ fn record_len(variable: &Variable) -> usize
     ensures { result ≡ length (record_bytes (pair_of variable.now)) }
 {
     // A name has at most NAME_MAX characters, and data at most DATA_MAX bytes.
-    LENGTHS_LEN + variable.name.len() + variable.data.len()
+    let name = variable.name.as_bytes();
+    let data = variable.kept.as_slice();
+    NAME_LEN_SIZE + name.len() + DATA_LEN_SIZE + data.len()
 }
 
 /// How many bytes the set file of variables has: `None` where `usize` can't hold it.
@@ -43,13 +48,15 @@ fn append_variable(variable: &Variable, out: &mut Vec<u8>) -> Result<(), AllocEr
     requires { IsVariable (pair_of variable.now) }
     ensures { OnOk result (out.new.items ≡ out.old.items ++ record_bytes (pair_of variable.now)) }
 {
+    let name = variable.name.as_bytes();
+    let data = variable.kept.as_slice();
     // A name has at most NAME_MAX characters, and data at most DATA_MAX bytes.
-    let name_len = variable.name.len() as u8;
-    let data_len = variable.data.len() as u32;
+    let name_len = name.len() as u8;
+    let data_len = data.len() as u32;
     out.push(name_len)?;
-    out.extend_from_slice(variable.name.as_bytes())?;
+    out.extend_from_slice(name)?;
     out.extend_from_slice(&data_len.to_le_bytes())?;
-    out.extend_from_slice(&variable.data)
+    out.extend_from_slice(data)
 }
 
 /// Appends the records of variables one after the other.

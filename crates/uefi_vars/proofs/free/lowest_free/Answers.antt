@@ -14,7 +14,7 @@ returns-in_err-free-clause-free c =
     let items = c.variables-variable-items in
     let at = item_at vars items.result.now i c.variable-item.result items.ensures.pairs c.loop-variable-test.true c.variable-item.is in
     let same = (optional_Decides Decides-eqb c.entry_number.result (Some free)).0 (sym c.if-eq.ensures) in
-    let named = sym c.deref.ensures ∙ ((c.entry_number.ensures free).0 same).1 in
+    let named = sym c.as_str.ensures ∙ ((c.entry_number.ensures free).0 same).1 in
     rw c.from_residual.ensures (λ number fits. taken_more vars i _ at free named c.loop-variable.invariant.taken number (omega (arith, c.in_err-free.ensures)))
 
 pub loop-variable-preserved : goal.loop-variable-preserved
@@ -28,14 +28,14 @@ loop-variable-preserved c =
     let equal = optional_Decides Decides-eqb c.entry_number.result (Some free) in
     elim c.if-eq.branch [
       | then-eq+in_ok-free w ↦
-          let named = sym c.deref.ensures ∙ ((c.entry_number.ensures free).0 (equal.0 (sym w.if-eq.ensures))).1 in
+          let named = sym c.as_str.ensures ∙ ((c.entry_number.ensures free).0 (equal.0 (sym w.if-eq.ensures))).1 in
           let more = w.in_ok-free.ensures in
           rw (w.free-is, more.1) (record { is = more.0; taken = taken_more vars i _ at free named before.taken; passed = pass_next vars i _ at free named more.0 })
       | else-eq w ↦
           rw w.free-is (record {
             is = before.is;
             taken = before.taken;
-            passed = pass vars i _ at free before.passed (λ named. false≢true (w.if-eq.ensures ∙ equal.1 ((c.entry_number.ensures free).1 (before.is, c.deref.ensures ∙ named))));
+            passed = pass vars i _ at free before.passed (λ named. false≢true (w.if-eq.ensures ∙ equal.1 ((c.entry_number.ensures free).1 (before.is, c.as_str.ensures ∙ named))));
           })
     ]
 

@@ -24,6 +24,6 @@ returns c =
     let read = slice_get-get_or c.deref.result.now c.args.index variable (omega (arith, found)) in
     let listed = ap (λ l. slice_get l c.args.index) (sym (ap entries c.self.view_is) ∙ entries-vars_of variables c.self.invariant ∙ sym (ap pairs_of c.deref.ensures.value)) ∙ slice_get-map pair_of c.deref.result.now c.args.index ∙ ap (option_map pair_of) read in
     record {
-      item = (λ i. Some (c.as_str.ensures.value i, c.as_slice.ensures.value i)) ∙ ap (λ v. Some (pair_of v)) found.1 ∙ sym listed;
+      item = (λ i. Some (c.as_str.ensures i, c.as_slice.ensures i)) ∙ ap (λ v. Some (pair_of v)) found.1 ∙ sym listed;
       valid = subst IsVars c.self.view_is (IsVars-vars_of variables c.self.invariant);
     }

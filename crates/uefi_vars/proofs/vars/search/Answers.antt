@@ -1,8 +1,0 @@
-use Rattle.std.proofs.Common.{rules}
-use Rattle.uefi_vars.specs.Records.{pair_of}
-use Rattle.uefi_vars.proofs.Places.{searched}
-use Rattle.uefi_vars.proofs.vars.search.Goals as goal
-
-pub returns : goal.returns
-returns c =
-    searched pair_of c.args.variables.now c.requires.rising c.args.name.now c.binary_search_by.result c.binary_search_by.ensures.bound c.binary_search_by.ensures.position (λ a r g called. search rules)
