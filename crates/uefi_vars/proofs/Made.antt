@@ -8,15 +8,10 @@ use Rattle.std.specs.FinMap.Entries.{find, put, is_sorted, is_sorted-put}
 use Rattle.std.proofs.lemmas.Cmp.{nat_list_cmp_total}
 use Rattle.uefi_vars.specs.declared.named.Named.{Named}
 use Rattle.uefi_vars.specs.Vars.{Variables, name_cmp, IsVariable, IsVars}
-use Rattle.uefi_vars.specs.Made.{NameChanges, with_data, after_each, made, IsChange}
+use Rattle.uefi_vars.specs.Made.{NameChanges, or_before, with_data, after_each, made, IsChange}
 use Rattle.uefi_vars.specs.Records.{pairs_of}
 use Rattle.uefi_vars.specs.ChangeRecords.{AreChanges, changes_of}
 use Rattle.uefi_vars.proofs.Maps.{name_cmp-IsAntisymmetric, sorted_parts, find_below, put_each, found_each, from_sorted-put_any}
-
--- what is changed, or else what was before
-abbrev pub or_before : Option (Option (List ℕ)) → Option (List ℕ) → Option (List ℕ)
-or_before None before = before
-or_before (Some now) before = now
 
 -- what is under a name after one change
 get_with_data : (vars : Variables) (name : List ℕ) (d : Option (List ℕ)) (q : List ℕ) → get (with_data vars name d) q ≡ cond (eq_by_cmp name_cmp q name) d (get vars q)

@@ -1,5 +1,5 @@
 -- A key's place among sorted entries: how a search finds it, and what is found, put and removed there.
-use Rattle.std.proofs.Common.{◌≡◌, ℕ, zero, suc, ◌<◌, true, cond, not, T, List, [], ◌∷◌, map, length, take, drop, set, get_or, slice_get, Some, None, IsSomeAnd, is_some, option_map, Result, Ok, Err, IfOk, IfErr, refl, sym, ap, subst, ◌∙◌, arith}
+use Rattle.std.proofs.Common.{◌≡◌, ◌≢◌, ℕ, zero, suc, ◌<◌, true, cond, not, T, List, [], ◌∷◌, map, length, take, drop, set, get_or, slice_get, Some, None, IsSomeAnd, is_some, option_map, Result, Ok, Err, IfOk, IfErr, refl, sym, ap, subst, ◌∙◌, arith}
 use Rattle.std.specs.List.{take-map, drop-map, AllByRecursion, AllWithin, HoldsAt, insert, remove}
 use Rattle.std.specs.List.Sorted.{IsSortedBy, IsSearchInRange, IsBinarySearchResult}
 use Rattle.std.specs.Ordering.{is_eq, is_lt, ordering_reverse, eq_by_cmp}
@@ -107,6 +107,38 @@ module _ {K X : Type 0} (R : K → K → Ordering) (o : IsTotalOrder R) (key : K
   sorted_above [] place rising named = absurd named
   sorted_above (e ∷ es) zero rising named = subst (λ k. AllByRecursion (λ f. R k f.0 ≡ Less) es) named (sorted_parts R e es rising).0
   sorted_above (e ∷ es) (suc place) rising named = sorted_above es place (sorted_parts R e es rising).1 named
+
+-- going over sorted names once, up to one
+
+pub not_below_itself : (name : List ℕ) → name_cmp name name ≢ Less
+not_below_itself name less = let tie = tied_itself nat_list_cmp_total name in cc
+
+pub not_below_lower : (low high : List ℕ) → name_cmp low high ≡ Less → name_cmp high low ≢ Less
+not_below_lower low high less back = let greater = after name_cmp nat_list_cmp_total high low less in cc
+
+module _ {X : Type 0} (name : List ℕ) (p : List ℕ × X) (pairs : List (List ℕ × X)) where
+  -- a lower pair is passed: the names from this one on are found behind it
+  pub find_behind : name_cmp p.0 name ≡ Less → (other : List ℕ) → name_cmp other name ≢ Less → find name_cmp other pairs ≡ find name_cmp other (p ∷ pairs)
+  find_behind less other from =
+      elim (name_cmp other p.0) as (λ r. name_cmp other p.0 ≡ r → find name_cmp other pairs ≡ cond (is_eq r) (Some p.1) (find name_cmp other pairs)) [
+        | Less ↦ λ t. refl
+        | Equal ↦ λ t. absurd (from (ap (λ k. name_cmp k name) (name_cmp-IsAntisymmetric other p.0 t) ∙ less))
+        | Greater ↦ λ t. refl
+      ] refl
+
+  pub find_here : name_cmp p.0 name ≡ Equal → find name_cmp name (p ∷ pairs) ≡ Some p.1
+  find_here equal =
+      find_first name_cmp nat_list_cmp_total name p pairs Equal (tied name_cmp nat_list_cmp_total name p.0 (name_cmp-IsAntisymmetric p.0 name equal))
+
+  all_above : (low : List ℕ) → name_cmp low name ≡ Less → (es : List (List ℕ × X)) → AllByRecursion (λ e. name_cmp name e.0 ≡ Less) es → AllByRecursion (λ e. name_cmp low e.0 ≡ Less) es
+  all_above low less [] h = tt
+  all_above low less (e ∷ es) h = (nat_list_cmp_total.trans low name e.0 less h.0, all_above low less es h.1)
+
+-- a greater pair at the front leaves none of the name
+pub find_none : {X : Type 0} (name : List ℕ) (p : List ℕ × X) (pairs : List (List ℕ × X)) → T (is_sorted name_cmp (p ∷ pairs)) → name_cmp p.0 name ≡ Greater → find name_cmp name (p ∷ pairs) ≡ None
+find_none name p pairs rising greater =
+    let less : name_cmp name p.0 ≡ Less = nat_list_cmp_total.antisymm name p.0 ∙ ap ordering_reverse greater in
+    find_below name_cmp name (p ∷ pairs) (less, all_above p.0 p pairs name less pairs (sorted_parts name_cmp p pairs rising).0)
 
 -- what a search says of places in a list is so of the entries made of its items
 module _ {A E : Type 0} (f : A → E) (P : E → Type 0) where

@@ -21,6 +21,11 @@ after_each vars (change ∷ changes) = after_each (with_data vars change.0 chang
 abbrev pub made : Variables → NameChanges → Variables
 made vars changes = after_each vars (entries changes)
 
+-- what is under a name then: what it is changed to, or else what was there before
+abbrev pub or_before : Option (Option (List ℕ)) → Option (List ℕ) → Option (List ℕ)
+or_before None before = before
+or_before (Some now) before = now
+
 -- new data is that of a variable of its name
 abbrev pub IsChange : List ℕ × Option (List ℕ) → Type 0
 IsChange change = IfSome change.1 (λ value. IsVariable (change.0, value))

@@ -1,10 +1,10 @@
 -- How variables, and changes of variables, are held: in the order of their names.
-use Rattle.std.specs.Prelude.{◌≡◌, ℕ, suc, ◌<◌, ◌≤◌, T, not, List, map, length, take, drop, slice_get, IsSomeAnd, ⊤}
+use Rattle.std.specs.Prelude.{◌≡◌, ◌≢◌, ℕ, suc, ◌<◌, ◌≤◌, T, not, List, map, length, take, drop, slice_get, IsSomeAnd, ⊤}
 use Rattle.std.specs.List.{AllByRecursion}
 use Rattle.std.specs.Ordering.{eq_by_cmp}
 use Rattle.std.specs.declared.cmp.Ordering.TheVariants.{Less}
 use Rattle.std.specs.FinMap.{is_sorted, from_sorted}
-use Rattle.std.specs.FinMap.Entries.{where_key}
+use Rattle.std.specs.FinMap.Entries.{find, where_key}
 use Rattle.uefi_vars.specs.declared.named.Named.{Named}
 use Rattle.uefi_vars.specs.declared.named.Place.{Place}
 use Rattle.uefi_vars.specs.declared.named.Place.TheVariants.{Taken, Free}
@@ -64,3 +64,7 @@ IsPlace pairs name (Free place held) = IsGap pairs name place × (held ≡ name)
 abbrev pub HasRoom : ℕ → ℕ → Place → Type 0
 HasRoom len capacity (Taken place) = ⊤
 HasRoom len capacity (Free place held) = len < capacity
+
+-- under this name, and under each name above it, the second of these lists keeps what the first one does
+abbrev pub FindsAllFrom : {X : Type 0} → List ℕ → List (List ℕ × X) → List (List ℕ × X) → Type 0
+FindsAllFrom name pairs left = (other : List ℕ) → name_cmp other name ≢ Less → find name_cmp other left ≡ find name_cmp other pairs

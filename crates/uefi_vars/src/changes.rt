@@ -1,12 +1,12 @@
 //! What is to become of variables, before it is made.
 
-ghost use Rattle.std.specs.Prelude.{◌≡◌, ◌≢◌, ◌↔◌, ◌<◌, [], length, Some, None, Err, OnOk, OnErr, IfOk, IfErr, IsErrAnd};
+ghost use Rattle.std.specs.Prelude.{◌≡◌, ◌≢◌, ◌↔◌, ◌<◌, [], length, is_some, Some, None, Err, OnOk, OnErr, IfOk, IfErr, IsErrAnd};
 ghost use Rattle.std.specs.Option.{option_map};
 ghost use Rattle.std.specs.FinMap as map;
 ghost use Rattle.uefi_vars.specs.declared.fault.PutFault.{PutFault};
 ghost use Rattle.uefi_vars.specs.Name.{IsName, entry_text};
 ghost use Rattle.uefi_vars.specs.Vars.{Variables, name_cmp, data_max, IsVariable, entry_of};
-ghost use Rattle.uefi_vars.specs.Made.{made, IsChange};
+ghost use Rattle.uefi_vars.specs.Made.{made, or_before, IsChange};
 ghost use Rattle.uefi_vars.specs.ChangeRecords.{AreChanges};
 ghost use Rattle.uefi_vars.specs.Records.{pairs_of};
 ghost use Rattle.uefi_vars.specs.Free.{IsLowestFreeIfAny};
@@ -14,7 +14,7 @@ ghost use Rattle.uefi_vars.specs.Free.{IsLowestFreeIfAny};
 use crate::fault::{PutFault, PutRefusal};
 use crate::free::lowest_free;
 use crate::name::{entry_name, name_text};
-use crate::named::{Named, find, make_place, set_at};
+use crate::named::{Named, find, make_place, seek, set_at};
 use crate::shared::Shared;
 use crate::vars::{Vars, check_variable};
 use std::alloc::{AllocError, AllocFailed, Global};
@@ -87,8 +87,7 @@ impl Changes {
     }
 
     /// The least number under which no entry is stored then, or `None` if all of 0x0000 to 0xFFFF are taken, as
-    /// [`lowest_free`] finds it. If nothing is to change, the call goes over the variables once; else it looks for the
-    /// entry of each number up to the one that is free.
+    /// [`lowest_free`] finds it. The call takes no memory, and goes over the variables and the changes once.
     pub fn lowest_free(&self, vars: &Vars) -> Option<u16>
         ensures { IsLowestFreeIfAny (entry_of (made vars.now self.now)) result }
     {
@@ -102,10 +101,18 @@ impl Changes {
     fn first_free(&self, vars: &Vars) -> Option<u16>
         ensures { IsLowestFreeIfAny (entry_of (made vars.now self.now)) result }
     {
+        let mut changes = self.changes.as_slice();
+        let mut variables = vars.variables();
+        // The names of entries rise with their numbers.
         for number in 0..=u16::MAX {
-            let Some(_data) = self.entry(vars, number) else {
+            let name = entry_name(number);
+            let (changes_left, change) = seek(changes, &name);
+            let (variables_left, data) = seek(variables, &name);
+            if !is_stored(change, data) {
                 return Some(number);
-            };
+            }
+            changes = changes_left;
+            variables = variables_left;
         }
         None
     }
@@ -239,6 +246,17 @@ impl Changes {
     {
         let name = entry_name(number);
         self.remove(name_text(&name))
+    }
+}
+
+/// Whether there is a variable of a name then, by the change of the name, if any, and else by the data that there is now.
+fn is_stored(change: Option<&Option<Shared>>, before: Option<&Shared>) -> bool
+    ensures { result ≡ is_some (or_before
+        (option_map (λ kept. kept.now) change.entry) (option_map (λ kept. kept.now) before.entry)) }
+{
+    match change {
+        Some(new) => new.is_some(),
+        None => before.is_some(),
     }
 }
 

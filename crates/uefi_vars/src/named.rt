@@ -5,10 +5,11 @@ ghost use Rattle.std.specs.Option.{option_map};
 ghost use Rattle.std.specs.Vec.{vec_len, vec_capacity};
 ghost use Rattle.std.specs.FinMap as map;
 ghost use Rattle.uefi_vars.specs.Vars.{name_cmp};
-ghost use Rattle.uefi_vars.specs.Records.{pairs_of, IsRising, IsAt, IsGap, IsPlace, HasRoom};
+ghost use Rattle.uefi_vars.specs.Records.{pairs_of, IsRising, IsAt, IsGap, IsPlace, HasRoom, FindsAllFrom};
 
 use crate::shared::SharedText;
 use std::alloc::AllocError;
+use std::cmp::Ordering;
 
 /// A name, and what is kept under it.
 #[derive(Debug, PartialEq, Eq, Drop)]
@@ -44,6 +45,25 @@ pub(crate) fn find<'a, T>(items: &'a [Named<T>], name: &[u8]) -> Option<&'a T>
         Ok(index) => Some(&items[index].kept),
         Err(_) => None,
     }
+}
+
+/// These from this name on, and what is kept under the name, if anything. So names that rise are found in one pass.
+pub(crate) fn seek<'a, T>(items: &'a [Named<T>], name: &[u8]) -> (&'a [Named<T>], Option<&'a T>)
+    requires { IsRising (pairs_of items.now) }
+    ensures rising { IsRising (pairs_of result.0.now) }
+    ensures found { option_map (λ kept. kept.now) result.1
+        ≡ map.find name_cmp name.now (pairs_of items.now) }
+    ensures left { FindsAllFrom name.now (pairs_of items.now) (pairs_of result.0.now) }
+{
+    let mut left = items;
+    while let Some((first, behind)) = left.split_first() {
+        match first.name.as_bytes().cmp(name) {
+            Ordering::Less => left = behind,
+            Ordering::Equal => return (left, Some(&first.kept)),
+            Ordering::Greater => return (left, None),
+        }
+    }
+    (left, None)
 }
 
 /// Where what is to be kept under this name goes.

@@ -60,6 +60,13 @@ impl Shared {
         &list[self.start..self.start + self.len]
     }
 
+    /// How many bytes there are.
+    pub(crate) fn len(&self) -> usize
+        ensures { result ≡ length self.now }
+    {
+        self.len
+    }
+
     /// The same bytes, which the two share.
     pub(crate) fn copy(&self) -> Result<Shared, AllocError>
         ensures { IfOk result (λ copy. copy ≡ self.now) }
@@ -161,6 +168,13 @@ impl SharedText {
         ensures { result.now ≡ self.now }
     {
         self.bytes.as_slice()
+    }
+
+    /// How many bytes the text has.
+    pub(crate) fn len(&self) -> usize
+        ensures { result ≡ length self.now }
+    {
+        self.bytes.len()
     }
 
     /// The text.

@@ -25,9 +25,7 @@ fn record_len(variable: &Variable) -> usize
     ensures { result ≡ length (record_bytes (pair_of variable.now)) }
 {
     // A name has at most NAME_MAX characters, and data at most DATA_MAX bytes.
-    let name = variable.name.as_bytes();
-    let data = variable.kept.as_slice();
-    NAME_LEN_SIZE + name.len() + DATA_LEN_SIZE + data.len()
+    NAME_LEN_SIZE + variable.name.len() + DATA_LEN_SIZE + variable.kept.len()
 }
 
 /// How many bytes the set file of variables has: `None` where `usize` can't hold it.
