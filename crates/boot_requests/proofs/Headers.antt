@@ -1,5 +1,5 @@
 -- The header at the front of bytes: what stands behind it doesn't matter, and it is good or has one fault.
-use Rattle.std.proofs.Common.{◌≡◌, ◌⊎◌, ℕ, ◌+◌, ◌<◌, ◌≤◌, List, [], ◌∷◌, ◌++◌, length, take, drop, refl, sym, ap, subst, ◌∙◌, inl, inr, arith, append_assoc}
+use Rattle.std.proofs.Common.{◌≡◌, ◌⊎◌, ℕ, ◌+◌, ◌-◌, ◌<◌, ◌≤◌, List, [], ◌∷◌, ◌++◌, length, take, drop, refl, sym, ap, subst, ◌∙◌, inl, inr, arith, append_assoc}
 use Rattle.std.specs.Int.{w32, to_le_bytes}
 use Rattle.std.specs.List.{AllByRecursion}
 use Rattle.std.proofs.lemmas.Bool.{cases_lt}
@@ -179,6 +179,12 @@ found bytes fits = elim (heads bytes fits) [ inl short ↦ inl (inl short) | inr
 pub open_of_missing : (bytes : List ℕ) (count : ℕ) → IsMissing bytes count → 0 < count → IsOpen bytes
 open_of_missing bytes count (inl short) some = inl short.0
 open_of_missing bytes count (inr part) some = inr (record { raw = part.raw; is = part.is; here = (part.here.0, omega (arith, part.here.1)) })
+
+-- what is taken behind a whole header is missing no longer
+pub missing_less : (before front : List ℕ) (count : ℕ) → 12 ≤ length before → length front ≤ count → IsMissing before count → IsMissing (before ++ front) (count - length front)
+missing_less before front count whole few (inl short) = absurd (omega (arith, whole, short.0))
+missing_less before front count whole few (inr part) =
+    inr (record { raw = with_more part.raw front; is = more_raw before front part.raw part.is; here = (part.here.0, omega (arith, part.here.1, length-append part.raw.payload front)) })
 
 -- no more bytes than were missing leave no more behind the header than it states
 no_more : (held front : List ℕ) (count : ℕ) (raw : Raw) → IsOpen held → IsMissing held count → length front ≤ count → IsRaw (held ++ front) raw → length raw.payload ≤ raw.len

@@ -113,6 +113,10 @@ pub fault_left : (bytes held now rest : List ℕ) (old new : List (List ℕ)) (f
 fault_left bytes held now rest old new fault same bad cuts =
     (held ++ rest, fault_more held rest fault (subst (λ (t : List ℕ). IsHeaderFault t fault) same bad), cuts)
 
+-- nothing is held: a whole header is missing
+pub nothing_missing : (held : List ℕ) → held ≡ [] → IsMissing held 12
+nothing_missing held empty = let len = ap length empty in inl (omega (arith, len), omega (arith, len))
+
 -- ---- what is taken back
 
 -- the frames, as far as the first one that was given

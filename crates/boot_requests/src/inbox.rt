@@ -120,13 +120,16 @@ fn cut_piece(held: &mut Vec<u8>, piece: &[u8], frames: &mut Vec<Bytes>) -> Resul
         × Cuts (held.old.items ++ piece.now) frames.old.items frames.new.items rest) }
     ensures begins { Begins held.old.items frames.old.items frames.new.items held.new.items }
 {
+    let mut count = missing(held)?;
     let mut rest = piece;
     while !rest.is_empty() {
-        let (front, behind) = rest.split_at(missing(held)?.min(rest.len()));
+        let (front, behind) = rest.split_at(count.min(rest.len()));
         held.extend_from_slice(front)?;
         rest = behind;
-        if missing(held)? == 0 {
+        count = still_missing(held, front.len(), count)?;
+        if count == 0 {
             give(held, frames)?;
+            count = HEADER_LEN;
         }
     }
     Ok(())
@@ -142,6 +145,22 @@ fn missing(held: &[u8]) -> Result<usize, FeedFault>
     };
     let len = stated_len(raw)?;
     Ok(len.saturating_sub(raw.payload.len()))
+}
+
+/// The same, once so many bytes were taken of those that were missing before. A header is looked at only if they are the
+/// ones that make it whole.
+fn still_missing(held: &[u8], taken: usize, before: usize) -> Result<usize, FeedFault>
+    requires held { taken ≤ length held.now }
+    requires few { taken ≤ before }
+    ensures count { IfOk result (λ count. (old front : List ℕ) → held.now ≡ old ++ front →
+        length front ≡ taken → IsMissing old before → IsMissing held.now count) }
+    ensures fault { IfErr result (IsHeaderFault held.now) }
+{
+    if held.len() - taken < HEADER_LEN {
+        let count = missing(held)?;
+        return Ok(count);
+    }
+    Ok(before - taken)
 }
 
 /// What is held becomes the last of the frames, and nothing is held. Where memory is refused, both are as they were.
