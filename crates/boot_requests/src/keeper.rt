@@ -30,6 +30,7 @@ use crate::update::Update;
 use crate::window::{WIDTH, Window};
 use std::alloc::{AllocError, Global};
 use std::marker::Model;
+use std::rc::Rc;
 use uefi_vars::{BootPlan, Changes, Vars, laws as vars_laws, plan};
 
 /// What keeps the boot entries of a machine: its variables, the number of the request that is to be applied next, what came
@@ -198,7 +199,10 @@ impl Keeper {
         match self.window.get(next, number) {
             Some(other) if *other == request => Ok((Update::Nothing, Reply::Waiting(next))),
             Some(_) => Ok((Update::Nothing, Reply::Conflict)),
-            None => Ok((Update::Waits(number, request), Reply::Waiting(next))),
+            None => {
+                let request = Rc::new(alloc, request)?;
+                Ok((Update::Waits(number, request), Reply::Waiting(next)))
+            }
         }
     }
 

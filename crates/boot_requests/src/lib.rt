@@ -24,6 +24,7 @@ mod reading;
 mod reply;
 mod request;
 mod running;
+mod slot;
 mod storing;
 mod update;
 mod window;

@@ -1,13 +1,14 @@
 //! What an event changes of a keeper.
 
 ghost use Rattle.std.specs.Prelude.{◌≡◌, IfOk, OnOk, OnErr};
-ghost use Rattle.boot_requests.specs.Update.{Fits, updated};
+ghost use Rattle.boot_requests.specs.Update.{Fits, with_plan, updated};
 
 use crate::keeper::{Keeper, copy_plan};
 use crate::mark::Mark;
 use crate::request::Request;
 use crate::storing::delete_next;
 use std::alloc::{AllocError, Global};
+use std::rc::Rc;
 use uefi_vars::{BootPlan, Changes};
 
 /// What an event changes of a keeper, with all the memory that this takes but that for the names of new variables.
@@ -16,7 +17,7 @@ pub(crate) enum Update {
     /// All stays as it is.
     Nothing,
     /// The request waits under this number.
-    Waits(u32, Request),
+    Waits(u32, Rc<Request>),
     /// Requests were applied: what they change of the variables, and the mark after them.
     Applied(Changes, Mark),
     /// This plan is prepared, and BootNext is deleted.
@@ -60,19 +61,33 @@ impl Keeper {
         requires { Fits self.now update }
         ensures { IfOk result (λ keeper. keeper ≡ updated self.now update) }
     {
-        let mut keeper = self.copy(alloc)?;
+        let plan = self.plan_left(alloc, &update)?;
+        let mut keeper = self.copy_with(alloc, plan)?;
         keeper.update(update)?;
         Ok(keeper)
     }
 
-    /// An equal keeper.
-    fn copy(&self, alloc: Global) -> Result<Keeper, AllocError>
-        ensures { IfOk result (λ keeper. keeper ≡ self.now) }
+    /// An equal plan, if one is prepared and the update leaves it.
+    fn plan_left(&self, alloc: Global, update: &Update) -> Result<Option<BootPlan>, AllocError>
+        ensures { IfOk result (λ plan.
+            updated (with_plan self.now plan) update.now ≡ updated self.now update.now) }
+    {
+        match update {
+            Update::Prepared(_) | Update::HandedOut | Update::Restarted => Ok(None),
+            Update::Nothing | Update::Waits(..) | Update::Applied(..) => {
+                let plan = copy_plan(alloc, &self.plan)?;
+                Ok(plan)
+            }
+        }
+    }
+
+    /// An equal keeper, but for the plan that is prepared, which is this one or none.
+    fn copy_with(&self, alloc: Global, plan: Option<BootPlan>) -> Result<Keeper, AllocError>
+        ensures { IfOk result (λ keeper. keeper ≡ with_plan self.now plan) }
     {
         let vars = self.vars.copy(alloc)?;
         let mark = self.mark.copy(alloc)?;
         let window = self.window.copy(alloc)?;
-        let plan = copy_plan(alloc, &self.plan)?;
         Ok(Keeper {
             vars,
             mark,

@@ -7,8 +7,10 @@ ghost use Rattle.boot_requests.specs.Frame.{IsSent};
 ghost use Rattle.boot_requests.specs.Slots.{place_of, above, waiting_of, IsWindow};
 
 use crate::request::Request;
+use crate::slot::Slot;
 use std::alloc::{AllocError, Global};
 use std::marker::Model;
+use std::rc::Rc;
 
 /// How many numbers are taken, the next one included: a request of one of the others waits for those of lower numbers.
 pub const WIDTH: u32 = 64;
@@ -20,7 +22,7 @@ const SLOTS: usize = WIDTH as usize;
 /// [`SLOTS`], so none is searched for; the slot of the next number is free. Which number that is, the calls are told.
 #[derive(Debug, Drop)]
 pub(crate) struct Window {
-    slots: Vec<Option<Request>>,
+    slots: Vec<Slot>,
 }
 
 impl Model for Window {
@@ -53,7 +55,7 @@ impl Window {
         if number - next >= WIDTH {
             return None;
         }
-        self.slots[place_of(number as usize)].as_ref()
+        self.slots[place_of(number as usize)].request()
     }
 
     /// How many requests wait.
@@ -64,7 +66,7 @@ impl Window {
         let next = next as usize;
         let mut count = 0usize;
         for distance in 1..SLOTS {
-            if self.slots[place_of(next + distance)].is_some() {
+            if self.slots[place_of(next + distance)].is_taken() {
                 count += 1;
             }
         }
@@ -72,11 +74,11 @@ impl Window {
     }
 
     /// The request waits under this number from now on.
-    pub(crate) fn keep(&mut self, number: u32, request: Request)
+    pub(crate) fn keep(&mut self, number: u32, request: Rc<Request>)
         ensures { (next : ℕ) → IsWindow next self.old →
-            next < number → number < next + width → IsSent number request →
-            IsWindow next self.new
-            × (waiting_of next self.new ≡ map.insert (waiting_of next self.old) number request) }
+            next < number → number < next + width → IsSent number request.value →
+            IsWindow next self.new × (waiting_of next self.new
+            ≡ map.insert (waiting_of next self.old) number request.value) }
     {
         set_slot(&mut self.slots, place_of(number as usize), request);
     }
@@ -108,7 +110,7 @@ impl Window {
         free_all(&mut self.slots);
     }
 
-    /// An equal window.
+    /// An equal window, which shares the requests.
     pub(crate) fn copy(&self, alloc: Global) -> Result<Window, AllocError>
         ensures { IfOk result (λ window. window ≡ self.now) }
     {
@@ -126,34 +128,34 @@ fn place_of(number: usize) -> usize
 }
 
 /// So many slots, in which nothing stands.
-fn free_slots(alloc: Global, len: usize) -> Result<Vec<Option<Request>>, AllocError>
+fn free_slots(alloc: Global, len: usize) -> Result<Vec<Slot>, AllocError>
     ensures { IfOk result (λ slots. slots.items ≡ replicate len None) }
 {
     let mut slots = Vec::with_capacity(alloc, len)?;
     for _index in 0..len {
-        slots.push(None)?;
+        slots.push(Slot::free())?;
     }
     Ok(slots)
 }
 
 /// The request stands in this slot, in the place of what stood there.
-fn set_slot(slots: &mut [Option<Request>], place: usize, request: Request)
+fn set_slot(slots: &mut [Slot], place: usize, request: Rc<Request>)
     requires { place < length slots.old }
-    ensures { slots.new ≡ slice_set slots.old place (Some request) }
+    ensures { slots.new ≡ slice_set slots.old place (Some request.value) }
 {
-    slots[place] = Some(request);
+    slots[place] = Slot::taken(request);
 }
 
 /// Nothing stands in this slot from then on.
-fn free_slot(slots: &mut [Option<Request>], place: usize)
+fn free_slot(slots: &mut [Slot], place: usize)
     requires { place < length slots.old }
     ensures { slots.new ≡ slice_set slots.old place None }
 {
-    slots[place] = None;
+    slots[place] = Slot::free();
 }
 
 /// Nothing stands in any of these slots from then on.
-fn free_all(slots: &mut [Option<Request>])
+fn free_all(slots: &mut [Slot])
     ensures { slots.new ≡ replicate (length slots.old) None }
 {
     for place in 0..slots.len() {
@@ -161,23 +163,13 @@ fn free_all(slots: &mut [Option<Request>])
     }
 }
 
-/// Equal slots.
-fn copy_slots(alloc: Global, slots: &[Option<Request>]) -> Result<Vec<Option<Request>>, AllocError>
+/// Equal slots, which share the requests.
+fn copy_slots(alloc: Global, slots: &[Slot]) -> Result<Vec<Slot>, AllocError>
     ensures { IfOk result (λ copy. copy.items ≡ slots.now) }
 {
     let mut copy = Vec::with_capacity(alloc, slots.len())?;
     for slot in slots {
-        copy.push(copy_slot(alloc, slot)?)?;
+        copy.push(slot.copy()?)?;
     }
     Ok(copy)
-}
-
-/// An equal slot.
-fn copy_slot(alloc: Global, slot: &Option<Request>) -> Result<Option<Request>, AllocError>
-    ensures { IfOk result (λ copy. copy ≡ slot.now) }
-{
-    match slot {
-        Some(request) => Ok(Some(request.copy(alloc)?)),
-        None => Ok(None),
-    }
 }

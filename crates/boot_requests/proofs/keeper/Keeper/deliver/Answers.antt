@@ -2,6 +2,7 @@ use Rattle.std.proofs.Common.{◌≡◌, ◌≢◌, ℕ, Some, None, sym, ap, su
 use Rattle.std.specs.FinMap.{get, insert}
 use Rattle.std.proofs.lemmas.Bool.{false≢true}
 use Rattle.boot_requests.specs.declared.reply.Reply.TheVariants as reply
+use Rattle.boot_requests.specs.declared.request.Request.{Request}
 use Rattle.boot_requests.specs.Seen.{Came}
 use Rattle.boot_requests.specs.Turn.{Plain, Turn}
 use Rattle.boot_requests.specs.Keeping.{AreWaiting}
@@ -57,4 +58,5 @@ returns-clause-turn c =
     let waiting = subst (λ (p : Plain). AreWaiting p.machine.count p.waiting) c.self.view_is (are_waiting c.self.inside.mark.next c.self.inside.window c.self.invariant.waits) in
     let none : get k.waiting c.args.number ≡ None = ap (λ (p : Plain). get p.waiting c.args.number) (sym c.self.view_is) ∙ ap (λ (n : ℕ). get (waiting_of n c.self.inside.window) c.args.number) (sym c.next-next.ensures) ∙ sym c.in-None.ensures in
     let turn = turn_waits k c.args.number r waiting (omega (arith, c.if-number-next.false, c.if-number-next-2.false, next_is)) (omega (arith, c.if-is_ahead.false, c.if-number-next.false, next_is)) none in
-    subst (λ (n : ℕ). Turn k (Came c.args.number r) (plain_of k.machine (insert k.waiting c.args.number r) k.plan) (reply.Waiting n)) (sym next_is) turn
+    subst (λ (request : Request). Turn k (Came c.args.number r) (plain_of k.machine (insert k.waiting c.args.number request) k.plan) (reply.Waiting c.next-next.result)) (sym c.in_ok-request-in-None.ensures.ok)
+    (subst (λ (n : ℕ). Turn k (Came c.args.number r) (plain_of k.machine (insert k.waiting c.args.number r) k.plan) (reply.Waiting n)) (sym next_is) turn)

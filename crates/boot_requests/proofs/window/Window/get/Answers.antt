@@ -9,7 +9,7 @@ pub returns : goal.returns
 returns c =
     let slots = c.self.inside.slots.items in
     let there : c.place_of.result < length slots = omega (arith, c.place_of.ensures.below, c.self.invariant) in
-    c.as_ref.ensures.value ∙ c.index.ensures ∙ same_slot slots c.place_of.result c.index.result.now there ∙ ap (slot_at slots) c.place_of.ensures.is
+    c.request.ensures ∙ c.index.ensures ∙ same_slot slots c.place_of.result c.index.result.now there ∙ ap (slot_at slots) c.place_of.ensures.is
     ∙ sym (in_window c.args.next slots c.args.number c.requires (omega (arith, c.if-number-next-ge-WIDTH.false)))
     ∙ ap (λ (s : List (Option Request)). get (waiting_of c.args.next s) c.args.number) c.self.view_is
 

@@ -1,7 +1,7 @@
 use Rattle.std.proofs.Common.{◌≡◌, ◌<◌, ◌+◌, ◌≤◌, length, sym, ap, ◌∙◌, arith}
 use Rattle.boot_requests.specs.Slots.{place_of, slot_at}
 use Rattle.boot_requests.proofs.Slots.{no_slot, count_more, some_count, none_count, same_slot}
-use Rattle.boot_requests.proofs.window.Window.len.Goals.{then-is_some, else-is_some}
+use Rattle.boot_requests.proofs.window.Window.len.Goals.{then-is_taken, else-is_taken}
 use Rattle.boot_requests.proofs.window.Window.len.Goals as goal
 
 pub loop-distance-init : goal.loop-distance-init
@@ -17,15 +17,15 @@ loop-distance-preserved c =
     let slot : slot_at slots (place_of (next + distance)) ≡ c.index.result.now =
     sym (c.index.ensures ∙ same_slot slots c.place_of.result c.index.result.now there ∙ ap (slot_at slots) c.place_of.ensures.is) in
     let some : 1 ≤ distance = omega arith in
-    elim c.if-is_some.branch [
-      | then-is_some w ↦ record {
+    elim c.if-is_taken.branch [
+      | then-is_taken w ↦ record {
         below = omega arith;
-        count = count_more count c.if-is_some.count distance next slots c.index.result.now some c.loop-distance.invariant.count slot
-            (let one = some_count c.index.result.now (sym c.is_some.ensures ∙ w.if-is_some.true) in omega arith);
+        count = count_more count c.if-is_taken.count distance next slots c.index.result.now some c.loop-distance.invariant.count slot
+            (let one = some_count c.index.result.now (sym c.is_taken.ensures ∙ w.if-is_taken.true) in omega arith);
       }
-      | else-is_some w ↦ record {
+      | else-is_taken w ↦ record {
         below = omega arith;
-        count = count_more count c.if-is_some.count distance next slots c.index.result.now some c.loop-distance.invariant.count slot
-            (let none = none_count c.index.result.now (sym c.is_some.ensures ∙ w.if-is_some.false) in omega arith);
+        count = count_more count c.if-is_taken.count distance next slots c.index.result.now some c.loop-distance.invariant.count slot
+            (let none = none_count c.index.result.now (sym c.is_taken.ensures ∙ w.if-is_taken.false) in omega arith);
       }
     ]
