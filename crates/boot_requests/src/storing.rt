@@ -23,14 +23,14 @@ use uefi_vars::{BOOT_NEXT, BOOT_ORDER, Changes, ORDER_MAX, Vars};
 pub(crate) const KEEP_STATE: &str = "BootKeepState";
 
 /// The variable of this name gets this data, which it can have.
-fn put(changes: &mut Changes, name: &str, value: &[u8]) -> Result<(), AllocError>
+fn put(changes: &mut Changes, name: &str, value: Vec<u8>) -> Result<(), AllocError>
     ensures { OnOk result ((vars : Variables) →
-        made vars changes.new ≡ map.insert (made vars changes.old) name.now value.now) }
+        made vars changes.new ≡ map.insert (made vars changes.old) name.now value.items) }
 {
-    match changes.put(name, value) {
-        Ok(()) => Ok(()),
-        Err(_) => Err(AllocError),
-    }
+    let Ok(()) = changes.put_vec(name, value) else {
+        return Err(AllocError);
+    };
+    Ok(())
 }
 
 // ---- entries
@@ -53,10 +53,10 @@ pub(crate) fn store_entry(
         (GathersBy changes.old changes.new (with_entry number (option_bytes option.now))) }
 {
     let bytes = write_option(alloc, option)?;
-    match changes.put_entry(number, &bytes) {
-        Ok(()) => Ok(()),
-        Err(_) => Err(AllocError),
-    }
+    let Ok(()) = changes.put_entry_vec(number, bytes) else {
+        return Err(AllocError);
+    };
+    Ok(())
 }
 
 /// Takes out the entry of this number.
@@ -100,7 +100,7 @@ pub(crate) fn store_order(
     }
     let mut bytes = Vec::new(alloc);
     append_units(order, &mut bytes)?;
-    put(changes, BOOT_ORDER, &bytes)?;
+    put(changes, BOOT_ORDER, bytes)?;
     Ok(())
 }
 
@@ -171,8 +171,10 @@ pub(crate) fn remove_number(
 pub(crate) fn store_next(changes: &mut Changes, number: u16) -> Result<(), AllocError>
     ensures { OnOk result (GathersBy changes.old changes.new (with_next (Some number))) }
 {
-    put(changes, BOOT_NEXT, &number.to_le_bytes())?;
-    Ok(())
+    match changes.put(BOOT_NEXT, &number.to_le_bytes()) {
+        Ok(()) => Ok(()),
+        Err(_) => Err(AllocError),
+    }
 }
 
 /// Deletes BootNext at once, which takes no memory.
@@ -229,6 +231,6 @@ pub(crate) fn store_mark(
     ensures changes { OnOk result (GathersBy changes.old changes.new (with_mark mark.now)) }
 {
     let bytes = mark.bytes(alloc)?;
-    put(changes, KEEP_STATE, &bytes)?;
+    put(changes, KEEP_STATE, bytes)?;
     Ok(())
 }

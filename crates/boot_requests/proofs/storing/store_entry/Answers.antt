@@ -6,8 +6,8 @@ use Rattle.uefi_vars.specs.Made.{made}
 use Rattle.boot_requests.proofs.Edits.{entry_stored}
 use Rattle.boot_requests.proofs.storing.store_entry.Goals as goal
 
-pub returns-in-Ok : goal.returns-in-Ok
-returns-in-Ok c = λ vars m h.
+pub returns : goal.returns
+returns c = λ vars m h.
     let fits : c.args.number < 2 ^ 16 = omega (arith, c.ranges.number.fits) in
     entry_stored m _ _ c.args.number _ fits
-    (c.in-Ok.ensures.put vars ∙ ap (λ (b : List ℕ). insert (made vars c.args.changes.now) (entry_text c.args.number) b) (c.deref.ensures.value ∙ c.in_ok-bytes.ensures.written)) (subst IsData (c.deref.ensures.value ∙ c.in_ok-bytes.ensures.written) c.in-Ok.ensures.valid.1) h
+    (c.in-Ok.ensures.put vars ∙ ap (λ (b : List ℕ). insert (made vars c.args.changes.now) (entry_text c.args.number) b) (c.in_ok-bytes.ensures.written)) (subst IsData (c.in_ok-bytes.ensures.written) c.in-Ok.ensures.valid.1) h

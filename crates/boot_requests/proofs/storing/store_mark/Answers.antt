@@ -8,8 +8,8 @@ use Rattle.boot_requests.proofs.storing.store_mark.Goals as goal
 pub returns-clause-changes : goal.returns-clause-changes
 returns-clause-changes c = λ vars m h.
     mark_put m _ _ c.args.mark.now.next c.args.mark.now.kept c.requires c.bytes.ensures.valid
-    (c.in_ok-put.ensures vars ∙ ap (λ (b : List ℕ). insert (made vars c.args.changes.now) keep_text b) (c.deref.ensures.value ∙ c.in_ok-bytes.ensures.bytes)) h
+    (c.in_ok-put.ensures vars ∙ ap (λ (b : List ℕ). insert (made vars c.args.changes.now) keep_text b) (c.in_ok-bytes.ensures.bytes)) h
 
 pub returns-clause-put : goal.returns-clause-put
 returns-clause-put c = λ vars.
-    c.in_ok-put.ensures vars ∙ ap (λ (b : List ℕ). insert (made vars c.args.changes.now) keep_text b) (c.deref.ensures.value ∙ c.in_ok-bytes.ensures.bytes)
+    c.in_ok-put.ensures vars ∙ ap (λ (b : List ℕ). insert (made vars c.args.changes.now) keep_text b) (c.in_ok-bytes.ensures.bytes)

@@ -6,8 +6,8 @@ use Rattle.uefi_vars.specs.Made.{made}
 use Rattle.boot_requests.proofs.Edits.{next_stored}
 use Rattle.boot_requests.proofs.storing.store_next.Goals as goal
 
-pub returns : goal.returns
-returns c = λ vars m h.
+pub returns-in-Ok : goal.returns-in-Ok
+returns-in-Ok c = λ vars m h.
     let fits : c.args.number < 2 ^ 16 = omega (arith, c.ranges.number.fits) in
-    let put : made vars c.put.new.changes ≡ insert (made vars c.args.changes.now) next_text (to_le_bytes w16 c.args.number) = cc (c.in_ok-put.ensures vars) in
+    let put : made vars c.put.new.self ≡ insert (made vars c.args.changes.now) next_text (to_le_bytes w16 c.args.number) = cc (c.in-Ok.ensures.put vars) in
     next_stored m _ _ c.args.number fits put h

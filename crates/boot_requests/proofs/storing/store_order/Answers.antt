@@ -21,5 +21,5 @@ returns c = λ vars m h.
     order_stored m old _ order
     (record { numbers = recursion_from_All IsEntryNumber order (All-from_get_or IsEntryNumber order 0 (λ i _. omega (arith, c.type_inv.order i))); len = c.requires })
     (omega (arith, some))
-    (c.in_ok-put.ensures vars ∙ ap (λ (b : List ℕ). insert old order_text b) (c.deref.ensures.value ∙ c.in_ok-append_units.ensures.ok ∙ ap (λ (b : List ℕ). b ++ units_bytes order) c.new-bytes.ensures.items))
+    (c.in_ok-put.ensures vars ∙ ap (λ (b : List ℕ). insert old order_text b) (c.in_ok-append_units.ensures.ok ∙ ap (λ (b : List ℕ). b ++ units_bytes order) c.new-bytes.ensures.items))
     h
