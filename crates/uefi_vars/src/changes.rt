@@ -1,12 +1,12 @@
 //! What is to become of variables, before it is made.
 
-ghost use Rattle.std.specs.Prelude.{◌≡◌, ◌≢◌, ◌↔◌, ◌<◌, [], length, is_some, Some, None, Err, OnOk, OnErr, IfOk, IfErr, IsErrAnd};
+ghost use Rattle.std.specs.Prelude.{◌≡◌, ◌≢◌, ◌↔◌, ◌<◌, [], length, is_some, Some, None, Err, OnOk, OnErr, IfErr, IsErrAnd};
 ghost use Rattle.std.specs.Option.{option_map};
 ghost use Rattle.std.specs.FinMap as map;
 ghost use Rattle.uefi_vars.specs.declared.fault.PutFault.{PutFault};
 ghost use Rattle.uefi_vars.specs.Name.{IsName, entry_text};
 ghost use Rattle.uefi_vars.specs.Vars.{Variables, name_cmp, data_max, IsVariable, entry_of};
-ghost use Rattle.uefi_vars.specs.Made.{made, or_before, IsChange};
+ghost use Rattle.uefi_vars.specs.Made.{made, or_before};
 ghost use Rattle.uefi_vars.specs.ChangeRecords.{AreChanges};
 ghost use Rattle.uefi_vars.specs.Records.{pairs_of};
 ghost use Rattle.uefi_vars.specs.Free.{IsLowestFreeIfAny};
@@ -144,7 +144,7 @@ impl Changes {
     }
 
     /// The variable of this name is to get the bytes of this list, as by [`Changes::put`], but the list is taken over instead
-    /// of copied. A refusal changes nothing, and hands the list back.
+    /// of copied, with the room that it has to spare. A refusal changes nothing, and hands the list back.
     ///
     /// # Errors
     ///

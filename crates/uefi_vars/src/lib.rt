@@ -3,6 +3,7 @@
 //!
 //! [`Vars`] is a finite map from names to data. [`read_set`] reads one from the bytes of a set file, all of them, and
 //! [`write_set`] gives its one spelling. [`Changes`] gathers what is to become of variables, and [`Vars::make`] makes it.
+//! Copies share the bytes of names and of data, and so do a set and the copy of the file that it was read from.
 //! Load options stand under the names that [`entry_name`] gives, and [`entry_option`] reads one; [`lowest_free`] finds a
 //! number for one more. [`boot_order`] and [`boot_next`] read which of them are to be tried, [`plan`] puts together what a
 //! boot would try, and [`plan_numbers`] its numbers alone.

@@ -225,7 +225,7 @@ impl Vars {
     }
 
     /// Sets the variable of this name to the bytes of this list, as [`Vars::put`] does, but takes the list over instead of
-    /// copying it. A refusal changes nothing, and hands the list back.
+    /// copying it, with the room that it has to spare. A refusal changes nothing, and hands the list back.
     ///
     /// # Errors
     ///
