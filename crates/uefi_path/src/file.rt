@@ -119,6 +119,7 @@ impl FileNode {
 
     /// The node that has these bytes: `None` where their units are no name with a zero behind it.
     /// The one refusal is for want of memory.
+    #[inline(always)]
     pub(crate) fn from_bytes(alloc: Global, bytes: &[u8]) -> Result<Option<FileNode>, AllocError>
         requires { length bytes.now ≤ body_max }
         ensures { IfOk result (λ found. found ≡ name_of bytes.now) }

@@ -83,6 +83,7 @@ impl HardDriveNode {
     }
 
     /// The node that has these bytes.
+    #[inline(always)]
     pub(crate) fn from_bytes(body: &[u8]) -> HardDriveNode
         requires { length body.now ≡ 38 }
         ensures { result ≡ hard_drive_at body.now }

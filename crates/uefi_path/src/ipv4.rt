@@ -82,6 +82,7 @@ impl Ipv4Node {
     }
 
     /// The node that has these bytes.
+    #[inline(always)]
     pub(crate) fn from_bytes(body: &[u8]) -> Ipv4Node
         requires { length body.now ≡ 23 }
         ensures { result ≡ ipv4_at body.now }

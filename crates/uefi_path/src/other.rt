@@ -79,6 +79,7 @@ impl OtherNode {
     }
 
     /// A node of these bytes, if there is memory for them.
+    #[inline(always)]
     pub(crate) fn new(
         alloc: Global,
         kind: u8,

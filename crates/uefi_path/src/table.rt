@@ -1,6 +1,6 @@
 //! The table of nodes (UEFI 2.10, 10.3): how each case of `Node` stands in the bytes.
 
-ghost use Rattle.std.specs.Prelude.{◌≡◌, ◌≢◌, ◌↔◌, ◌≤◌, ◌++◌, ◌∷◌, [], length, is_some, IsTrue, IfOk, OnOk, OnErr};
+ghost use Rattle.std.specs.Prelude.{◌≡◌, ◌≢◌, ◌↔◌, ◌≤◌, ◌++◌, ◌∷◌, [], length, is_some, None, IsTrue, IfOk, OnOk, OnErr};
 ghost use Rattle.uefi_path.specs.Standard.{body_max};
 ghost use Rattle.uefi_path.specs.Row.{row, IsListed};
 ghost use Rattle.uefi_path.specs.Node.{row_of, IsNode};
@@ -151,6 +151,7 @@ impl Node {
 
     /// The node of these parts, where the table has a row for them that holds a list, if there is
     /// memory for it.
+    #[inline(always)]
     fn of_a_list(alloc: Global, kind: u8, sub: u8, body: &[u8]) -> Result<Option<Node>, AllocError>
         requires { length body.now ≤ body_max }
         ensures { IfOk result (λ found. found ≡ list_node_of (row kind sub body.now)) }
@@ -196,9 +197,19 @@ impl Node {
         requires len { length body.now ≤ body_max }
         ensures { IfOk result (λ node. node ≡ node_of (row kind sub body.now)) }
     {
-        if let Some(node) = Node::of_one_length(kind, sub, body) {
-            return Ok(node);
+        match Node::of_one_length(kind, sub, body) {
+            Some(node) => Ok(node),
+            None => Node::of_no_length(alloc, kind, sub, body),
         }
+    }
+
+    /// The node that has these parts, for which the table has no row with data of one length, if there is memory for it.
+    fn of_no_length(alloc: Global, kind: u8, sub: u8, body: &[u8]) -> Result<Node, AllocError>
+        requires no_end { kind ≢ 0x7F }
+        requires len { length body.now ≤ body_max }
+        requires no_length { fixed_node_of (row kind sub body.now) ≡ None }
+        ensures { IfOk result (λ node. node ≡ node_of (row kind sub body.now)) }
+    {
         match Node::of_a_list(alloc, kind, sub, body)? {
             Some(node) => Ok(node),
             None => Ok(Node::Other(OtherNode::new(alloc, kind, sub, body)?)),
@@ -220,7 +231,7 @@ impl Node {
         match_one_length!(
             (kind, sub, body),
             node => nodes.push(node)?,
-            nodes.push(Node::from_parts(alloc, kind, sub, body)?)?
+            nodes.push(Node::of_no_length(alloc, kind, sub, body)?)?
         );
         Ok(())
     }

@@ -91,6 +91,7 @@ impl UriNode {
     }
 
     /// A node of these bytes, if there is memory for them.
+    #[inline(always)]
     pub(crate) fn from_bytes(alloc: Global, bytes: &[u8]) -> Result<UriNode, AllocError>
         requires { length bytes.now ≤ body_max }
         ensures { IfOk result (λ node. node ≡ bytes.now) }

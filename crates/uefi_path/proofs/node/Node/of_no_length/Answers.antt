@@ -7,12 +7,12 @@ use Rattle.uefi_path.specs.Row.{row}
 use Rattle.uefi_path.specs.Reading.{fixed_node_of, list_node_of, typed_node_of}
 use Rattle.uefi_path.proofs.Bytes.{recursion_from_bytes}
 use Rattle.uefi_path.proofs.Inverse.{typed_node_listed}
-use Rattle.uefi_path.proofs.node.Node.from_parts.Goals as goal
+use Rattle.uefi_path.proofs.node.Node.of_no_length.Goals as goal
 
 pub new-requires : goal.new-requires
 new-requires c =
     let r = row c.args.kind c.args.sub c.args.body.now in
-    let not_fixed : fixed_node_of r ≡ None = sym c.of_one_length.ensures ∙ c.in_default.is in
+    let not_fixed : fixed_node_of r ≡ None = c.requires.no_length in
     let no_list : list_node_of r ≡ None = sym c.in_ok-node.ensures ∙ c.in-None.is in
     let none : typed_node_of r ≡ None = ap (λ (found : Option Node). option_or found (list_node_of r)) not_fixed ∙ no_list in
     record {
