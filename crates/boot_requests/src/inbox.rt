@@ -90,6 +90,7 @@ impl Inbox {
 }
 
 /// Cuts the piece, as [`cut_piece`] does, but leaves what is held and the frames as they were where memory is refused.
+#[inline(always)]
 fn take_piece(held: &mut Vec<u8>, piece: &[u8], frames: &mut Vec<Bytes>) -> Result<(), FeedFault>
     requires { IsOpen held.old.items }
     ensures cuts { OnOk result (IsOpen held.new.items
@@ -111,6 +112,7 @@ fn take_piece(held: &mut Vec<u8>, piece: &[u8], frames: &mut Vec<Bytes>) -> Resu
 
 /// Appends the piece to what is held, and each delivery that it brings to its end to the frames. Where memory is refused,
 /// what was done until then stays.
+#[inline(always)]
 fn cut_piece(held: &mut Vec<u8>, piece: &[u8], frames: &mut Vec<Bytes>) -> Result<(), FeedFault>
     requires { IsOpen held.old.items }
     ensures cuts { OnOk result (IsOpen held.new.items
@@ -136,6 +138,7 @@ fn cut_piece(held: &mut Vec<u8>, piece: &[u8], frames: &mut Vec<Bytes>) -> Resul
 }
 
 /// How many bytes are missing: of a header, where its twelve aren't held, else of those that it states.
+#[inline(always)]
 fn missing(held: &[u8]) -> Result<usize, FeedFault>
     ensures count { IfOk result (IsMissing held.now) }
     ensures fault { IfErr result (IsHeaderFault held.now) }
@@ -149,6 +152,7 @@ fn missing(held: &[u8]) -> Result<usize, FeedFault>
 
 /// The same, once so many bytes were taken of those that were missing before. A header is looked at only if they are the
 /// ones that make it whole.
+#[inline(always)]
 fn still_missing(held: &[u8], taken: usize, before: usize) -> Result<usize, FeedFault>
     requires held { taken ≤ length held.now }
     requires few { taken ≤ before }

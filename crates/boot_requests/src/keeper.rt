@@ -131,6 +131,7 @@ impl Keeper {
     }
 
     /// What this event changes, by the table of turns, and the answer to it.
+    #[inline(always)]
     pub(crate) fn take_turn(
         &self,
         alloc: Global,
@@ -150,6 +151,7 @@ impl Keeper {
     }
 
     /// These bytes came.
+    #[inline(always)]
     fn receive(&self, alloc: Global, bytes: &[u8]) -> Result<(Update, Reply), AllocError>
         ensures fits { IfOk result (λ answer. Fits self.now answer.0) }
         ensures came { IfOk result (λ answer. (number : ℕ) (request : Request) →
@@ -172,6 +174,7 @@ impl Keeper {
     }
 
     /// A request came with its number.
+    #[inline(always)]
     fn deliver(
         &self,
         alloc: Global,
@@ -207,6 +210,7 @@ impl Keeper {
     }
 
     /// The answer to a request of this number, which was applied before.
+    #[inline(always)]
     fn again(&self, number: u32) -> Reply
         requires { number < self.now.machine.count }
         ensures { result ≡ again (kept_outcome self.now.machine number) }
@@ -240,6 +244,7 @@ impl Keeper {
     }
 
     /// A boot is prepared.
+    #[inline(always)]
     fn prepare(&self, alloc: Global) -> Result<(Update, Reply), AllocError>
         ensures fits { IfOk result (λ answer. Fits self.now answer.0) }
         ensures turn { IfOk result (λ answer.
@@ -254,6 +259,7 @@ impl Keeper {
     }
 
     /// The plan that is prepared is to be handed out.
+    #[inline(always)]
     fn hand(&self, alloc: Global) -> Result<(Update, Reply), AllocError>
         ensures fits { IfOk result (λ answer. Fits self.now answer.0) }
         ensures turn { IfOk result (λ answer.
@@ -266,6 +272,7 @@ impl Keeper {
     }
 
     /// The keeper starts anew.
+    #[inline(always)]
     fn restart(&self) -> (Update, Reply)
         ensures fits { Fits self.now result.0 }
         ensures turn { Turn self.now Restart (updated self.now result.0) result.1 }

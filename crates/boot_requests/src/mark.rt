@@ -67,6 +67,7 @@ impl Mark {
     }
 
     /// What came of the request of this number, if that is kept.
+    #[inline(always)]
     pub(crate) fn outcome(&self, number: u32) -> Option<Outcome>
         ensures { (m : State) → mark_in m ≡ self.now → result ≡ kept_outcome m number }
     {

@@ -42,6 +42,7 @@ struct Frame<'a> {
 }
 
 /// The number that the first four bytes are, and the bytes behind them, if there are so many.
+#[inline(always)]
 fn split_number(bytes: &[u8]) -> Option<(u32, &[u8])>
     ensures found { IfSome result (λ split. bytes.now ≡ to_le_bytes w32 split.0 ++ split.1.now) }
     ensures bound { IfSome result (λ split. split.0 < 2 ^ 32) }
@@ -54,6 +55,7 @@ fn split_number(bytes: &[u8]) -> Option<(u32, &[u8])>
 }
 
 /// The header, if there are the twelve bytes of one.
+#[inline(always)]
 pub(crate) fn split_header(bytes: &[u8]) -> Option<RawFrame<'_>>
     ensures found { IfSome result (λ raw. IsRaw bytes.now
         (raw_of raw.magic raw.version raw.kind raw.number raw.len raw.payload.now)) }
@@ -75,6 +77,7 @@ pub(crate) fn split_header(bytes: &[u8]) -> Option<RawFrame<'_>>
 }
 
 /// How many bytes the header states behind it, if it passes its tests.
+#[inline(always)]
 pub(crate) fn stated_len(raw: RawFrame<'_>) -> Result<usize, FeedFault>
     ensures len { IfOk result (λ len. len ≡ raw.entry.len) }
     ensures good { OnOk result (PassesLength (raw_of raw.entry.magic raw.entry.version

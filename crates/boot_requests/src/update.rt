@@ -30,6 +30,7 @@ pub(crate) enum Update {
 
 impl Keeper {
     /// Changes the keeper so, or not at all if there is no memory for the names of new variables.
+    #[inline(always)]
     pub(crate) fn update(&mut self, update: Update) -> Result<(), AllocError>
         requires { Fits self.old update }
         ensures updated { OnOk result (self.new ≡ updated self.old update) }
