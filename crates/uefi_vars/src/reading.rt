@@ -143,8 +143,8 @@ fn read_magic_and_variables(alloc: Global, bytes: &[u8]) -> Result<Vars, SetFaul
 /// [`SetFault::Truncated`] where the file ends in it; [`SetFault::BadName`] where a character isn't from 0x21 to 0x7E;
 /// [`SetFault::NotRising`] where the name isn't above the one before; [`SetFault::Truncated`] where the file ends in the
 /// length of the data; [`SetFault::BadData`] where the data is to have no byte or more than [`DATA_MAX`];
-/// [`SetFault::Truncated`] where the file ends in it. [`SetFault::OutOfMemory`] comes where memory was refused, also
-/// before a fault of a later record, and never where the file doesn't begin with `BVS1`.
+/// [`SetFault::Truncated`] where the file ends in it. [`SetFault::OutOfMemory`] comes if memory was refused, also
+/// before a fault of a record, and never if the file doesn't begin with `BVS1`.
 pub fn read_set(alloc: Global, bytes: &[u8]) -> Result<Vars, SetFault>
     // What is read is spelled so.
     ensures found { IfOk result (λ vars. SpellsSet bytes.now vars) }
