@@ -9,7 +9,7 @@ use Rattle.boot_requests.specs.declared.fault.FeedFault.{FeedFault}
 use Rattle.boot_requests.specs.declared.fault.FeedFault.TheVariants as fault
 use Rattle.boot_requests.specs.Limits.{payload_max}
 use Rattle.boot_requests.specs.Stream.{IsDelivery, HasNoDelivery, IsHeaderFault, IsHeaderFaultIfAny, Cut, IsCut, Kept, Feeds, kept_in, kept_rest, kept_of, fed}
-use Rattle.boot_requests.specs.Pieces.{IsOpen, IsHeld, Cuts}
+use Rattle.boot_requests.specs.Pieces.{IsOpen, IsOpenWith, IsHeld, Cuts}
 use Rattle.boot_requests.proofs.ByteLists.{AllByRecursion-append}
 use Rattle.boot_requests.proofs.Headers.{fault_more, fault_has_none, open_has_none, open_len}
 use Rattle.boot_requests.proofs.Streams.{joined, cut_of, no_fault_in}
@@ -26,14 +26,14 @@ not_memory fault.OutOfMemory e = λ same. false≢true e
 open_cut : (held : List ℕ) → IsOpen held → IsCut held (cut_of [] held None)
 open_cut held h = record { deliveries = tt; rest = open_has_none held h; fault = no_fault_in held h; parts = refl }
 
-pub open_held : (held : List ℕ) (fault : Option FeedFault) → fault ≡ None → IsOpen held → IsHeld held fault
-open_held held fault none h = record {
+pub open_held : (held : List ℕ) (missing : ℕ) (fault : Option FeedFault) → fault ≡ None → IsOpenWith held missing → IsHeld held missing fault
+open_held held missing fault none h = record {
   is_open = λ e. h;
-  kept = (held, cut_of [] held None, open_cut held h, ap (λ (f : Option FeedFault). kept_in held f) none);
+  kept = (held, cut_of [] held None, open_cut held h.0, ap (λ (f : Option FeedFault). kept_in held f) none);
 }
 
-pub fault_held : (held rest : List ℕ) (fault : FeedFault) → held ≡ [] → IsHeaderFault rest fault → IsHeld held (Some fault)
-fault_held held rest fault empty bad = record {
+pub fault_held : (held rest : List ℕ) (missing : ℕ) (fault : FeedFault) → held ≡ [] → IsHeaderFault rest fault → IsHeld held missing (Some fault)
+fault_held held rest missing fault empty bad = record {
   is_open = λ e. cc;
   kept = (rest, cut_of [] rest (Some fault), record { deliveries = tt; rest = fault_has_none rest fault bad; fault = bad; parts = refl }, ap (λ (t : List ℕ). kept_in t (Some fault)) empty);
 }
@@ -42,9 +42,9 @@ rest_behind_fault : (held : List ℕ) (fault : FeedFault) (cut : Cut) → kept_i
 rest_behind_fault held fault cut e =
     ap (λ (k : Kept). k.rest) e ∙ ap (λ (f : Option FeedFault). kept_rest f cut.rest) (sym (ap (λ (k : Kept). k.fault) e))
 
-pub held_len : (held : List ℕ) (fault : Option FeedFault) → IsHeld held fault → length held < 12 + payload_max
-held_len held None h = open_len held (h.is_open refl)
-held_len held (Some fault) h = omega (arith, ap length (rest_behind_fault held fault h.kept.1 h.kept.3))
+pub held_len : (held : List ℕ) (missing : ℕ) (fault : Option FeedFault) → IsHeld held missing fault → length held < 12 + payload_max
+held_len held missing None h = open_len held (h.is_open refl).0
+held_len held missing (Some fault) h = omega (arith, ap length (rest_behind_fault held fault h.kept.1 h.kept.3))
 
 -- ---- one more piece
 

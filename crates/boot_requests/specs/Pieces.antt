@@ -16,9 +16,13 @@ IsMissing bytes count =
 abbrev pub IsOpen : List ℕ → Type 0
 IsOpen bytes = (length bytes < 12) ⊎ IsRawWith bytes (λ raw. PassesLength raw × (length raw.payload < raw.len))
 
--- what an inbox holds
-pub record IsHeld (held : List ℕ) (fault : Option FeedFault) : Type 0 where
-  pub is_open : fault ≡ None → IsOpen held
+-- the same, and so many are missing
+abbrev pub IsOpenWith : List ℕ → ℕ → Type 0
+IsOpenWith bytes count = IsOpen bytes × IsMissing bytes count
+
+-- what an inbox holds, and how many bytes are missing
+pub record IsHeld (held : List ℕ) (missing : ℕ) (fault : Option FeedFault) : Type 0 where
+  pub is_open : fault ≡ None → IsOpenWith held missing
   pub kept : IsKept (kept_in held fault)
 
 -- The bytes are deliveries and a rest, and the deliveries are given behind what was there, in their order.

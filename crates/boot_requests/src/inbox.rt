@@ -4,7 +4,7 @@ ghost use Rattle.std.specs.Prelude.{◌≡◌, ◌≢◌, ℕ, ◌+◌, ◌≤�
 ghost use Rattle.boot_requests.specs.declared.fault.FeedFault.{FeedFault};
 ghost use Rattle.boot_requests.specs.Limits.{payload_max};
 ghost use Rattle.boot_requests.specs.Stream.{Cut, IsCut, IsKept, Feeds, IsHeaderFault, kept_of, nothing_cut};
-ghost use Rattle.boot_requests.specs.Pieces.{IsMissing, IsOpen, Cuts, Begins};
+ghost use Rattle.boot_requests.specs.Pieces.{IsMissing, IsOpenWith, Cuts, Begins};
 
 use crate::bytes::Bytes;
 use crate::fault::FeedFault;
@@ -20,6 +20,8 @@ use std::mem;
 pub struct Inbox {
     /// The bytes of the delivery that isn't whole yet.
     held: Vec<u8>,
+    /// How many bytes of it are missing: of its header, if the twelve of one aren't held, else of those that it states.
+    missing: usize,
     /// The fault of a header, behind which nothing is cut any more.
     fault: Option<FeedFault>,
 }
@@ -32,7 +34,7 @@ impl Model for Inbox {
 
     ghost view = { λ inbox. kept_in inbox.held.items inbox.fault };
 
-    ghost invariant = { λ inbox. IsHeld inbox.held.items inbox.fault };
+    ghost invariant = { λ inbox. IsHeld inbox.held.items inbox.missing inbox.fault };
 }
 
 impl Inbox {
@@ -42,6 +44,7 @@ impl Inbox {
     {
         Inbox {
             held: Vec::new(alloc),
+            missing: HEADER_LEN,
             fault: None,
         }
     }
@@ -68,8 +71,11 @@ impl Inbox {
         if let Some(fault) = self.fault {
             return Err(fault);
         }
-        match take_piece(&mut self.held, bytes, frames) {
-            Ok(()) => Ok(()),
+        match take_piece(&mut self.held, self.missing, bytes, frames) {
+            Ok(missing) => {
+                self.missing = missing;
+                Ok(())
+            }
             Err(fault) if fault == FeedFault::OutOfMemory => Err(fault),
             Err(fault) => {
                 self.held.clear();
@@ -91,9 +97,14 @@ impl Inbox {
 
 /// Cuts the piece, as [`cut_piece`] does, but leaves what is held and the frames as they were where memory is refused.
 #[inline(always)]
-fn take_piece(held: &mut Vec<u8>, piece: &[u8], frames: &mut Vec<Bytes>) -> Result<(), FeedFault>
-    requires { IsOpen held.old.items }
-    ensures cuts { OnOk result (IsOpen held.new.items
+fn take_piece(
+    held: &mut Vec<u8>,
+    missing: usize,
+    piece: &[u8],
+    frames: &mut Vec<Bytes>,
+) -> Result<usize, FeedFault>
+    requires { IsOpenWith held.old.items missing }
+    ensures cuts { IfOk result (λ left. IsOpenWith held.new.items left
         × Cuts (held.old.items ++ piece.now) frames.old.items frames.new.items held.new.items) }
     ensures fault { IfErr result (λ fault. fault ≢ FeedFault.OutOfMemory →
         (rest : List ℕ) × IsHeaderFault rest fault
@@ -103,26 +114,31 @@ fn take_piece(held: &mut Vec<u8>, piece: &[u8], frames: &mut Vec<Bytes>) -> Resu
 {
     let held_len = held.len();
     let frames_len = frames.len();
-    let taken = cut_piece(held, piece, frames);
+    let taken = cut_piece(held, missing, piece, frames);
     if let Err(FeedFault::OutOfMemory) = taken {
         take_back(held, held_len, frames, frames_len);
     }
     taken
 }
 
-/// Appends the piece to what is held, and each delivery that it brings to its end to the frames. Where memory is refused,
-/// what was done until then stays.
+/// Appends the piece to what is held, of which so many bytes are missing, and each delivery that it brings to its end to
+/// the frames. Answers how many bytes are missing then. Where memory is refused, what was done until then stays.
 #[inline(always)]
-fn cut_piece(held: &mut Vec<u8>, piece: &[u8], frames: &mut Vec<Bytes>) -> Result<(), FeedFault>
-    requires { IsOpen held.old.items }
-    ensures cuts { OnOk result (IsOpen held.new.items
+fn cut_piece(
+    held: &mut Vec<u8>,
+    missing: usize,
+    piece: &[u8],
+    frames: &mut Vec<Bytes>,
+) -> Result<usize, FeedFault>
+    requires { IsOpenWith held.old.items missing }
+    ensures cuts { IfOk result (λ left. IsOpenWith held.new.items left
         × Cuts (held.old.items ++ piece.now) frames.old.items frames.new.items held.new.items) }
     ensures fault { IfErr result (λ fault. fault ≢ FeedFault.OutOfMemory →
         (rest : List ℕ) × IsHeaderFault rest fault
         × Cuts (held.old.items ++ piece.now) frames.old.items frames.new.items rest) }
     ensures begins { Begins held.old.items frames.old.items frames.new.items held.new.items }
 {
-    let mut count = missing(held)?;
+    let mut count = missing;
     let mut rest = piece;
     while !rest.is_empty() {
         let (front, behind) = rest.split_at(count.min(rest.len()));
@@ -134,12 +150,12 @@ fn cut_piece(held: &mut Vec<u8>, piece: &[u8], frames: &mut Vec<Bytes>) -> Resul
             count = HEADER_LEN;
         }
     }
-    Ok(())
+    Ok(count)
 }
 
 /// How many bytes are missing: of a header, where its twelve aren't held, else of those that it states.
 #[inline(always)]
-fn missing(held: &[u8]) -> Result<usize, FeedFault>
+fn count_missing(held: &[u8]) -> Result<usize, FeedFault>
     ensures count { IfOk result (IsMissing held.now) }
     ensures fault { IfErr result (IsHeaderFault held.now) }
 {
@@ -161,7 +177,7 @@ fn still_missing(held: &[u8], taken: usize, before: usize) -> Result<usize, Feed
     ensures fault { IfErr result (IsHeaderFault held.now) }
 {
     if held.len() - taken < HEADER_LEN {
-        let count = missing(held)?;
+        let count = count_missing(held)?;
         return Ok(count);
     }
     Ok(before - taken)

@@ -5,7 +5,7 @@ ghost use Rattle.uefi_option.specs.declared.fault.OptionFault.{OptionFault};
 ghost use Rattle.uefi_option.specs.Attributes.{IsActive, category_of, IsNormal};
 ghost use Rattle.uefi_option.specs.LoadOption.{option_parts, list_max, list_bytes, IsOption};
 ghost use Rattle.uefi_option.specs.Making.{IsPartsFault};
-ghost use Rattle.uefi_option.specs.Shared.{option_of};
+ghost use Rattle.uefi_option.specs.Shared.{option_of, IsListLen};
 
 use crate::attributes;
 use crate::fault::{OptionFault, OptionRefused};
@@ -25,18 +25,20 @@ pub const LIST_MAX: usize = 65_535;
 #[derive(Debug, Drop)]
 pub struct LoadOption {
     attributes: u32,
+    /// How many bytes the spellings of the paths have together.
+    list_len: u16,
     lists: Rc<Lists>,
 }
 
 impl Model for LoadOption {
     ghost use Rattle.uefi_option.specs.LoadOption.{OptionParts, IsOption};
-    ghost use Rattle.uefi_option.specs.Shared.{option_of};
+    ghost use Rattle.uefi_option.specs.Shared.{option_of, IsListLen};
 
     ghost Value = { OptionParts };
 
     ghost view = { λ o. option_of o.attributes o.lists.value };
 
-    ghost invariant = { λ o. IsOption (option_of o.attributes o.lists.value) };
+    ghost invariant = { λ o. IsOption (option_of o.attributes o.lists.value) × IsListLen o.list_len o.lists.value };
 }
 
 impl PartialEq for LoadOption {
@@ -107,10 +109,11 @@ impl LoadOption {
             paths,
             optional,
         };
-        if let Err(fault) = check_parts(&lists.description, &lists.paths) {
-            return Err(lists.refused(fault));
-        }
-        match LoadOption::of_lists(alloc, attributes, lists) {
+        let list_len = match check_parts(&lists.description, &lists.paths) {
+            Ok(list_len) => list_len,
+            Err(fault) => return Err(lists.refused(fault)),
+        };
+        match LoadOption::of_lists(alloc, attributes, list_len, lists) {
             Ok(option) => Ok(option),
             Err(refusal) => Err(refusal.value.refused(OptionFault::OutOfMemory)),
         }
@@ -128,29 +131,46 @@ impl LoadOption {
         ensures valid { IsOption self }
         ensures handed_back { IfErr result (λ option. option ≡ self) }
     {
-        let LoadOption { attributes, lists } = self;
+        let LoadOption {
+            attributes,
+            list_len,
+            lists,
+        } = self;
         let lists = match Rc::try_unwrap(lists) {
             Ok(lists) => lists,
             Err(lists) => match lists.copy(alloc) {
                 Ok(copies) => copies,
-                Err(AllocError) => return Err(LoadOption { attributes, lists }),
+                Err(AllocError) => {
+                    return Err(LoadOption {
+                        attributes,
+                        list_len,
+                        lists,
+                    });
+                }
             },
         };
         Ok((attributes, lists.description, lists.paths, lists.optional))
     }
 
-    /// The option of these attributes and lists, if there is memory for it.
+    /// The option of these attributes and lists, of which that of the paths has `list_len` bytes, if there is memory for
+    /// it.
     pub(crate) fn of_lists(
         alloc: Global,
         attributes: u32,
+        list_len: u16,
         lists: Lists,
     ) -> Result<LoadOption, AllocFailed<Lists>>
-        requires { IsOption (option_of attributes lists) }
+        requires is { IsOption (option_of attributes lists) }
+        requires len { IsListLen list_len lists }
         ensures made { IfOk result (λ option. option ≡ option_of attributes lists) }
         ensures handed_back { IfErr result (λ refusal. refusal.value ≡ lists) }
     {
         let lists = Rc::new(alloc, lists)?;
-        Ok(LoadOption { attributes, lists })
+        Ok(LoadOption {
+            attributes,
+            list_len,
+            lists,
+        })
     }
 
     /// An equal option, which shares its lists with this one, so that no memory is taken for them. The one refusal is where
@@ -161,6 +181,7 @@ impl LoadOption {
     {
         Ok(LoadOption {
             attributes: self.attributes,
+            list_len: self.list_len,
             lists: self.lists.clone()?,
         })
     }
@@ -171,6 +192,14 @@ impl LoadOption {
         ensures valid { IsOption self.now }
     {
         self.attributes
+    }
+
+    /// How many bytes the list of paths has.
+    pub(crate) fn list_len(&self) -> u16
+        ensures len { result ≡ length (list_bytes self.now.paths) }
+        ensures valid { IsOption self.now }
+    {
+        self.list_len
     }
 
     /// Whether the option has LOAD_OPTION_ACTIVE (UEFI 2.10, 3.1.3).

@@ -39,14 +39,15 @@ pub fn make_option(
     // There is no other refusal, but for want of memory.
     ensures named { IfErr result IsPartsFault }
 {
-    check_parts(description, paths)?;
+    let list_len = check_parts(description, paths)?;
     let lists = Lists::from_slices(alloc, description, paths, optional)?;
-    Ok(LoadOption::of_lists(alloc, attributes, lists)?)
+    Ok(LoadOption::of_lists(alloc, attributes, list_len, lists)?)
 }
 
-/// Looks whether a description and paths are those of an option.
-pub(crate) fn check_parts(description: &[u16], paths: &[Path]) -> Result<(), OptionFault>
+/// How many bytes the list of these paths has, if the description and they are those of an option.
+pub(crate) fn check_parts(description: &[u16], paths: &[Path]) -> Result<u16, OptionFault>
     ensures ok { OnOk result (ArePartsOfOption description.now paths.now) }
+    ensures len { IfOk result (λ len. len ≡ length (list_bytes paths.now)) }
     ensures zero_unit { (result ≡ Err OptionFault.ZeroUnit) ↔ Contains description.now 0 }
     ensures empty_list { (result ≡ Err OptionFault.EmptyList)
         ↔ ((¬ Contains description.now 0) × (paths.now ≡ [])) }
@@ -61,8 +62,8 @@ pub(crate) fn check_parts(description: &[u16], paths: &[Path]) -> Result<(), Opt
     if paths.is_empty() {
         return Err(OptionFault::EmptyList);
     }
-    if list_len(paths).is_none() {
+    let Some(len) = list_len(paths) else {
         return Err(OptionFault::ListTooLong);
-    }
-    Ok(())
+    };
+    Ok(len)
 }

@@ -29,36 +29,19 @@ pub(crate) fn list_len(paths: &[Path]) -> Option<u16>
     Some(len)
 }
 
-/// How many bytes the list of the option has.
-fn stated_len(option: &LoadOption) -> u16
-    ensures len { result ≡ length (list_bytes option.now.paths) }
-    ensures valid { IsOption option.now }
-{
-    // Two bytes can state the length of any option's list.
-    list_len(option.paths()).unwrap()
-}
-
-/// How many bytes the spelling of the option has, of which its list has `list`: `None` if `usize` can't count them.
-fn len_around(option: &LoadOption, list: u16) -> Option<usize>
-    requires { list ≡ length (list_bytes option.now.paths) }
-    ensures { let len = length (option_bytes option.now) in SomeIff result (len < 2 ^ 64) len }
-{
-    laws::units_have_two_bytes_each();
-    let units = option.description().len().checked_add(1)?;
-    units
-        .checked_mul(UNIT_LEN)?
-        .checked_add(HEADER_LEN)?
-        .checked_add(usize::from(list))?
-        .checked_add(option.optional().len())
-}
-
 /// How many bytes the spelling of a load option has (UEFI 2.10, 3.1.3): `None` if `usize` can't count them. Nothing is
 /// written.
 pub fn option_len(option: &LoadOption) -> Option<usize>
     ensures len { let len = length (option_bytes option.now) in SomeIff result (len < 2 ^ 64) len }
     ensures valid { IsOption option.now }
 {
-    len_around(option, stated_len(option))
+    laws::units_have_two_bytes_each();
+    let units = option.description().len().checked_add(1)?;
+    units
+        .checked_mul(UNIT_LEN)?
+        .checked_add(HEADER_LEN)?
+        .checked_add(usize::from(option.list_len()))?
+        .checked_add(option.optional().len())
 }
 
 /// Appends the spellings of paths one after the other. An `Err` may leave a part of them.
@@ -72,14 +55,13 @@ fn append_paths(paths: &[Path], bytes: &mut Vec<u8>) -> Result<(), AllocError>
     Ok(())
 }
 
-/// Appends the spelling of the option, whose list has `list` bytes. An `Err` may leave a part of it.
-fn append_parts(option: &LoadOption, list: u16, bytes: &mut Vec<u8>) -> Result<(), AllocError>
-    requires { list ≡ length (list_bytes option.now.paths) }
+/// Appends the spelling of the option. An `Err` may leave a part of it.
+fn append_parts(option: &LoadOption, bytes: &mut Vec<u8>) -> Result<(), AllocError>
     ensures ok { OnOk result (bytes.new.items ≡ bytes.old.items ++ option_bytes option.now) }
     ensures err { OnErr result (Extends bytes.old.items bytes.new.items) }
 {
     bytes.extend_from_slice(&option.attributes().to_le_bytes())?;
-    bytes.extend_from_slice(&list.to_le_bytes())?;
+    bytes.extend_from_slice(&option.list_len().to_le_bytes())?;
     append_units(option.description(), bytes)?;
     bytes.extend_from_slice(&0u16.to_le_bytes())?;
     append_paths(option.paths(), bytes)?;
@@ -98,14 +80,13 @@ pub fn append_option(option: &LoadOption, bytes: &mut Vec<u8>) -> Result<(), All
     ensures err { OnErr result (bytes.new.items ≡ bytes.old.items) }
     ensures valid { IsOption option.now }
 {
-    let list = stated_len(option);
     // More bytes than `usize` can count find no room.
-    let Some(len) = len_around(option, list) else {
+    let Some(len) = option_len(option) else {
         return Err(AllocError);
     };
     bytes.reserve(len)?;
     let start = bytes.len();
-    let written = append_parts(option, list, bytes);
+    let written = append_parts(option, bytes);
     if written.is_err() {
         bytes.truncate(start);
     }

@@ -5,32 +5,23 @@ use Rattle.boot_requests.proofs.Pieces.{none_taken, appended, taken_on, taken_wh
 use Rattle.boot_requests.proofs.inbox.cut_piece.Goals as goal
 
 pub loop-rest-init : goal.loop-rest-init
-loop-rest-init c = record {
-  taken = none_taken _ _ _ c.requires;
-  missing = subst (λ (t : List ℕ). IsMissing t c.in_ok-count.count) c.deref.ensures.value c.in_ok-count.ensures.count;
-}
+loop-rest-init c = record { taken = none_taken _ _ _ c.requires.0; missing = c.requires.1 }
 
 pub returns-in_err-count-clause-fault : goal.returns-in_err-count-clause-fault
 returns-in_err-count-clause-fault c =
-    let p = err_from_is_err_and c.from_residual.result c.from_residual.ensures.1 in
-    let start = none_taken c.args.held.now.items c.args.piece.now c.args.frames.now.items c.requires in
-    rw (p.1, p.2) (λ other. fault_left _ _ _ _ _ _ _ c.deref.ensures.value c.in_err-count.ensures.fault start.cuts)
-
-pub returns-in_err-count-2-clause-fault : goal.returns-in_err-count-2-clause-fault
-returns-in_err-count-2-clause-fault c =
     let a = appended c.loop-rest.held.items c.loop-rest.held.items c.loop-rest.rest.now c.extend_from_slice.new.self.items c.split_at.result.0.now c.split_at.result.1.now c.loop-rest.count refl c.loop-rest.invariant.missing (omega arith) c.split_at.ensures.by_index.0 c.in_ok-extend_from_slice.ensures.items in
-    let p = err_from_is_err_and c.from_residual-in_err-count-2.result c.from_residual-in_err-count-2.ensures.1 in
-    rw (p.1, p.2) (λ other. fault_left _ _ _ _ _ _ _ c.deref-in-loop-rest.ensures.value c.in_err-count-2.ensures.fault (cuts_on _ _ _ _ _ _ _ _ c.loop-rest.invariant.taken a))
+    let p = err_from_is_err_and c.from_residual-in_err-count.result c.from_residual-in_err-count.ensures.1 in
+    rw (p.1, p.2) (λ other. fault_left _ _ _ _ _ _ _ c.deref.ensures.value c.in_err-count.ensures.fault (cuts_on _ _ _ _ _ _ _ _ c.loop-rest.invariant.taken a))
 
-pub returns-in_err-count-2-clause-begins : goal.returns-in_err-count-2-clause-begins
-returns-in_err-count-2-clause-begins c =
+pub returns-in_err-count-clause-begins : goal.returns-in_err-count-clause-begins
+returns-in_err-count-clause-begins c =
     let a = appended c.loop-rest.held.items c.loop-rest.held.items c.loop-rest.rest.now c.extend_from_slice.new.self.items c.split_at.result.0.now c.split_at.result.1.now c.loop-rest.count refl c.loop-rest.invariant.missing (omega arith) c.split_at.ensures.by_index.0 c.in_ok-extend_from_slice.ensures.items in
     begins_on _ _ _ _ _ _ _ _ c.loop-rest.invariant.taken a
 
 pub loop-rest-preserved-then-count-eq0 : goal.loop-rest-preserved-then-count-eq0
 loop-rest-preserved-then-count-eq0 c =
     let a = appended c.loop-rest.held.items c.loop-rest.held.items c.loop-rest.rest.now c.extend_from_slice.new.self.items c.split_at.result.0.now c.split_at.result.1.now c.loop-rest.count refl c.loop-rest.invariant.missing (omega arith) c.split_at.ensures.by_index.0 c.in_ok-extend_from_slice.ensures.items in
-    let left = subst (λ (t : List ℕ). IsMissing t c.in_ok-count-2.count) c.deref-in-loop-rest.ensures.value (c.in_ok-count-2.ensures.count c.loop-rest.held.items c.split_at.result.0.now (c.deref-in-loop-rest.ensures.value ∙ c.in_ok-extend_from_slice.ensures.items) refl c.loop-rest.invariant.missing) in
+    let left = subst (λ (t : List ℕ). IsMissing t c.in_ok-count.count) c.deref.ensures.value (c.in_ok-count.ensures.count c.loop-rest.held.items c.split_at.result.0.now (c.deref.ensures.value ∙ c.in_ok-extend_from_slice.ensures.items) refl c.loop-rest.invariant.missing) in
     let empty = c.in_ok-give.ensures.given.0 in
     record {
       taken = taken_whole _ _ _ _ _ _ _ _ _ _ _ c.loop-rest.invariant.taken a left c.if-count-eq0.true empty c.in_ok-give.ensures.given.1;
@@ -47,5 +38,5 @@ returns-in_err-give-clause-begins c =
 pub loop-rest-preserved : goal.loop-rest-preserved
 loop-rest-preserved c =
     let a = appended c.loop-rest.held.items c.loop-rest.held.items c.loop-rest.rest.now c.extend_from_slice.new.self.items c.split_at.result.0.now c.split_at.result.1.now c.loop-rest.count refl c.loop-rest.invariant.missing (omega arith) c.split_at.ensures.by_index.0 c.in_ok-extend_from_slice.ensures.items in
-    let left = subst (λ (t : List ℕ). IsMissing t c.in_ok-count-2.count) c.deref-in-loop-rest.ensures.value (c.in_ok-count-2.ensures.count c.loop-rest.held.items c.split_at.result.0.now (c.deref-in-loop-rest.ensures.value ∙ c.in_ok-extend_from_slice.ensures.items) refl c.loop-rest.invariant.missing) in
+    let left = subst (λ (t : List ℕ). IsMissing t c.in_ok-count.count) c.deref.ensures.value (c.in_ok-count.ensures.count c.loop-rest.held.items c.split_at.result.0.now (c.deref.ensures.value ∙ c.in_ok-extend_from_slice.ensures.items) refl c.loop-rest.invariant.missing) in
     record { taken = taken_on _ _ _ _ _ _ _ _ _ c.loop-rest.invariant.taken a left c.if-count-eq0.false; missing = left }

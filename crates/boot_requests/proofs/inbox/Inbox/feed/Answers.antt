@@ -10,20 +10,20 @@ returns-in-Some-clause-fed c = λ other stream cut is same.
     feeds_again stream c.args.bytes.now cut c.in-Some.fault c.args.frames.now.items c.args.self.now is found same
 
 pub invariant_of-self : goal.invariant_of-self
-invariant_of-self c = open_held c.take_piece.new.held.items c.self.inside.fault c.in_default.is c.in-Ok.ensures.cuts.0
+invariant_of-self c = open_held c.take_piece.new.held.items c.in-Ok.missing c.self.inside.fault c.in_default.is c.in-Ok.ensures.cuts.0
 
 pub returns-in-Ok-clause-fed : goal.returns-in-Ok-clause-fed
 returns-in-Ok-clause-fed c = λ other stream cut is same.
     let none = c.in_default.is in
-    feeds_open stream c.args.bytes.now c.self.inside.held.items c.take_piece.new.held.items cut c.self.inside.fault c.args.frames.now.items c.take_piece.new.frames.items _ none (c.self.view_is ∙ same) is c.in-Ok.ensures.cuts.0 c.in-Ok.ensures.cuts.1 (ap (λ (f : Option FeedFault). kept_in c.take_piece.new.held.items f) none)
+    feeds_open stream c.args.bytes.now c.self.inside.held.items c.take_piece.new.held.items cut c.self.inside.fault c.args.frames.now.items c.take_piece.new.frames.items _ none (c.self.view_is ∙ same) is c.in-Ok.ensures.cuts.0.0 c.in-Ok.ensures.cuts.1 (ap (λ (f : Option FeedFault). kept_in c.take_piece.new.held.items f) none)
 
 pub returns-in-Ok-clause-valid : goal.returns-in-Ok-clause-valid
-returns-in-Ok-clause-valid c = (open_held c.take_piece.new.held.items c.self.inside.fault c.in_default.is c.in-Ok.ensures.cuts.0).kept
+returns-in-Ok-clause-valid c = (open_held c.take_piece.new.held.items c.in-Ok.missing c.self.inside.fault c.in_default.is c.in-Ok.ensures.cuts.0).kept
 
 pub invariant_of-self-in-Err-2 : goal.invariant_of-self-in-Err-2
 invariant_of-self-in-Err-2 c =
     let bad = c.in-Err.ensures.fault (not_memory c.in-Err.fault c.if-eq.ensures) in
-    fault_held c.clear.new.self.items bad.0 c.in-Err.fault c.clear.ensures.items bad.1
+    fault_held c.clear.new.self.items bad.0 c.self.inside.missing c.in-Err.fault c.clear.ensures.items bad.1
 
 pub returns-in-Err-2-clause-fed : goal.returns-in-Err-2-clause-fed
 returns-in-Err-2-clause-fed c = λ other stream cut is same.
@@ -33,4 +33,4 @@ returns-in-Err-2-clause-fed c = λ other stream cut is same.
 pub returns-in-Err-2-clause-valid : goal.returns-in-Err-2-clause-valid
 returns-in-Err-2-clause-valid c =
     let bad = c.in-Err.ensures.fault (not_memory c.in-Err.fault c.if-eq.ensures) in
-    (fault_held c.clear.new.self.items bad.0 c.in-Err.fault c.clear.ensures.items bad.1).kept
+    (fault_held c.clear.new.self.items bad.0 c.self.inside.missing c.in-Err.fault c.clear.ensures.items bad.1).kept

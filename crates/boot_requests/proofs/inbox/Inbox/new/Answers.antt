@@ -3,4 +3,6 @@ use Rattle.boot_requests.proofs.Feeding.{open_held}
 use Rattle.boot_requests.proofs.inbox.Inbox.new.Goals as goal
 
 pub invariant_of-result : goal.invariant_of-result
-invariant_of-result c = open_held c.new.result.items None refl (inl (omega (arith, ap length c.new.ensures.items)))
+invariant_of-result c =
+    let none = ap length c.new.ensures.items in
+    open_held c.new.result.items 12 None refl (inl (omega (arith, none)), inl (omega (arith, none), omega (arith, none)))
