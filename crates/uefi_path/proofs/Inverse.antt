@@ -1,6 +1,6 @@
 -- The table of nodes has an inverse, and its listed rows are those that the inverse finds.
-use Rattle.std.proofs.Common.{◌<◌, ◌≤◌, leb, take, drop, ◌≡◌, ◌≢◌, ℕ, true, eqb, ◌&&◌, List, [], ◌∷◌, length, Option, Some, None, refl, sym, ap, subst, ◌∙◌, arith}
-use Rattle.std.specs.Prelude.{IsSome, IfSome, unwrap_or}
+use Rattle.std.proofs.Common.{◌<◌, ◌≤◌, leb, take, drop, ◌≡◌, ◌≢◌, ℕ, true, false, eqb, ◌&&◌, List, [], ◌∷◌, length, Option, Some, None, refl, sym, ap, subst, ◌∙◌, arith}
+use Rattle.std.specs.Prelude.{is_some, IsSome, IfSome, unwrap_or}
 use Rattle.std.specs.Option.{option_map, option_or}
 use Rattle.std.specs.List.{concat}
 use Rattle.std.specs.Int.{w8, w16, w32, w64, to_le_bytes}
@@ -8,7 +8,7 @@ use Rattle.std.proofs.lemmas.List.{length-append, length-drop, take_at, drop_at,
 use Rattle.std.proofs.lemmas.Bool.{leb-true, le-leb, eqb-true, eq-eqb, and_parts, cond_both, false≢true}
 use Rattle.uefi_path.specs.declared.node.Node.{Node}
 use Rattle.uefi_path.specs.declared.node.Node.TheVariants.{Pci, VendorHw, Acpi, Usb, VendorMsg, Mac, Ipv4, Sata, Vlan, Nvme, Uri, HardDrive, Cdrom, VendorMedia, FilePath, Other}
-use Rattle.uefi_path.specs.Row.{IsByte, Row, row, IsRow, IsListed, pci, acpi, usb, mac, ipv4, sata, vlan, nvme, uri, vendor_hw, vendor_msg, vendor_media, hard_drive, cdrom, file_path}
+use Rattle.uefi_path.specs.Row.{IsByte, Row, row, IsRow, IsListed, IsOther, pci, acpi, usb, mac, ipv4, sata, vlan, nvme, uri, vendor_hw, vendor_msg, vendor_media, hard_drive, cdrom, file_path}
 use Rattle.uefi_path.specs.Node.{row_of, IsNode, IsTyped, HasTypedNode}
 use Rattle.uefi_path.specs.Parts.{VendorParts, vendor_parts, vendor_bytes, vendor_of, IsVendor, name_bytes, Ipv4Parts, AreIpv4Parts, ipv4_fields, HardDriveParts, AreHardDriveParts, hard_drive_fields}
 use Rattle.uefi_path.specs.Reading.{has_shape, has_type, number_at, bytes_at, ipv4_at, hard_drive_at, fixed_node_of, list_node_of, typed_node_of, name_of, node_of}
@@ -238,6 +238,18 @@ typed_node_listed _ (cdrom {body} len) = rw (eq-eqb (length body) 20 len) refl
 typed_node_listed _ (vendor_media {body} long) = rw (le-leb 16 (length body) long) refl
 typed_node_listed _ (file_path {body} closed) = file_some (name_of body) (name_listed body closed)
 
+no_file : (found : Option (List ℕ)) → is_some found ≡ false → option_map (λ units. FilePath units) found ≡ None
+no_file None none = refl
+no_file (Some name) none = absurd (false≢true (sym none))
+
+pub unlisted_name : (body : List ℕ) → is_some (name_of body) ≡ false → list_node_of (row 4 4 body) ≡ None
+unlisted_name body none = no_file (name_of body) none
+
+pub none_listed : (r : Row) → fixed_node_of r ≡ None → list_node_of r ≡ None → ¬ IsListed r
+none_listed r fixed list = λ listed.
+    let none : typed_node_of r ≡ None = ap (λ (found : Option Node). option_or found (list_node_of r)) fixed ∙ list in
+    false≢true (subst (λ (found : Option Node). IsSome found) none (typed_node_listed r listed))
+
 -- the node of a row has the row
 from_found : (r : Row) (found : Option Node) → IsRow r → r.kind ≢ 127 → IfSome found (IsFound r) → (IsListed r → IsSome found) → IsNode (unwrap_or found (Other r)) × (row_of (unwrap_or found (Other r)) ≡ r)
 from_found r (Some node) is inner typed listed = (typed.valid, typed.same)
@@ -250,6 +262,9 @@ node_of_has_row r is inner = from_found r (typed_node_of r) is inner (typed_node
 none_unlisted : (r : Row) (found : Option Node) → IfSome found (IsFound r) → ¬ IsListed r → found ≡ None
 none_unlisted r None typed unlisted = refl
 none_unlisted r (Some node) typed unlisted = absurd (unlisted typed.listed)
+
+pub other_of_row : (r : Row) → IsOther r → Other r ≡ node_of r
+other_of_row r is = ap (λ (found : Option Node). unwrap_or found (Other r)) (sym (none_unlisted r (typed_node_of r) (typed_node_found r is.row) is.unlisted))
 
 -- ---- each node's row is read as the node
 

@@ -7,13 +7,15 @@ use Rattle.std.specs.List.{position, position_or_len, AllByRecursion}
 use Rattle.std.proofs.lemmas.List.Elements.{recursion_from_All, All-from_get_or}
 use Rattle.std.proofs.lemmas.List.Sums.{fails_before_first}
 use Rattle.std.proofs.lemmas.Option.{none-some}
-use Rattle.std.proofs.lemmas.List.{nil_from_length, take_all, length-append}
-use Rattle.std.proofs.lemmas.Bool.{cases_lt, lt-ltb, ne_eqb, eqb-true, eqb-false, cond_both}
+use Rattle.std.proofs.lemmas.List.{nil_from_length, take_all, take_at, length-append}
+use Rattle.std.proofs.lemmas.Bool.{cases_lt, lt-ltb, ne_eqb, eqb-true, eqb-false, cond_both, false≢true}
 use Rattle.uefi_path.specs.Parts.{IsUnit, name_bytes}
 use Rattle.uefi_path.specs.Row.{IsByte, AreBytes, IsClosed, last_zero, another_unit}
 use Rattle.uefi_path.specs.Reading.{name_of}
+use Rattle.uefi_path.specs.Units.{IsTwoByte, units_bytes, units_of}
 use Rattle.uefi_path.proofs.Bytes.{IsBytes, AllByRecursion-append}
 use Rattle.uefi_path.proofs.Numbers.{wide_16}
+use Rattle.uefi_path.proofs.TwoBytes.{units_again, units_length}
 
 -- the bytes begin with these units, none of them zero, and the rest stands behind them
 pub record HasUnits (bytes units rest : List ℕ) : Type 0 where
@@ -117,6 +119,29 @@ name_found (low ∷ high ∷ rest) fits =
     let none : rest ≡ [] = nil_from_length rest (eqb-true (length rest) 0 end) in
     rw none (zero_alone low high (eqb-true number 0 zero))) (λ _. tt)) (λ other.
     unit_before low high rest fits (eqb-false number 0 other) (name_of rest) (name_found rest (λ i. fits (suc (suc i)))))
+
+two_bytes_each : (units : List ℕ) → AllByRecursion IsUnit units → AllByRecursion IsTwoByte units
+two_bytes_each [] valid = tt
+two_bytes_each (unit ∷ units) valid = (valid.0.1, two_bytes_each units valid.1)
+
+-- the units of a name are those of its bytes without the last two
+named_units : (bytes units : List ℕ) → IsNamed bytes units → units_of (take (length bytes - 2) bytes) ≡ units
+named_units bytes units named =
+    let size : length (units_bytes units) ≡ length bytes - 2 = omega (arith, named.len, units_length units) in
+    let front : take (length bytes - 2) bytes ≡ units_bytes units = ap (λ (t : List ℕ). take (length bytes - 2) t) (sym named.same) ∙ take_at (units_bytes units) (to_le_bytes w16 0) (length bytes - 2) size in
+    ap units_of front ∙ units_again units (two_bytes_each units named.valid)
+
+pub record AreUnitsOf (bytes units : List ℕ) : Type 0 where
+  pub is : Some units ≡ name_of bytes
+  pub valid : AllByRecursion IsUnit units
+  pub len : length bytes ≡ 2 * length units + 2
+
+units_found : (bytes : List ℕ) (found : Option (List ℕ)) → found ≡ name_of bytes → IsSome found → IfSome found (IsNamed bytes) → AreUnitsOf bytes (units_of (take (length bytes - 2) bytes))
+units_found bytes None e some named = absurd (false≢true some)
+units_found bytes (Some units) e some named = subst (λ (us : List ℕ). AreUnitsOf bytes us) (sym (named_units bytes units named)) (record { is = e; valid = named.valid; len = named.len })
+
+pub units_of_name : (bytes : List ℕ) → IsBytes bytes → IsSome (name_of bytes) → AreUnitsOf bytes (units_of (take (length bytes - 2) bytes))
+units_of_name bytes fits some = units_found bytes (name_of bytes) refl some (name_found bytes fits)
 
 closed_rest : (unit : ℕ) (found : Option (List ℕ)) → IsSome found → IsSome (option_map (λ (name : List ℕ). unit ∷ name) found)
 closed_rest unit None some = some

@@ -1,6 +1,6 @@
 //! File paths.
 
-ghost use Rattle.std.specs.Prelude.{◌≡◌, ◌↔◌, ◌*◌, ◌<◌, ◌≤◌, ◌++◌, ◌==◌, ◌≢◌, ℕ, length, is_some, Some, None, Err, IfOk, IfErr, OnOk, OnErr};
+ghost use Rattle.std.specs.Prelude.{◌≡◌, ◌↔◌, ◌*◌, ◌<◌, ◌≤◌, ◌++◌, ◌==◌, ◌≢◌, ℕ, length, is_some, IsSome, Some, None, Err, IfOk, IfErr, OnOk, OnErr};
 ghost use Rattle.std.specs.List.{flat_map, position};
 ghost use Rattle.std.specs.Int.{w16, to_le_bytes};
 ghost use Rattle.uefi_path.specs.declared.fault.NameFault.{NameFault};
@@ -11,7 +11,7 @@ ghost use Rattle.uefi_path.specs.Writing.{Extends};
 
 use crate::fault::NameFault;
 use crate::generic::{BODY_MAX, HEADER_LEN};
-use crate::units::{UNIT_LEN, append_before_zeros};
+use crate::units::{UNIT_LEN, append_before_zeros, read_units};
 use std::alloc::{AllocError, Global};
 use std::marker::Model;
 
@@ -117,28 +117,15 @@ impl FileNode {
         }
     }
 
-    /// The node that has these bytes: `None` where their units are no name with a zero behind it.
-    /// The one refusal is for want of memory.
+    /// The node of these bytes, which are a name's units and a zero, if there is memory for it.
     #[inline(always)]
-    pub(crate) fn from_bytes(alloc: Global, bytes: &[u8]) -> Result<Option<FileNode>, AllocError>
-        requires { length bytes.now ≤ body_max }
-        ensures { IfOk result (λ found. found ≡ name_of bytes.now) }
+    pub(crate) fn from_bytes(alloc: Global, bytes: &[u8]) -> Result<FileNode, AllocError>
+        requires name { IsSome (name_of bytes.now) }
+        requires len { length bytes.now ≤ body_max }
+        ensures { IfOk result (λ name. Some name ≡ name_of bytes.now) }
     {
-        let mut units = Vec::with_capacity(alloc, bytes.len() / UNIT_LEN)?;
-        let mut rest = bytes;
-        while let [low, high, behind @ ..] = rest {
-            let unit = u16::from_le_bytes([*low, *high]);
-            if unit == 0 {
-                return Ok(if behind.is_empty() {
-                    Some(FileNode { units })
-                } else {
-                    None
-                });
-            }
-            units.push(unit)?;
-            rest = behind;
-        }
-        Ok(None)
+        let units = read_units(alloc, &bytes[..bytes.len() - UNIT_LEN])?;
+        Ok(FileNode { units })
     }
 
     /// The units of the name, without the zero that closes it.

@@ -87,7 +87,8 @@ impl OtherNode {
         body: &[u8],
     ) -> Result<OtherNode, AllocError>
         requires { IsOther (row kind sub body.now) }
-        ensures { IfOk result (λ node. node ≡ row kind sub body.now) }
+        ensures made { IfOk result (λ node. node ≡ row kind sub body.now) }
+        ensures valid { IfOk result (λ node. IsOther node) }
     {
         let body = Vec::from_slice(alloc, body)?;
         Ok(OtherNode { kind, sub, body })

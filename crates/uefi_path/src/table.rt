@@ -94,6 +94,36 @@ macro_rules! match_one_length {
     };
 }
 
+/// The same for parts that the table has a row with a list for: the first expression with their node, if there is memory
+/// for it, or else the second.
+macro_rules! match_list {
+    (($alloc:ident, $kind:ident, $sub:ident, $body:ident), $node:ident => $then:expr, $other:expr) => {
+        match ($kind, $sub) {
+            (1, 4) if $body.len() >= GUID_LEN => {
+                let $node = Node::VendorHw(Vendor::from_bytes($alloc, $body)?);
+                $then
+            }
+            (3, 10) if $body.len() >= GUID_LEN => {
+                let $node = Node::VendorMsg(Vendor::from_bytes($alloc, $body)?);
+                $then
+            }
+            (3, 24) => {
+                let $node = Node::Uri(UriNode::from_bytes($alloc, $body)?);
+                $then
+            }
+            (4, 3) if $body.len() >= GUID_LEN => {
+                let $node = Node::VendorMedia(Vendor::from_bytes($alloc, $body)?);
+                $then
+            }
+            (4, 4) if is_path_name($body) => {
+                let $node = Node::FilePath(FileNode::from_bytes($alloc, $body)?);
+                $then
+            }
+            _ => $other,
+        }
+    };
+}
+
 /// What a node's header states: its type, its sub-type, and how many bytes of data follow.
 #[derive(Clone, Copy)]
 pub(crate) struct Shape {
@@ -149,23 +179,6 @@ impl Node {
         match_one_length!((kind, sub, body), node => Some(node), None)
     }
 
-    /// The node of these parts, where the table has a row for them that holds a list, if there is
-    /// memory for it.
-    #[inline(always)]
-    fn of_a_list(alloc: Global, kind: u8, sub: u8, body: &[u8]) -> Result<Option<Node>, AllocError>
-        requires { length body.now ≤ body_max }
-        ensures { IfOk result (λ found. found ≡ list_node_of (row kind sub body.now)) }
-    {
-        Ok(match (kind, sub) {
-            (1, 4) => Vendor::from_bytes(alloc, body)?.map(Node::VendorHw),
-            (3, 10) => Vendor::from_bytes(alloc, body)?.map(Node::VendorMsg),
-            (3, 24) => Some(Node::Uri(UriNode::from_bytes(alloc, body)?)),
-            (4, 3) => Vendor::from_bytes(alloc, body)?.map(Node::VendorMedia),
-            (4, 4) => FileNode::from_bytes(alloc, body)?.map(Node::FilePath),
-            _ => None,
-        })
-    }
-
     /// Whether the table has a row for these parts that holds a list.
     fn is_of_a_list(kind: u8, sub: u8, body: &[u8]) -> bool
         ensures { result ≡ is_some (list_node_of (row kind sub body.now)) }
@@ -210,10 +223,11 @@ impl Node {
         requires no_length { fixed_node_of (row kind sub body.now) ≡ None }
         ensures { IfOk result (λ node. node ≡ node_of (row kind sub body.now)) }
     {
-        match Node::of_a_list(alloc, kind, sub, body)? {
-            Some(node) => Ok(node),
-            None => Ok(Node::Other(OtherNode::new(alloc, kind, sub, body)?)),
-        }
+        match_list!(
+            (alloc, kind, sub, body),
+            node => Ok(node),
+            Ok(Node::Other(OtherNode::new(alloc, kind, sub, body)?))
+        )
     }
 
     /// Appends the node that has these parts, if there is memory for it.
@@ -231,7 +245,30 @@ impl Node {
         match_one_length!(
             (kind, sub, body),
             node => nodes.push(node)?,
-            nodes.push(Node::of_no_length(alloc, kind, sub, body)?)?
+            Node::push_of_no_length(alloc, kind, sub, body, nodes)?
+        );
+        Ok(())
+    }
+
+    /// Appends the node that has these parts, for which the table has no row with data of one length, if there is memory for
+    /// it.
+    #[inline(always)]
+    fn push_of_no_length(
+        alloc: Global,
+        kind: u8,
+        sub: u8,
+        body: &[u8],
+        nodes: &mut Vec<Node>,
+    ) -> Result<(), AllocError>
+        requires no_end { kind ≢ 0x7F }
+        requires len { length body.now ≤ body_max }
+        requires no_length { fixed_node_of (row kind sub body.now) ≡ None }
+        ensures { OnOk result (nodes.new.items ≡ nodes.old.items ++ node_of (row kind sub body.now) ∷ []) }
+    {
+        match_list!(
+            (alloc, kind, sub, body),
+            node => nodes.push(node)?,
+            nodes.push(Node::Other(OtherNode::new(alloc, kind, sub, body)?))?
         );
         Ok(())
     }

@@ -1,6 +1,6 @@
 //! Nodes that a vendor defines.
 
-ghost use Rattle.std.specs.Prelude.{◌≡◌, ◌≢◌, ◌↔◌, ◌<◌, ◌≤◌, ◌++◌, length, Err, IfOk, IfErr, OnOk, OnErr};
+ghost use Rattle.std.specs.Prelude.{◌≡◌, ◌≢◌, ◌↔◌, ◌<◌, ◌≤◌, ◌++◌, length, Some, Err, IfOk, IfErr, OnOk, OnErr};
 ghost use Rattle.uefi_path.specs.declared.fault.NodeFault.{NodeFault};
 ghost use Rattle.uefi_path.specs.Standard.{body_max, vendor_body_max};
 ghost use Rattle.uefi_path.specs.Parts.{vendor_parts, vendor_bytes, vendor_of, IsVendor};
@@ -102,6 +102,7 @@ impl Vendor {
         Ok(Vendor { guid, body })
     }
 
+    #[inline(always)]
     fn from_parts(alloc: Global, guid: Guid, body: &[u8]) -> Result<Vendor, AllocError>
         requires { length body.now ≤ vendor_body_max }
         ensures made { IfOk result (λ node. node ≡ vendor_parts guid.0 body.now) }
@@ -112,17 +113,15 @@ impl Vendor {
         Ok(Vendor { guid, body })
     }
 
-    /// The node that has these bytes, the identifier first: `None` where they are too few for one.
-    /// The one refusal is for want of memory.
-    pub(crate) fn from_bytes(alloc: Global, bytes: &[u8]) -> Result<Option<Vendor>, AllocError>
-        requires { length bytes.now ≤ body_max }
-        ensures { IfOk result (λ found. found ≡ vendor_of bytes.now) }
+    /// What a node of these bytes holds, the identifier first, if there is memory for it.
+    #[inline(always)]
+    pub(crate) fn from_bytes(alloc: Global, bytes: &[u8]) -> Result<Vendor, AllocError>
+        requires least { GUID_LEN ≤ length bytes.now }
+        requires most { length bytes.now ≤ body_max }
+        ensures { IfOk result (λ vendor. Some vendor ≡ vendor_of bytes.now) }
     {
-        if bytes.len() < GUID_LEN {
-            return Ok(None);
-        }
         let guid = Guid(bytes_at(bytes, 0));
-        Ok(Some(Vendor::from_parts(alloc, guid, &bytes[GUID_LEN..])?))
+        Vendor::from_parts(alloc, guid, &bytes[GUID_LEN..])
     }
 
     /// The identifier of what the data means.

@@ -1,8 +1,13 @@
 use Rattle.std.proofs.Common.{arith}
-use Rattle.uefi_path.proofs.Names.{one_unit}
+use Rattle.uefi_path.proofs.Names.{units_of_name}
 use Rattle.uefi_path.proofs.file.FileNode.from_bytes.Goals as goal
 
-pub loop-rest-preserved : goal.loop-rest-preserved
-loop-rest-preserved c =
-    rw c.in_ok-push.ensures.items (one_unit c.args.bytes.now c.loop-rest.units.items c.loop-rest.rest.now c.from_le_bytes-unit.result c.loop-rest.invariant
-    (record { enough = c.in-len2-up.len_at_least; is = cc }) c.if-unit-eq0.false (omega arith))
+pub invariant_of-result : goal.invariant_of-result
+invariant_of-result c =
+    let name = units_of_name c.args.bytes.now (λ i. omega (arith, c.type_inv.bytes i)) c.requires.name in
+    rw c.in_ok-units.ensures (name.valid, omega (arith, name.len, c.requires.len))
+
+pub returns : goal.returns
+returns c =
+    let name = units_of_name c.args.bytes.now (λ i. omega (arith, c.type_inv.bytes i)) c.requires.name in
+    rw c.in_ok-units.ensures name.is

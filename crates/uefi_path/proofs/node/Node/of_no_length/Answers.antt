@@ -1,22 +1,32 @@
-use Rattle.std.proofs.Common.{◌≡◌, Option, None, sym, ap, subst, ◌∙◌, arith}
-use Rattle.std.specs.Prelude.{IsSome}
-use Rattle.std.specs.Option.{option_or}
-use Rattle.std.proofs.lemmas.Bool.{false≢true}
-use Rattle.uefi_path.specs.declared.node.Node.{Node}
+use Rattle.std.proofs.Common.{◌≡◌, None, sym, ap, ◌∙◌, arith}
+use Rattle.std.proofs.lemmas.Grind.{common_steps}
 use Rattle.uefi_path.specs.Row.{row}
-use Rattle.uefi_path.specs.Reading.{fixed_node_of, list_node_of, typed_node_of}
+use Rattle.uefi_path.specs.Reading.{list_node_of, node_of}
 use Rattle.uefi_path.proofs.Bytes.{recursion_from_bytes}
-use Rattle.uefi_path.proofs.Inverse.{typed_node_listed}
+use Rattle.uefi_path.proofs.Inverse.{unlisted_name, none_listed, other_of_row}
+use Rattle.uefi_path.proofs.node.Node.of_no_length.Goals.{in_default-via-in-1-eq4+else-body-ge-GUID_LEN, in_default-via-in-1+in_default, in_default-via-in-3-eq10+else-body-ge-GUID_LEN-2, in_default-via-in-3+in_default, in_default-via-in-4-eq3+else-body-ge-GUID_LEN-3, in_default-via-in-4-eq4+else-is_path_name, in_default-via-in-4+in_default, in_default-via-in_default}
 use Rattle.uefi_path.proofs.node.Node.of_no_length.Goals as goal
 
 pub new-requires : goal.new-requires
 new-requires c =
     let r = row c.args.kind c.args.sub c.args.body.now in
-    let not_fixed : fixed_node_of r ≡ None = c.requires.no_length in
-    let no_list : list_node_of r ≡ None = sym c.in_ok-node.ensures ∙ c.in-None.is in
-    let none : typed_node_of r ≡ None = ap (λ (found : Option Node). option_or found (list_node_of r)) not_fixed ∙ no_list in
+    let no_list : list_node_of r ≡ None = elim c.in_default.branch [
+      | in_default-via-in-1-eq4+else-body-ge-GUID_LEN w ↦ grind (arith, common_steps)
+      | in_default-via-in-1+in_default w ↦ grind (arith, common_steps)
+      | in_default-via-in-3-eq10+else-body-ge-GUID_LEN-2 w ↦ grind (arith, common_steps)
+      | in_default-via-in-3+in_default w ↦ grind (arith, common_steps)
+      | in_default-via-in-4-eq3+else-body-ge-GUID_LEN-3 w ↦ grind (arith, common_steps)
+      | in_default-via-in-4-eq4+else-is_path_name w ↦ rw (w.in-4-eq4.is-0, w.in-4-eq4.is-1) (unlisted_name c.args.body.now (sym w.is_path_name.ensures ∙ w.if-is_path_name.false))
+      | in_default-via-in-4+in_default w ↦ grind (arith, common_steps)
+      | in_default-via-in_default w ↦ grind (arith, common_steps)
+    ] in
     record {
       row = record { kind = omega arith; sub = omega arith; body = recursion_from_bytes c.args.body.now (λ i. omega (arith, c.type_inv.body i)); len = c.requires.len };
       no_end = c.requires.no_end;
-      unlisted = λ l. let P : Option Node → Type 0 = λ o. IsSome o in false≢true (subst P none (typed_node_listed r l));
+      unlisted = none_listed r c.requires.no_length no_list;
     }
+
+pub returns-in_ok-new-in_default : goal.returns-in_ok-new-in_default
+returns-in_ok-new-in_default c =
+    let made = c.in_ok-new-in_default.ensures in
+    other_of_row c.in_ok-new-in_default.field-0 made.valid ∙ ap node_of made.made
