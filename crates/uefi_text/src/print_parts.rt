@@ -1,6 +1,7 @@
 //! The parts of a node's printed text.
 
-ghost use Rattle.std.specs.Prelude.{◌≡◌, ◌≤◌, length, IfOk};
+ghost use Rattle.std.specs.Prelude.{◌≡◌, ◌<◌, ◌≤◌, false, drop, length, IfOk};
+ghost use Rattle.std.specs.Fmt.{digit_glyph, digits};
 ghost use Rattle.uefi_text.specs.Bytes.{hex_text};
 
 use std::{fmt, str};
@@ -11,6 +12,12 @@ const CHUNK: usize = 32;
 
 /// The digits of so many bytes.
 const CHUNK_DIGITS: usize = 64;
+
+/// The bytes of a number's prefix, `0x`.
+const PREFIX_LEN: usize = 2;
+
+/// The most bytes of a number's text: the prefix and sixteen digits.
+const NUMBER_LEN: usize = 18;
 
 /// A number: `0x` and lower-case hexadecimal digits without leading zeros.
 #[derive(Clone, Copy, Debug)]
@@ -23,8 +30,44 @@ impl fmt::Display for Number {
     ghost output = { λ number. Some (number_text number.0) };
 
     fn fmt<W: fmt::Write>(&self, f: &mut fmt::Formatter<W>) -> fmt::Result {
-        let number = self.0;
-        write!(f, "0x{number:x}")
+        // The whole text is written at once: the prefix and the digits by themselves took a tenth of the time of printing.
+        let mut text = [0; NUMBER_LEN];
+        let start = write_digits(self.0, &mut text) - PREFIX_LEN;
+        text[start] = b'0';
+        text[start + 1] = b'x';
+        f.write_str(str::from_utf8(&text[start..]).map_err(|_| fmt::Error)?)
+    }
+}
+
+/// Writes the digits of a number to the end of a text. Answers where the first of them is.
+#[inline(always)]
+fn write_digits(number: u64, text: &mut [u8; NUMBER_LEN]) -> usize
+    ensures low { PREFIX_LEN ≤ result }
+    ensures high { result ≤ NUMBER_LEN }
+    ensures digits { drop result text.new ≡ digits 16 false number }
+{
+    let mut start = NUMBER_LEN;
+    let mut rest = number;
+    loop {
+        start -= 1;
+        text[start] = digit_of((rest % 16) as u8);
+        rest /= 16;
+        if rest == 0 {
+            return start;
+        }
+    }
+}
+
+/// The lower-case digit that stands for a value.
+#[inline(always)]
+fn digit_of(value: u8) -> u8
+    requires { value < 16 }
+    ensures { result ≡ digit_glyph false value }
+{
+    if value < 10 {
+        b'0' + value
+    } else {
+        b'a' + (value - 10)
     }
 }
 
