@@ -1,5 +1,5 @@
 -- The units of a name, and the bytes of one.
-use Rattle.std.proofs.Common.{◌≡◌, ◌≢◌, ℕ, suc, ◌+◌, ◌-◌, ◌*◌, ◌^◌, ◌<◌, ◌≤◌, List, [], ◌∷◌, ◌++◌, length, take, drop, get_or, eqb, Option, Some, None, Result, Ok, Err, refl, sym, ap, subst, ◌∙◌, arith, append_assoc, inl, inr}
+use Rattle.std.proofs.Common.{◌≡◌, ◌≢◌, ℕ, suc, ◌+◌, ◌-◌, ◌*◌, ◌^◌, ◌<◌, ◌≤◌, List, [], ◌∷◌, ◌++◌, length, take, drop, get_or, eqb, Option, Some, None, Result, Ok, Err, refl, sym, ap, subst, ◌∙◌, arith, inl, inr}
 use Rattle.std.specs.Prelude.{◌==◌, is_some, IsSome, IfSome}
 use Rattle.std.specs.Option.{option_map}
 use Rattle.std.specs.Int.{w16, to_le_bytes, from_le_bytes}
@@ -7,42 +7,20 @@ use Rattle.std.specs.List.{position, position_or_len, AllByRecursion}
 use Rattle.std.proofs.lemmas.List.Elements.{recursion_from_All, All-from_get_or}
 use Rattle.std.proofs.lemmas.List.Sums.{fails_before_first}
 use Rattle.std.proofs.lemmas.Option.{none-some}
-use Rattle.std.proofs.lemmas.List.{nil_from_length, take_all, take_at, length-append}
+use Rattle.std.proofs.lemmas.List.{nil_from_length, take_all, take_at}
 use Rattle.std.proofs.lemmas.Bool.{cases_lt, lt-ltb, ne_eqb, eqb-true, eqb-false, cond_both, false≢true}
 use Rattle.uefi_path.specs.Parts.{IsUnit, name_bytes}
 use Rattle.uefi_path.specs.Row.{IsByte, AreBytes, IsClosed, last_zero, another_unit}
 use Rattle.uefi_path.specs.Reading.{name_of}
 use Rattle.uefi_path.specs.Units.{IsTwoByte, units_bytes, units_of}
-use Rattle.uefi_path.proofs.Bytes.{IsBytes, AllByRecursion-append}
+use Rattle.uefi_path.proofs.Bytes.{IsBytes}
 use Rattle.uefi_path.proofs.Numbers.{wide_16}
 use Rattle.uefi_path.proofs.TwoBytes.{units_again, units_length}
-
--- the bytes begin with these units, none of them zero, and the rest stands behind them
-pub record HasUnits (bytes units rest : List ℕ) : Type 0 where
-  pub is : name_of bytes ≡ option_map (λ (name : List ℕ). units ++ name) (name_of rest)
-  pub valid : AllByRecursion IsUnit units
-  pub len : length bytes ≡ 2 * length units + length rest
 
 -- this is the unit at the front of the rest
 pub record IsFront (rest : List ℕ) (unit : ℕ) : Type 0 where
   pub enough : 2 ≤ length rest
   pub is : unit ≡ from_le_bytes w16 (get_or rest 0 0 ∷ get_or rest 1 0 ∷ [])
-
-option_map-twice : (units : List ℕ) (unit : ℕ) (found : Option (List ℕ)) → option_map (λ (name : List ℕ). units ++ name) (option_map (λ (name : List ℕ). unit ∷ name) found) ≡ option_map (λ (name : List ℕ). (units ++ unit ∷ []) ++ name) found
-option_map-twice units unit None = refl
-option_map-twice units unit (Some name) = ap (λ (n : List ℕ). let found : Option (List ℕ) = Some n in found) (sym (append_assoc units (unit ∷ []) name))
-
-pub one_unit : (bytes units rest : List ℕ) (unit : ℕ) → HasUnits bytes units rest → IsFront rest unit → unit ≢ 0 → unit < 2 ^ 16 → HasUnits bytes (units ++ unit ∷ []) (take (length rest - 2) (drop 2 rest))
-one_unit bytes units [] unit h front nonzero fits = absurd (omega (arith, front.enough))
-one_unit bytes units (low ∷ []) unit h front nonzero fits = absurd (omega (arith, front.enough))
-one_unit bytes units (low ∷ high ∷ behind) unit h front nonzero fits =
-    let here : name_of (low ∷ high ∷ behind) ≡ option_map (λ (name : List ℕ). unit ∷ name) (name_of behind) = rw (← front.is, ne_eqb unit 0 nonzero) refl in
-    let others : behind ≡ take (length (low ∷ high ∷ behind) - 2) (drop 2 (low ∷ high ∷ behind)) = sym (take_all (length (low ∷ high ∷ behind) - 2) behind (omega arith)) in
-    subst (λ (t : List ℕ). HasUnits bytes (units ++ unit ∷ []) t) others (record {
-      is = h.is ∙ ap (λ (o : Option (List ℕ)). option_map (λ (name : List ℕ). units ++ name) o) here ∙ option_map-twice units unit (name_of behind);
-      valid = AllByRecursion-append IsUnit units (unit ∷ []) h.valid ((nonzero, fits), tt);
-      len = omega (arith, h.len, length-append units (unit ∷ []));
-    })
 
 is_some-option_map : (unit : ℕ) (found : Option (List ℕ)) → is_some (option_map (λ (name : List ℕ). unit ∷ name) found) ≡ is_some found
 is_some-option_map unit None = refl

@@ -15,9 +15,10 @@ use std::marker::Model;
 /// A partition of a hard drive (UEFI 2.10, 10.3.5.1).
 #[derive(Clone, Copy, Debug, PartialEq, Eq, Hash)]
 pub struct HardDriveNode {
-    partition: u32,
+    // The widest fields come first, so that there are no gaps between them: this is the largest case of `Node`.
     start: u64,
     size: u64,
+    partition: u32,
     signature: [u8; 16],
     format: u8,
     signature_kind: u8,
