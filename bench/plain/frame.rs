@@ -14,7 +14,7 @@ pub enum Request {
     Next(u16),
 }
 
-/// Why bytes are no frame, or a request has none.
+/// Why bytes aren't a frame, or a request has none.
 #[derive(Debug)]
 pub enum Fault {
     Short,

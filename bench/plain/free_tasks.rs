@@ -1,4 +1,4 @@
-//! Finding the least free number, where the numbers of the entries have no gap.
+//! Finding the least free number when the numbers of the entries have no gap.
 
 use crate::plan::lowest_free;
 use crate::set::{Vars, read_set};

@@ -3,15 +3,13 @@
 //! requests, without proofs, in the Rust of `rustc` and its standard library alone. It also makes the
 //! values that both sides are timed on.
 //!
-//! `plain make KIND SIZE FILE` writes a value to a file: a `path` of so many nodes, the same for a
-//! `view`, an `option` of so many paths, a `set` of so many entries, the same for a `copy`, a `free`
-//! number, a `step` or a `run`, an `idle` one, of which no entry is active, one whose BootOrder has
-//! `repeat`s, a `frame` with a payload of so many bytes, or a `stream` of so many bytes at least. Behind
-//! the number of entries may stand an `x` and how many bytes they have, all but the first. `plain time
-//! KIND FILE` times the value in a file and prints one line: what the value has, and, behind a colon,
-//! the shortest time of each call in nanoseconds. The files `.._tasks` say what these are. The times
-//! have the growth of what is made in them, and not its drop. Each answer is compared outside of them,
-//! and a wrong one ends the program.
+//! `plain make KIND SIZE FILE` writes a value to a file: a `path` of SIZE nodes, the same for a `view`, an `option` of
+//! SIZE paths, a `set` of SIZE entries, the same for a `copy`, a `free` number, a `step` or a `run`, an `idle` one, of
+//! which no entry is active, one whose BootOrder has `repeat`s, a `frame` with a payload of SIZE bytes, or a `stream`
+//! of SIZE bytes at least. After the number of entries there may be an `x` and how many bytes they have, all but the
+//! first. `plain time KIND FILE` times the value in a file and prints one line: what the value has, and, after a colon,
+//! the shortest time of each call in nanoseconds. The files `.._tasks` say what these are. The times have the growth of
+//! what is made in them, and not its drop. Each answer is compared outside of them, and a wrong one ends the program.
 
 mod copy_tasks;
 mod frame;

@@ -68,8 +68,8 @@ pub fn value_of(kind: &str, size: &str) -> Result<Vec<u8>, Box<dyn Error>> {
     }
 }
 
-/// The bytes of an option with these attributes, of so many paths to a disk, with as many letters in
-/// its description, and with 16 bytes of optional data for each path but the first.
+/// The bytes of an option with these attributes, of this many paths to a disk, with as many letters in its description,
+/// and with 16 bytes of optional data for each path but the first.
 fn option_of(attributes: u32, paths: usize) -> Result<Vec<u8>, Box<dyn Error>> {
     let mut option = attributes.to_le_bytes().to_vec();
     option.extend(u16::try_from(paths * DISK.len())?.to_le_bytes());
@@ -80,9 +80,9 @@ fn option_of(attributes: u32, paths: usize) -> Result<Vec<u8>, Box<dyn Error>> {
     Ok(option)
 }
 
-/// The bytes of a set of so many entries of the option of one path with these attributes, each but the first with as much
-/// optional data as makes it so many bytes, and of a BootOrder of so many numbers that names each of them in turn, in
-/// another order than that of their numbers.
+/// The bytes of a set of this many entries and of a BootOrder of this many numbers. Each entry is the option of one
+/// path with these attributes, and each but the first has as much optional data as makes it `len` bytes. The BootOrder
+/// names each entry in turn, in another order than that of their numbers.
 fn set_of(
     attributes: u32,
     entries: usize,
@@ -106,7 +106,7 @@ fn set_of(
 }
 
 /// The frame of request 0, to add entry 0: an active option of one path to a disk, with as much optional data as makes
-/// a payload of so many bytes.
+/// a payload of this many bytes.
 fn frame_of(payload: usize) -> Result<Vec<u8>, Box<dyn Error>> {
     let mut frame = vec![0x42, 0x51, 1, 1, 0, 0, 0, 0];
     frame.extend(u32::try_from(payload)?.to_le_bytes());
@@ -116,7 +116,7 @@ fn frame_of(payload: usize) -> Result<Vec<u8>, Box<dyn Error>> {
     Ok(frame)
 }
 
-/// The bytes of frames whose payloads have 44 to 1,044 bytes, one after the other, so many bytes at least.
+/// The bytes of frames whose payloads have 44 to 1,044 bytes, one after the other, at least this many bytes.
 fn stream_of(len: usize) -> Result<Vec<u8>, Box<dyn Error>> {
     let mut stream = Vec::new();
     for payload in (44..1_045).step_by(100).cycle() {
@@ -136,7 +136,7 @@ fn append_variable(name: &[u8], data: &[u8], set: &mut Vec<u8>) -> Result<(), Bo
     Ok(())
 }
 
-/// The bytes of a path of so many nodes.
+/// The bytes of a path of this many nodes.
 fn path_of(count: usize) -> Vec<u8> {
     let mut path = Vec::new();
     let mut seed = 1;

@@ -14,7 +14,7 @@ pub struct LoadOption {
     pub optional: Vec<u8>,
 }
 
-/// Why bytes are no load option, or an option has no bytes.
+/// Why bytes aren't a load option, or an option has no bytes.
 #[derive(Debug)]
 pub enum Fault {
     Short,
@@ -75,7 +75,7 @@ pub fn read_option(bytes: &[u8]) -> Result<LoadOption, Fault> {
     })
 }
 
-/// A load option where it stands in the bytes.
+/// A load option where it is in the bytes.
 pub struct OptionView<'a> {
     pub attributes: u32,
     /// Without the zero unit that ends it.

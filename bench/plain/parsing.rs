@@ -5,7 +5,7 @@ use crate::reading::node;
 use std::error::Error;
 use std::fmt;
 
-/// Why a text stands for no path, and the place of the segment or the argument at fault.
+/// Why a text doesn't stand for a path, and the place of the segment or the argument at fault.
 #[derive(Debug)]
 pub enum Fault {
     Segment(usize),
@@ -51,7 +51,7 @@ pub fn read_text(text: &str) -> Result<Path, Fault> {
     }
 }
 
-/// The node of the segment at the front of the rest, and how many bytes it takes.
+/// The node of the segment at the start of the rest, and how many bytes it takes.
 fn read_segment(rest: &[u8], place: usize) -> Result<(Node, usize), Fault> {
     let (node, len) = if rest.first() == Some(&b'\\') {
         let len = rest
@@ -84,7 +84,7 @@ fn read_segment(rest: &[u8], place: usize) -> Result<(Node, usize), Fault> {
     }
 }
 
-/// What stands in the parentheses of a segment.
+/// What is in the parentheses of a segment.
 struct Arguments<'a> {
     text: &'a [u8],
     place: usize,
@@ -100,7 +100,7 @@ struct Argument<'a> {
 }
 
 impl<'a> Arguments<'a> {
-    /// The arguments, where there are as many.
+    /// The arguments, if there are `N`.
     fn parts<const N: usize>(&self) -> Result<[Argument<'a>; N], Fault> {
         let mut parts = [self.whole(); N];
         let mut place = self.place;

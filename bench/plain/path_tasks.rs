@@ -26,8 +26,8 @@ pub fn held(bytes: &[u8]) -> Result<(String, String), Box<dyn Error>> {
     Ok((held, text))
 }
 
-/// The time of a read of the bytes, of a write, of printing and of reading the text. The text lives
-/// on between turns: to free so much at once makes the allocator slower in the next.
+/// The time of a read of the bytes, of a write, of printing and of reading the text. The text lives on between turns:
+/// to free that much at once makes the allocator slower in the next.
 pub fn times(bytes: &[u8], text: &str) -> Result<Vec<Duration>, Box<dyn Error>> {
     let (path, read) = read_timed(bytes)?;
     let write = write_timed(&path, bytes)?;

@@ -1,4 +1,4 @@
-//! Planning, where no entry is normal, or where all are and BootOrder repeats their numbers.
+//! Planning, when no entry is normal, or when all are and BootOrder repeats their numbers.
 
 use crate::plan::{boot_order, plan};
 use crate::set::{Vars, read_set};

@@ -6,7 +6,7 @@ use std::fmt;
 
 const HEADER_LEN: usize = 4;
 
-/// Why bytes begin with no path, and the offset of the node with the fault.
+/// Why bytes don't begin with a path, and the offset of the node with the fault.
 #[derive(Debug)]
 pub enum Fault {
     NoEnd(usize),
@@ -30,7 +30,7 @@ impl fmt::Display for Fault {
 
 impl Error for Fault {}
 
-/// A node where it stands in the bytes.
+/// A node where it is in the bytes.
 pub struct NodeView<'a> {
     pub kind: u8,
     pub sub: u8,
@@ -52,7 +52,7 @@ impl<'a> Iterator for Nodes<'a> {
     }
 }
 
-/// How many bytes the path at the front of the bytes takes.
+/// How many bytes the path at the start of the bytes takes.
 pub fn check_path(bytes: &[u8]) -> Result<usize, Fault> {
     let mut offset = 0;
     loop {
@@ -68,7 +68,7 @@ pub fn check_path(bytes: &[u8]) -> Result<usize, Fault> {
     }
 }
 
-/// The nodes of the path at the front of the bytes.
+/// The nodes of the path at the start of the bytes.
 pub fn nodes(bytes: &[u8]) -> Result<Nodes<'_>, Fault> {
     let len = check_path(bytes)?;
     Ok(Nodes {
@@ -76,7 +76,7 @@ pub fn nodes(bytes: &[u8]) -> Result<Nodes<'_>, Fault> {
     })
 }
 
-/// The path at the front of the bytes, and how many bytes it takes.
+/// The path at the start of the bytes, and how many bytes it takes.
 pub fn read_path(bytes: &[u8]) -> Result<(Path, usize), Fault> {
     let mut path = Vec::new();
     let mut nodes = Vec::new();
@@ -99,7 +99,7 @@ pub fn read_path(bytes: &[u8]) -> Result<(Path, usize), Fault> {
     }
 }
 
-/// The type, the sub-type and the data of the node at the front of the bytes.
+/// The type, the sub-type and the data of the node at the start of the bytes.
 fn split_node(bytes: &[u8], offset: usize) -> Result<(u8, u8, &[u8]), Fault> {
     let (kind, sub, len) = match *bytes {
         [] => return Err(Fault::NoEnd(offset)),

@@ -1,4 +1,4 @@
-//! Runs of deliveries: of two of them one in a hundred is of a new number and the others repeat it, of the third each is.
+//! Runs of deliveries: in two, one in a hundred is of a new number and the others repeat it; in the third, each is.
 
 use crate::frame::{Request, write_frame};
 use crate::keeper::{Keeper, Outcome, Reply};

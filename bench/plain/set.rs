@@ -14,7 +14,7 @@ const DATA_MAX: usize = 1_048_576;
 #[derive(Clone)]
 pub struct Vars(Vec<(String, Rc<[u8]>)>);
 
-/// Why bytes are no set, and the offset of the record with the fault.
+/// Why bytes aren't a set, and the offset of the record with the fault.
 #[derive(Debug)]
 pub enum Fault {
     BadMagic(usize),
@@ -96,7 +96,7 @@ pub fn read_set(bytes: &[u8]) -> Result<Vars, Fault> {
     Ok(Vars(variables))
 }
 
-/// The name at the front of a record, and the bytes behind it.
+/// The name at the start of a record, and the bytes after it.
 fn split_name(record: &[u8], offset: usize) -> Result<(&str, &[u8]), Fault> {
     let (len, behind) = record.split_first().ok_or(Fault::Truncated(offset))?;
     let len = usize::from(*len);
@@ -112,7 +112,7 @@ fn split_name(record: &[u8], offset: usize) -> Result<(&str, &[u8]), Fault> {
     }
 }
 
-/// The data behind a name, and the bytes behind it.
+/// The data after a name, and the bytes after them.
 fn split_data(bytes: &[u8], offset: usize) -> Result<(&[u8], &[u8]), Fault> {
     let (len, behind) = bytes.split_first_chunk().ok_or(Fault::Truncated(offset))?;
     let len = u32::from_le_bytes(*len) as usize;

@@ -9,8 +9,8 @@ use std::error::Error;
 use std::hint::black_box;
 use std::time::{Duration, Instant};
 
-/// How many entries the set has, how many bytes it takes, and what comes of the Add: 0 where its entry
-/// is stored, and 1 where all numbers are taken.
+/// How many entries the set has, how many bytes it takes, and what comes of the Add: 0 if its entry is stored, and 1 if
+/// all numbers are taken.
 pub fn held(bytes: &[u8]) -> Result<String, Box<dyn Error>> {
     let vars = read_set(bytes)?;
     let entries = vars.len() - 1;

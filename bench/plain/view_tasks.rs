@@ -1,4 +1,4 @@
-//! Looking at the nodes of paths where they stand in the bytes.
+//! Looking at the nodes of paths where they are in the bytes.
 
 use crate::reading::{check_path, nodes};
 use std::error::Error;

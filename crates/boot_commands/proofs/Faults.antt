@@ -11,7 +11,7 @@ use Rattle.boot_commands.specs.declared.fault.ScriptFault.{ScriptFault}
 use Rattle.boot_commands.specs.declared.fault.ScriptFault.TheVariants as fault
 use Rattle.boot_commands.specs.ScriptFault.{IsLineFault, MayComeOfScript, MayComeOfStream}
 use Rattle.boot_commands.specs.Stream.{IsStreamFault}
-use Rattle.boot_commands.specs.Answering.{IsAnswer}
+use Rattle.boot_commands.specs.Answers.{IsAnswer}
 
 module _ (vars : Variables) where
   -- ---- what keeps a reader from its end

@@ -1,4 +1,4 @@
--- Events that happen to variables, and what is answered where bytes are read as events.
+-- Events that happen to variables, and what is answered when bytes are read as events.
 use Rattle.std.proofs.Common.{◌≡◌, ◌≢◌, ◌<◌, ◌≤◌, ◌+◌, ℕ, List, [], ◌∷◌, ◌++◌, length, get_or, take, drop, Option, Some, None, Result, Ok, Err, refl, ap, sym, subst, ◌∙◌, inl, inr, arith, append_assoc, append-nil}
 use Rattle.std.specs.Prelude.{IfOk, IfErr, IfSome}
 use Rattle.std.specs.List.{AllByRecursion}
@@ -12,27 +12,27 @@ use Rattle.boot_requests.specs.declared.fault.OpenFault.{OpenFault}
 use Rattle.boot_requests.specs.declared.fault.OpenFault.TheVariants as opening
 use Rattle.boot_requests.specs.State.{State, IsState, IsImage}
 use Rattle.boot_requests.specs.Seen.{Seen, IsEvent, IsSeen, AreSeen}
-use Rattle.boot_requests.specs.Run.{followed}
+use Rattle.boot_requests.specs.Run.{run_followed_by}
 use Rattle.boot_requests.specs.Reply.{AreAnswers}
 use Rattle.boot_requests.specs.Turn.{Plain, plain_start}
-use Rattle.boot_requests.specs.Opening.{OpensAs, IsOpenFault}
-use Rattle.boot_requests.specs.Keeping.{StandsFor, IsStateOf}
+use Rattle.boot_requests.specs.StoredState.{OpensAs, IsOpenFault}
+use Rattle.boot_requests.specs.Keeper.{StandsFor, IsStateOf}
 use Rattle.boot_requests.specs.Words.{line_of}
 use Rattle.boot_commands.specs.declared.fault.ScriptFault.{ScriptFault}
 use Rattle.boot_commands.specs.declared.fault.ScriptFault.TheVariants as fault
 use Rattle.boot_requests.specs.Stream.{Cut, IsCut}
-use Rattle.boot_commands.specs.Running.{answer_lines, Happens, RunsBy}
+use Rattle.boot_commands.specs.Runs.{answer_lines, Happens, RunsBy}
 use Rattle.boot_commands.specs.ScriptFault.{script_max, IsLineFault, IsFirstFaultBy, IsFirstFault, IsFirstStreamFault, IsFaultUnless}
 use Rattle.boot_commands.specs.Script.{line_feed, IsScript}
 use Rattle.boot_commands.specs.Stream.{IsStream, IsStreamFault}
 use Rattle.boot_commands.specs.Source.{ReadsAll, AppendsFront}
-use Rattle.boot_commands.specs.Answering.{AppendsAnswers, IsAnswer}
+use Rattle.boot_commands.specs.Answers.{AppendsAnswers, IsAnswer}
 use Rattle.boot_commands.proofs.Scripts.{no_script, one_bad_line}
 use Rattle.boot_commands.proofs.Streams.{no_stream, one_stream_fault}
 
 -- ---- events
 
--- events of bytes are read, where each is
+-- events of bytes are read, if each is
 read_as : ((event : Event) → IsEvent event → (seen : Seen) × IsSeen event seen) → (events : List Event) → AllByRecursion IsEvent events
     → (seen : List Seen) × AreSeen events seen
 read_as each [] valid = ([], tt)
@@ -41,7 +41,7 @@ read_as each (event ∷ events) valid =
     let rest = read_as each events valid.1 in
     (first.0 ∷ rest.0, (first.1, rest.1))
 
--- what events are read as, where more are behind them
+-- what events are read as, if more come after them
 seen_parts : (events more : List Event) (seen : List Seen) → AreSeen (events ++ more) seen
     → (front : List Seen) × (back : List Seen) × (seen ≡ front ++ back) × AreSeen events front × AreSeen more back
 seen_parts [] more seen h = ([], seen, refl, tt, h)
@@ -50,12 +50,12 @@ seen_parts (event ∷ events) more (first ∷ later) h =
     let rest = seen_parts events more later h.1 in
     (first ∷ rest.0, rest.1, ap (λ (l : List Seen). first ∷ l) rest.2, (h.0, rest.3), rest.4)
 
-followed-append : (past front back : List Seen) → followed past (front ++ back) ≡ followed (followed past front) back
-followed-append past [] back = refl
-followed-append past (first ∷ front) back = followed-append (first ∷ past) front back
+run_followed_by-append : (past front back : List Seen) → run_followed_by past (front ++ back) ≡ run_followed_by (run_followed_by past front) back
+run_followed_by-append past [] back = refl
+run_followed_by-append past (first ∷ front) back = run_followed_by-append (first ∷ past) front back
 
 answers_more : (start : State) (past front back : List Seen) (xs ys : List Reply)
-    → AreAnswers start past front xs → AreAnswers start (followed past front) back ys → AreAnswers start past (front ++ back) (xs ++ ys)
+    → AreAnswers start past front xs → AreAnswers start (run_followed_by past front) back ys → AreAnswers start past (front ++ back) (xs ++ ys)
 answers_more start past [] back [] ys p q = q
 answers_more start past [] back (x ∷ xs) ys p q = absurd (let none : x ∷ xs ≡ [] = p in cc)
 answers_more start past (first ∷ front) back [] ys p q = absurd p
@@ -65,11 +65,11 @@ answers_more start past (first ∷ front) back (x ∷ xs) ys p q = (p.0, answers
 pub appends_none : (k : Plain) (lines : List ℕ) → AppendsAnswers k [] k lines lines
 appends_none k lines = record { answers = []; run = stays; lines = sym (append-nil lines) }
   where
-    stays : (start : State) (past seen : List Seen) → StandsFor k start past → AreSeen [] seen → StandsFor k start (followed past seen) × AreAnswers start past seen []
+    stays : (start : State) (past seen : List Seen) → StandsFor k start past → AreSeen [] seen → StandsFor k start (run_followed_by past seen) × AreAnswers start past seen []
     stays start past [] stands read = (stands, refl)
     stays start past (first ∷ later) stands read = absurd read
 
--- the lines of more events, behind those of the first ones
+-- the lines of more events, after those of the first ones
 appends_more : (from mid to : Plain) (events more : List Event) (a b c : List ℕ)
     → AppendsAnswers from events mid a b → AppendsAnswers mid more to b c → AppendsAnswers from (events ++ more) to a c
 appends_more from mid to events more a b c p q = record {
@@ -77,15 +77,15 @@ appends_more from mid to events more a b c p q = record {
   run = λ start past seen stands read.
       let parts = seen_parts events more seen read in
       let first = p.run start past parts.0 stands parts.3 in
-      let then = q.run start (followed past parts.0) parts.1 first.0 parts.4 in
-      let last = subst (λ (run : List Seen). StandsFor to start run) (sym (followed-append past parts.0 parts.1)) then.0 in
-      subst (λ (all : List Seen). StandsFor to start (followed past all) × AreAnswers start past all (p.answers ++ q.answers)) (sym parts.2)
+      let then = q.run start (run_followed_by past parts.0) parts.1 first.0 parts.4 in
+      let last = subst (λ (run : List Seen). StandsFor to start run) (sym (run_followed_by-append past parts.0 parts.1)) then.0 in
+      subst (λ (all : List Seen). StandsFor to start (run_followed_by past all) × AreAnswers start past all (p.answers ++ q.answers)) (sym parts.2)
       (last, answers_more start past parts.0 parts.1 p.answers q.answers first.1 then.1);
   lines = q.lines ∙ ap (λ (l : List ℕ). l ++ answer_lines q.answers) p.lines ∙ append_assoc a (answer_lines p.answers) (answer_lines q.answers)
       ∙ ap (λ (l : List ℕ). a ++ l) (sym (flat_map-append (λ (answer : Reply). line_of answer ++ line_feed ∷ []) p.answers q.answers));
 }
 
--- the line of the next event, behind those of the first ones
+-- the line of the next event, after those of the first ones
 pub appends_next : (from mid to : Plain) (events : List Event) (index : ℕ) (event : Event) (a b c : List ℕ)
     → index < length events → event ≡ get_or events index event
     → AppendsAnswers from (take index events) mid a b → AppendsAnswers mid (event ∷ []) to b c → AppendsAnswers from (take (index + 1) events) to a c
@@ -98,7 +98,7 @@ appends_next from mid to events index event a b c below here p q =
 pub ran_over : (from to : Plain) (events : List Event) (old new : List Reply) (before after : List ℕ)
     → old ≡ [] → length new ≡ length old + length events
     → ((start : State) (past seen : List Seen) → StandsFor from start past → AreSeen (take (length (drop (length old) new)) events) seen
-    → StandsFor to start (followed past seen) × AreAnswers start past seen (drop (length old) new))
+    → StandsFor to start (run_followed_by past seen) × AreAnswers start past seen (drop (length old) new))
     → after ≡ before ++ answer_lines new → AppendsAnswers from events to before after
 ran_over from to events [] new before after none whole ran lines =
     let all : take (length new) events ≡ events = take_all (length new) events (omega (arith, whole)) in
@@ -113,23 +113,23 @@ ran_over from to events (reply ∷ old) new before after none whole ran lines = 
 pub happens : (before after : Variables) (events : List Event) (count : ℕ) (first last : Plain) (lines : List ℕ)
     → ((event : Event) → IsEvent event → (seen : Seen) × IsSeen event seen)
     → ((start : State) → StandsFor (plain_start start) start [])
-    → AllByRecursion IsEvent events → first ≡ plain_start first.machine → OpensAs before first.machine
-    → length events ≤ count → AppendsAnswers first (take count events) last [] lines → IsState last.machine → IsImage last.machine after
+    → AllByRecursion IsEvent events → first ≡ plain_start first.state → OpensAs before first.state
+    → length events ≤ count → AppendsAnswers first (take count events) last [] lines → IsState last.state → IsImage last.state after
     → (answers : List Reply) × Happens before events after answers × (lines ≡ answer_lines answers)
 happens before after events count first last lines each starts valid is_start opened all appends is_state image =
-    let start = first.machine in
+    let start = first.state in
     let seen = read_as each events valid in
     let stands : StandsFor first start [] = subst (λ (k : Plain). StandsFor k start []) (sym is_start) (starts start) in
     let read = subst (λ (es : List Event). AreSeen es seen.0) (sym (take_all count events all)) seen.1 in
     let done = appends.run start [] seen.0 stands read in
-    let left : IsStateOf last.machine after = record { is = is_state; image = image } in
+    let left : IsStateOf last.state after = record { is = is_state; image = image } in
     let happened : Happens before events after appends.answers = record {
       start = start;
       seen = seen.0;
       opened = opened;
       read = seen.1;
       answered = done.1;
-      left = subst (λ (m : State). IsStateOf m after) done.0.machine left;
+      left = subst (λ (m : State). IsStateOf m after) done.0.state left;
     } in
     (appends.answers, happened, appends.lines)
 
@@ -150,7 +150,7 @@ one_open_fault vars opening.BadState opening.BadState p q = refl
 one_open_fault vars opening.BadState opening.OutOfMemory p q = absurd q
 one_open_fault vars opening.OutOfMemory b p q = absurd p
 
--- Faults that bytes have of their own, where others are read as events: there is one at most, and none of what is read.
+-- Faults that bytes have of their own, if others are read as events: bytes have one at most, and none if they are read.
 pub record AreFaults (Reads : List ℕ → List Event → Type 0) (IsFaultOf : List ℕ → ScriptFault → Type 0) : Type 0 where
   pub first : (bytes : List ℕ) (vars : Variables) (f : ScriptFault) → length bytes ≤ script_max → IsFaultOf bytes f → IsFirstFaultBy Reads IsFaultOf bytes vars f
   pub one : (bytes : List ℕ) (f g : ScriptFault) → IsFaultOf bytes f → IsFaultOf bytes g → f ≡ g
@@ -260,7 +260,7 @@ module _ (Reads : List ℕ → List Event → Type 0) (IsFaultOf : List ℕ → 
         let wrote = subst (IsAnswer events vars old new) is h in
         (bytes, all, len, wrote.0, wrote.1, by wrote.0 wrote.1 wrote.2, wrote.3)
 
-    -- that there are too many bytes is no answer to events
+    -- that there are too many bytes isn't an answer to events
     pub answer_few : (r : Result Variables ScriptFault) → IsAnswer events vars old new r → r ≢ Err fault.TooMuch
     answer_few r h is = (subst (IsAnswer events vars old new) is h).0
 

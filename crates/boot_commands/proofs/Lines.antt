@@ -23,7 +23,7 @@ last_line text e =
     let past = ltb-false (position_or_len ends text) (length text) (no_place _ (ltb (position_or_len ends text) (length text)) e) in
     slice_split_none ends text (All-from_get_or (λ x. ends x ≡ false) text 0 (λ k h. fails_before_first ends text k 0 (omega arith)))
 
--- what stands before the first line feed is the first line, and the others are those of what stands behind it
+-- what is before the first line feed is the first line, and the others are those of what is after it
 pub first_line : (text : List ℕ) (len : ℕ) → position (λ byte. eqb byte line_feed) text ≡ Some len
     → (lines_of text ≡ take len text ∷ lines_of (drop (len + 1) text)) × (length (drop (len + 1) text) < length text)
 first_line text len e =

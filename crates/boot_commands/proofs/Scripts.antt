@@ -1,5 +1,5 @@
 -- Scripts and their events: there is one of each.
-use Rattle.std.proofs.Common.{◌≡◌, ◌≢◌, ◌<◌, ◌≤◌, ◌+◌, ℕ, suc, List, Option, Some, None, Result, Err, [], ◌∷◌, ◌++◌, length, refl, ap, sym, subst, ◌∙◌, inl, inr, arith, append_assoc, append-nil, length-append}
+use Rattle.std.proofs.Common.{◌≡◌, ◌≢◌, ◌<◌, ◌≤◌, ◌+◌, ℕ, suc, List, Option, Some, None, Result, Err, [], ◌∷◌, ◌++◌, length, refl, ap, sym, subst, ◌∙◌, inl, inr, arith, append_assoc, length-append}
 use Rattle.std.specs.Prelude.{codes, Ok, IfOk, IfErr, MatchOption}
 use Rattle.uefi_path.specs.Answer.{IsUnless}
 use Rattle.boot_commands.specs.declared.fault.ScriptFault.{ScriptFault}
@@ -95,7 +95,7 @@ no_script text number events bad script =
     let P : List (List ℕ) → Type 0 = λ lines. AllByRecursion IsScriptLine lines in
     bad.is_bad (middle IsScriptLine bad.before bad.bad bad.after (subst P bad.lines all))
 
--- the first of a list that isn't good stands at one place
+-- the first of a list that isn't good is at one place
 one_place : {X : Type 0} (P : X → Type 0) (a : List X) (x : X) (as' : List X) (b : List X) (y : X) (bs : List X)
     → AllByRecursion P a → AllByRecursion P b → ¬ P x → ¬ P y → a ++ x ∷ as' ≡ b ++ y ∷ bs → length a ≡ length b
 one_place P [] x as' [] y bs p q no_x no_y e = refl
@@ -125,7 +125,7 @@ all_more : {X : Type 0} (P : X → Type 0) (a b : List X) → AllByRecursion P a
 all_more P [] b p q = q
 all_more P (x ∷ a) b p q = (p.0, all_more P a b p.1 q)
 
--- so many lines were read, which told of the events, and the rest of the text has the others
+-- this many lines were read, which told of the events, and the rest of the text has the others
 pub record IsReading (text rest : List ℕ) (events : List Event) (number : ℕ) : Type 0 where
   pub before : List (List ℕ)
   pub lines : lines_of text ≡ before ++ lines_of rest
@@ -133,16 +133,6 @@ pub record IsReading (text rest : List ℕ) (events : List Event) (number : ℕ)
   pub valid : AllByRecursion IsEvent events
   pub at : number ≡ length before + 1
   pub len : length before + length rest ≤ length text
-
-pub reading_starts : (text : List ℕ) (events : List Event) → events ≡ [] → IsReading text text events 1
-reading_starts text events none = record {
-  before = [];
-  lines = refl;
-  told = none;
-  valid = let P : List Event → Type 0 = λ events. AllByRecursion IsEvent events in subst P (sym none) tt;
-  at = refl;
-  len = omega arith;
-}
 
 pub reading_more : (text rest : List ℕ) (events new : List Event) (number next : ℕ) (line others : List ℕ) → IsReading text rest events number
     → lines_of rest ≡ line ∷ lines_of others → length others < length rest → AppendsEvents line events new → next ≡ number + 1
@@ -170,7 +160,7 @@ reading_ends text rest events new number line so_far cut appends = (
       subst P (sym appends.items) (all_more IsEvent events appends.events so_far.valid appends.valid)),
 )
 
--- a line is read that is none of a script
+-- a line is read that isn't one of a script
 pub reading_fails : (text rest : List ℕ) (events : List Event) (number : ℕ) (line : List ℕ) (after : List (List ℕ)) → IsReading text rest events number
     → lines_of rest ≡ line ∷ after → ¬ IsScriptLine line → IsFirstBadLine text number
 reading_fails text rest events number line after so_far cut bad = record {
@@ -184,21 +174,6 @@ reading_fails text rest events number line after so_far cut bad = record {
 }
 
 -- ---- one line
-
-pub appends_nothing : (line : List ℕ) (old new : List Event) → line ≡ [] → new ≡ old → AppendsEvents line old new
-appends_nothing [] old new empty same = record { events = []; told = refl; valid = tt; items = same ∙ sym (append-nil old) }
-appends_nothing (c ∷ line) old new empty same = cc
-
-pub appends_event : (line : List ℕ) (event : Event) (old new : List Event) → 0 < length line → Tells line event → IsEvent event
-    → new ≡ old ++ event ∷ [] → AppendsEvents line old new
-appends_event [] event old new some told valid items = absurd (omega arith)
-appends_event (c ∷ line) event old new some told valid items =
-    record { events = event ∷ []; told = (told, refl); valid = (valid, tt); items = items }
-
-pub no_line : (line : List ℕ) → 0 < length line → ((event : Event) → Tells line event → ⊥) → IsScriptLine line → ⊥
-no_line [] some none good = absurd (omega arith)
-no_line (c ∷ line) some none (inl empty) = cc
-no_line (c ∷ line) some none (inr told) = none told.0 told.1
 
 -- ---- what a line tells of
 
@@ -217,7 +192,7 @@ no_event line prepare hand restart deliver event.Prepare told = prepare told
 no_event line prepare hand restart deliver event.Hand told = hand told
 no_event line prepare hand restart deliver event.Restart told = restart told
 
--- a line that is no single word tells of a delivery, or of nothing
+-- a line that isn't a single word tells of a delivery, or of nothing
 pub delivery_or_none : (line : List ℕ) (r : Result (Option Event) AllocError) → line ≢ codes "prepare" → line ≢ codes "hand" → line ≢ codes "restart"
     → IfOk r (λ found. MatchOption found ((bytes : List ℕ) → Tells line (event.Deliver bytes) → ⊥) (λ event. Tells line event × IsEvent event))
     → IfOk r (λ found. MatchOption found ((event : Event) → Tells line event → ⊥) (λ event. Tells line event × IsEvent event))
@@ -225,7 +200,7 @@ delivery_or_none line (Ok None) prepare hand restart h = no_event line prepare h
 delivery_or_none line (Ok (Some event)) prepare hand restart h = h
 delivery_or_none line (Err e) prepare hand restart h = h
 
--- where a text has a bad line, a reader that tells faults of the text alone tells that one
+-- if a text has a bad line, a reader that tells faults of the text alone tells that one
 pub only_bad_line : {T : Type 0} (text : List ℕ) (r : Result T ScriptFault) (items : T → List Event) (number : ℕ)
     → IfOk r (λ found. IsScript text (items found)) → IfErr r (λ f. f ≢ fault.OutOfMemory → IsLineFault text f) → IsFirstBadLine text number
     → IsUnless r (Err (fault.BadLine number)) fault.OutOfMemory

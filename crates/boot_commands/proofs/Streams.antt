@@ -1,4 +1,4 @@
--- Streams and their events: there is one of each, and where there is none, there is a fault.
+-- Streams and their events: there is one of each, and if there is none, there is a fault.
 use Rattle.std.proofs.Common.{◌≡◌, ◌≢◌, ℕ, List, [], ◌∷◌, ◌++◌, length, Option, Some, None, Result, Ok, Err, refl, ap, sym, subst, ◌∙◌, inl, inr, arith, length-append}
 use Rattle.std.specs.Prelude.{◌⊎◌, IfOk, IfErr, MatchResult, map}
 use Rattle.std.specs.List.{AllByRecursion, flat_map}
@@ -10,7 +10,7 @@ use Rattle.boot_requests.specs.declared.fault.FeedFault.{FeedFault}
 use Rattle.boot_requests.specs.declared.fault.FeedFault.TheVariants as feeding
 use Rattle.boot_requests.specs.FrameFault.{Raw, IsRaw}
 use Rattle.boot_requests.specs.Seen.{IsEvent}
-use Rattle.boot_requests.specs.Stream.{Cut, IsCut, Kept, Feeds, IsHeaderFault, IsHeaderFaultIfAny, kept_rest, nothing_cut, fed}
+use Rattle.boot_requests.specs.Stream.{Cut, IsCut, Kept, Feeds, IsHeaderFault, IsHeaderFaultIfAny, kept_rest, nothing_cut, feed_result}
 use Rattle.boot_commands.specs.declared.fault.ScriptFault.{ScriptFault}
 use Rattle.boot_commands.specs.declared.fault.ScriptFault.TheVariants as fault
 use Rattle.boot_commands.specs.ScriptFault.{script_fault_of_stream}
@@ -63,7 +63,7 @@ module _ (one_cut : (stream : List ℕ) (a b : Cut) → IsCut stream a → IsCut
       p.4 (p.3 ∙ ap length empty)
   no_stream stream other events p q = absurd p
 
-  -- where a stream has a fault, a reader that tells faults of the stream alone tells that one
+  -- if a stream has a fault, a reader that tells faults of the stream alone tells that one
   pub only_stream_fault : {T : Type 0} (stream : List ℕ) (r : Result T ScriptFault) (items : T → List Event) (f : ScriptFault)
       → IfOk r (λ found. IsStream stream (items found)) → IfErr r (λ g. g ≢ fault.OutOfMemory → IsStreamFault stream g) → IsStreamFault stream f
       → IsUnless r (Err f) fault.OutOfMemory
@@ -123,11 +123,11 @@ read_events stream (Err f) items bytes is = tt
 
 -- ---- what was fed at once
 
-no_other : (rest : List ℕ) (f : Option FeedFault) → fed f ≡ Ok tt → (f ≡ None) × (kept_rest f rest ≡ rest)
+no_other : (rest : List ℕ) (f : Option FeedFault) → feed_result f ≡ Ok tt → (f ≡ None) × (kept_rest f rest ≡ rest)
 no_other rest None e = (refl, refl)
 no_other rest (Some f) e = cc
 
-this_fault : (f : Option FeedFault) (g : FeedFault) → fed f ≡ Err g → f ≡ Some g
+this_fault : (f : Option FeedFault) (g : FeedFault) → feed_result f ≡ Err g → f ≡ Some g
 this_fault None g e = cc
 this_fault (Some f) g e = cc
 
@@ -164,7 +164,7 @@ pub fed_fault : (stream : List ℕ) (kept : Kept) (old new : List (List ℕ)) (f
 fed_fault stream kept old new f feeds = (feeds.after, feeds.is, this_fault feeds.after.fault f (sym feeds.answered))
 
 pub told_fault : (stream : List ℕ) (kept : Kept) (old new : List (List ℕ)) (f : FeedFault) (made : ScriptFault)
-    → (fed (Some f) ≢ fed (Some feeding.OutOfMemory) → Feeds [] nothing_cut stream kept old new (fed (Some f))) → made ≡ script_fault_of_stream f
+    → (feed_result (Some f) ≢ feed_result (Some feeding.OutOfMemory) → Feeds [] nothing_cut stream kept old new (feed_result (Some f))) → made ≡ script_fault_of_stream f
     → made ≢ fault.OutOfMemory → IsStreamFault stream made
 told_fault stream kept old new feeding.OutOfMemory made feeds is other = absurd (other is)
 told_fault stream kept old new f made feeds is other =

@@ -12,11 +12,11 @@ use Rattle.boot_requests.specs.declared.event.Event.{Event}
 use Rattle.boot_requests.specs.declared.event.Event.TheVariants as event
 use Rattle.boot_requests.specs.declared.reply.Reply.{Reply}
 use Rattle.boot_requests.specs.State.{State, IsImage}
-use Rattle.boot_requests.specs.Opening.{OpensAs}
+use Rattle.boot_requests.specs.StoredState.{OpensAs}
 use Rattle.boot_requests.specs.Seen.{Seen, IsSeen, AreSeen}
-use Rattle.boot_requests.specs.Run.{followed, state_at}
+use Rattle.boot_requests.specs.Run.{run_followed_by, state_at}
 use Rattle.boot_requests.specs.Reply.{IsReply, AreAnswers}
-use Rattle.boot_commands.specs.Running.{RunsBy}
+use Rattle.boot_commands.specs.Runs.{RunsBy}
 use Rattle.boot_commands.specs.Script.{lines_of, Tells, TellOf, IsScript, IsScriptLine, IsFirstBadLine}
 use Rattle.boot_commands.proofs.Scripts.{no_event}
 
@@ -34,7 +34,7 @@ digits_or_not : (digits : List ℕ) (r : Result (List ℕ) FromHexError) → dec
 digits_or_not digits (Ok bytes) is = inl (bytes, is)
 digits_or_not digits (Err e) is = inr (λ bytes other. cc)
 
--- behind the word of a delivery
+-- after the word of a delivery
 behind : (line digits : List ℕ) → line ≡ codes "deliver " ++ digits → drop 8 line ≡ digits
 behind line digits is = ap (λ (l : List ℕ). drop 8 l) is
 
@@ -71,7 +71,7 @@ tells_or_not line =
 
 -- ---- lines
 
--- the first of the lines that may stand in no script
+-- the first of the lines that can't be in a script
 record HasBad (lines : List (List ℕ)) : Type 0 where
   before : List (List ℕ)
   bad : List ℕ
@@ -161,6 +161,6 @@ module _ (Reads : List ℕ → List Event → Type 0) (one : (bytes : List ℕ) 
 
   pub one_run_variables : ((m : State) (a b : Variables) → IsImage m a → IsImage m b → a ≡ b) → a ≡ b
   one_run_variables one_image =
-      let first = subst (λ (start : State). IsImage (state_at start (followed [] p.happens.seen)) a) same_start p.happens.left.image in
-      let second = subst (λ (seen : List Seen). IsImage (state_at q.happens.start (followed [] seen)) a) same_seen first in
+      let first = subst (λ (start : State). IsImage (state_at start (run_followed_by [] p.happens.seen)) a) same_start p.happens.left.image in
+      let second = subst (λ (seen : List Seen). IsImage (state_at q.happens.start (run_followed_by [] seen)) a) same_seen first in
       one_image _ a b second q.happens.left.image

@@ -1,7 +1,7 @@
 -- What reads and writes do to known bytes, one after the other.
-use Rattle.std.proofs.Common.{◌≡◌, ℕ, ◌+◌, ◌≤◌, List, [], ◌++◌, length, take, drop, Option, Some, None, Result, Ok, Err, refl, sym, ap, ◌∙◌, arith, append_assoc, append-nil, length-append, take-append-drop}
+use Rattle.std.proofs.Common.{◌≡◌, ℕ, ◌+◌, ◌≤◌, List, ◌++◌, length, take, drop, Option, Some, None, Result, Ok, Err, sym, ap, ◌∙◌, arith, append_assoc, append-nil, length-append, take-append-drop}
 use Rattle.std.specs.Prelude.{IfSome, OnErr}
-use Rattle.std.specs.Io.KnownBytes.{Keeps, Appends, Consumes}
+use Rattle.std.specs.Io.KnownBytes.{Appends, Consumes}
 use Rattle.boot_commands.specs.Source.{ReadsAll, TakesAtMost}
 
 pub appends_more : (a b c : Option (List ℕ)) (xs ys : List ℕ) → Appends a b xs → Appends b c ys → Appends a c (xs ++ ys)
@@ -21,16 +21,6 @@ pub all_of : (a b : Option (List ℕ)) (bytes : List ℕ) → ReadsAll a b bytes
 all_of None b bytes p = tt
 all_of (Some text) None bytes p = absurd p.0
 all_of (Some text) (Some left) bytes p = p.0 ∙ ap (λ (l : List ℕ). bytes ++ l) p.1 ∙ append-nil bytes
-
--- nothing is taken of what stays as it was
-pub takes_nothing : (a : Option (List ℕ)) (most : ℕ) → TakesAtMost a a most
-takes_nothing None most = ([], tt, omega arith)
-takes_nothing (Some x) most = ([], refl, omega arith)
-
-pub takes_none : (a b : Option (List ℕ)) (most : ℕ) → Keeps a b → TakesAtMost a b most
-takes_none None b most h = ([], tt, omega arith)
-takes_none (Some x) None most h = absurd h
-takes_none (Some x) (Some y) most h = ([], sym h, omega arith)
 
 pub takes_more : (a b c : Option (List ℕ)) (xs : List ℕ) (count most : ℕ) → Consumes a b xs → TakesAtMost b c count → length xs + count ≤ most → TakesAtMost a c most
 takes_more a b c xs count most p q len =

@@ -5,7 +5,7 @@ pub mod Report
 -- scripts and streams, in the order in which to read them
 pub mod Script
 pub mod Stream
-pub mod Running
+pub mod Runs
 pub mod ScriptFault
 pub mod Words
 pub mod Source
@@ -20,4 +20,4 @@ pub use Rattle.boot_requests.specs.declared.fault.OpenFault
 pub use Rattle.boot_requests.specs.declared.reply.Reply
 -- for private functions
 pub mod Lines
-pub mod Answering
+pub mod Answers

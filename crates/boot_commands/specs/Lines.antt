@@ -5,7 +5,7 @@ use Rattle.boot_requests.specs.declared.event.Event.{Event}
 use Rattle.boot_requests.specs.Seen.{IsEvent}
 use Rattle.boot_commands.specs.Script.{TellOf}
 
--- the events that the line tells of, which is one at most, stand behind those that were there
+-- the events that the line tells of, at most one, come after those that were there
 pub record AppendsEvents (line : List ℕ) (old new : List Event) : Type 0 where
   pub events : List Event
   pub told : TellOf (line ∷ []) events

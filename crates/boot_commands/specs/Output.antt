@@ -16,7 +16,7 @@ abbrev pub IsLastBoundary : List ℕ → ℕ → ℕ → Type 0
 IsLastBoundary text most end =
     (end ≤ most) × IsCharBoundary text end × ((later : ℕ) → end < later → later ≤ most → ¬ (IsCharBoundary text later))
 
--- the name of the new file for a file of this name: `.bootkeep-` and that name, or the characters of both that have at most 255 bytes
+-- the name of the new file for a file of this name: the characters of `.bootkeep-` and that name that fit in 255 bytes
 abbrev pub IsNewName : List ℕ → List ℕ → Type 0
 IsNewName name new =
     let whole = codes ".bootkeep-" ++ name in (end : ℕ) × IsLastBoundary whole 255 end × (new ≡ take end whole)

@@ -12,7 +12,7 @@ line_feed = 0x0A
 abbrev pub lines_of : List ℕ → List (List ℕ)
 lines_of text = slice_split (λ byte. byte == line_feed) text
 
--- The line tells of the event. The bytes of a delivery stand behind one blank, each as two hexadecimal digits of either
+-- The line tells of the event. The bytes of a delivery come after one blank, each as two hexadecimal digits of either
 -- case, perhaps none.
 abbrev pub Tells : List ℕ → Event → Type 0
 Tells line (event.Deliver bytes) =
@@ -32,11 +32,11 @@ TellOf ((byte ∷ line) ∷ lines) (event ∷ events) = Tells (byte ∷ line) ev
 abbrev pub IsScript : List ℕ → List Event → Type 0
 IsScript text events = TellOf (lines_of text) events
 
--- a line that may stand in a script: an empty one, or one that tells of an event
+-- a line that can be in a script: an empty one, or one that tells of an event
 abbrev pub IsScriptLine : List ℕ → Type 0
 IsScriptLine line = (line ≡ []) ⊎ ((event : Event) × Tells line event)
 
--- The line of this number may stand in no script, and each line before it may. Numbers count from 1, empty lines included.
+-- The line of this number can't be in a script, and each line before it can. Numbers count from 1, empty lines too.
 pub record IsFirstBadLine (text : List ℕ) (number : ℕ) : Type 0 where
   pub before : List (List ℕ)
   pub bad : List ℕ

@@ -7,7 +7,7 @@ use Rattle.boot_requests.specs.declared.fault.FeedFault.TheVariants as feeding
 use Rattle.boot_requests.specs.declared.fault.OpenFault.{OpenFault}
 use Rattle.boot_requests.specs.declared.fault.OpenFault.TheVariants as opening
 use Rattle.boot_requests.specs.Limits.{payload_max}
-use Rattle.boot_requests.specs.Opening.{IsOpenFault}
+use Rattle.boot_requests.specs.StoredState.{IsOpenFault}
 use Rattle.boot_commands.specs.declared.fault.ScriptFault.{ScriptFault}
 use Rattle.boot_commands.specs.declared.fault.ScriptFault.TheVariants as fault
 use Rattle.boot_commands.specs.Script.{IsScript, IsFirstBadLine}
@@ -37,21 +37,21 @@ abbrev pub script_fault_of_stream : FeedFault → ScriptFault
 script_fault_of_stream feeding.OutOfMemory = fault.OutOfMemory
 script_fault_of_stream feed_fault = fault.Stream feed_fault
 
--- The fault is the first of the bytes and the variables, by cases: there are too many bytes, else the bytes have a fault of
--- their own, else they are read as events, and the variables can't be kept.
+-- The fault is the first of the bytes and the variables, by cases: there are too many bytes; otherwise the bytes have a
+-- fault of their own; otherwise they are read as events, and the variables can't be kept.
 abbrev pub IsFirstFaultBy : (List ℕ → List Event → Type 0) → (List ℕ → ScriptFault → Type 0) → List ℕ → Variables → ScriptFault → Type 0
 IsFirstFaultBy Reads IsFaultOf bytes vars fault.TooMuch = script_max < length bytes
 IsFirstFaultBy Reads IsFaultOf bytes vars (fault.Open open_fault) =
     (length bytes ≤ script_max) × (events : List Event) × Reads bytes events × IsOpenFault vars open_fault
 IsFirstFaultBy Reads IsFaultOf bytes vars other = (length bytes ≤ script_max) × IsFaultOf bytes other
 
--- The fault is the first of a text and the variables: the text is too long, else a line is none of a script, else the
--- variables can't be kept.
+-- The fault is the first of a text and the variables: the text is too long; otherwise a line isn't one of a script;
+-- otherwise the variables can't be kept.
 abbrev pub IsFirstFault : List ℕ → Variables → ScriptFault → Type 0
 IsFirstFault = IsFirstFaultBy IsScript IsLineFault
 
--- The fault is the first of a stream and the variables: the stream is too long, else a header is at fault, else bytes are left
--- of a delivery that isn't whole, else the variables can't be kept.
+-- The fault is the first of a stream and the variables: the stream is too long; otherwise a header is at fault;
+-- otherwise bytes are left of a delivery that isn't whole; otherwise the variables can't be kept.
 abbrev pub IsFirstStreamFault : List ℕ → Variables → ScriptFault → Type 0
 IsFirstStreamFault = IsFirstFaultBy IsStream IsStreamFault
 
@@ -66,8 +66,8 @@ MayComeOfScript vars fault.OutOfMemory = ⊤
 MayComeOfScript vars (fault.Stream _) = ⊥
 MayComeOfScript vars (fault.Rest _) = ⊥
 
--- A stream over these variables may be refused for this fault, whatever its bytes are. What is left of a frame is less than
--- the longest one, of twelve bytes and a payload.
+-- A stream over these variables may be refused for this fault, whatever its bytes are. What is left of a frame is less
+-- than the longest one, of twelve bytes and a payload.
 abbrev pub MayComeOfStream : Variables → ScriptFault → Type 0
 MayComeOfStream vars (fault.Stream feed_fault) = feed_fault ≢ feeding.OutOfMemory
 MayComeOfStream vars (fault.Rest count) = (0 < count) × (count < 12 + payload_max)

@@ -1,4 +1,4 @@
--- The words of faults: a fault's name and its number in decimal, or the words of the fault that it holds, parted by one blank.
+-- The words of faults: a fault's name and its number in decimal, or the words of the fault it holds, after one blank.
 use Rattle.std.specs.Prelude.{ℕ, List, ◌++◌, codes}
 use Rattle.std.specs.Fmt.{decimal}
 use Rattle.boot_requests.specs.Words.{feed_fault_words, open_fault_words}

@@ -12,13 +12,13 @@ use thiserror::Error;
 /// Why a script or a stream isn't run, or its answers aren't written.
 #[derive(Clone, Copy, Debug, PartialEq, Eq, Hash, Error)]
 pub enum ScriptFault {
-    /// The line of this number, counted from 1, is none of a script.
+    /// The line of this number, counted from 1, isn't a line of a script.
     #[error("BadLine {0}")]
     BadLine(usize),
     /// A header of the stream is at fault.
     #[error("Stream {0}")]
     Stream(FeedFault),
-    /// So many bytes are left of a frame that isn't whole.
+    /// This many bytes are left of a frame that isn't whole.
     #[error("Rest {0}")]
     Rest(usize),
     /// The variables can't be kept.
@@ -41,7 +41,7 @@ pub enum ScriptFault {
 impl ScriptFault {
     ghost use Rattle.boot_commands.specs.Words.{script_fault_words};
 
-    /// The fault's name, and after a blank the number or the words of the fault that it holds. The one refusal is for want
+    /// The fault's name, and after a blank the number or the words of the fault that it holds. This fails only when out
     /// of memory.
     pub fn words(&self, alloc: Global) -> Result<String, AllocError>
         ensures { IfOk result (λ text. string_bytes text ≡ script_fault_words self.now) }

@@ -30,7 +30,7 @@ pub enum InputFault {
 impl InputFault {
     ghost use Rattle.boot_commands.specs.Words.{input_fault_words};
 
-    /// The fault's name. The one refusal is for want of memory.
+    /// The fault's name. This fails only when out of memory.
     pub fn words(&self, alloc: Global) -> Result<String, AllocError>
         ensures { IfOk result (λ text. string_bytes text ≡ input_fault_words self.now) }
     {
@@ -61,7 +61,7 @@ impl From<io::Error> for InputFault {
 ///
 /// # Errors
 ///
-/// Those of [`read_input`]; [`InputFault::Read`] also where the file can't be opened.
+/// Those of [`read_input`]; [`InputFault::Read`] also if the file can't be opened.
 pub fn read_file<R: Files + AllocGlobal>(rt: &R, path: &str) -> Result<Vec<u8>, InputFault> {
     let file = fs::open(rt, path)?;
     read_input(rt.alloc(), file)
@@ -71,8 +71,8 @@ pub fn read_file<R: Files + AllocGlobal>(rt: &R, path: &str) -> Result<Vec<u8>, 
 ///
 /// # Errors
 ///
-/// [`InputFault::TooMuch`] where there are more than [`LIMIT`] bytes; at most one byte past these is read.
-/// [`InputFault::Read`] where a read fails before that, and [`InputFault::OutOfMemory`] where memory was refused.
+/// [`InputFault::TooMuch`] if there are more than [`LIMIT`] bytes; at most one byte past these is read.
+/// [`InputFault::Read`] if a read fails before that, and [`InputFault::OutOfMemory`] if memory was refused.
 pub fn read_input<R: Read + Drop>(alloc: Global, reader: R) -> Result<Vec<u8>, InputFault>
     ensures all { IfOk result (λ bytes. IfSome (R.remaining reader) (λ rest. bytes.items ≡ rest)) }
     ensures limit { IfOk result (λ bytes. vec_len bytes ≤ LIMIT) }

@@ -7,7 +7,7 @@ ghost use Rattle.uefi_vars.specs.Vars.{Variables};
 ghost use Rattle.boot_requests.specs.declared.event.Event.{Event};
 ghost use Rattle.boot_requests.specs.declared.reply.Reply.{Reply};
 ghost use Rattle.boot_commands.specs.declared.fault.ScriptFault.{ScriptFault};
-ghost use Rattle.boot_commands.specs.Running.{Runs, RunsBy};
+ghost use Rattle.boot_commands.specs.Runs.{Runs, RunsBy};
 ghost use Rattle.boot_commands.specs.Script.{IsScript, IsFirstBadLine};
 ghost use Rattle.boot_commands.specs.ScriptFault.{IsFirstFault, IsFirstStreamFault};
 ghost use Rattle.boot_commands.specs.Stream.{IsStream, IsStreamFault};
@@ -25,7 +25,7 @@ pub fn a_text_is_one_script()
     ensures { (text : List ℕ) (a b : List Event) → IsScript text a → IsScript text b → a ≡ b }
 {}
 
-/// A text that has a bad line is no script.
+/// A text that has a bad line isn't a script.
 pub fn a_bad_line_leaves_no_script()
     ensures { (text : List ℕ) (number : ℕ) (events : List Event) →
         IsFirstBadLine text number → IsScript text events → ⊥ }
@@ -64,7 +64,7 @@ pub fn bytes_are_a_stream_or_have_a_fault()
     laws::each_stream_has_a_cut();
 }
 
-/// Bytes that have a fault are no stream.
+/// Bytes that have a fault aren't a stream.
 pub fn a_fault_leaves_no_stream()
     ensures { (stream : List ℕ) (fault : ScriptFault) (events : List Event) →
         IsStreamFault stream fault → IsStream stream events → ⊥ }

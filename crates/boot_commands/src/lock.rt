@@ -10,7 +10,7 @@ use std::rt::Files;
 /// How many links, each the target of the one before, lead to a file at most, as Linux follows them.
 const LINKS_MAX: u8 = 40;
 
-/// How often a path is looked at that leads to another file each time that a lock was waited for.
+/// How often a path is looked at, if it leads to another file after each wait for a lock.
 const TURNS: u16 = 10_000;
 
 /// An open file with what it takes to replace a file, besides what [`OpenFile`] has.
@@ -52,18 +52,18 @@ pub(crate) enum Found<F> {
     Other,
 }
 
-/// Waits until no other holder of such a lock replaces the file at this path, and keeps others from it until the lock is
-/// given to [`write_file`](crate::write_file) or dropped. What is read of the file meanwhile is what is replaced.
+/// Waits until no other holder of such a lock replaces the file at this path, and keeps others from it until the lock
+/// is given to [`write_file`](crate::write_file) or dropped. What is read of the file meanwhile is what is replaced.
 ///
-/// A link is followed: the file that it leads to is locked. Where there is no file, the folder is locked in which it is to
-/// be made, which has to be readable. What is no regular file, as a pipe or a device, isn't locked, and isn't opened. The
-/// lock is that of the system's `flock`, which keeps out those who take it, and nobody else: not a program that writes the
-/// file without asking. A program that has the lock and takes it once more waits for itself, without end.
+/// A link is followed: the file that it leads to is locked. If there is no file, the folder in which it is to be made
+/// is locked, and has to be readable. What isn't a regular file, like a pipe or a device, is neither locked nor opened.
+/// The lock is that of the system's `flock`, which keeps out those who take it, and nobody else: not a program that
+/// writes the file without asking. A program that has the lock and takes it once more waits for itself, without end.
 ///
 /// # Errors
 ///
-/// [`OutputFault::Write`] where the file can't be opened for writing, the folder can't be opened for reading, the system
-/// gives no lock, or the path leads to another file after each of 10,000 waits, and [`OutputFault::OutOfMemory`] where
+/// [`OutputFault::Write`] if the file can't be opened for writing, the folder can't be opened for reading, the system
+/// gives no lock, or the path leads to another file after each of 10,000 waits, and [`OutputFault::OutOfMemory`] if
 /// memory was refused.
 pub fn lock_file<R: Files<File: OutputFile> + AllocGlobal>(
     rt: &R,
@@ -133,7 +133,7 @@ fn lock_nothing<R: Files<File: OutputFile> + AllocGlobal>(
     }))
 }
 
-/// Where the links that begin with this path end: at the path itself, if it is none.
+/// Where the links that begin with this path end: at the path itself, if it isn't a link.
 fn end_of_links<R: Files + AllocGlobal>(rt: &R, path: &str) -> io::Result<PathBuf> {
     let mut end = PathBuf::from_str(rt.alloc(), path)?;
     for _ in 0..=LINKS_MAX {
@@ -149,7 +149,7 @@ fn end_of_links<R: Files + AllocGlobal>(rt: &R, path: &str) -> io::Result<PathBu
     Err(io::Error::from(ErrorKind::FilesystemLoop))
 }
 
-/// Whether this path, which is no link, leads to the known file, or to nothing where none is known.
+/// Whether this path, which isn't a link, leads to the known file, or to nothing if none is known.
 pub(crate) fn leads_to<R: Files>(
     rt: &R,
     path: Path<'_>,
@@ -167,7 +167,7 @@ fn is_same(one: &Metadata, other: &Metadata) -> bool {
     one.dev() == other.dev() && one.ino() == other.ino()
 }
 
-/// The folder that the path's last name stands in.
+/// The folder that the path's last name is in.
 pub(crate) fn folder_of<'a>(path: Path<'a>) -> Path<'a> {
     match path.parent() {
         Some(folder) if !folder.as_str().is_empty() => folder,

@@ -18,10 +18,10 @@ use thiserror::Error;
 /// How many bytes a file's name has at most.
 const NAME_MAX: usize = 255;
 
-/// The rights of a file that is made anew, of which the system takes away those that the user's mask names.
+/// The rights of a new file that replaces no other, of which the system takes away those that the user's mask names.
 const MODE: u32 = 0o666;
 
-/// The rights of a file that is made for the place of another one, whose rights it gets before a byte is in it.
+/// The rights of a new file that is to replace another one, whose rights it gets before a byte is in it.
 const PRIVATE_MODE: u32 = 0o600;
 
 /// Why an output isn't written.
@@ -38,7 +38,7 @@ pub enum OutputFault {
 impl OutputFault {
     ghost use Rattle.boot_commands.specs.Words.{output_fault_words};
 
-    /// The fault's name. The one refusal is for want of memory.
+    /// The fault's name. This fails only when out of memory.
     pub fn words(&self, alloc: Global) -> Result<String, AllocError>
         ensures { IfOk result (λ text. string_bytes text ≡ output_fault_words self.now) }
     {
@@ -64,22 +64,23 @@ impl From<io::Error> for OutputFault {
     }
 }
 
-/// Makes these bytes the file of a lock, so that it is never left half written: they are written to a new file beside it,
-/// which then takes its name. So the path leads to the old file or to the new one, whatever happens meanwhile, and where
-/// writing fails the new file is removed. The lock is held until the path leads to the new file, and ends with the call.
+/// Makes these bytes the file of a lock, so that it is never left half written: they are written to a new file beside
+/// it, which then takes its name. So the path leads to the old file or to the new one, whatever happens meanwhile, and
+/// if writing fails the new file is removed. The lock is held until the path leads to the new file, and ends with the
+/// call.
 ///
-/// Until then the new file has the name `.bootkeep-` and behind it the name of the file, of both together as many
-/// characters as have at most 255 bytes. **What has that name is removed**, since a call that was killed may have left it.
+/// Until then the new file's name is `.bootkeep-` followed by the name of the file, of both together as many characters
+/// as fit in 255 bytes. **What has that name is removed**, since a call that was killed may have left it.
 ///
-/// The new file has the rights of the old one, and its owner and group where the user may give them away; access lists and
-/// extended attributes aren't kept. What is no regular file, as a pipe or a device, can't be replaced so, and the bytes are
-/// written straight to it.
+/// The new file has the rights of the old one, and its owner and group if the user may give them away; access lists and
+/// extended attributes aren't kept. What isn't a regular file, like a pipe or a device, can't be replaced this way, and
+/// the bytes are written straight to it.
 ///
 /// # Errors
 ///
-/// [`OutputFault::Write`] where a step of this fails, or the path or the name of the new file no longer leads to what it
-/// led to, and [`OutputFault::OutOfMemory`] where memory was refused. The last step is that the system brings the new name
-/// to the disk; where that fails, the file is the new one.
+/// [`OutputFault::Write`] if a step of this fails, or the path or the name of the new file no longer leads to what it
+/// led to, and [`OutputFault::OutOfMemory`] if memory was refused. The last step is that the system brings the new name
+/// to the disk; if that fails, the file is the new one.
 pub fn write_file<R: Files<File: OutputFile> + AllocGlobal>(
     rt: &R,
     lock: FileLock<R::File>,
@@ -88,7 +89,7 @@ pub fn write_file<R: Files<File: OutputFile> + AllocGlobal>(
     Ok(write_at(rt, lock.path.as_path(), &lock.found, bytes)?)
 }
 
-/// Makes these bytes what stands at the path, which leads to what was found.
+/// Makes these bytes what is at the path, which leads to what was found.
 fn write_at<R: Files<File: OutputFile> + AllocGlobal>(
     rt: &R,
     path: Path<'_>,
@@ -105,14 +106,14 @@ fn write_at<R: Files<File: OutputFile> + AllocGlobal>(
 /// Writes these bytes straight to what isn't locked.
 fn overwrite<R: Files>(rt: &R, path: Path<'_>, bytes: &[u8]) -> io::Result<()> {
     let mut file = OpenOptions::new().write(true).open(rt, path)?;
-    // A regular file, which would have to be locked, stands there since.
+    // By now a regular file is there, which would have to be locked.
     if file.metadata()?.is_file() {
         return Err(io::Error::from(ErrorKind::AlreadyExists));
     }
     fill(&mut file, bytes)
 }
 
-/// Puts a new file with these bytes at the path, in the place of the old one if there is one. No link stands there.
+/// Puts a new file with these bytes at the path, in the place of the old one if there is one. No link is there.
 fn place<R: Files<File: OutputFile> + AllocGlobal>(
     rt: &R,
     path: Path<'_>,
@@ -122,7 +123,7 @@ fn place<R: Files<File: OutputFile> + AllocGlobal>(
     let (new, mut file) = create_beside(rt, path, old)?;
     let new = new.as_path();
     if let Err(error) = complete(rt, new, &mut file, (path, old), bytes) {
-        // Where it can't be removed either, it was the first failure that told why.
+        // If it can't be removed either, the first failure tells why.
         let _ = discard(rt, new, &file);
         return Err(error);
     }
@@ -184,7 +185,7 @@ fn new_name(alloc: Global, own: &str) -> Result<String, AllocError>
     Ok(name)
 }
 
-/// Gives the new file the group, the owner and the rights of the old one, each where the user may and the file system has
+/// Gives the new file the group, the owner and the rights of the old one, each if the user may and the file system has
 /// them. The rights come last, since a change of the owner takes some of them away.
 fn keep_access<F: OutputFile>(file: &F, old: &Metadata) {
     let _ = file.chown(None, Some(old.gid()));
@@ -233,7 +234,7 @@ fn sync_folder<R: Files>(rt: &R, path: Path<'_>) -> io::Result<()> {
     }
 }
 
-/// Brings what was written to the disk, where there is one: to a pipe, or to a file system that can't, this is nothing.
+/// Brings what was written to the disk, if there is one: for a pipe, or a file system that can't, this does nothing.
 fn sync<F: OpenFile>(file: &F) -> io::Result<()> {
     match file.sync_all() {
         Err(error)

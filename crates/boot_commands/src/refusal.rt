@@ -37,7 +37,7 @@ impl From<AllocError> for Refusal {
     }
 }
 
-/// What a library answers where it gives no value: a fault of its input, or want of memory.
+/// What a library answers if it gives no value: a fault of its input, or that it is out of memory.
 pub trait Fault {
     // The case that tells of no input: memory was refused.
     ghost memory: { Self };
@@ -54,7 +54,7 @@ pub trait Fault {
         ensures { IfOk result (λ text. string_bytes text ≡ words self.now) };
 }
 
-/// What a fault is to a report: want of memory, or the input's fault in its words, if there is memory for these.
+/// What a fault is to a report: out of memory, or the input's fault in its words, if there is memory for these.
 pub fn refuse<F: Fault + Drop>(alloc: Global, fault: F) -> Refusal
     ensures memory { fault ≡ F.memory → result ≡ refusal.Memory }
     ensures words { IfInput result (λ text. text ≡ F.words fault) }

@@ -13,16 +13,14 @@ use uefi_path::{read_path, write_path};
 use uefi_text::{PathText, read_text};
 use uefi_vars::{PlanNumbers, Vars, boot_next, boot_order, entry_number, plan_numbers, read_set};
 
-/// Shows the device path (UEFI 2.10, 10.3) at the front of the bytes that `hex` writes out, two
-/// digits of either case for each. The report has the lines `instances N`, `nodes N`, over all
-/// instances and without the end nodes, `rest N`, the bytes after the path, and `text T`, the path's
-/// text.
+/// Shows the device path (UEFI 2.10, 10.3) at the start of the bytes that `hex` writes out, two digits of either case
+/// for each. The report has the lines `instances N`, `nodes N`, over all instances and without the end nodes, `rest N`,
+/// the bytes after the path, and `text T`, the path's text.
 ///
 /// # Errors
 ///
-/// [`Refusal::Input`] has the words `BadHex` where `hex` is no even number of hexadecimal digits,
-/// and else those of the path's fault where the bytes begin with no path. [`Refusal::Memory`] comes
-/// only for want of memory.
+/// [`Refusal::Input`] has the words `BadHex` if `hex` isn't an even number of hexadecimal digits; otherwise those of
+/// the path's fault if the bytes don't begin with a path. [`Refusal::Memory`] comes only when out of memory.
 pub fn path_report(alloc: Global, hex: &str) -> Result<String, Refusal>
     ensures { IfErr result (λ refusal. IfInput refusal (TellsPathFault hex.now)) }
 {
@@ -44,8 +42,8 @@ pub fn path_report(alloc: Global, hex: &str) -> Result<String, Refusal>
 ///
 /// # Errors
 ///
-/// [`Refusal::Input`] has the words of the text's fault where it stands for no path. [`Refusal::Memory`] comes only for
-/// want of memory.
+/// [`Refusal::Input`] has the words of the text's fault if it doesn't stand for a path. [`Refusal::Memory`] comes only
+/// when out of memory.
 pub fn text_report(alloc: Global, text: &str) -> Result<String, Refusal>
     ensures { IfErr result (λ refusal. IfInput refusal (TellsTextFault text.now)) }
 {
@@ -58,13 +56,13 @@ pub fn text_report(alloc: Global, text: &str) -> Result<String, Refusal>
 }
 
 /// Shows the load option (UEFI 2.10, 3.1.3) that the bytes are, all of them. The report has the lines `attributes`,
-/// with all eight hexadecimal digits, `active`, `category`, with four digits, `normal`, `description`, a line `path` for
-/// each path of the list, and `optional`, the optional data in hexadecimal digits or `-` where there is none.
+/// with all eight hexadecimal digits, `active`, `category`, with four digits, `normal`, `description`, a line `path`
+/// for each path of the list, and `optional`, the optional data in hexadecimal digits or `-` if there is none.
 ///
 /// # Errors
 ///
-/// [`Refusal::Input`] has the words of the option's fault where the bytes are no load option. [`Refusal::Memory`] comes
-/// only for want of memory.
+/// [`Refusal::Input`] has the words of the option's fault if the bytes aren't a load option. [`Refusal::Memory`] comes
+/// only when out of memory.
 pub fn option_report(alloc: Global, bytes: &[u8]) -> Result<String, Refusal>
     ensures { IfErr result (λ refusal. IfInput refusal (TellsOptionFault bytes.now)) }
 {
@@ -88,16 +86,16 @@ pub fn option_report(alloc: Global, bytes: &[u8]) -> Result<String, Refusal>
 
 /// Shows the boot variables (UEFI 2.10, 3.3) that the bytes of a set file hold, all of them. The report has the lines
 /// `variables N`, one for each entry, a variable named `Boot` and four hexadecimal digits in upper case, by rising
-/// number, `order` with the numbers of BootOrder or `-` where there is none, `next` with that of BootNext or `-`, and
-/// `plan next`, `normal` and the numbers of each, of what a boot would try (3.1), as [`plan_numbers`] gives them. The line
-/// of an entry has its name, `normal` or `other`, as [`is_normal`] says, and its description, or its name and `undecodable`
-/// where its bytes are no load option.
+/// number, `order` with the numbers of BootOrder or `-` if there is none, `next` with that of BootNext or `-`, and
+/// `plan next`, `normal` and the numbers of each, of what a boot would try (3.1), as [`plan_numbers`] gives them. The
+/// line of an entry has its name, `normal` or `other`, as [`is_normal`] says, and its description, or its name and
+/// `undecodable` if its bytes aren't a load option.
 ///
 /// # Errors
 ///
-/// [`Refusal::Input`] has the words of the set's fault where the bytes are no set file, else `BadOrder` where BootOrder
-/// is no list of numbers, and else `BadNext` where BootNext is no number. [`Refusal::Memory`] comes only for want of
-/// memory.
+/// [`Refusal::Input`] has the words of the set's fault if the bytes aren't a set file; otherwise `BadOrder` if
+/// BootOrder isn't a list of numbers; otherwise `BadNext` if BootNext isn't a number. [`Refusal::Memory`] comes only
+/// when out of memory.
 pub fn set_report(alloc: Global, bytes: &[u8]) -> Result<String, Refusal>
     ensures { IfErr result (λ refusal. IfInput refusal (TellsSetFault bytes.now)) }
 {
@@ -130,7 +128,7 @@ fn read_order(alloc: Global, vars: &Vars) -> Result<Vec<u16>, Refusal>
     boot_order(alloc, vars).map_err(|fault| refuse(alloc, fault))
 }
 
-/// The number of BootNext, where BootOrder isn't bad.
+/// The number of BootNext, if BootOrder isn't bad.
 fn read_next(alloc: Global, vars: &Vars) -> Result<Option<u16>, Refusal>
     requires { HasBadOrder vars.now → ⊥ }
     ensures refused { IfErr result (λ refusal. IfInput refusal (TellsVarFault vars.now)) }
@@ -176,7 +174,7 @@ fn append_entry(
     }
 }
 
-/// Appends the word and the numbers, each behind a blank with four hexadecimal digits in upper case, or `-` where there is
+/// Appends the word and the numbers, each after a blank with four hexadecimal digits in upper case, or `-` if there is
 /// none.
 fn append_numbers(word: &str, numbers: &[u16], report: &mut String) -> Result<(), AllocError> {
     report.push_str(word)?;

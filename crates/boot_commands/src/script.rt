@@ -15,14 +15,14 @@ use boot_requests::{Bytes, Event};
 use hex::FromHexError;
 use std::alloc::{AllocError, Global};
 
-/// The events of a script: of each line that isn't empty one, in the order of the lines. Line feeds part the lines.
+/// The events of a script, one for each line that isn't empty, in the order of the lines. Line feeds part the lines.
 /// `deliver` with one blank and the hexadecimal digits of some bytes, two of either case for each, perhaps none, is the
 /// delivery of these; `prepare`, `hand` and `restart` are the other events.
 ///
 /// # Errors
 ///
-/// [`ScriptFault::BadLine`] with the number of the first line that is none of these, empty lines counted, from 1. Else
-/// [`ScriptFault::OutOfMemory`] where memory was refused, which may come before a bad line.
+/// [`ScriptFault::BadLine`] with the number of the first line that isn't one of these, empty lines counted, from 1.
+/// Otherwise [`ScriptFault::OutOfMemory`] if memory was refused, which may come before a bad line.
 pub fn read_script(alloc: Global, text: &[u8]) -> Result<Vec<Event>, ScriptFault>
     ensures found { IfOk result (λ events. IsScript text.now events.items) }
     ensures only { (events : List Event) → IsScript text.now events → MatchResult result
@@ -65,7 +65,7 @@ fn read_lines(alloc: Global, text: &[u8]) -> Result<Vec<Event>, ScriptFault>
     }
 }
 
-/// Appends the event that a line tells of, or nothing where the line is empty. False where it is none of a script.
+/// Appends the event that a line tells of, or nothing if the line is empty. False if it isn't a line of a script.
 fn append_event(alloc: Global, line: &[u8], events: &mut Vec<Event>) -> Result<bool, AllocError>
     ensures { IfOk result (λ good. MatchBool good
         (AppendsEvents line.now events.old.items events.new.items)
@@ -83,7 +83,7 @@ fn append_event(alloc: Global, line: &[u8], events: &mut Vec<Event>) -> Result<b
     }
 }
 
-/// The first line of a text, and what stands behind its line feed, if it has one.
+/// The first line of a text, and what is after its line feed, if it has one.
 fn split_line(text: &[u8]) -> (&[u8], Option<&[u8]>)
     ensures { MatchOption result.1
         (lines_of text.now ≡ result.0.now ∷ [])
@@ -104,7 +104,7 @@ fn find_line_feed(text: &[u8]) -> Option<usize>
     text.iter().position(|byte| *byte == b'\n')
 }
 
-/// The event that a line tells of, or `None` where it tells of none.
+/// The event that a line tells of, or `None` if it tells of none.
 fn read_line(alloc: Global, line: &[u8]) -> Result<Option<Event>, AllocError>
     ensures { IfOk result (λ found. MatchOption found
         ((event : Event) → Tells line.now event → ⊥)
@@ -128,7 +128,7 @@ fn is(line: &[u8], word: &[u8]) -> bool
     line == word
 }
 
-/// The delivery that a line tells of, or `None` where it tells of none.
+/// The delivery that a line tells of, or `None` if it tells of none.
 fn read_delivery(alloc: Global, line: &[u8]) -> Result<Option<Event>, AllocError>
     ensures { IfOk result (λ found. MatchOption found
         ((bytes : List ℕ) → Tells line.now (Event.Deliver bytes) → ⊥)

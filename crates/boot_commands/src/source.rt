@@ -10,10 +10,10 @@ pub trait Source {
     // Whether a read failed.
     ghost failed: { Self → Bool };
 
-    // The bytes that reads will give from here on, where they are known.
+    // The bytes that reads will give from here on, if they are known.
     ghost remaining: { Self → Option (List ℕ) };
 
-    /// Reads some bytes into the front of the buffer, and returns how many: none only at the end, or where the buffer has
+    /// Reads some bytes into the start of the buffer, and returns how many: none only at the end, or if the buffer has
     /// no room. `None` is a failure.
     fn read(&mut self, buf: &mut [u8]) -> Option<usize>
         ensures bound { IfSome result (λ count. count ≤ length buf.new) }
@@ -23,13 +23,13 @@ pub trait Source {
 
 /// What bytes are written to.
 pub trait Sink {
-    // Whether a write failed, or took no byte where there were some.
+    // Whether a write failed, or took no byte when there were some.
     ghost failed: { Self → Bool };
 
-    // The bytes that the sink holds, where they are known.
+    // The bytes that the sink holds, if they are known.
     ghost contents: { Self → Option (List ℕ) };
 
-    /// Writes some of the bytes, from the first on, and returns how many: at least one where there are any. `None` is a
+    /// Writes some of the bytes, from the first on, and returns how many: at least one if there are any. `None` is a
     /// failure.
     fn write(&mut self, buf: &[u8]) -> Option<usize>
         ensures bound { IfSome result (λ count. count ≤ length buf.now) }

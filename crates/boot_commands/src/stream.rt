@@ -1,4 +1,4 @@
-//! Streams: frames, one behind the other.
+//! Streams: frames, one after the other.
 
 ghost use Rattle.std.specs.Prelude.{◌≡◌, ◌≢◌, ℕ, ◌+◌, ◌<◌, [], List, map, Err, IfOk, IfErr, MatchResult};
 ghost use Rattle.std.specs.List.{AllByRecursion};
@@ -14,14 +14,14 @@ use crate::fault::ScriptFault;
 use boot_requests::{Bytes, Event, Inbox, laws};
 use std::alloc::{AllocError, Global};
 
-/// The events of a stream: the delivery of each frame, in their order. Whether the bytes that are cut are a frame is found
-/// where they are delivered.
+/// The events of a stream: the delivery of each frame, in their order. Whether the bytes that are cut are a frame is
+/// found when they are delivered.
 ///
 /// # Errors
 ///
-/// [`ScriptFault::Stream`] with the fault of the first header that has one. Else [`ScriptFault::Rest`] with the number of
-/// bytes that are left behind the last frame, where there are some. [`ScriptFault::OutOfMemory`] where memory was refused,
-/// which may come before these.
+/// [`ScriptFault::Stream`] with the fault of the first header that has one; otherwise [`ScriptFault::Rest`] with the
+/// number of bytes that are left after the last frame, if there are some. [`ScriptFault::OutOfMemory`] if memory was
+/// refused, which may come before these.
 pub fn read_stream(alloc: Global, stream: &[u8]) -> Result<Vec<Event>, ScriptFault>
     ensures found { IfOk result (λ events. IsStream stream.now events.items) }
     ensures only { (events : List Event) → IsStream stream.now events → MatchResult result

@@ -18,8 +18,8 @@ const CHUNK: usize = 16_384;
 ///
 /// # Errors
 ///
-/// [`ScriptFault::TooMuch`] where there are more than [`LIMIT`] bytes; one byte past these is read, and no more.
-/// [`ScriptFault::Read`] where a read fails before that, and [`ScriptFault::OutOfMemory`] where memory was refused.
+/// [`ScriptFault::TooMuch`] if there are more than [`LIMIT`] bytes; exactly one byte past these is read.
+/// [`ScriptFault::Read`] if a read fails before that, and [`ScriptFault::OutOfMemory`] if memory was refused.
 pub fn read_all<R: Source>(alloc: Global, reader: &mut R) -> Result<Vec<u8>, ScriptFault>
     requires { R.failed reader.old ≡ false }
     ensures all { IfOk result (λ bytes.
@@ -92,11 +92,12 @@ fn read_some<R: Source>(
     Ok(count > 0)
 }
 
-/// Writes the bytes, all of them.
+/// Writes all of the bytes.
 ///
 /// # Errors
 ///
-/// [`ScriptFault::Write`] where a write fails or takes no byte. The writes before it stand, of a front of the bytes.
+/// [`ScriptFault::Write`] if a write fails or takes no byte. What was written before it, a prefix of the bytes, stays
+/// written.
 pub fn write_all<W: Sink>(writer: &mut W, bytes: &[u8]) -> Result<(), ScriptFault>
     requires { W.failed writer.old ≡ false }
     ensures all { OnOk result (Appends (W.contents writer.old) (W.contents writer.new) bytes.now) }

@@ -15,25 +15,25 @@ use Rattle.boot_requests.specs.Outcome.{without_entry, added_at}
 use Rattle.boot_requests.specs.State.{State}
 use Rattle.boot_requests.specs.Window.{gap_from}
 
--- whether the number stands in the list
+-- whether the number is in the list
 abbrev pub is_in : List ℕ → ℕ → Bool
 is_in numbers number = list_any (λ other. other == number) numbers
 
--- whether some number stands twice in the list
+-- whether some number is in the list twice
 abbrev pub repeats : List ℕ → Bool
 repeats [] = false
 repeats (number ∷ numbers) = is_in numbers number || repeats numbers
 
--- the order with the number behind it, unless it is there or the order is full
-abbrev pub appended : List ℕ → ℕ → List ℕ
-appended order number =
+-- the order with the number after it, unless it is there or the order is full
+abbrev pub order_with : List ℕ → ℕ → List ℕ
+order_with order number =
     if is_in order number then order else if nat_lt (length order) order_max then order ++ number ∷ [] else order
 
--- the order without the number, wherever it stands
+-- the order without the number, wherever it is
 abbrev pub without : List ℕ → ℕ → List ℕ
 without order number = filter (λ other. not (other == number)) order
 
--- no next entry where it was the one of this number
+-- no next entry if it was the one of this number
 abbrev pub next_without : Option ℕ → ℕ → Option ℕ
 next_without None entry = None
 next_without (Some next) entry = if next == entry then None else Some next
@@ -58,24 +58,24 @@ outcome_of m (AddFree option) =
     if nat_lt (free_number m) number_count then added_at (free_number m) else without_entry NoFree
 
 -- the option is stored under the number, which is appended to the order
-abbrev pub added : State → ℕ → OptionParts → State
-added m entry option =
-    record m { entries = insert m.entries entry (option_bytes option); order = appended m.order entry }
+abbrev pub with_new_entry : State → ℕ → OptionParts → State
+with_new_entry m entry option =
+    record m { entries = insert m.entries entry (option_bytes option); order = order_with m.order entry }
 
 -- what a request that is done changes; if it left the number of its entry open, that is the one which its outcome tells
-abbrev pub changed : State → Request → Option ℕ → State
-changed m (Add entry option) told = added m entry option
-changed m (Replace entry option) told = record m { entries = insert m.entries entry (option_bytes option) }
-changed m (Remove entry) told =
-    record m { entries = remove m.entries entry; order = without m.order entry; next = next_without m.next entry }
-changed m (Order numbers) told = record m { order = numbers }
-changed m (Next entry) told = record m { next = Some entry }
-changed m (AddFree option) None = m
-changed m (AddFree option) (Some entry) = added m entry option
+abbrev pub effect_if_done : State → Request → Option ℕ → State
+effect_if_done m (Add entry option) told = with_new_entry m entry option
+effect_if_done m (Replace entry option) told = record m { entries = insert m.entries entry (option_bytes option) }
+effect_if_done m (Remove entry) told =
+    record m { entries = remove m.entries entry; order = without m.order entry; boot_next = next_without m.boot_next entry }
+effect_if_done m (Order numbers) told = record m { order = numbers }
+effect_if_done m (Next entry) told = record m { boot_next = Some entry }
+effect_if_done m (AddFree option) None = m
+effect_if_done m (AddFree option) (Some entry) = with_new_entry m entry option
 
--- the effect of a request with this code and entry: none where it isn't done
+-- the effect of a request with this code and entry: none if it isn't done
 abbrev pub effect_by : State → Request → Code → Option ℕ → State
-effect_by m request Done told = changed m request told
+effect_by m request Done told = effect_if_done m request told
 effect_by m request Exists told = m
 effect_by m request Missing told = m
 effect_by m request OrderRepeats told = m
@@ -86,7 +86,7 @@ effect_by m request NoFree told = m
 abbrev pub effect : State → Request → Outcome → State
 effect m request outcome = effect_by m request outcome.code outcome.entry
 
--- what was stored of an entry: an option, or nothing where the entry was removed
+-- what was stored of an entry: an option, or nothing if the entry was removed
 pub record Stored : Type 0 where
   pub entry : ℕ
   pub option : Option OptionParts
@@ -94,7 +94,7 @@ pub record Stored : Type 0 where
 abbrev pub stores : ℕ → Option OptionParts → Stored
 stores entry option = record { entry = entry; option = option }
 
--- what a request stored that came to this code and tells this entry
+-- what a request stored whose outcome has this code and tells this entry
 abbrev pub stored_as : Request → Code → Option ℕ → Option Stored
 stored_as (Add entry option) Done told = Some (stores entry (Some option))
 stored_as (Replace entry option) Done told = Some (stores entry (Some option))
@@ -102,7 +102,7 @@ stored_as (Remove entry) Done told = Some (stores entry None)
 stored_as (AddFree option) Done (Some entry) = Some (stores entry (Some option))
 stored_as _ _ _ = None
 
--- what a request that came to this outcome stored, if it stored or removed an entry
+-- what a request that has this outcome stored, if it stored or removed an entry
 abbrev pub stored_by : Request → Outcome → Option Stored
 stored_by request outcome = stored_as request outcome.code outcome.entry
 
@@ -111,17 +111,17 @@ abbrev pub kept_with : List Outcome → Outcome → List Outcome
 kept_with kept outcome = let all = kept ++ outcome ∷ [] in drop (length all - kept_max) all
 
 -- the request's number is used up, and its outcome is kept
-abbrev pub counted : State → Outcome → State
-counted m outcome = record m { count = m.count + 1; kept = kept_with m.kept outcome }
+abbrev pub with_outcome : State → Outcome → State
+with_outcome m outcome = record m { next_number = m.next_number + 1; kept = kept_with m.kept outcome }
 
 -- the state after a request
-abbrev pub applied : State → Request → State
-applied m request = let outcome = outcome_of m request in counted (effect m request outcome) outcome
+abbrev pub after_request : State → Request → State
+after_request m request = let outcome = outcome_of m request in with_outcome (effect m request outcome) outcome
 
 -- the state after BootNext is deleted for a boot (3.3)
-abbrev pub booted : State → State
-booted m = record m { next = None }
+abbrev pub after_boot : State → State
+after_boot m = record m { boot_next = None }
 
 -- the plan of such a boot: what it tries, of the state before
 abbrev pub HasPlanOf : State → PlanParts → Type 0
-HasPlanOf m plan = IsPlan (get m.entries) m.order m.next plan
+HasPlanOf m plan = IsPlan (get m.entries) m.order m.boot_next plan

@@ -3,7 +3,7 @@ use Rattle.std.specs.Prelude.{ℕ, zero, suc, ◌&&◌, nat_lt, nat_le, List, []
 use Rattle.std.specs.FinMap.{retain_keys, entries}
 use Rattle.boot_requests.specs.declared.request.Request.{Request}
 use Rattle.boot_requests.specs.State.{State}
-use Rattle.boot_requests.specs.Apply.{applied, booted}
+use Rattle.boot_requests.specs.Apply.{after_request, after_boot}
 use Rattle.boot_requests.specs.Window.{Requests}
 
 -- a request with its number is applied, or a boot deletes BootNext
@@ -17,10 +17,10 @@ changes_between from to requests =
     map (λ entry. Applies entry.0 entry.1) (entries (retain_keys requests (λ number. nat_le from number && nat_lt number to)))
 
 -- the state after changes
-abbrev pub folded : State → List Change → State
-folded m [] = m
-folded m (Applies number request ∷ changes) = folded (applied m request) changes
-folded m (Boots ∷ changes) = folded (booted m) changes
+abbrev pub after_changes : State → List Change → State
+after_changes m [] = m
+after_changes m (Applies number request ∷ changes) = after_changes (after_request m request) changes
+after_changes m (Boots ∷ changes) = after_changes (after_boot m) changes
 
 -- the numbers of the requests that are applied, in their order
 abbrev pub numbers_in : List Change → List ℕ
@@ -28,7 +28,7 @@ numbers_in [] = []
 numbers_in (Applies number request ∷ changes) = number ∷ numbers_in changes
 numbers_in (Boots ∷ changes) = numbers_in changes
 
--- so many numbers, each one more than the one before, from this one on
-abbrev pub rising : ℕ → ℕ → List ℕ
-rising first zero = []
-rising first (suc count) = first ∷ rising (suc first) count
+-- this many numbers, each one more than the one before, from this one on
+abbrev pub numbers_from : ℕ → ℕ → List ℕ
+numbers_from first zero = []
+numbers_from first (suc count) = first ∷ numbers_from (suc first) count

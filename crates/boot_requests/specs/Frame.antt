@@ -7,11 +7,11 @@ use Rattle.boot_requests.specs.declared.frame.Kind.{Kind}
 use Rattle.boot_requests.specs.Kind.{version_of, byte_of}
 use Rattle.boot_requests.specs.Request.{IsRequest, kind_of, payload_of}
 
--- the two bytes at the front of a frame
+-- the two bytes at the start of a frame
 abbrev pub magic : List ℕ
 magic = 0x42 ∷ 0x51 ∷ []
 
--- The twelve bytes in front of a payload: the magic, the version and the byte of the kind, the request's number in four
+-- The twelve bytes before a payload: the magic, the version and the byte of the kind, the request's number in four
 -- bytes, and the length of the payload in four.
 abbrev pub header_bytes : Kind → ℕ → ℕ → List ℕ
 header_bytes kind number len =

@@ -1,4 +1,4 @@
--- The first fault of bytes that are no frame.
+-- The first fault of bytes that aren't a frame.
 use Rattle.std.specs.Prelude.{◌≡◌, ◌≢◌, ℕ, ◌%◌, ◌^◌, ◌<◌, ◌≤◌, List, [], ◌∷◌, ◌++◌, length, drop}
 use Rattle.std.specs.Int.{w32, to_le_bytes}
 use Rattle.uefi_option.specs.declared.fault.OptionFault.{OptionFault}
@@ -10,7 +10,7 @@ use Rattle.boot_requests.specs.Limits.{payload_max, no_number}
 use Rattle.boot_requests.specs.Kind.{version_of, byte_of, IsVersion, IsKind, Layout, EntryAndOption, Entry, Numbers, OptionAlone, layout_of}
 use Rattle.boot_requests.specs.Frame.{magic}
 
--- The twelve bytes in front of a payload, whatever they say, and the bytes behind them.
+-- The twelve bytes before a payload, whatever they say, and the bytes after them.
 pub record Raw : Type 0 where
   pub magic : List ℕ
   pub version : ℕ
@@ -34,7 +34,7 @@ pub record IsKindWith (version byte : ℕ) (P : Kind → Type 0) : Type 0 where
   pub is : byte_of kind ≡ byte
   pub here : P kind
 
--- the payload hasn't the length of one that is laid out so
+-- the payload doesn't have the length of one that is laid out so
 abbrev pub IsBadPayload : Layout → List ℕ → Type 0
 IsBadPayload EntryAndOption payload = length payload < 2
 IsBadPayload Entry payload = length payload ≢ 2
@@ -48,14 +48,14 @@ IsBadOption Entry payload option_fault = ⊥
 IsBadOption Numbers payload option_fault = ⊥
 IsBadOption OptionAlone payload option_fault = IsFirstOptionFault payload option_fault
 
--- The same of what stands after a header. Its version and its kind say how that is laid out.
+-- The same of what is after a header. Its version and its kind say how that is laid out.
 abbrev pub HasBadPayload : Raw → Type 0
 HasBadPayload raw = IsKindWith raw.version raw.kind (λ kind. IsBadPayload (layout_of kind) raw.payload)
 
 abbrev pub HasBadOption : Raw → OptionFault → Type 0
 HasBadOption raw option_fault = IsKindWith raw.version raw.kind (λ kind. IsBadOption (layout_of kind) raw.payload option_fault)
 
--- What each test finds, in the order of the tests: that it fails, where all before it passed.
+-- What each test finds, in the order of the tests: that it fails, when all before it passed.
 abbrev pub FailsMagic : Raw → Type 0
 FailsMagic raw = raw.magic ≢ magic
 
@@ -86,7 +86,7 @@ PassesNumber raw = PassesSize raw × IsKind raw.version raw.kind × (raw.number 
 abbrev pub FailsPayload : Raw → Type 0
 FailsPayload raw = PassesNumber raw × HasBadPayload raw
 
--- the input is a header, whatever it says, and bytes behind it, of which this holds
+-- the input is a header, whatever it says, and bytes after it, of which this holds
 pub record IsRawWith (input : List ℕ) (P : Raw → Type 0) : Type 0 where
   pub raw : Raw
   pub is : IsRaw input raw

@@ -1,5 +1,5 @@
--- The kinds of requests, and what depends on the kind alone: the version of its frame, the byte that stands for it there,
--- and what its payload is laid out as.
+-- The kinds of requests, and what depends on the kind alone: the version of its frame, the byte that stands for it
+-- there, and what its payload is laid out as.
 use Rattle.std.specs.Prelude.{◌≡◌, ℕ}
 use Rattle.boot_requests.specs.declared.frame.Kind.{Kind}
 use Rattle.boot_requests.specs.declared.frame.Kind.TheVariants as kind

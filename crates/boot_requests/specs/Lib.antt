@@ -14,14 +14,14 @@ pub mod Answer
 pub mod Run
 pub mod Reply
 pub mod Turn
-pub mod Keeping
-pub mod Machine
-pub mod Opening
+pub mod Keeper
+pub mod StateOf
+pub mod StoredState
 pub mod Words
 pub mod Stream
 -- for private functions
-pub mod Reading
-pub mod Writing
+pub mod Reader
+pub mod Writer
 pub mod Marks
 pub mod Edit
 pub mod Slots

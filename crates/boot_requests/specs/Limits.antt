@@ -1,7 +1,7 @@
 -- The numbers that this crate fixes.
 use Rattle.std.specs.Prelude.{ℕ}
 
--- a request is accepted only where its number is one of so many, the next one included
+-- a request is accepted only if its number is one of this many, the next one included
 abbrev pub width : ℕ
 width = 64
 
@@ -9,7 +9,7 @@ width = 64
 abbrev pub kept_max : ℕ
 kept_max = 64
 
--- how many outcomes are kept at least, if there were so many requests
+-- how many outcomes are kept at least, if there were that many requests
 abbrev pub kept_min : ℕ
 kept_min = 16
 

@@ -28,8 +28,8 @@ kind_of (Order numbers) = kind.Order
 kind_of (Next entry) = kind.Next
 kind_of (AddFree option) = kind.AddFree
 
--- its payload: the number of the entry, and after it the spelling of the option; the numbers of the order; or an option's
--- spelling alone
+-- its payload: the number of the entry, and after it the spelling of the option; the numbers of the order; or an
+-- option's spelling alone
 abbrev pub payload_of : Request → List ℕ
 payload_of (Add entry option) = to_le_bytes w16 entry ++ option_bytes option
 payload_of (Replace entry option) = to_le_bytes w16 entry ++ option_bytes option

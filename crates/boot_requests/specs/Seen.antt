@@ -9,11 +9,11 @@ use Rattle.boot_requests.specs.declared.fault.FrameFault.{FrameFault}
 use Rattle.boot_requests.specs.Frame.{SpellsFrame}
 use Rattle.boot_requests.specs.FrameFault.{IsFirstFault}
 
--- A request came with its number; bytes came that are no frame, with their first fault; a boot was to be prepared; a plan
--- was to be handed out; the keeper started anew.
+-- A request came with its number; bytes came that aren't a frame, with their first fault; a boot was to be prepared; a
+-- plan was to be handed out; the keeper started again.
 pub data Seen : Type 0 where
   Came : ℕ → Request → Seen
-  Garbled : FrameFault → Seen
+  Malformed : FrameFault → Seen
   Prepare : Seen
   Hand : Seen
   Restart : Seen
@@ -28,7 +28,7 @@ IsEvent event.Restart = Unit {0}
 -- the event is read as this
 abbrev pub IsSeen : Event → Seen → Type 0
 IsSeen (event.Deliver bytes) (Came number request) = SpellsFrame bytes number request
-IsSeen (event.Deliver bytes) (Garbled fault) = IsFirstFault bytes fault
+IsSeen (event.Deliver bytes) (Malformed fault) = IsFirstFault bytes fault
 IsSeen event.Prepare Prepare = Unit {0}
 IsSeen event.Hand Hand = Unit {0}
 IsSeen event.Restart Restart = Unit {0}

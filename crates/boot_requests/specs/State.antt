@@ -11,13 +11,13 @@ use Rattle.boot_requests.specs.declared.outcome.Outcome.{Outcome}
 use Rattle.boot_requests.specs.Limits.{kept_min, kept_max}
 use Rattle.boot_requests.specs.Outcome.{IsOutcome, outcome_bytes}
 
--- The entries by their numbers, BootOrder, BootNext, how many requests were applied, which is the next number, the outcomes
--- of the last ones, oldest first, and all other variables by their names.
+-- The entries by their numbers, BootOrder, BootNext, how many requests were applied, which is the next number, the
+-- outcomes of the last ones, oldest first, and all other variables by their names.
 pub record State : Type 0 where
   pub entries : FinMap nat_cmp (List ℕ)
   pub order : List ℕ
-  pub next : Option ℕ
-  pub count : ℕ
+  pub boot_next : Option ℕ
+  pub next_number : ℕ
   pub kept : List Outcome
   pub others : Variables
 
@@ -28,23 +28,23 @@ keep_text = codes "BootKeepState"
 
 -- its bytes: version 2, the next number in four bytes, how many outcomes are kept, and four bytes for each of these
 abbrev pub mark_bytes : ℕ → List Outcome → List ℕ
-mark_bytes count kept = (2 ∷ []) ++ to_le_bytes w32 count ++ (length kept ∷ flat_map outcome_bytes kept)
+mark_bytes next_number kept = (2 ∷ []) ++ to_le_bytes w32 next_number ++ (length kept ∷ flat_map outcome_bytes kept)
 
--- what is stored of them: nothing where no request was applied
+-- what is stored of them: nothing if no request was applied
 abbrev pub stored_mark : ℕ → List Outcome → Option (List ℕ)
-stored_mark count kept = if count == 0 then None else Some (mark_bytes count kept)
+stored_mark next_number kept = if next_number == 0 then None else Some (mark_bytes next_number kept)
 
 -- The next number is one of four bytes, and of the requests before it the last outcomes are kept: those of the last
 -- `kept_max`, or of fewer, but of `kept_min` at least.
-pub record IsMark (count : ℕ) (kept : List Outcome) : Type 0 where
-  pub four_bytes : count < 2 ^ 32
-  pub least : min kept_min count ≤ length kept
-  pub most : length kept ≤ min kept_max count
+pub record IsMark (next_number : ℕ) (kept : List Outcome) : Type 0 where
+  pub four_bytes : next_number < 2 ^ 32
+  pub least : min kept_min next_number ≤ length kept
+  pub most : length kept ≤ min kept_max next_number
   pub outcomes : AllByRecursion IsOutcome kept
 
 -- a next number, with the outcomes that are kept before it
 pub record MarkParts : Type 0 where
-  pub next : ℕ
+  pub next_number : ℕ
   pub kept : List Outcome
 
 -- ---- names
@@ -62,14 +62,14 @@ IsBootName name = IsEntryName name ⊎ ((name ≡ order_text) ⊎ ((name ≡ nex
 pub record IsState (m : State) : Type 0 where
   pub entries : (number : ℕ) → IfSome (get m.entries number) (λ bytes. IsEntryNumber number × IsData bytes)
   pub order : IsOrder m.order
-  pub next : IfSome m.next IsEntryNumber
-  pub mark : IsMark m.count m.kept
+  pub next : IfSome m.boot_next IsEntryNumber
+  pub mark : IsMark m.next_number m.kept
   pub others : (name : List ℕ) → IfSome (get m.others name) (λ bytes. IsVariable (name, bytes) × (¬ IsBootName name))
 
 -- the variables stand for the state, name by name
 pub record IsImage (m : State) (vars : Variables) : Type 0 where
   pub entry : (number : ℕ) → IsEntryNumber number → entry_of vars number ≡ get m.entries number
   pub order : get vars order_text ≡ stored_order m.order
-  pub next : get vars next_text ≡ stored_next m.next
-  pub mark : get vars keep_text ≡ stored_mark m.count m.kept
+  pub next : get vars next_text ≡ stored_next m.boot_next
+  pub mark : get vars keep_text ≡ stored_mark m.next_number m.kept
   pub other : (name : List ℕ) → ¬ IsBootName name → get vars name ≡ get m.others name

@@ -5,12 +5,12 @@ use Rattle.boot_requests.specs.declared.fault.FeedFault.{FeedFault}
 use Rattle.boot_requests.specs.declared.fault.FeedFault.TheVariants as fault
 use Rattle.boot_requests.specs.FrameFault.{IsRawWith, FailsMagic, FailsVersion, FailsLength, PassesSize}
 
--- Bytes that are delivered together: a good header, and as many bytes behind it as it states. Whether they are a frame, with
--- a kind, a number and a payload that a request has, doesn't matter here.
+-- Bytes that are delivered together: a good header, and as many bytes after it as it states. Whether they are a frame,
+-- with a kind, a number and a payload that a request has, doesn't matter here.
 abbrev pub IsDelivery : List ℕ → Type 0
 IsDelivery bytes = IsRawWith bytes PassesSize
 
--- the bytes are no delivery, and don't begin with one
+-- the bytes aren't a delivery, and don't begin with one
 abbrev pub HasNoDelivery : List ℕ → Type 0
 HasNoDelivery bytes = (front behind : List ℕ) → bytes ≡ front ++ behind → IsDelivery front → ⊥
 
@@ -21,7 +21,7 @@ IsHeaderFault bytes fault.BadVersion = IsRawWith bytes FailsVersion
 IsHeaderFault bytes fault.TooLong = IsRawWith bytes FailsLength
 IsHeaderFault bytes fault.OutOfMemory = ⊥
 
--- this is the fault of the header at the front, or there is none
+-- this is the fault of the header at the start, or there is none
 abbrev pub IsHeaderFaultIfAny : List ℕ → Option FeedFault → Type 0
 IsHeaderFaultIfAny bytes (Some fault) = IsHeaderFault bytes fault
 IsHeaderFaultIfAny bytes None = (fault : FeedFault) → IsHeaderFault bytes fault → ⊥
@@ -32,8 +32,8 @@ pub record Cut : Type 0 where
   pub rest : List ℕ
   pub fault : Option FeedFault
 
--- The stream is deliveries, one after the other, and a rest, which doesn't begin with one: it is still to come, or its header
--- is at fault.
+-- The stream is deliveries, one after the other, and a rest, which doesn't begin with one: it is still to come, or its
+-- header is at fault.
 pub record IsCut (stream : List ℕ) (cut : Cut) : Type 0 where
   pub deliveries : AllByRecursion IsDelivery cut.deliveries
   pub rest : HasNoDelivery cut.rest
@@ -42,7 +42,7 @@ pub record IsCut (stream : List ℕ) (cut : Cut) : Type 0 where
 
 -- ---- what is kept of a stream
 
--- the bytes of a delivery that isn't whole yet, or the fault of a header, behind which nothing is kept
+-- the bytes of a delivery that isn't whole yet, or the fault of a header, after which nothing is kept
 pub record Kept : Type 0 where
   pub rest : List ℕ
   pub fault : Option FeedFault
@@ -55,7 +55,7 @@ abbrev pub kept_rest : Option FeedFault → List ℕ → List ℕ
 kept_rest None rest = rest
 kept_rest (Some fault) rest = []
 
--- what is kept where a stream was cut so
+-- what is kept when a stream was cut so
 abbrev pub kept_of : Cut → Kept
 kept_of cut = kept_in (kept_rest cut.fault cut.rest) cut.fault
 
@@ -67,13 +67,13 @@ nothing_cut = record { deliveries = []; rest = []; fault = None }
 abbrev pub IsKept : Kept → Type 0
 IsKept kept = (stream : List ℕ) × (cut : Cut) × IsCut stream cut × (kept ≡ kept_of cut)
 
--- the answer to a piece of a stream, behind which the stream has this fault, or none
-abbrev pub fed : Option FeedFault → Result (Unit {0}) FeedFault
-fed None = Ok tt
-fed (Some fault) = Err fault
+-- the answer to a piece of a stream, after which the stream has this fault, or none
+abbrev pub feed_result : Option FeedFault → Result (Unit {0}) FeedFault
+feed_result None = Ok tt
+feed_result (Some fault) = Err fault
 
 -- From what is kept of a stream, which was cut so before, one more piece leads to what is kept of both together: the
--- deliveries that are whole with the piece are given behind what was there, in their order, and the answer is the fault.
+-- deliveries that are whole with the piece are given after what was there, in their order, and the answer is the fault.
 pub record Feeds (stream : List ℕ) (before : Cut) (piece : List ℕ) (kept : Kept) (old new : List (List ℕ)) (answer : Result (Unit {0}) FeedFault) : Type 0 where
   pub after : Cut
   pub is : IsCut (stream ++ piece) after
@@ -81,4 +81,4 @@ pub record Feeds (stream : List ℕ) (before : Cut) (piece : List ℕ) (kept : K
   pub given : List (List ℕ)
   pub appended : new ≡ old ++ given
   pub deliveries : after.deliveries ≡ before.deliveries ++ given
-  pub answered : answer ≡ fed after.fault
+  pub answered : answer ≡ feed_result after.fault

@@ -18,7 +18,7 @@ gap_from gap (number ∷ numbers) = gap_from (if number == gap then gap + 1 else
 abbrev pub gap_of : ℕ → Requests → ℕ
 gap_of first requests = gap_from first (keys requests)
 
--- whether a request of this number is taken, where the gap is there: no other has it, and it is one of the next `width`
+-- whether a request of this number is taken, with this gap: no other has it, and it is one of the next `width`
 abbrev pub is_open : Requests → ℕ → ℕ → Bool
 is_open requests gap number =
     not (contains_key requests number) && (nat_le gap number && nat_lt (number - gap) width)

@@ -1,5 +1,5 @@
--- The words of faults, outcomes and replies. Those of a fault: its name, and after one blank the words of the fault that it
--- holds.
+-- The words of faults, outcomes and replies. Those of a fault: its name, and after one blank the words of the fault
+-- that it holds.
 use Rattle.std.specs.Prelude.{ℕ, List, [], ◌++◌, codes, Option, Some, None}
 use Rattle.std.specs.Fmt.{decimal}
 use Rattle.uefi_option.specs.Words.{option_fault_words}

@@ -61,7 +61,7 @@ impl Bytes {
         self.bytes
     }
 
-    /// Equal bytes. The one refusal is for want of memory.
+    /// Equal bytes. This fails only when out of memory.
     pub fn copy(&self, alloc: Global) -> Result<Bytes, AllocError>
         ensures equal { IfOk result (λ bytes. bytes ≡ self.now) }
         ensures valid { AllByRecursion IsByte self.now }

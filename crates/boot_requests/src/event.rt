@@ -13,7 +13,7 @@ pub enum Event {
     Prepare,
     /// The plan that was prepared is handed out, to be booted by.
     Hand,
-    /// The program that keeps the entries starts anew, from the variables that were kept last.
+    /// The program that keeps the entries starts again, from the variables that were kept last.
     Restart,
 }
 

@@ -10,10 +10,10 @@ use std::alloc::{AllocError, AllocFailed, Global};
 use thiserror::Error;
 use uefi_option::OptionFault;
 
-/// Why bytes are no frame, or a request has none.
+/// Why bytes aren't a frame, or a request has none.
 #[derive(Clone, Copy, Debug, PartialEq, Eq, Hash, Error)]
 pub enum FrameFault {
-    /// There are fewer bytes than the twelve in front of the payload.
+    /// There are fewer bytes than the twelve before the payload.
     #[error("Short")]
     Short,
     /// The bytes don't begin with 0x42 0x51.
@@ -34,10 +34,10 @@ pub enum FrameFault {
     /// The number is 4,294,967,295, which no request has.
     #[error("BadNumber")]
     BadNumber,
-    /// The payload has not the bytes that a request of this kind has.
+    /// The payload doesn't have the bytes that a request of this kind has.
     #[error("BadPayload")]
     BadPayload,
-    /// The payload's load option is none. The fault's offsets count from the option's first byte.
+    /// The payload's load option isn't one. The fault's offsets count from the option's first byte.
     #[error("Option {0}")]
     Option(OptionFault),
     /// Memory was refused.
@@ -65,13 +65,13 @@ pub enum FeedFault {
 /// Why variables can't be kept.
 #[derive(Clone, Copy, Debug, PartialEq, Eq, Hash, Error)]
 pub enum OpenFault {
-    /// The bytes of BootOrder are no list of numbers.
+    /// The bytes of BootOrder aren't a list of numbers.
     #[error("BadOrder")]
     BadOrder,
-    /// The bytes of BootNext are no number.
+    /// The bytes of BootNext aren't a number.
     #[error("BadNext")]
     BadNext,
-    /// The bytes of BootKeepState are none that a keeper stores.
+    /// The bytes of BootKeepState aren't ones that a keeper stores.
     #[error("BadState")]
     BadState,
     /// Memory was refused.
@@ -82,8 +82,8 @@ pub enum OpenFault {
 impl FrameFault {
     ghost use Rattle.boot_requests.specs.Words.{frame_fault_words};
 
-    /// The fault's name, and for [`FrameFault::Option`], after a blank, the words of the option's fault. The one refusal is
-    /// for want of memory.
+    /// The fault's name, and for [`FrameFault::Option`], after a blank, the words of the option's fault. This fails
+    /// only when out of memory.
     pub fn words(&self, alloc: Global) -> Result<String, AllocError>
         ensures { IfOk result (λ text. string_bytes text ≡ frame_fault_words self.now) }
     {
@@ -108,7 +108,7 @@ impl FrameFault {
 impl FeedFault {
     ghost use Rattle.boot_requests.specs.Words.{feed_fault_words};
 
-    /// The fault's name. The one refusal is for want of memory.
+    /// The fault's name. This fails only when out of memory.
     pub fn words(&self, alloc: Global) -> Result<String, AllocError>
         ensures { IfOk result (λ text. string_bytes text ≡ feed_fault_words self.now) }
     {
@@ -124,7 +124,7 @@ impl FeedFault {
 impl OpenFault {
     ghost use Rattle.boot_requests.specs.Words.{open_fault_words};
 
-    /// The fault's name. The one refusal is for want of memory.
+    /// The fault's name. This fails only when out of memory.
     pub fn words(&self, alloc: Global) -> Result<String, AllocError>
         ensures { IfOk result (λ text. string_bytes text ≡ open_fault_words self.now) }
     {
@@ -155,7 +155,7 @@ impl<T: Drop> From<AllocFailed<T>> for FrameFault {
 
 impl From<FeedFault> for FrameFault {
     ghost use Rattle.std.specs.Prelude.{◌≡◌};
-    ghost use Rattle.boot_requests.specs.Reading.{frame_fault_of};
+    ghost use Rattle.boot_requests.specs.Reader.{frame_fault_of};
 
     ghost from_gives = { λ fault made. made ≡ frame_fault_of fault };
 

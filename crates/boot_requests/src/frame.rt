@@ -1,4 +1,4 @@
-//! What stands in front of a payload.
+//! What is before a payload.
 
 ghost use Rattle.std.specs.Prelude.{◌≡◌, ◌↔◌, IfSome, IfNone, IsTrue};
 ghost use Rattle.boot_requests.specs.Kind.{version_of, byte_of, IsVersion, IsKind};
@@ -6,10 +6,10 @@ ghost use Rattle.boot_requests.specs.Kind.{version_of, byte_of, IsVersion, IsKin
 /// The most bytes of a payload.
 pub const PAYLOAD_MAX: usize = 131_072;
 
-/// The two bytes at the front of a frame.
+/// The two bytes at the start of a frame.
 pub(crate) const MAGIC: [u8; 2] = [0x42, 0x51];
 
-/// The bytes in front of a payload.
+/// The bytes before a payload.
 pub(crate) const HEADER_LEN: usize = 12;
 
 /// The bytes of a number of an entry.

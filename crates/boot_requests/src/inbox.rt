@@ -9,20 +9,21 @@ ghost use Rattle.boot_requests.specs.Pieces.{IsMissing, IsOpenWith, Cuts, Begins
 use crate::bytes::Bytes;
 use crate::fault::FeedFault;
 use crate::frame::HEADER_LEN;
-use crate::reading::{split_header, stated_len};
+use crate::reader::{split_header, stated_len};
 use std::alloc::{AllocError, Global};
 use std::marker::Model;
 use std::mem;
 
-/// Cuts a stream of frames, which comes in pieces of any length, into the bytes of each: a header of twelve bytes, and as
-/// many bytes behind it as it states. What isn't whole yet is held until the rest of it comes.
+/// Cuts a stream of frames, which comes in pieces of any length, into the bytes of each: a header of twelve bytes, and
+/// as many bytes after it as it states. What isn't whole yet is held until the rest of it comes.
 #[derive(Debug, Drop)]
 pub struct Inbox {
     /// The bytes of the delivery that isn't whole yet.
     held: Vec<u8>,
-    /// How many bytes of it are missing: of its header, if the twelve of one aren't held, else of those that it states.
+    /// How many bytes of it are missing: of its header, if the twelve of one aren't held; otherwise of those that it
+    /// states.
     missing: usize,
-    /// The fault of a header, behind which nothing is cut any more.
+    /// The fault of a header, after which nothing is cut any more.
     fault: Option<FeedFault>,
 }
 
@@ -49,16 +50,17 @@ impl Inbox {
         }
     }
 
-    /// Takes the next bytes of the stream. The bytes of each delivery that they bring to its end are appended to the frames,
-    /// in order; whether they are a frame is found where they are delivered. A header is tested once its twelve bytes are
-    /// there. Behind a header that is at fault nothing is cut: each later call answers the same fault and appends nothing.
+    /// Takes the next bytes of the stream. The bytes of each delivery that they bring to its end are appended to the
+    /// frames, in order; whether they are a frame is found when they are delivered. A header is tested once its twelve
+    /// bytes are there. After a header that is at fault nothing is cut: each later call answers the same fault and
+    /// appends nothing.
     ///
     /// # Errors
     ///
-    /// The first of these faults of the first header that has one: [`FeedFault::BadMagic`] where it doesn't begin with 0x42
-    /// 0x51; [`FeedFault::BadVersion`] where its version is neither 1 nor 2; [`FeedFault::TooLong`] where it states more
-    /// than [`PAYLOAD_MAX`](crate::PAYLOAD_MAX) bytes. The deliveries in front of it are appended.
-    /// [`FeedFault::OutOfMemory`] where memory was refused: the inbox and the frames are then as they were.
+    /// The first of these faults of the first header that has one: [`FeedFault::BadMagic`] if it doesn't begin with
+    /// 0x42 0x51; [`FeedFault::BadVersion`] if its version is neither 1 nor 2; [`FeedFault::TooLong`] if it states more
+    /// than [`PAYLOAD_MAX`](crate::PAYLOAD_MAX) bytes. The deliveries before it are appended.
+    /// [`FeedFault::OutOfMemory`] if memory was refused: the inbox and the frames are then as they were.
     pub fn feed(&mut self, bytes: &[u8], frames: &mut Vec<Bytes>) -> Result<(), FeedFault>
         // From an inbox that stands for a stream, to one that stands for it and these bytes.
         ensures fed { result ≢ Err FeedFault.OutOfMemory → (stream : List ℕ) (cut : Cut) →
@@ -85,7 +87,7 @@ impl Inbox {
         }
     }
 
-    /// How many bytes are held of a delivery that isn't whole yet: none behind a fault.
+    /// How many bytes are held of a delivery that isn't whole yet: none after a fault.
     pub fn held(&self) -> usize
         ensures len { result ≡ length self.now.rest }
         ensures bound { result < 12 + payload_max }
@@ -95,7 +97,7 @@ impl Inbox {
     }
 }
 
-/// Cuts the piece, as [`cut_piece`] does, but leaves what is held and the frames as they were where memory is refused.
+/// Cuts the piece, as [`cut_piece`] does, but leaves what is held and the frames as they were if memory is refused.
 #[inline(always)]
 fn take_piece(
     held: &mut Vec<u8>,
@@ -121,8 +123,8 @@ fn take_piece(
     taken
 }
 
-/// Appends the piece to what is held, of which so many bytes are missing, and each delivery that it brings to its end to
-/// the frames. Answers how many bytes are missing then. Where memory is refused, what was done until then stays.
+/// Appends the piece to what is held, of which this many bytes are missing, and each delivery that it brings to its end
+/// to the frames. Answers how many bytes are missing then. If memory is refused, what was done until then stays.
 #[inline(always)]
 fn cut_piece(
     held: &mut Vec<u8>,
@@ -153,7 +155,7 @@ fn cut_piece(
     Ok(count)
 }
 
-/// How many bytes are missing: of a header, where its twelve aren't held, else of those that it states.
+/// How many bytes are missing: of a header, if its twelve aren't held; otherwise of those that it states.
 #[inline(always)]
 fn count_missing(held: &[u8]) -> Result<usize, FeedFault>
     ensures count { IfOk result (IsMissing held.now) }
@@ -166,8 +168,8 @@ fn count_missing(held: &[u8]) -> Result<usize, FeedFault>
     Ok(len.saturating_sub(raw.payload.len()))
 }
 
-/// The same, once so many bytes were taken of those that were missing before. A header is looked at only if they are the
-/// ones that make it whole.
+/// The same, once this many bytes were taken of those that were missing before. A header is looked at only if they are
+/// the ones that make it whole.
 #[inline(always)]
 fn still_missing(held: &[u8], taken: usize, before: usize) -> Result<usize, FeedFault>
     requires held { taken ≤ length held.now }
@@ -183,7 +185,7 @@ fn still_missing(held: &[u8], taken: usize, before: usize) -> Result<usize, Feed
     Ok(before - taken)
 }
 
-/// What is held becomes the last of the frames, and nothing is held. Where memory is refused, both are as they were.
+/// What is held becomes the last of the frames, and nothing is held. If memory is refused, both are as they were.
 fn give(held: &mut Vec<u8>, frames: &mut Vec<Bytes>) -> Result<(), FeedFault>
     ensures given { OnOk result ((held.new.items ≡ [])
         × (frames.new.items ≡ frames.old.items ++ held.old.items ∷ [])) }
@@ -201,8 +203,8 @@ fn give(held: &mut Vec<u8>, frames: &mut Vec<Bytes>) -> Result<(), FeedFault>
     }
 }
 
-/// Takes back what was cut since so many bytes were held, and since there were so many frames. It needs no memory: the
-/// bytes that were held stand at the front of the first frame since, or of what is held.
+/// Takes back what was cut since this many bytes were held, and since there were this many frames. It needs no memory:
+/// the bytes that were held are at the start of the first frame since then, or of what is held.
 fn take_back(held: &mut Vec<u8>, held_len: usize, frames: &mut Vec<Bytes>, frames_len: usize)
     requires { frames_len ≤ vec_len frames.old }
     ensures { (before : List ℕ) (old : List (List ℕ)) →

@@ -11,19 +11,19 @@ ghost use Rattle.boot_requests.specs.Frame.{SpellsFrame, IsSent};
 ghost use Rattle.boot_requests.specs.FrameFault.{IsFirstFault};
 ghost use Rattle.boot_requests.specs.State.{State, IsState, IsImage};
 ghost use Rattle.boot_requests.specs.Apply.{outcome_of, HasPlanOf};
-ghost use Rattle.boot_requests.specs.Seen.{Seen, IsEvent, IsSeen, Came, Garbled, Prepare, Hand, Restart};
+ghost use Rattle.boot_requests.specs.Seen.{Seen, IsEvent, IsSeen, Came, Malformed, Prepare, Hand, Restart};
 ghost use Rattle.boot_requests.specs.Answer.{kept_outcome, again, choice_count};
 ghost use Rattle.boot_requests.specs.Reply.{IsReply};
-ghost use Rattle.boot_requests.specs.Turn.{settled, Turn};
-ghost use Rattle.boot_requests.specs.Keeping.{IsStateOf, IsPlain, StandsFor};
-ghost use Rattle.boot_requests.specs.Update.{Fits, updated};
+ghost use Rattle.boot_requests.specs.Turn.{settled_state, Turn};
+ghost use Rattle.boot_requests.specs.Keeper.{IsStateOf, IsPlain, StandsFor};
+ghost use Rattle.boot_requests.specs.Update.{Fits, after_update};
 
 use crate::event::Event;
 use crate::fault::FrameFault;
-use crate::filling::{apply, apply_followers};
+use crate::gap::{apply, apply_followers};
 use crate::laws;
 use crate::mark::Mark;
-use crate::reading::read_frame;
+use crate::reader::read_frame;
 use crate::reply::Reply;
 use crate::request::Request;
 use crate::update::Update;
@@ -33,9 +33,9 @@ use std::marker::Model;
 use std::rc::Rc;
 use uefi_vars::{BootPlan, Changes, Vars, laws as vars_laws, plan};
 
-/// What keeps the boot entries of a machine: its variables, the number of the request that is to be applied next, what came
-/// of the last ones, the requests that wait for one of a lower number, and the plan that is prepared. What waits and the
-/// plan are kept in memory alone.
+/// What keeps the boot entries of a machine: its variables, the number of the request that is to be applied next, what
+/// came of the last ones, the requests that wait for one of a lower number, and the plan that is prepared. What waits
+/// and the plan are kept in memory alone.
 #[derive(Debug, Drop)]
 pub struct Keeper {
     pub(crate) vars: Vars,
@@ -48,7 +48,7 @@ impl Model for Keeper {
     ghost use Rattle.std.specs.Coded.{codes};
     ghost use Rattle.std.specs.FinMap.{code as map_code};
     ghost use Rattle.boot_requests.specs.Turn.{Plain};
-    ghost use Rattle.boot_requests.specs.Machine.{machine_of, plain_of};
+    ghost use Rattle.boot_requests.specs.StateOf.{state_of, plain_of};
     ghost use Rattle.boot_requests.specs.Slots.{waiting_of, IsKeeper};
 
     ghost Value = { Plain };
@@ -56,7 +56,7 @@ impl Model for Keeper {
     ghost coded = { Prim.hlevel (codes, map_code) };
 
     ghost view = { λ k.
-        plain_of (machine_of k.vars k.mark) (waiting_of k.mark.next k.window) k.plan };
+        plain_of (state_of k.vars k.mark) (waiting_of k.mark.next_number k.window) k.plan };
 
     ghost invariant = { λ k. IsKeeper k.vars k.mark k.window };
 }
@@ -64,26 +64,26 @@ impl Model for Keeper {
 impl Keeper {
     /// The variables of the machine, as they are to be stored.
     pub fn vars(&self) -> &Vars
-        ensures image { IsImage self.now.machine result.now }
-        ensures valid { IsState self.now.machine }
+        ensures image { IsImage self.now.state result.now }
+        ensures valid { IsState self.now.state }
     {
         &self.vars
     }
 
     /// The variables of the machine, as they are to be stored, without what keeps them.
     pub fn into_vars(self) -> Vars
-        ensures image { IsImage self.machine result }
-        ensures valid { IsState self.machine }
+        ensures image { IsImage self.state result }
+        ensures valid { IsState self.state }
     {
         self.vars
     }
 
     /// The number of the request that is to be applied next.
     pub fn next_number(&self) -> u32
-        ensures number { result ≡ self.now.machine.count }
+        ensures number { result ≡ self.now.state.next_number }
         ensures valid { IsPlain self.now }
     {
-        self.mark.next()
+        self.mark.next_number()
     }
 
     /// How many requests wait for one of a lower number: fewer than [`WIDTH`].
@@ -92,27 +92,28 @@ impl Keeper {
         ensures bound { result < width }
         ensures valid { IsPlain self.now }
     {
-        self.window.len(self.mark.next())
+        self.window.len(self.mark.next_number())
     }
 
-    /// What becomes of the keeper with this event, and the answer to it. This keeper stays as it was, so it can be gone on
-    /// with where the new one can't be stored.
+    /// The keeper after this event, and the answer to it. This keeper stays as it was, so it can still be used if the
+    /// new one can't be stored.
     ///
-    /// A delivery that is no frame is answered [`Reply::Malformed`], with what [`read_frame`](crate::read_frame) finds. A
-    /// request whose number is below the next one was applied before and isn't again: [`Reply::Repeat`] with the outcome if
-    /// that is still kept, and else [`Reply::Old`], whatever the request is. One whose number is [`WIDTH`] or more above
-    /// the next one isn't taken: [`Reply::Ahead`]. One of another number above the next one waits, [`Reply::Waiting`],
-    /// unless another request of that number does, which stays: [`Reply::Conflict`]. The request of the next number is
-    /// applied, and after it those that wait for it and follow without a gap, in the order of their numbers:
-    /// [`Reply::Applied`], with its own outcome and the next number after them all.
+    /// A delivery that isn't a frame is answered [`Reply::Malformed`], with what [`read_frame`](crate::read_frame)
+    /// finds. A request whose number is below the next one was applied before and isn't again: [`Reply::Repeat`] with
+    /// the outcome if that is still kept, and otherwise [`Reply::Old`], whatever the request is. One whose number is
+    /// [`WIDTH`] or more above the next one isn't taken: [`Reply::Ahead`]. One of another number above the next one
+    /// waits, [`Reply::Waiting`], unless another request of that number already does, which stays: [`Reply::Conflict`].
+    /// The request of the next number is applied, and after it those that wait for it and follow without a gap, in the
+    /// order of their numbers: [`Reply::Applied`], with its own outcome and the next number after them all.
     ///
-    /// [`Event::Prepare`] makes the plan of a boot, and then deletes BootNext (UEFI 2.10, 3.3): [`Reply::Prepared`]; where
-    /// a plan is prepared, it stays: [`Reply::AlreadyPrepared`]. [`Event::Hand`] gives that plan away, [`Reply::Plan`], or
-    /// [`Reply::NothingPrepared`]. [`Event::Restart`] forgets it and all that waits: [`Reply::Restarted`].
+    /// [`Event::Prepare`] makes the plan of a boot, and then deletes BootNext (UEFI 2.10, 3.3): [`Reply::Prepared`]; if
+    /// a plan is already prepared, it stays: [`Reply::AlreadyPrepared`]. [`Event::Hand`] gives that plan away,
+    /// [`Reply::Plan`], or [`Reply::NothingPrepared`]. [`Event::Restart`] forgets it and all that waits:
+    /// [`Reply::Restarted`].
     ///
     /// # Errors
     ///
-    /// [`AllocError`] where memory was refused.
+    /// [`AllocError`] if memory was refused.
     pub fn step(&self, alloc: Global, event: &Event) -> Result<(Keeper, Reply), AllocError>
         // The table of turns.
         ensures turn { IfOk result (λ answer. (seen : Seen) → IsSeen event.now seen →
@@ -139,7 +140,7 @@ impl Keeper {
     ) -> Result<(Update, Reply), AllocError>
         ensures fits { IfOk result (λ answer. Fits self.now answer.0) }
         ensures turn { IfOk result (λ answer. (seen : Seen) → IsSeen event.now seen →
-            Turn self.now seen (updated self.now answer.0) answer.1) }
+            Turn self.now seen (after_update self.now answer.0) answer.1) }
         ensures valid { IsEvent event.now }
     {
         match event {
@@ -156,10 +157,10 @@ impl Keeper {
         ensures fits { IfOk result (λ answer. Fits self.now answer.0) }
         ensures came { IfOk result (λ answer. (number : ℕ) (request : Request) →
             SpellsFrame bytes.now number request →
-            Turn self.now (Came number request) (updated self.now answer.0) answer.1) }
-        ensures garbled { IfOk result (λ answer. (fault : FrameFault) →
+            Turn self.now (Came number request) (after_update self.now answer.0) answer.1) }
+        ensures malformed { IfOk result (λ answer. (fault : FrameFault) →
             IsFirstFault bytes.now fault →
-            Turn self.now (Garbled fault) (updated self.now answer.0) answer.1) }
+            Turn self.now (Malformed fault) (after_update self.now answer.0) answer.1) }
     {
         match read_frame(alloc, bytes) {
             Ok((number, request)) => {
@@ -184,27 +185,27 @@ impl Keeper {
         requires { IsSent number request }
         ensures fits { IfOk result (λ answer. Fits self.now answer.0) }
         ensures turn { IfOk result (λ answer.
-            Turn self.now (Came number request) (updated self.now answer.0) answer.1) }
+            Turn self.now (Came number request) (after_update self.now answer.0) answer.1) }
     {
         laws::requests_compare_as_values();
-        let next = self.mark.next();
-        if number < next {
+        let next_number = self.mark.next_number();
+        if number < next_number {
             return Ok((Update::Nothing, self.again(number)));
         }
-        let is_ahead = number - next >= WIDTH;
+        let is_ahead = number - next_number >= WIDTH;
         if is_ahead {
-            return Ok((Update::Nothing, Reply::Ahead(next)));
+            return Ok((Update::Nothing, Reply::Ahead(next_number)));
         }
-        if number == next {
+        if number == next_number {
             let answer = self.fill(alloc, &request)?;
             return Ok(answer);
         }
-        match self.window.get(next, number) {
-            Some(other) if *other == request => Ok((Update::Nothing, Reply::Waiting(next))),
+        match self.window.get(next_number, number) {
+            Some(other) if *other == request => Ok((Update::Nothing, Reply::Waiting(next_number))),
             Some(_) => Ok((Update::Nothing, Reply::Conflict)),
             None => {
                 let request = Rc::new(alloc, request)?;
-                Ok((Update::Waits(number, request), Reply::Waiting(next)))
+                Ok((Update::Waits(number, request), Reply::Waiting(next_number)))
             }
         }
     }
@@ -212,8 +213,8 @@ impl Keeper {
     /// The answer to a request of this number, which was applied before.
     #[inline(always)]
     fn again(&self, number: u32) -> Reply
-        requires { number < self.now.machine.count }
-        ensures { result ≡ again (kept_outcome self.now.machine number) }
+        requires { number < self.now.state.next_number }
+        ensures { result ≡ again (kept_outcome self.now.state number) }
     {
         match self.mark.outcome(number) {
             Some(outcome) => Reply::Repeat(outcome),
@@ -223,20 +224,20 @@ impl Keeper {
 
     /// The request of the next number is applied, and then those that follow it without a gap.
     fn fill(&self, alloc: Global, request: &Request) -> Result<(Update, Reply), AllocError>
-        requires room { self.now.machine.count < no_number }
+        requires room { self.now.state.next_number < no_number }
         requires fits { length (payload_of request.now) ≤ payload_max }
         ensures fits { IfOk result (λ answer. Fits self.now answer.0) }
-        ensures state { IfOk result (λ answer. updated self.now answer.0
-            ≡ settled self.now (map.insert self.now.waiting self.now.machine.count request.now)) }
+        ensures state { IfOk result (λ answer. after_update self.now answer.0
+            ≡ settled_state self.now (map.insert self.now.waiting self.now.state.next_number request.now)) }
         ensures answer { IfOk result (λ answer. answer.1
-            ≡ Reply.Applied (outcome_of self.now.machine request.now)
-            (updated self.now answer.0).machine.count) }
+            ≡ Reply.Applied (outcome_of self.now.state request.now)
+            (after_update self.now answer.0).state.next_number) }
     {
         let vars = &self.vars;
         let mut changes = Changes::new(alloc);
         let (outcome, first) = apply(alloc, vars, &mut changes, &self.mark, request)?;
         let mark = apply_followers(alloc, vars, &mut changes, &self.window, first)?;
-        let after = mark.next();
+        let after = mark.next_number();
         Ok((
             Update::Applied(changes, mark),
             Reply::Applied(outcome, after),
@@ -248,7 +249,7 @@ impl Keeper {
     fn prepare(&self, alloc: Global) -> Result<(Update, Reply), AllocError>
         ensures fits { IfOk result (λ answer. Fits self.now answer.0) }
         ensures turn { IfOk result (λ answer.
-            Turn self.now Prepare (updated self.now answer.0) answer.1) }
+            Turn self.now Prepare (after_update self.now answer.0) answer.1) }
     {
         if self.plan.is_some() {
             return Ok((Update::Nothing, Reply::AlreadyPrepared));
@@ -263,7 +264,7 @@ impl Keeper {
     fn hand(&self, alloc: Global) -> Result<(Update, Reply), AllocError>
         ensures fits { IfOk result (λ answer. Fits self.now answer.0) }
         ensures turn { IfOk result (λ answer.
-            Turn self.now Hand (updated self.now answer.0) answer.1) }
+            Turn self.now Hand (after_update self.now answer.0) answer.1) }
     {
         match copy_plan(alloc, &self.plan)? {
             Some(plan) => Ok((Update::HandedOut, Reply::Plan(plan))),
@@ -271,17 +272,17 @@ impl Keeper {
         }
     }
 
-    /// The keeper starts anew.
+    /// The keeper starts again.
     #[inline(always)]
     fn restart(&self) -> (Update, Reply)
         ensures fits { Fits self.now result.0 }
-        ensures turn { Turn self.now Restart (updated self.now result.0) result.1 }
+        ensures turn { Turn self.now Restart (after_update self.now result.0) result.1 }
     {
-        (Update::Restarted, Reply::Restarted(self.mark.next()))
+        (Update::Restarted, Reply::Restarted(self.mark.next_number()))
     }
 }
 
-/// The answer to bytes that are no frame, for this fault, unless that is want of memory.
+/// The answer to bytes that aren't a frame, for this fault, unless it is out of memory.
 fn refusal(fault: FrameFault) -> Result<Reply, AllocError>
     ensures { IfOk result (λ reply.
         (fault ≢ FrameFault.OutOfMemory) × (reply ≡ Reply.Malformed fault)) }
@@ -292,7 +293,7 @@ fn refusal(fault: FrameFault) -> Result<Reply, AllocError>
     Ok(Reply::Malformed(fault))
 }
 
-/// Whether the fault is want of memory.
+/// Whether the fault is out of memory.
 fn is_memory(fault: FrameFault) -> bool
     ensures { IsTrue result ↔ (fault ≡ FrameFault.OutOfMemory) }
 {

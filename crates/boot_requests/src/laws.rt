@@ -24,12 +24,12 @@ ghost use Rattle.boot_requests.specs.FrameFault.{IsFirstFault};
 ghost use Rattle.boot_requests.specs.State.{State, IsState, IsImage};
 ghost use Rattle.boot_requests.specs.Apply.{stores, stored_by, HasPlanOf};
 ghost use Rattle.boot_requests.specs.Seen.{Seen, Came, Prepare, Hand, IsEvent, IsSeen};
-ghost use Rattle.boot_requests.specs.Changes.{numbers_in, rising};
-ghost use Rattle.boot_requests.specs.Run.{followed, accepted, gap_at, Delivers, AreTaken, AgreeOnNumbers, is_armed, HaveNoHandOrRestart, history, state_at, last_of, sets};
+ghost use Rattle.boot_requests.specs.Changes.{numbers_in, numbers_from};
+ghost use Rattle.boot_requests.specs.Run.{run_followed_by, accepted_requests, gap_at, Delivers, AreTaken, AgreeOnNumbers, is_armed, HaveNoHandOrRestart, history, state_at, last_of, sets};
 ghost use Rattle.boot_requests.specs.Reply.{IsReply, AreReplies, AreAnswers, hands};
 ghost use Rattle.boot_requests.specs.Turn.{Plain, plain_start, Turn};
-ghost use Rattle.boot_requests.specs.Keeping.{StandsFor, IsPlain, AreRead, IsStored, IsLeft, IsUntouched};
-ghost use Rattle.boot_requests.specs.Opening.{migrated, OpensAs, IsOpenFault};
+ghost use Rattle.boot_requests.specs.Keeper.{StandsFor, IsPlain, AreRead, IsStored, IsLeft, IsUntouched};
+ghost use Rattle.boot_requests.specs.StoredState.{with_second_mark, OpensAs, IsOpenFault};
 ghost use Rattle.boot_requests.specs.Stream.{Cut, IsCut};
 
 use crate::bytes::Bytes;
@@ -42,6 +42,7 @@ use crate::reply::Reply;
 use crate::request::{OrderList, Request};
 use crate::window::WIDTH;
 use uefi_option::laws as option_laws;
+use uefi_path::laws as path_laws;
 
 /// A turn of the plain state that stands for a run leads to the one that stands for the longer run, and is answered as
 /// that run is.
@@ -60,13 +61,14 @@ pub fn a_start_stands_for_no_events()
 /// The numbers of the requests that a run applied are those from the first one on to below the gap, each once and in
 /// their order, and the gap is the next number of the state.
 pub fn each_number_is_applied_once()
-    ensures numbers { (start : State) (run : List Seen) → let first = start.count in
-        numbers_in (history first run) ≡ rising first (gap_at first run - first) }
-    ensures gap { (start : State) (run : List Seen) → start.count ≤ gap_at start.count run }
-    ensures next { (start : State) (run : List Seen) → (state_at start run).count ≡ gap_at start.count run }
+    ensures numbers { (start : State) (run : List Seen) → let first = start.next_number in
+        numbers_in (history first run) ≡ numbers_from first (gap_at first run - first) }
+    ensures gap { (start : State) (run : List Seen) → start.next_number ≤ gap_at start.next_number run }
+    ensures next { (start : State) (run : List Seen) → (state_at start run).next_number ≡ gap_at start.next_number run }
 {}
 
-/// An entry is what the last request asked for that stored or removed it, and what it was at the start where there is none.
+/// An entry is what the last request that stored or removed it asked for, and what it was at the start if there is
+/// none.
 pub fn each_entry_is_what_was_asked_last()
     ensures { (start : State) (run : List Seen) (entry : ℕ) → AreRead run →
         IsLeft (map.get start.entries entry) (last_of start run entry)
@@ -79,22 +81,22 @@ pub fn each_next_is_handed_out_at_most_once()
         AreReplies start run answers → hands answers entry ≤ sets start run entry }
 {}
 
-/// The answers to what follows a run, behind those to the run, are the replies to the longer run: these are told the newest
-/// first.
+/// The answers to what follows a run, after those to the run, are the replies to the longer run: these are listed
+/// newest first.
 pub fn answers_are_the_replies_of_the_run()
     ensures { (start : State) (run seen : List Seen) (replies answers : List Reply) →
         AreReplies start run replies → AreAnswers start run seen answers →
-        AreReplies start (followed run seen) (reverse answers ++ replies) }
+        AreReplies start (run_followed_by run seen) (reverse answers ++ replies) }
 {}
 
-/// Where a boot is prepared and no plan was, BootNext is gone.
+/// If a boot is prepared and no plan was, BootNext is gone.
 pub fn a_boot_deletes_the_next_entry()
     ensures { (start : State) (run : List Seen) → is_armed run ≡ false →
-        (state_at start (Prepare ∷ run)).next ≡ None }
+        (state_at start (Prepare ∷ run)).boot_next ≡ None }
 {}
 
-/// A plan is handed out only by a Hand. Before that a boot was prepared while no plan was, and between the two there was
-/// neither another Hand nor a Restart. The plan is that of the state before the boot.
+/// A plan is handed out only by a Hand. Before that a boot was prepared while no plan was, and between the two there
+/// was neither another Hand nor a Restart. The plan is that of the state before the boot.
 pub fn a_plan_is_handed_out_after_its_boot()
     ensures hand { (start : State) (run : List Seen) (seen : Seen) (plan : PlanParts) →
         IsReply start run seen (Reply.Plan plan) → seen ≡ Hand }
@@ -131,23 +133,23 @@ pub fn a_run_leads_to_a_state()
     uefi_option::laws::each_option_is_spelled();
 }
 
-/// To deliver once more a request whose number is below the gap or accepted, with any content, changes neither the state
-/// then or after any further events, nor any later reply.
+/// To deliver once more a request whose number is below the gap or accepted, with any content, changes neither the
+/// state then or after any further events, nor any later reply.
 pub fn a_repeat_changes_nothing()
     ensures state { (start : State) (later run : List Seen) (number : ℕ) (request : Request) →
-        (number < gap_at start.count run) ⊎ (map.contains_key (accepted start.count run) number ≡ true) →
+        (number < gap_at start.next_number run) ⊎ (map.contains_key (accepted_requests start.next_number run) number ≡ true) →
         state_at start (later ++ Came number request ∷ run) ≡ state_at start (later ++ run) }
     ensures replies { (start : State) (later run : List Seen) (number : ℕ) (request : Request) →
-        (number < gap_at start.count run) ⊎ (map.contains_key (accepted start.count run) number ≡ true) →
+        (number < gap_at start.next_number run) ⊎ (map.contains_key (accepted_requests start.next_number run) number ≡ true) →
         (seen : Seen) (answer : Reply) → IsReply start (later ++ Came number request ∷ run) seen answer →
         IsReply start (later ++ run) seen answer }
 {}
 
 /// Deliveries alone, of the same requests, no number of which has two, lead to one state, in whatever order and however
-/// often they come, where none is too far ahead as it comes.
+/// often they come, if none is too far ahead as it comes.
 pub fn the_order_of_deliveries_does_not_matter()
     ensures { (start : State) (x y : List Seen) →
-        AreTaken start.count x → AreTaken start.count y → AgreeOnNumbers x → AgreeOnNumbers y →
+        AreTaken start.next_number x → AreTaken start.next_number y → AgreeOnNumbers x → AgreeOnNumbers y →
         ((number : ℕ) (request : Request) → Delivers x number request ↔ Delivers y number request) →
         state_at start x ≡ state_at start y }
 {}
@@ -167,6 +169,7 @@ pub fn each_request_is_spelled()
         (bytes : List ℕ) × SpellsFrame bytes number request × AllByRecursion IsByte bytes }
 {
     option_laws::each_option_is_spelled();
+    path_laws::units_have_two_bytes_each();
 }
 
 /// A request with its number has at most one spelling.
@@ -181,6 +184,7 @@ pub fn bytes_spell_one_request()
         SpellsFrame bytes m q → SpellsFrame bytes n r → (m ≡ n) × (q ≡ r) }
 {
     option_laws::bytes_spell_one_option();
+    path_laws::units_are_read_again();
 }
 
 /// Bytes spell a request with its number, or have a first fault.
@@ -190,6 +194,8 @@ pub fn bytes_spell_a_request_or_have_a_fault()
         ⊎ ((fault : FrameFault) × IsFirstFault bytes fault) }
 {
     option_laws::bytes_spell_an_option_or_have_a_fault();
+    path_laws::bytes_are_written_again();
+    path_laws::two_bytes_are_a_unit();
 }
 
 /// Bytes that have a first fault spell no request.
@@ -198,6 +204,7 @@ pub fn a_fault_leaves_no_request()
         IsFirstFault bytes fault → SpellsFrame bytes number request → ⊥ }
 {
     option_laws::a_fault_leaves_no_option();
+    path_laws::units_have_two_bytes_each();
 }
 
 /// Bytes have at most one first fault.
@@ -208,7 +215,7 @@ pub fn bytes_have_one_first_fault()
     option_laws::bytes_have_one_first_fault();
 }
 
-/// A frame with more bytes behind it is no frame.
+/// A frame with more bytes after it isn't a frame.
 pub fn no_frame_begins_another()
     ensures { (bytes rest : List ℕ) (m n : ℕ) (q r : Request) →
         SpellsFrame bytes m q → SpellsFrame (bytes ++ rest) n r → rest ≡ [] }
@@ -299,11 +306,12 @@ pub fn a_state_has_one_image()
     ensures { (m : State) (a b : Variables) → IsImage m a → IsImage m b → a ≡ b }
 {}
 
-/// A state has an image, which may stand in a set.
+/// A state has an image, which may be in a set.
 pub fn each_state_has_an_image()
     ensures { (m : State) → IsState m → (vars : Variables) × IsVars vars × IsImage m vars }
 {
     uefi_vars::laws::boot_names_are_names();
+    path_laws::units_have_two_bytes_each();
 }
 
 /// The image of a state has no fault for which it can't be kept.
@@ -333,7 +341,7 @@ pub fn what_opens_has_no_fault()
 pub fn an_image_is_migrated_to_itself()
     ensures opens { (m : State) (vars : Variables) → IsState m → IsImage m vars → OpensAs vars m }
     ensures same { (m : State) (vars : Variables) → IsState m → IsImage m vars →
-        migrated vars m ≡ vars }
+        with_second_mark vars m ≡ vars }
 {}
 
 /// What happens after a run of frames that were read has a reply.
@@ -348,7 +356,7 @@ pub fn each_event_has_a_reply()
 
 /// Whatever happens, a plain state has a turn.
 pub fn each_plain_state_has_a_turn()
-    ensures { (k : Plain) (seen : Seen) → IsState k.machine →
+    ensures { (k : Plain) (seen : Seen) → IsState k.state →
         (to : Plain) × (answer : Reply) × Turn k seen to answer }
 {
     uefi_vars::laws::entries_have_a_plan();
@@ -363,24 +371,24 @@ pub fn a_turn_leads_to_a_plain_state()
     uefi_option::laws::each_option_is_spelled();
 }
 
-/// Where a request is answered Applied, with an outcome by which it stored an option of an entry, and each of the waiting
-/// requests that are applied with it leaves that entry alone while it is there, what is stored of the entry spells the
-/// option.
+/// If a request is answered Applied, with an outcome by which it stored an option of an entry, and each of the waiting
+/// requests that are applied with it leaves that entry alone while it is there, then what is stored of the entry spells
+/// the option.
 pub fn a_stored_option_is_what_was_asked_for()
     ensures { (k to : Plain) (number next entry : ℕ) (request : Request) (outcome : Outcome) (option : OptionParts) →
         IsRequest request → stored_by request outcome ≡ Some (stores entry (Some option)) →
         IsUntouched k.waiting number next entry →
         Turn k (Came number request) to (Reply.Applied outcome next) →
-        IsStored (Some option) (map.get to.machine.entries entry) }
+        IsStored (Some option) (map.get to.state.entries entry) }
 {}
 
-/// An option that is stored under its number, as it is after a request that stored it, is in each plan of that state: as
-/// the one that is tried first if BootNext names its entry, and among the others if the order does and the option is
+/// An option that is stored under its number, as it is after a request that stored it, is in each plan of that state:
+/// as the one that is tried first if BootNext names its entry, and among the others if the order does and the option is
 /// normal.
 pub fn a_plan_holds_what_was_asked_for()
     ensures next { (m : State) (plan : PlanParts) (choice : Choice) →
         IsStored (Some choice.option) (map.get m.entries choice.number) → HasPlanOf m plan →
-        m.next ≡ Some choice.number → plan.next ≡ Some choice }
+        m.boot_next ≡ Some choice.number → plan.next ≡ Some choice }
     ensures normal { (m : State) (plan : PlanParts) (choice : Choice) →
         IsStored (Some choice.option) (map.get m.entries choice.number) → HasPlanOf m plan →
         Contains m.order choice.number → IsNormal choice.option.attributes →

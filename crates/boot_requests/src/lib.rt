@@ -2,33 +2,33 @@
 //! the boots between them (UEFI specification, version 2.10, chapter 3).
 //!
 //! A [`Request`] with its number is sent as a frame: [`read_frame`] reads one from its bytes, all of them, and
-//! [`write_frame`] gives its one spelling. An [`Inbox`] cuts a stream of frames, in pieces of any length, into the bytes
-//! of each. A [`Keeper`] holds the variables, what waits and what is prepared: [`Keeper::step`] gives the one after an
-//! [`Event`] and the [`Reply`], and [`run`] goes over many events.
+//! [`write_frame`] gives its one spelling. An [`Inbox`] cuts a stream of frames, in pieces of any length, into the
+//! bytes of each. A [`Keeper`] holds the variables, what waits and what is prepared: [`Keeper::step`] gives the one
+//! after an [`Event`] and the [`Reply`], and [`run`] goes over many events.
 #![tactic(auto)]
 
-mod applying;
 mod bytes;
+mod edit;
+mod effect;
 mod event;
 mod fault;
-mod filling;
 mod frame;
+mod gap;
 mod inbox;
 mod keeper;
 pub mod laws;
 mod line;
 mod mark;
-mod opening;
 mod outcome;
-mod reading;
+mod reader;
 mod reply;
 mod request;
-mod running;
+mod runs;
 mod slot;
-mod storing;
+mod stored_state;
 mod update;
 mod window;
-mod writing;
+mod writer;
 
 pub use bytes::Bytes;
 pub use event::Event;
@@ -38,11 +38,11 @@ pub use inbox::Inbox;
 pub use keeper::Keeper;
 pub use line::reply_line;
 pub use mark::KEPT_MAX;
-pub use opening::OpenRefused;
 pub use outcome::{Code, Outcome};
-pub use reading::read_frame;
+pub use reader::read_frame;
 pub use reply::Reply;
 pub use request::{OrderList, Request};
-pub use running::run;
+pub use runs::run;
+pub use stored_state::OpenRefused;
 pub use window::WIDTH;
-pub use writing::write_frame;
+pub use writer::write_frame;

@@ -7,9 +7,9 @@ ghost use Rattle.boot_requests.specs.Words.{line_of};
 use crate::reply::Reply;
 use std::alloc::{AllocError, Global};
 
-/// The reply as one line of words with one blank between two, without a line feed: what it is, in lower case, and then the
-/// words of its fault, those of its outcome, and its number in decimal. A plan is the line of
-/// [`BootPlan::words`](uefi_vars::BootPlan::words). The one refusal is for want of memory.
+/// The reply as one line of words with one blank between two, without a line feed: what it is, in lower case, and then
+/// the words of its fault, those of its outcome, and its number in decimal. A plan is the line of
+/// [`BootPlan::words`](uefi_vars::BootPlan::words). This fails only when out of memory.
 pub fn reply_line(alloc: Global, reply: &Reply) -> Result<String, AllocError>
     ensures { IfOk result (λ text. string_bytes text ≡ line_of reply.now) }
 {

@@ -7,7 +7,7 @@ ghost use Rattle.boot_requests.specs.declared.outcome.Outcome.{Outcome};
 ghost use Rattle.boot_requests.specs.Limits.{no_number, kept_max};
 ghost use Rattle.boot_requests.specs.Outcome.{IsOutcome, without_entry, code_byte, outcome_bytes};
 ghost use Rattle.boot_requests.specs.State.{State, MarkParts, IsMark, mark_bytes};
-ghost use Rattle.boot_requests.specs.Opening.{IsFirstCode};
+ghost use Rattle.boot_requests.specs.StoredState.{IsFirstCode};
 ghost use Rattle.boot_requests.specs.Apply.{kept_with};
 ghost use Rattle.boot_requests.specs.Answer.{kept_outcome};
 ghost use Rattle.boot_requests.specs.Marks.{mark_of, mark_in, mark_after, SpellsMark, SpellsFirstMark, IsMarkIn, SplitsMark};
@@ -19,7 +19,7 @@ use std::marker::Model;
 /// The most outcomes that are kept, those of the requests that were applied last.
 pub const KEPT_MAX: usize = 64;
 
-/// How many outcomes are kept at least, if so many requests were applied.
+/// How many outcomes are kept at least, if that many requests were applied.
 const KEPT_MIN: usize = 16;
 
 /// The version of the bytes that are written.
@@ -34,7 +34,7 @@ const OUTCOME_LEN: usize = 4;
 /// The number of the request that is to be applied next, and what came of the last ones before it, oldest first.
 #[derive(Debug, Drop)]
 pub(crate) struct Mark {
-    next: u32,
+    next_number: u32,
     kept: Vec<Outcome>,
 }
 
@@ -43,9 +43,9 @@ impl Model for Mark {
 
     ghost Value = { MarkParts };
 
-    ghost view = { λ m. record { next = m.next; kept = m.kept.items } };
+    ghost view = { λ m. record { next_number = m.next_number; kept = m.kept.items } };
 
-    ghost invariant = { λ m. IsMark m.next m.kept.items };
+    ghost invariant = { λ m. IsMark m.next_number m.kept.items };
 }
 
 impl Mark {
@@ -54,16 +54,16 @@ impl Mark {
         ensures { result ≡ mark_of 0 [] }
     {
         Mark {
-            next: 0,
+            next_number: 0,
             kept: Vec::new(alloc),
         }
     }
 
     /// The number of the request that is to be applied next.
-    pub(crate) fn next(&self) -> u32
-        ensures { result ≡ self.now.next }
+    pub(crate) fn next_number(&self) -> u32
+        ensures { result ≡ self.now.next_number }
     {
-        self.next
+        self.next_number
     }
 
     /// What came of the request of this number, if that is kept.
@@ -71,22 +71,22 @@ impl Mark {
     pub(crate) fn outcome(&self, number: u32) -> Option<Outcome>
         ensures { (m : State) → mark_in m ≡ self.now → result ≡ kept_outcome m number }
     {
-        let oldest = self.next - self.kept.len() as u32;
+        let oldest = self.next_number - self.kept.len() as u32;
         if number < oldest {
             return None;
         }
         self.kept.get((number - oldest) as usize).copied()
     }
 
-    /// The mark after the request of the next number, which came to this.
+    /// The mark after the request of the next number, which has this outcome.
     pub(crate) fn after(&self, alloc: Global, outcome: Outcome) -> Result<Mark, AllocError>
-        requires room { self.now.next < no_number }
+        requires room { self.now.next_number < no_number }
         requires valid { IsOutcome outcome }
         ensures { IfOk result (λ mark. mark ≡ mark_after self.now outcome) }
     {
         let kept = kept_with(alloc, &self.kept, outcome)?;
         Ok(Mark {
-            next: self.next + 1,
+            next_number: self.next_number + 1,
             kept,
         })
     }
@@ -94,13 +94,13 @@ impl Mark {
     /// The bytes in which it is stored.
     pub(crate) fn bytes(&self, alloc: Global) -> Result<Vec<u8>, AllocError>
         ensures bytes { IfOk result (λ bytes.
-            bytes.items ≡ mark_bytes self.now.next self.now.kept) }
-        ensures valid { IsMark self.now.next self.now.kept }
+            bytes.items ≡ mark_bytes self.now.next_number self.now.kept) }
+        ensures valid { IsMark self.now.next_number self.now.kept }
     {
-        mark_bytes(alloc, self.next, &self.kept)
+        mark_bytes(alloc, self.next_number, &self.kept)
     }
 
-    /// The mark that is stored in these bytes: `None` where none is.
+    /// The mark that is stored in these bytes: `None` if none is.
     pub(crate) fn read(alloc: Global, bytes: &[u8]) -> Result<Option<Mark>, AllocError>
         ensures { IfOk result (λ found. MatchOption found
             ((mark : MarkParts) → IsMarkIn bytes.now mark → ⊥)
@@ -131,7 +131,7 @@ impl Mark {
     {
         let kept = Vec::from_slice(alloc, &self.kept)?;
         Ok(Mark {
-            next: self.next,
+            next_number: self.next_number,
             kept,
         })
     }
@@ -155,13 +155,13 @@ fn kept_with(alloc: Global, kept: &[Outcome], outcome: Outcome) -> Result<Vec<Ou
 // ---- writing
 
 /// The bytes of a next number and of the outcomes that are kept.
-fn mark_bytes(alloc: Global, next: u32, kept: &[Outcome]) -> Result<Vec<u8>, AllocError>
+fn mark_bytes(alloc: Global, next_number: u32, kept: &[Outcome]) -> Result<Vec<u8>, AllocError>
     requires { length kept.now ≤ kept_max }
-    ensures { IfOk result (λ bytes. bytes.items ≡ mark_bytes next kept.now) }
+    ensures { IfOk result (λ bytes. bytes.items ≡ mark_bytes next_number kept.now) }
 {
     let mut bytes = Vec::with_capacity(alloc, HEADER_LEN + OUTCOME_LEN * kept.len())?;
     bytes.push(VERSION)?;
-    bytes.extend_from_slice(&next.to_le_bytes())?;
+    bytes.extend_from_slice(&next_number.to_le_bytes())?;
     bytes.push(kept.len() as u8)?;
     for outcome in kept {
         bytes.extend_from_slice(&outcome.bytes())?;
@@ -171,70 +171,70 @@ fn mark_bytes(alloc: Global, next: u32, kept: &[Outcome]) -> Result<Vec<u8>, All
 
 // ---- reading
 
-/// The next number that stands after the version, how many outcomes are kept, and their bytes, if the number isn't 0.
+/// The next number that is after the version, how many outcomes are kept, and their bytes, if the number isn't 0.
 fn split_mark(bytes: &[u8]) -> Option<(u32, usize, &[u8])>
     ensures found { IfSome result (λ mark. SplitsMark bytes.now mark.0 mark.1 mark.2.now) }
     ensures only { IfNone result
-        ((next len : ℕ) (outcomes : List ℕ) → SplitsMark bytes.now next len outcomes → ⊥) }
+        ((next_number len : ℕ) (outcomes : List ℕ) → SplitsMark bytes.now next_number len outcomes → ⊥) }
 {
     let [a, b, c, d, len, outcomes @ ..] = bytes else {
         return None;
     };
-    let next = u32::from_le_bytes([*a, *b, *c, *d]);
-    if next == 0 {
+    let next_number = u32::from_le_bytes([*a, *b, *c, *d]);
+    if next_number == 0 {
         return None;
     }
-    Some((next, usize::from(*len), outcomes))
+    Some((next_number, usize::from(*len), outcomes))
 }
 
-/// The mark of the bytes after the version 2: `None` if they are of none.
+/// The mark of the bytes after the version 2: `None` if they aren't those of one.
 fn read_second(alloc: Global, bytes: &[u8]) -> Result<Option<Mark>, AllocError>
     ensures { IfOk result (λ found. MatchOption found
         ((mark : MarkParts) → SpellsMark (2 ∷ bytes.now) mark → ⊥)
         (λ mark. SpellsMark (2 ∷ bytes.now) mark)) }
 {
-    let Some((next, len, outcomes)) = split_mark(bytes) else {
+    let Some((next_number, len, outcomes)) = split_mark(bytes) else {
         return Ok(None);
     };
-    if len < kept_len(KEPT_MIN, next) || len > kept_len(KEPT_MAX, next) {
+    if len < kept_len(KEPT_MIN, next_number) || len > kept_len(KEPT_MAX, next_number) {
         return Ok(None);
     }
     if outcomes.len() != OUTCOME_LEN * len {
         return Ok(None);
     }
     match read_outcomes(alloc, outcomes)? {
-        Some(kept) => Ok(Some(Mark { next, kept })),
+        Some(kept) => Ok(Some(Mark { next_number, kept })),
         None => Ok(None),
     }
 }
 
-/// The mark of the bytes after the version 1, by which no entries and only the last 16 outcomes were kept: `None` if they
-/// are of none.
+/// The mark of the bytes after the version 1, by which no entries and only the last 16 outcomes were kept: `None` if
+/// they aren't those of one.
 fn read_first(alloc: Global, bytes: &[u8]) -> Result<Option<Mark>, AllocError>
     ensures { IfOk result (λ found. MatchOption found
         ((mark : MarkParts) → SpellsFirstMark (1 ∷ bytes.now) mark → ⊥)
         (λ mark. SpellsFirstMark (1 ∷ bytes.now) mark)) }
 {
-    let Some((next, len, codes)) = split_mark(bytes) else {
+    let Some((next_number, len, codes)) = split_mark(bytes) else {
         return Ok(None);
     };
-    if len != kept_len(KEPT_MIN, next) || codes.len() != len {
+    if len != kept_len(KEPT_MIN, next_number) || codes.len() != len {
         return Ok(None);
     }
     match read_codes(alloc, codes)? {
-        Some(kept) => Ok(Some(Mark { next, kept })),
+        Some(kept) => Ok(Some(Mark { next_number, kept })),
         None => Ok(None),
     }
 }
 
-/// So many outcomes, or as many as there are requests before this next number, if these are fewer.
-fn kept_len(len: usize, next: u32) -> usize
-    ensures { result ≡ min len next }
+/// This many outcomes, or as many as there are requests before this next number, if these are fewer.
+fn kept_len(len: usize, next_number: u32) -> usize
+    ensures { result ≡ min len next_number }
 {
-    len.min(next as usize)
+    len.min(next_number as usize)
 }
 
-/// The outcomes of these bytes, four each: `None` if they are of none.
+/// The outcomes of these bytes, four each: `None` if they aren't those of outcomes.
 fn read_outcomes(alloc: Global, bytes: &[u8]) -> Result<Option<Vec<Outcome>>, AllocError>
     ensures { IfOk result (λ found. MatchOption found
         ((kept : List Outcome) → AllByRecursion IsOutcome kept → flat_map outcome_bytes kept ≢ bytes.now)
@@ -252,7 +252,7 @@ fn read_outcomes(alloc: Global, bytes: &[u8]) -> Result<Option<Vec<Outcome>>, Al
     Ok(if rest.is_empty() { Some(kept) } else { None })
 }
 
-/// The outcomes of these codes of version 1: `None` if one of them is none of it.
+/// The outcomes of these codes of version 1: `None` if one of them isn't a code of it.
 fn read_codes(alloc: Global, codes: &[u8]) -> Result<Option<Vec<Outcome>>, AllocError>
     ensures { IfOk result (λ found. MatchOption found
         ((kept : List Code) → AllByRecursion IsFirstCode kept → map code_byte kept ≢ codes.now)

@@ -8,8 +8,8 @@ ghost use Rattle.boot_requests.specs.Words.{code_words, outcome_words};
 use std::alloc::{AllocError, Global};
 use uefi_vars::entry_name;
 
-/// Whether a request was carried out, or why not. Any but [`Code::Done`] uses up the request's number and changes nothing
-/// else.
+/// Whether a request was carried out, or why not. Any but [`Code::Done`] uses up the request's number and changes
+/// nothing else.
 #[derive(Clone, Copy, Debug, PartialEq, Eq, Hash)]
 pub enum Code {
     /// The request was carried out.
@@ -102,8 +102,8 @@ impl Outcome {
         Outcome { code, entry: None }
     }
 
-    /// The bytes in which the outcome is kept: that of its code, 1 if it tells an entry and 0 if not, and the number of the
-    /// entry, little-endian, or 0.
+    /// The bytes in which the outcome is kept: that of its code, 1 if it tells an entry and 0 if not, and the number of
+    /// the entry, little-endian, or 0.
     pub(crate) fn bytes(self) -> [u8; 4]
         ensures { result ≡ outcome_bytes self }
     {
@@ -135,8 +135,8 @@ impl Outcome {
         }
     }
 
-    /// The outcome in words: the code's name, and after one blank the four hexadecimal digits of the entry, in upper case,
-    /// if there is one. The one refusal is for want of memory.
+    /// The outcome in words: the code's name, and after one blank the four hexadecimal digits of the entry, in upper
+    /// case, if there is one. This fails only when out of memory.
     pub fn words(self, alloc: Global) -> Result<String, AllocError>
         ensures { IfOk result (λ text. string_bytes text ≡ outcome_words self) }
     {

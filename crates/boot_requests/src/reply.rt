@@ -7,7 +7,7 @@ use uefi_vars::BootPlan;
 /// What is answered to an event.
 #[derive(Debug, PartialEq, Eq, Drop)]
 pub enum Reply {
-    /// What was delivered is no frame.
+    /// What was delivered isn't a frame.
     Malformed(FrameFault),
     /// The request of this number was applied before, with this outcome.
     Repeat(Outcome),
@@ -21,7 +21,7 @@ pub enum Reply {
     Waiting(u32),
     /// The request was applied, with this outcome. The next number is this.
     Applied(Outcome, u32),
-    /// A plan of so many options is prepared, and BootNext is deleted.
+    /// A plan of this many options is prepared, and BootNext is deleted.
     Prepared(usize),
     /// A plan was prepared before, and stays.
     AlreadyPrepared,

@@ -57,7 +57,7 @@ impl OrderList {
         OrderList { numbers }
     }
 
-    /// An equal list. The one refusal is for want of memory.
+    /// An equal list. This fails only when out of memory.
     pub fn copy(&self, alloc: Global) -> Result<OrderList, AllocError>
         ensures equal { IfOk result (λ order. order ≡ self.now) }
         ensures valid { AllByRecursion IsEntryNumber self.now }
@@ -102,7 +102,7 @@ pub enum Request {
 }
 
 impl Request {
-    /// An equal request. The one refusal is for want of memory.
+    /// An equal request. This fails only when out of memory.
     pub fn copy(&self, alloc: Global) -> Result<Request, AllocError>
         ensures equal { IfOk result (λ request. request ≡ self.now) }
         ensures valid { IsRequest self.now }

@@ -1,12 +1,12 @@
 //! What an event changes of a keeper.
 
 ghost use Rattle.std.specs.Prelude.{◌≡◌, IfOk, OnOk, OnErr};
-ghost use Rattle.boot_requests.specs.Update.{Fits, with_plan, updated};
+ghost use Rattle.boot_requests.specs.Update.{Fits, with_plan, after_update};
 
+use crate::edit::delete_next;
 use crate::keeper::{Keeper, copy_plan};
 use crate::mark::Mark;
 use crate::request::Request;
-use crate::storing::delete_next;
 use std::alloc::{AllocError, Global};
 use std::rc::Rc;
 use uefi_vars::{BootPlan, Changes};
@@ -33,7 +33,7 @@ impl Keeper {
     #[inline(always)]
     pub(crate) fn update(&mut self, update: Update) -> Result<(), AllocError>
         requires { Fits self.old update }
-        ensures updated { OnOk result (self.new ≡ updated self.old update) }
+        ensures updated { OnOk result (self.new ≡ after_update self.old update) }
         ensures unchanged { OnErr result (self.new ≡ self.old) }
     {
         match update {
@@ -41,7 +41,8 @@ impl Keeper {
             Update::Waits(number, request) => self.window.keep(number, request),
             Update::Applied(changes, mark) => {
                 self.vars.make(changes)?;
-                self.window.pass_to(self.mark.next(), mark.next());
+                self.window
+                    .pass_to(self.mark.next_number(), mark.next_number());
                 self.mark = mark;
             }
             Update::Prepared(plan) => {
@@ -60,7 +61,7 @@ impl Keeper {
     /// A keeper that is changed so, while this one stays.
     pub(crate) fn updated(&self, alloc: Global, update: Update) -> Result<Keeper, AllocError>
         requires { Fits self.now update }
-        ensures { IfOk result (λ keeper. keeper ≡ updated self.now update) }
+        ensures { IfOk result (λ keeper. keeper ≡ after_update self.now update) }
     {
         let plan = self.plan_left(alloc, &update)?;
         let mut keeper = self.copy_with(alloc, plan)?;
@@ -71,7 +72,7 @@ impl Keeper {
     /// An equal plan, if one is prepared and the update leaves it.
     fn plan_left(&self, alloc: Global, update: &Update) -> Result<Option<BootPlan>, AllocError>
         ensures { IfOk result (λ plan.
-            updated (with_plan self.now plan) update.now ≡ updated self.now update.now) }
+            after_update (with_plan self.now plan) update.now ≡ after_update self.now update.now) }
     {
         match update {
             Update::Prepared(_) | Update::HandedOut | Update::Restarted => Ok(None),

@@ -18,8 +18,8 @@ pub const WIDTH: u32 = 64;
 /// How many slots there are, one for each of those numbers.
 const SLOTS: usize = WIDTH as usize;
 
-/// The requests that wait for one of a lower number. That of a number stands in the slot of the number modulo
-/// [`SLOTS`], so none is searched for; the slot of the next number is free. Which number that is, the calls are told.
+/// The requests that wait for one of a lower number. That of a number is in the slot of the number modulo [`SLOTS`], so
+/// none is searched for; the slot of the next number is free. The calls are told which number that is.
 #[derive(Debug, Drop)]
 pub(crate) struct Window {
     slots: Vec<Slot>,
@@ -40,33 +40,33 @@ impl Model for Window {
 impl Window {
     /// Nothing waits.
     pub(crate) fn new(alloc: Global) -> Result<Window, AllocError>
-        ensures { IfOk result (λ window. (next : ℕ) →
-            IsWindow next window × (waiting_of next window ≡ map.empty)) }
+        ensures { IfOk result (λ window. (next_number : ℕ) →
+            IsWindow next_number window × (waiting_of next_number window ≡ map.empty)) }
     {
         let slots = free_slots(alloc, SLOTS)?;
         Ok(Window { slots })
     }
 
     /// The request that waits under this number, which is above the next one, if one does.
-    pub(crate) fn get(&self, next: u32, number: u32) -> Option<&Request>
-        requires { next < number }
-        ensures { option_copied result ≡ map.get (waiting_of next self.now) number }
+    pub(crate) fn get(&self, next_number: u32, number: u32) -> Option<&Request>
+        requires { next_number < number }
+        ensures { option_copied result ≡ map.get (waiting_of next_number self.now) number }
     {
-        if number - next >= WIDTH {
+        if number - next_number >= WIDTH {
             return None;
         }
         self.slots[place_of(number as usize)].request()
     }
 
     /// How many requests wait.
-    pub(crate) fn len(&self, next: u32) -> usize
-        ensures len { result ≡ map.len (waiting_of next self.now) }
+    pub(crate) fn len(&self, next_number: u32) -> usize
+        ensures len { result ≡ map.len (waiting_of next_number self.now) }
         ensures bound { result < width }
     {
-        let next = next as usize;
+        let next_number = next_number as usize;
         let mut count = 0usize;
         for distance in 1..SLOTS {
-            if self.slots[place_of(next + distance)].is_taken() {
+            if self.slots[place_of(next_number + distance)].is_taken() {
                 count += 1;
             }
         }
@@ -75,37 +75,38 @@ impl Window {
 
     /// The request waits under this number from now on.
     pub(crate) fn keep(&mut self, number: u32, request: Rc<Request>)
-        ensures { (next : ℕ) → IsWindow next self.old →
-            next < number → number < next + width → IsSent number request.value →
-            IsWindow next self.new × (waiting_of next self.new
-            ≡ map.insert (waiting_of next self.old) number request.value) }
+        ensures { (next_number : ℕ) → IsWindow next_number self.old →
+            next_number < number → number < next_number + width → IsSent number request.value →
+            IsWindow next_number self.new × (waiting_of next_number self.new
+            ≡ map.insert (waiting_of next_number self.old) number request.value) }
     {
         set_slot(&mut self.slots, place_of(number as usize), request);
     }
 
-    /// The next number is the second of these from now on. What waits under numbers that aren't above it waits no longer.
-    pub(crate) fn pass_to(&mut self, next: u32, after: u32)
-        requires { next ≤ after }
-        ensures { IsWindow next self.old → IsWindow after self.new
-            × (waiting_of after self.new ≡ above after (waiting_of next self.old)) }
+    /// The next number is the second of these from now on. What waits under numbers that aren't above it waits no
+    /// longer.
+    pub(crate) fn pass_to(&mut self, next_number: u32, after: u32)
+        requires { next_number ≤ after }
+        ensures { IsWindow next_number self.old → IsWindow after self.new
+            × (waiting_of after self.new ≡ above after (waiting_of next_number self.old)) }
     {
-        for number in next..after {
+        for number in next_number..after {
             self.pass(number);
         }
     }
 
     /// The next number is one more from now on. The request that waits under it, if one does, waits no longer.
-    fn pass(&mut self, next: u32)
-        ensures { IsWindow next self.old → IsWindow (next + 1) self.new
-            × (waiting_of (next + 1) self.new ≡ map.remove (waiting_of next self.old) (next + 1)) }
+    fn pass(&mut self, next_number: u32)
+        ensures { IsWindow next_number self.old → IsWindow (next_number + 1) self.new
+            × (waiting_of (next_number + 1) self.new ≡ map.remove (waiting_of next_number self.old) (next_number + 1)) }
     {
-        free_slot(&mut self.slots, place_of(next as usize + 1));
+        free_slot(&mut self.slots, place_of(next_number as usize + 1));
     }
 
     /// Nothing waits any longer.
     pub(crate) fn clear(&mut self)
-        ensures { (next : ℕ) →
-            IsWindow next self.new × (waiting_of next self.new ≡ map.empty) }
+        ensures { (next_number : ℕ) →
+            IsWindow next_number self.new × (waiting_of next_number self.new ≡ map.empty) }
     {
         free_all(&mut self.slots);
     }
@@ -127,7 +128,7 @@ fn place_of(number: usize) -> usize
     number % SLOTS
 }
 
-/// So many slots, in which nothing stands.
+/// This many slots, with nothing in them.
 fn free_slots(alloc: Global, len: usize) -> Result<Vec<Slot>, AllocError>
     ensures { IfOk result (λ slots. slots.items ≡ replicate len None) }
 {
@@ -138,7 +139,7 @@ fn free_slots(alloc: Global, len: usize) -> Result<Vec<Slot>, AllocError>
     Ok(slots)
 }
 
-/// The request stands in this slot, in the place of what stood there.
+/// The request is in this slot from then on, in the place of what was there.
 fn set_slot(slots: &mut [Slot], place: usize, request: Rc<Request>)
     requires { place < length slots.old }
     ensures { slots.new ≡ slice_set slots.old place (Some request.value) }
@@ -146,7 +147,7 @@ fn set_slot(slots: &mut [Slot], place: usize, request: Rc<Request>)
     slots[place] = Slot::taken(request);
 }
 
-/// Nothing stands in this slot from then on.
+/// Nothing is in this slot from then on.
 fn free_slot(slots: &mut [Slot], place: usize)
     requires { place < length slots.old }
     ensures { slots.new ≡ slice_set slots.old place None }
@@ -154,7 +155,7 @@ fn free_slot(slots: &mut [Slot], place: usize)
     slots[place] = Slot::free();
 }
 
-/// Nothing stands in any of these slots from then on.
+/// Nothing is in any of these slots from then on.
 fn free_all(slots: &mut [Slot])
     ensures { slots.new ≡ replicate (length slots.old) None }
 {

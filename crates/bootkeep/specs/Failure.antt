@@ -1,8 +1,8 @@
--- How the program ends where it did not do what it was asked to.
+-- How the program ends if it did not do what it was asked to.
 use Rattle.std.specs.Prelude.{◌≡◌, ◌⊎◌, ℕ, List, Result, IsErrAnd, ⊤}
 use Rattle.std.specs.String.{string_bytes}
 use Rattle.uefi_vars.specs.Vars.{Variables}
-use Rattle.bootkeep.specs.declared.command_line.Form.{Form}
+use Rattle.bootkeep.specs.declared.command_line.InputFormat.{InputFormat}
 use Rattle.bootkeep.specs.declared.failure.Failure.{Failure}
 use Rattle.bootkeep.specs.declared.failure.Failure.TheVariants as failure
 use Rattle.boot_commands.specs.declared.fault.ScriptFault.{ScriptFault}
@@ -13,7 +13,7 @@ use Rattle.boot_commands.specs.declared.output.OutputFault.{OutputFault}
 use Rattle.boot_commands.specs.declared.output.OutputFault.TheVariants as output
 use Rattle.boot_commands.specs.declared.refusal.Refusal.{Refusal}
 use Rattle.boot_commands.specs.declared.refusal.Refusal.TheVariants as refusal
-use Rattle.bootkeep.specs.Form.{IsFirstFaultIn}
+use Rattle.bootkeep.specs.InputFormat.{IsFirstFaultIn}
 use Rattle.boot_commands.specs.Words.{script_fault_words}
 
 -- the status that the program ends with
@@ -69,11 +69,11 @@ IsFailureUnless answer expected =
     IsErrAnd answer (λ made. IsFailureOf expected made ⊎ ((made ≡ failure.Read) ⊎ (made ≡ failure.Memory)))
 
 -- the words tell the first fault of a script or a stream and of the variables that it is to be run over
-abbrev pub TellsScriptFault : Form → List ℕ → Variables → List ℕ → Type 0
-TellsScriptFault form bytes vars words =
-    (fault : ScriptFault) × IsFirstFaultIn form bytes vars fault × (words ≡ script_fault_words fault)
+abbrev pub TellsScriptFault : InputFormat → List ℕ → Variables → List ℕ → Type 0
+TellsScriptFault format bytes vars words =
+    (fault : ScriptFault) × IsFirstFaultIn format bytes vars fault × (words ≡ script_fault_words fault)
 
--- the status that a program ends with where a script is refused so
+-- the status that a program ends with if a script is refused for this fault
 abbrev pub script_status_of : ScriptFault → ℕ
 script_status_of script.Read = 3
 script_status_of script.Write = 3

@@ -20,7 +20,7 @@ const SHOW_COMMAND: &str = "show";
 
 const RUN_COMMAND: &str = "run";
 
-// The values that stand behind them, each by its name in the usage line.
+// The values that follow them, each by its name in the usage line.
 const HEX_VALUE: &str = "HEX";
 
 const TEXT_VALUE: &str = "TEXT";
@@ -31,49 +31,49 @@ const SET_VALUE: &str = "SET";
 
 const SCRIPT_VALUE: &str = "SCRIPT";
 
-// The options of `run`, without the hyphens in front.
+// The options of `run`, without their hyphens.
 const OUT_OPTION: &str = "out";
 
 const STREAM_OPTION: &str = "stream";
 
-/// What the events of a run are told by.
+/// What a run reads its events from.
 #[derive(Clone, Copy, Debug, PartialEq, Eq)]
-pub enum Form {
-    /// By the lines of a script.
+pub enum InputFormat {
+    /// The lines of a script.
     Script,
-    /// By a stream of frames, each of which is delivered.
+    /// A stream of frames, each of which is delivered.
     Stream,
 }
 
-/// What the words ask for.
+/// What the words of the command line ask for.
 #[derive(Clone, Copy, Debug, PartialEq, Eq)]
-pub enum Request<'a> {
-    /// How the program is called.
+pub enum Action<'a> {
+    /// To print how the program is called.
     Help,
-    /// The device path at the front of some bytes.
+    /// To print the device path that some bytes begin with.
     Path {
         /// The bytes, in hexadecimal digits.
         hex: &'a str,
     },
-    /// The device path that a text stands for.
+    /// To print the bytes of the device path that a text stands for.
     Text {
         /// The text.
         text: &'a str,
     },
-    /// The load option that a file holds.
+    /// To print the load option that a file holds.
     LoadOption {
         /// The path of the file.
         file: &'a str,
     },
-    /// The boot variables that a set file holds.
+    /// To print the boot variables that a set file holds.
     Show {
         /// The path of the set file.
         set: &'a str,
     },
-    /// What becomes of the boot variables of a set file by the events of a script or a stream.
+    /// To run the events of a script or a stream over the boot variables of a set file.
     Run {
-        /// Which of both it is.
-        form: Form,
+        /// Which of the two it is.
+        format: InputFormat,
         /// The path of the set file.
         set: &'a str,
         /// The path of the script or the stream.
@@ -83,21 +83,21 @@ pub enum Request<'a> {
     },
 }
 
-/// What the words, the first of which is the program's name, ask for.
+/// What the words ask for. The first one is the program's name.
 ///
 /// # Errors
 ///
-/// [`Failure::CommandLine`] comes where they ask for nothing that the program does, and also where
-/// they ask for the help or the version that `clap` would print: `--help` is a request only where
-/// it stands alone. [`Failure::Memory`] comes only for want of memory.
-pub fn read_words<'a>(alloc: Global, words: &'a [String]) -> Result<Request<'a>, Failure> {
+/// [`Failure::CommandLine`] if they are not an action of the program, and also if they ask for the
+/// help or the version that `clap` would print: `--help` is an action only if it is the only word.
+/// [`Failure::Memory`] only if memory is refused.
+pub fn read_words<'a>(alloc: Global, words: &'a [String]) -> Result<Action<'a>, Failure> {
     if let [_, word] = words
         && word.as_str() == "--help"
     {
-        return Ok(Request::Help);
+        return Ok(Action::Help);
     }
     match command(alloc)?.try_get_matches_from(words) {
-        Ok(matches) => request_of(&matches).ok_or(Failure::CommandLine),
+        Ok(matches) => action_of(&matches).ok_or(Failure::CommandLine),
         Err(error) if error.kind() == ErrorKind::OutOfMemory => Err(Failure::Memory),
         Err(_) => Err(Failure::CommandLine),
     }
@@ -130,22 +130,22 @@ fn run_subcommand<'a>(alloc: Global) -> Result<Command<'a>, AllocError> {
         .arg(stream)
 }
 
-fn request_of<'a>(matches: &ArgMatches<'a>) -> Option<Request<'a>> {
+fn action_of<'a>(matches: &ArgMatches<'a>) -> Option<Action<'a>> {
     match matches.subcommand()? {
-        (PATH_COMMAND, matches) => Some(Request::Path {
+        (PATH_COMMAND, matches) => Some(Action::Path {
             hex: matches.get_str(HEX_VALUE)?,
         }),
-        (TEXT_COMMAND, matches) => Some(Request::Text {
+        (TEXT_COMMAND, matches) => Some(Action::Text {
             text: matches.get_str(TEXT_VALUE)?,
         }),
-        (OPTION_COMMAND, matches) => Some(Request::LoadOption {
+        (OPTION_COMMAND, matches) => Some(Action::LoadOption {
             file: matches.get_str(FILE_VALUE)?,
         }),
-        (SHOW_COMMAND, matches) => Some(Request::Show {
+        (SHOW_COMMAND, matches) => Some(Action::Show {
             set: matches.get_str(SET_VALUE)?,
         }),
-        (RUN_COMMAND, matches) => Some(Request::Run {
-            form: form_of(matches),
+        (RUN_COMMAND, matches) => Some(Action::Run {
+            format: format_of(matches),
             set: matches.get_str(SET_VALUE)?,
             script: matches.get_str(SCRIPT_VALUE)?,
             file: matches.get_str(FILE_VALUE)?,
@@ -154,10 +154,10 @@ fn request_of<'a>(matches: &ArgMatches<'a>) -> Option<Request<'a>> {
     }
 }
 
-fn form_of(matches: &ArgMatches<'_>) -> Form {
+fn format_of(matches: &ArgMatches<'_>) -> InputFormat {
     if matches.get_flag(STREAM_OPTION) {
-        Form::Stream
+        InputFormat::Stream
     } else {
-        Form::Script
+        InputFormat::Script
     }
 }

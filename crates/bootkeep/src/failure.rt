@@ -21,10 +21,10 @@ pub enum Failure {
     /// The words of the command line ask for nothing that the program does.
     #[error("{}", USAGE)]
     CommandLine,
-    /// The words of the command line can't be had, or a file can't be opened or read.
+    /// The words of the command line can't be read, or a file can't be opened or read.
     #[error("fault: read")]
     Read,
-    /// Standard output took not all of the answer, or a file can't be written.
+    /// Standard output didn't take all of the answer, or a file can't be written.
     #[error("fault: write")]
     Write,
     /// Memory was refused.
@@ -35,9 +35,8 @@ pub enum Failure {
 impl Failure {
     ghost use Rattle.bootkeep.specs.Failure.{status_of};
 
-    /// The status that the program ends with: 1 where the input is refused or too much, 2 where the
-    /// command line asks for nothing that there is, 3 where reading or writing failed, and 4 where
-    /// memory was refused.
+    /// The status that the program ends with: 1 if the input is refused or too much, 2 if the command line asks for
+    /// nothing that the program does, 3 if reading or writing failed, and 4 if memory was refused.
     pub fn status(&self) -> u8
         ensures { result ≡ status_of self.now }
     {
@@ -49,7 +48,8 @@ impl Failure {
         }
     }
 
-    /// What a fault of a script or a stream is to the program. Where there is no memory for its words it is want of memory.
+    /// What a fault of a script or a stream is to the program. If there is no memory for its words, it is
+    /// [`Failure::Memory`].
     pub fn of_script(alloc: Global, fault: ScriptFault) -> Failure
         ensures fault { IsFailureOf fault result }
         ensures status { (result ≡ failure.Memory) ⊎ (status_of result ≡ script_status_of fault) }
@@ -120,8 +120,8 @@ impl From<OutputFault> for Failure {
     }
 }
 
-/// The status that a program ends with whose script or stream is refused: 3 where reading or writing failed, 4 where memory
-/// was refused, and 1 where the script, the stream or the variables are at fault.
+/// The status that a program ends with if its script or stream is refused: 3 if reading or writing failed, 4 if memory
+/// was refused, and 1 if the script, the stream or the variables are at fault.
 pub fn script_status(fault: &ScriptFault) -> u8
     ensures { result ≡ script_status_of fault.now }
 {

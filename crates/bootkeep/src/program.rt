@@ -5,14 +5,14 @@ ghost use Rattle.std.specs.Io.KnownBytes.{Appends};
 ghost use Rattle.uefi_vars.specs.Vars.{Variables};
 ghost use Rattle.boot_requests.specs.declared.reply.Reply.{Reply};
 ghost use Rattle.boot_commands.specs.declared.fault.ScriptFault.{ScriptFault};
-ghost use Rattle.boot_commands.specs.Running.{answer_lines};
+ghost use Rattle.boot_commands.specs.Runs.{answer_lines};
 ghost use Rattle.boot_commands.specs.ScriptFault.{script_max, IsFaultUnless};
 ghost use Rattle.boot_commands.specs.Source.{ReadsAll, AppendsFront};
 ghost use Rattle.bootkeep.specs.Failure.{status_of, IfRefused, IsFailureOf, IsFailureUnless, TellsScriptFault};
-ghost use Rattle.bootkeep.specs.Form.{RunsIn, IsFirstFaultIn, MayComeIn};
+ghost use Rattle.bootkeep.specs.InputFormat.{RunsIn, IsFirstFaultIn, MayComeIn};
 ghost use Rattle.bootkeep.specs.declared.failure.Failure.TheVariants as failure;
 
-use crate::command_line::{self, Form, Request, USAGE};
+use crate::command_line::{self, Action, InputFormat, USAGE};
 use crate::failure::Failure;
 use boot_commands::{
     InputFault, OutputFile, ScriptFault, Sink, Source, Watched, lock_file, option_report,
@@ -38,8 +38,8 @@ pub fn tell<R: Eprint>(rt: &R, outcome: Result<(), Failure>) -> u8
         Ok(()) => 0,
         Err(failure) => {
             let status = failure.status();
-            // Where standard error takes nothing there is no place left to say so, and the status
-            // stands.
+            // If standard error takes nothing, there is no place left to say so: the status tells
+            // it all the same.
             let _ = rt.eprintln(failure);
             status
         }
@@ -49,34 +49,34 @@ pub fn tell<R: Eprint>(rt: &R, outcome: Result<(), Failure>) -> u8
 fn answer<R: Env + Files<File: OutputFile> + Print + AllocGlobal>(rt: &R) -> Result<(), Failure> {
     let words = words(rt)?;
     match command_line::read_words(rt.alloc(), words.as_slice())? {
-        Request::Help => rt.println(USAGE),
-        Request::Path { hex } => rt.print(path_report(rt.alloc(), hex)?),
-        Request::Text { text } => rt.print(text_report(rt.alloc(), text)?),
-        Request::LoadOption { file } => {
+        Action::Help => rt.println(USAGE),
+        Action::Path { hex } => rt.print(path_report(rt.alloc(), hex)?),
+        Action::Text { text } => rt.print(text_report(rt.alloc(), text)?),
+        Action::LoadOption { file } => {
             let bytes = read_file(rt, file)?;
             rt.print(option_report(rt.alloc(), bytes.as_slice())?)
         }
-        Request::Show { set } => {
+        Action::Show { set } => {
             let bytes = read_file(rt, set)?;
             rt.print(set_report(rt.alloc(), bytes.as_slice())?)
         }
-        Request::Run {
-            form,
+        Action::Run {
+            format,
             set,
             script,
             file,
-        } => return run_file(rt, form, set, script, file),
+        } => return run_file(rt, format, set, script, file),
     }
     .map_err(|_| Failure::Write)
 }
 
-/// Runs the script or the stream of the one file over the set of another, prints the replies, and then writes the new set to
-/// a third. That one is locked from before the set is read until the new one is there, so that runs over one file go one
-/// after the other. A script that comes slowly keeps no other run waiting: it's read before. The set's fault comes first, then
-/// the script's, and then that of the lock.
+/// Runs the script or the stream in one file over the set in another, prints the replies, and then writes the new set to a
+/// third. That file is locked from before the set is read until the new set is there, so that runs over one file go one
+/// after the other. The script is read before, so that one that comes slowly keeps no other run waiting. If several
+/// things are at fault, the set's fault is told first, then the script's, and then that of the lock.
 fn run_file<R: Files<File: OutputFile> + Print + AllocGlobal>(
     rt: &R,
-    form: Form,
+    format: InputFormat,
     set: &str,
     script: &str,
     file: &str,
@@ -94,11 +94,11 @@ fn run_file<R: Files<File: OutputFile> + Print + AllocGlobal>(
     let lock = match lock {
         Ok(lock) => lock,
         Err(fault) => {
-            run_events(alloc, form, script.as_slice(), io::sink(), vars)?;
+            run_events(alloc, format, script.as_slice(), io::sink(), vars)?;
             return Err(fault.into());
         }
     };
-    let vars = run_events(alloc, form, script.as_slice(), io::writer(rt), vars)?;
+    let vars = run_events(alloc, format, script.as_slice(), io::writer(rt), vars)?;
     let bytes = write_set(alloc, &vars)?;
     Ok(write_file(rt, lock, &bytes)?)
 }
@@ -106,7 +106,7 @@ fn run_file<R: Files<File: OutputFile> + Print + AllocGlobal>(
 /// The variables after the events of a script or a stream, whose replies are written, a line for each.
 fn run_events<R: Read + Drop, W: Write + Drop>(
     alloc: Global,
-    form: Form,
+    format: InputFormat,
     script: R,
     replies: W,
     vars: Vars,
@@ -114,21 +114,21 @@ fn run_events<R: Read + Drop, W: Write + Drop>(
     // All that was read is a script or a stream, and the variables are those after it.
     ensures done { IfOk result (λ after.
         (text : List ℕ) × IfSome (R.remaining script) (λ known. known ≡ text) × (length text ≤ script_max)
-        × (answers : List Reply) × RunsIn form text vars after answers) }
+        × (answers : List Reply) × RunsIn format text vars after answers) }
     ensures refused { IfErr result (λ failure. IfSome (R.remaining script) (λ text.
-        IfRefused failure (TellsScriptFault form text vars))) }
+        IfRefused failure (TellsScriptFault format text vars))) }
     ensures too_much { result ≡ Err failure.TooMuch → IfSome (R.remaining script) (λ text.
         script_max < length text) }
-    // The first fault of what there is to read and of the variables is told as what it is to the program.
+    // The first fault of the input and of the variables is told as the program's failure for it.
     ensures only_fault { IfSome (R.remaining script) (λ text. (fault : ScriptFault) →
-        IsFirstFaultIn form text vars fault → IsFailureUnless result fault) }
-    // Replies that can't be written are those to all that was read.
+        IsFirstFaultIn format text vars fault → IsFailureUnless result fault) }
+    // If replies aren't written, all of the input was read.
     ensures write { result ≡ Err failure.Write →
         (text : List ℕ) × IfSome (R.remaining script) (λ known. known ≡ text) × (length text ≤ script_max)
-        × (after : Variables) × (answers : List Reply) × RunsIn form text vars after answers }
-    // What may come, also if the bytes aren't known: what a fault is to the program that may come of such a run.
+        × (after : Variables) × (answers : List Reply) × RunsIn format text vars after answers }
+    // Which failures may come, also if the bytes aren't known: those for the faults that such a run may have.
     ensures may_come { IfErr result (λ failure.
-        (fault : ScriptFault) × MayComeIn form vars fault × IsFailureOf fault failure) }
+        (fault : ScriptFault) × MayComeIn format vars fault × IsFailureOf fault failure) }
     ensures no_usage { result ≢ Err failure.CommandLine }
 {
     let mut reader = Watched {
@@ -139,16 +139,16 @@ fn run_events<R: Read + Drop, W: Write + Drop>(
         inner: replies,
         failed: false,
     };
-    match run_form(alloc, form, &mut reader, &mut writer, vars) {
+    match run_input(alloc, format, &mut reader, &mut writer, vars) {
         Ok(vars) => Ok(vars),
         Err(fault) => Err(Failure::of_script(alloc, fault)),
     }
 }
 
 /// The variables after the script or the stream that a reader gives, by [`run_script`] or [`run_stream`].
-fn run_form<R: Source, W: Sink>(
+fn run_input<R: Source, W: Sink>(
     alloc: Global,
-    form: Form,
+    format: InputFormat,
     reader: &mut R,
     writer: &mut W,
     vars: Vars,
@@ -157,22 +157,22 @@ fn run_form<R: Source, W: Sink>(
     requires writes { W.failed writer.old ≡ false }
     ensures done { IfOk result (λ after.
         (text : List ℕ) × ReadsAll (R.remaining reader.old) (R.remaining reader.new) text × (length text ≤ script_max)
-        × (answers : List Reply) × RunsIn form text vars after answers
+        × (answers : List Reply) × RunsIn format text vars after answers
         × Appends (W.contents writer.old) (W.contents writer.new) (answer_lines answers)) }
     ensures fault { IfErr result (λ fault. IfSome (R.remaining reader.old) (λ text.
         fault ≢ ScriptFault.Read → fault ≢ ScriptFault.Write → fault ≢ ScriptFault.OutOfMemory →
-        IsFirstFaultIn form text vars fault)) }
+        IsFirstFaultIn format text vars fault)) }
     ensures only_fault { IfSome (R.remaining reader.old) (λ text. (fault : ScriptFault) →
-        IsFirstFaultIn form text vars fault → IsFaultUnless result fault) }
-    ensures may_come { IfErr result (MayComeIn form vars) }
+        IsFirstFaultIn format text vars fault → IsFaultUnless result fault) }
+    ensures may_come { IfErr result (MayComeIn format vars) }
     ensures write { result ≡ Err ScriptFault.Write →
         (text : List ℕ) × ReadsAll (R.remaining reader.old) (R.remaining reader.new) text × (length text ≤ script_max)
-        × (after : Variables) × (answers : List Reply) × RunsIn form text vars after answers
+        × (after : Variables) × (answers : List Reply) × RunsIn format text vars after answers
         × AppendsFront (W.contents writer.old) (W.contents writer.new) (answer_lines answers) }
 {
-    match form {
-        Form::Script => run_script(alloc, reader, writer, vars),
-        Form::Stream => run_stream(alloc, reader, writer, vars),
+    match format {
+        InputFormat::Script => run_script(alloc, reader, writer, vars),
+        InputFormat::Stream => run_stream(alloc, reader, writer, vars),
     }
 }
 

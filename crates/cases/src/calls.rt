@@ -57,7 +57,7 @@ enum Input<'a> {
     Bytes(&'a [u8]),
 }
 
-/// What a call answers to its input, or to the fronts of it that the case states.
+/// What a call answers to its input, or to the prefixes of it that the case states.
 fn of_input(alloc: Global, call: &str, case: &Value, input: Input<'_>) -> Result<String> {
     match case.get("cuts") {
         None => of_whole(alloc, call, input),
@@ -88,7 +88,7 @@ fn of_front(alloc: Global, call: &str, input: Input<'_>, len: usize) -> Result<S
     }
 }
 
-/// What a call answers to each front of its input from one length to another: one answer, or the first that differs.
+/// What a call answers to each prefix of its input from one length to another: one answer, or the first that differs.
 fn of_cuts(
     alloc: Global,
     call: &str,

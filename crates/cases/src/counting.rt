@@ -4,9 +4,9 @@ use crate::input::ends_of;
 use anyhow::{Result, bail};
 use serde_json::Value;
 
-/// Appends a pattern for each number from the first of two to the second, both of them too, with the number in the place of
-/// the pattern's one mark: `{n}` is the number in decimal, `{n:04X}` its four hexadecimal digits in upper case, and
-/// `{n:le32}` the hexadecimal digits of its four bytes, the lowest byte first.
+/// Appends a pattern for each number from the first of two to the second, both of them too, with the number in the
+/// place of the pattern's one mark: `{n}` is the number in decimal, `{n:04X}` its four hexadecimal digits in upper
+/// case, and `{n:le32}` the hexadecimal digits of its four bytes, the lowest byte first.
 pub fn append_counted(ends: &Value, pattern: &str, text: &mut String) -> Result<()> {
     let (first, last) = ends_of(ends)?;
     for number in first..=last {

@@ -118,8 +118,8 @@ pub fn is_stated(case: &Value) -> bool {
     case.get("reads").is_some() || case.get("writes").is_some()
 }
 
-/// `run_script` or `run_stream` by a reader and a writer that go as the case says: one answer in each way to fail, or the first
-/// that differs.
+/// `run_script` or `run_stream` by a reader and a writer that go as the case says: one answer in each way to fail, or
+/// the first that differs.
 pub fn answer(
     alloc: Global,
     case: &Value,

@@ -8,7 +8,8 @@ use serde_json::Value;
 use std::alloc::Global;
 use uefi_option::{LoadOption, read_option, write_option};
 
-/// `read_frame`: the number and the request in words, with what `write_frame` and `copy` have to say of it, or the fault.
+/// `read_frame`: the number and the request in words, with what `write_frame` and `copy` have to say of it, or the
+/// fault.
 pub fn read(alloc: Global, bytes: &[u8]) -> Result<String> {
     match read_frame(alloc, bytes) {
         Ok((number, request)) => of_request(alloc, bytes, number, &request),
@@ -28,8 +29,8 @@ fn of_request(alloc: Global, bytes: &[u8], number: u32, request: &Request) -> Re
     )?)
 }
 
-/// A request in words: its kind, the number of its entry in four hexadecimal digits, if it has one, and the bytes of its
-/// option, or the numbers of its order.
+/// A request in words: its kind, the number of its entry in four hexadecimal digits, if it has one, and the bytes of
+/// its option, or the numbers of its order.
 fn words(alloc: Global, request: &Request) -> Result<String> {
     match request {
         Request::Add(entry, option) => words_with_option(alloc, "Add", *entry, option),
@@ -91,7 +92,7 @@ fn request_of(alloc: Global, words: &str) -> Result<Request> {
     }
 }
 
-/// The first word, and what stands behind it and a blank.
+/// The first word, and what comes after it and a blank.
 fn front_word(words: &str) -> (&str, &str) {
     match words.split_once(' ') {
         Some(parts) => parts,

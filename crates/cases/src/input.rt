@@ -36,7 +36,7 @@ pub fn number_u32(case: &Value, name: &str) -> Result<u32> {
     Ok(u32::try_from(number(case, name)?)?)
 }
 
-/// The string that the member of this name is, as it stands.
+/// The string that the member of this name is, unchanged.
 pub fn string<'a>(case: &'a Value, name: &str) -> Result<&'a str> {
     match member(case, name)?.as_str() {
         Some(text) => Ok(text),
@@ -52,7 +52,7 @@ pub fn list<'a>(case: &'a Value, name: &str) -> Result<&'a [Value]> {
     }
 }
 
-/// The text that is stated: a string, or a list of pieces one behind the other.
+/// The text that is stated: a string, or a list of pieces one after the other.
 pub fn text_of(alloc: Global, stated: &Value) -> Result<String> {
     let mut text = String::new(alloc);
     match stated {
@@ -77,8 +77,8 @@ pub fn bytes(alloc: Global, case: &Value, name: &str) -> Result<Vec<u8>> {
     bytes_of(alloc, member(case, name)?)
 }
 
-/// Appends a piece: a string, or one so many times, or one for each number of a range, or the digits of a range of numbers of two
-/// bytes, the lower byte first.
+/// Appends a piece: a string, or one a number of times, or one for each number of a range, or the digits of a range of
+/// numbers of two bytes, the lower byte first.
 fn append_piece(piece: &Value, text: &mut String) -> Result<()> {
     if let Some(string) = piece.as_str() {
         text.push_str(string)?;

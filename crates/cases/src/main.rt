@@ -1,9 +1,10 @@
 //! Runs the cases of the files in the folder that it is run in, and tells how many of each file differ.
 //!
-//! A file `NAME.json` has calls of the libraries with what each takes and what it answers. The program makes each call, and
-//! prints a line for each file, as `uefi_path.json 214 cases, 0 differ`, and below it a line for each case whose answer isn't
-//! the one that the file has. In the file `wrong.json` every answer is a wrong one, so all of its cases have to be told.
-//! Last come the checks that no file can state, as those of readers that fail. docs/formats.md has the form of the files.
+//! A file `NAME.json` has calls of the libraries with what each takes and what it answers. The program makes each call,
+//! and prints a line for each file, as `uefi_path.json 214 cases, 0 differ`, and below it a line for each case whose
+//! answer isn't the one that the file has. In the file `wrong.json` every answer is a wrong one, so all of its cases
+//! have to be told. Last come the checks that no file can state, as those of readers that fail. docs/formats.md has the
+//! form of the files.
 #![tactic(auto)]
 
 mod calls;

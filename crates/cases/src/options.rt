@@ -33,8 +33,8 @@ fn append_digits(alloc: Global, bytes: &[u8], words: &mut String) -> Result<()> 
     Ok(())
 }
 
-/// `read_option`: the option in words, with what `check_option`, `write_option`, `copy`, `make_option`, `into_parts` and
-/// `from_parts` have to say of it; or the fault, with what `check_option` has to say.
+/// `read_option`: the option in words, with what `check_option`, `write_option`, `copy`, `make_option`, `into_parts`
+/// and `from_parts` have to say of it; or the fault, with what `check_option` has to say.
 pub fn read(alloc: Global, bytes: &[u8]) -> Result<String> {
     match read_option(alloc, bytes) {
         Ok(option) => of_option(alloc, bytes, option),
@@ -64,7 +64,7 @@ fn is_written_as(alloc: Global, option: &LoadOption, bytes: &[u8]) -> Result<boo
     Ok(written.as_slice() == bytes)
 }
 
-/// Whether `check_option` shows the parts of the option, and shows them where they stand.
+/// Whether `check_option` shows the parts of the option, and shows them where they are.
 fn is_viewed(alloc: Global, bytes: &[u8], option: &LoadOption) -> Result<bool> {
     let view = check_option(bytes)?;
     let shown = shows_parts(alloc, &view, option)?;
@@ -84,7 +84,7 @@ fn shows_parts(alloc: Global, view: &OptionView<'_>, option: &LoadOption) -> Res
     )
 }
 
-/// The bytes of paths, one behind the other.
+/// The bytes of paths, one after the other.
 fn list_of(alloc: Global, paths: &[Path]) -> Result<Vec<u8>> {
     let mut list = Vec::new(alloc);
     for path in paths {
@@ -134,8 +134,8 @@ fn is_made_of(alloc: Global, parts: LoadOption, option: &LoadOption) -> Result<b
     )
 }
 
-/// `check_option`: the attributes, the bytes of the description, of the list and of the optional data, and the description
-/// as text; or the fault.
+/// `check_option`: the attributes, the bytes of the description, of the list and of the optional data, and the
+/// description as text; or the fault.
 pub fn view(alloc: Global, bytes: &[u8]) -> Result<String> {
     match check_option(bytes) {
         Ok(view) => of_view(alloc, &view),
@@ -190,7 +190,7 @@ fn parts_of(alloc: Global, case: &Value) -> Result<Parts> {
     })
 }
 
-/// The paths that a list states, each by its bytes, or as one so many times.
+/// The paths that a list states, each by its bytes, or as one a number of times.
 fn paths_of(alloc: Global, stated: &[Value]) -> Result<Vec<Path>> {
     let mut paths = Vec::new(alloc);
     for item in stated {
@@ -264,7 +264,7 @@ fn is_made_of_parts(alloc: Global, parts: Parts, option: &LoadOption) -> bool {
     }
 }
 
-/// The fault of parts that make no option. They are given twice: once to be given away, and once to compare.
+/// The fault of parts that don't make an option. They are given twice: once to be given away, and once to compare.
 fn of_refused(alloc: Global, fault: OptionFault, given: Parts, held: Parts) -> Result<String> {
     let words = fault.words(alloc)?;
     let same = are_handed_back(alloc, fault, given, &held);

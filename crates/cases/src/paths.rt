@@ -22,7 +22,8 @@ pub fn unless(holds: bool, complaint: &'static str) -> &'static str {
     if holds { "" } else { complaint }
 }
 
-/// `read_path`, with what `check_path`, `nodes`, `write_path`, `path_len`, `copy` and `make_path` have to say of its answer.
+/// `read_path`, with what `check_path`, `nodes`, `write_path`, `path_len`, `copy` and `make_path` have to say of its
+/// answer.
 pub fn read(alloc: Global, bytes: &[u8]) -> Result<String> {
     match read_path(alloc, bytes) {
         Ok((path, len)) => of_path(alloc, bytes, path, len),
@@ -104,8 +105,8 @@ pub fn views(alloc: Global, bytes: &[u8]) -> Result<String> {
     Ok(told)
 }
 
-/// `NodeView::to_node` at each view that `nodes` gives: the node in words, or the fault. The nodes have to be those that
-/// `read_path` gives, and two of them are equal if their words are.
+/// `NodeView::to_node` at each view that `nodes` gives: the node in words, or the fault. The nodes have to be those
+/// that `read_path` gives, and two of them are equal if their words are.
 pub fn nodes_in_words(alloc: Global, bytes: &[u8]) -> Result<String> {
     let told = views_in_words(alloc, bytes)?;
     let same = are_read(alloc, bytes)?;
@@ -320,7 +321,7 @@ pub fn units(alloc: Global, bytes: &[u8]) -> Result<String> {
     )?)
 }
 
-/// Whether the units are appended to what is there as these bytes, but for a last one that is no unit.
+/// Whether the units are appended to what is there as these bytes, but for a last one that isn't a unit.
 fn are_written_as(alloc: Global, units: &[u16], bytes: &[u8]) -> Result<bool> {
     let mut out = vec![in alloc; 0x5a]?;
     append_units(units, &mut out)?;
@@ -328,7 +329,7 @@ fn are_written_as(alloc: Global, units: &[u16], bytes: &[u8]) -> Result<bool> {
     Ok(is_behind_a_byte(&out, bytes.get(..even)))
 }
 
-/// Whether these bytes stand behind one of 0x5a.
+/// Whether these bytes come after one of 0x5a.
 fn is_behind_a_byte(out: &[u8], bytes: Option<&[u8]>) -> bool {
     match (out.split_first(), bytes) {
         (Some((front, written)), Some(bytes)) => *front == 0x5a && written == bytes,

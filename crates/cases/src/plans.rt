@@ -11,8 +11,8 @@ use uefi_vars::{BootPlan, Choice, PlanNumbers, VarFault, Vars, entry_option, pla
 /// entry, and a comparison reads them for each.
 const COMPARED: usize = 10_000;
 
-/// `plan`: the plan in words, or the fault, with what `plan_numbers`, `entry_option`, `copy`, `into_parts` and `new` have to
-/// say of it. The variables have to stay as they are.
+/// `plan`: the plan in words, or the fault, with what `plan_numbers`, `entry_option`, `copy`, `into_parts` and `new`
+/// have to say of it. The variables have to stay as they are.
 pub fn make(alloc: Global, case: &Value) -> Result<String> {
     let vars = stated(alloc, case)?;
     let mut told = match plan(alloc, &vars) {
@@ -68,7 +68,7 @@ fn has_options(alloc: Global, vars: &Vars, plan: &BootPlan) -> Result<bool> {
     are_entries(alloc, vars, plan.normal())
 }
 
-/// Whether the options of the choices are those of the entries. Where a number is repeated, its attributes are compared.
+/// Whether the options of the choices are those of the entries. If a number is repeated, its attributes are compared.
 fn are_entries(alloc: Global, vars: &Vars, choices: &[Choice]) -> Result<bool> {
     let mut before: Option<&Choice> = None;
     for choice in choices {

@@ -17,7 +17,7 @@ use uefi_vars::{Vars, write_set};
 pub enum Form {
     /// The lines of a script.
     Script,
-    /// Frames, one behind the other.
+    /// Frames, one after the other.
     Stream,
 }
 
@@ -30,7 +30,7 @@ enum Pace {
     AtOnce,
 }
 
-/// What is said of a run, and the keeper behind it if there is one.
+/// What is said of a run, and the keeper after it if there is one.
 #[derive(Drop)]
 struct Kept {
     words: String,
@@ -43,14 +43,14 @@ pub fn events(alloc: Global, case: &Value) -> Result<String> {
     of_run(alloc, case, Form::Script, script.as_bytes())
 }
 
-/// The same of a script as it stands.
+/// The same of a script that is given as text.
 pub fn script(alloc: Global, case: &Value) -> Result<String> {
     let script = text_of(alloc, member(case, "script")?)?;
     of_run(alloc, case, Form::Script, script.as_bytes())
 }
 
-/// The same with `run_stream` and `read_stream`, of the frames of a stream, or of each front of it from one length to another,
-/// whose answers are then lines.
+/// The same with `run_stream` and `read_stream`, of the frames of a stream, or of each prefix of it from one length to
+/// another, whose answers are then lines.
 pub fn stream(alloc: Global, case: &Value) -> Result<String> {
     let stream = bytes(alloc, case, "stream")?;
     match case.get("fronts") {
@@ -76,8 +76,8 @@ fn of_fronts(
     Ok(told)
 }
 
-/// What a case with replies wants: these, the variables behind them, which are those before them if no others are stated, and
-/// the marks that the case has.
+/// What a case with replies wants: these, the variables after them, which are those before them if no others are
+/// stated, and the marks that the case has.
 pub fn wanted(alloc: Global, case: &Value) -> Result<String> {
     let mut words = lines_of(alloc, list(case, "replies")?)?;
     let vars = match case.get("after") {
@@ -113,8 +113,8 @@ fn lines_of(alloc: Global, items: &[Value]) -> Result<String> {
     Ok(lines)
 }
 
-/// What is said of a run by a source and a sink in memory, with complaints if it is another by a reader and a writer, or by
-/// keepers alone.
+/// What is said of a run by a source and a sink in memory, with complaints if it is another by a reader and a writer,
+/// or by keepers alone.
 fn of_run(alloc: Global, case: &Value, form: Form, bytes: &[u8]) -> Result<String> {
     let vars = vars_of(alloc, member(case, "before")?)?;
     if failing::is_stated(case) {
@@ -161,7 +161,7 @@ fn by_traits(alloc: Global, form: Form, bytes: &[u8], vars: Vars) -> Result<Stri
     words_of(alloc, answer, &writer.inner)
 }
 
-/// What was written, and the variables behind it, or the fault.
+/// What was written, and the variables after it, or the fault.
 pub fn words_of(
     alloc: Global,
     answer: Result<Vars, ScriptFault>,
@@ -175,7 +175,7 @@ pub fn words_of(
     Ok(words)
 }
 
-/// The marks of the keeper behind the run that a case asks for, with complaints if keepers do other than what is said.
+/// The marks of the keeper after the run that a case asks for, with complaints if keepers do other than what is said.
 fn by_keepers(
     alloc: Global,
     case: &Value,
@@ -283,7 +283,7 @@ fn append_reply(alloc: Global, reply: &Reply, words: &mut String) -> Result<()> 
     Ok(())
 }
 
-/// The replies, and the variables behind them.
+/// The replies, and the variables after them.
 fn with_variables(alloc: Global, keeper: Keeper, mut words: String) -> Result<Kept> {
     words.push_str(&text_of_vars(alloc, keeper.vars())?)?;
     Ok(Kept {

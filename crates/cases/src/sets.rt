@@ -30,8 +30,8 @@ fn of_set(alloc: Global, vars: &Vars, bytes: &[u8]) -> Result<String> {
     of_vars(alloc, vars, written.as_slice() == bytes)
 }
 
-/// How many variables there are, with what `copy`, `iter`, `item`, `get` and `entry` have to say of them, and below it a
-/// line for each.
+/// How many variables there are, with what `copy`, `iter`, `item`, `get` and `entry` have to say of them, and below it
+/// a line for each.
 fn of_vars(alloc: Global, vars: &Vars, written: bool) -> Result<String> {
     let len = vars.len();
     let copied = vars.copy(alloc)? == *vars;
@@ -65,8 +65,8 @@ fn is_found(vars: &Vars, name: &str, value: &[u8]) -> bool {
     numbered && vars.get(name) == Some(value)
 }
 
-/// Steps on variables: what each of them answers, and the variables that are there then, which `read_set` has to read again
-/// of what `write_set` gives.
+/// Steps on variables: what each of them answers, and the variables that are there then, which `read_set` has to read
+/// again of what `write_set` gives.
 pub fn change(alloc: Global, case: &Value) -> Result<String> {
     let mut vars = vars_of(alloc, member(case, "before")?)?;
     let mut told = String::new(alloc);

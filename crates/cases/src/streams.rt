@@ -61,8 +61,8 @@ impl Fed {
     }
 }
 
-/// `Inbox::feed` of a whole stream: the deliveries, how many bytes are held, and the fault. The stream has to be cut alike if
-/// it comes in two pieces, or byte by byte.
+/// `Inbox::feed` of a whole stream: the deliveries, how many bytes are held, and the fault. The stream has to be cut
+/// alike if it comes in two pieces, or byte by byte.
 pub fn feed(alloc: Global, stream: &[u8]) -> Result<String> {
     let mut whole = Fed::new(alloc);
     whole.feed(stream)?;

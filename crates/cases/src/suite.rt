@@ -79,7 +79,7 @@ fn name_of(alloc: Global, case: &Value) -> Result<String> {
     }
 }
 
-/// The front of an answer.
+/// The start of an answer.
 fn shown(alloc: Global, answer: &str) -> Result<String> {
     Ok(answer.chars().take(SHOWN).collect(alloc)?)
 }

@@ -46,8 +46,8 @@ pub fn text_of_vars(alloc: Global, vars: &Vars) -> Result<String> {
     Ok(text)
 }
 
-/// The lines that [`text_of_vars`] has to give of the variables that an object states. They are made of the object, and not of
-/// [`Vars`]: its members come in the order of their names' bytes.
+/// The lines that [`text_of_vars`] has to give of the variables that an object states. They are made of the object, and
+/// not of [`Vars`]: its members come in the order of their names' bytes.
 pub fn stated_text(alloc: Global, stated: &Value) -> Result<String> {
     let mut text = String::new(alloc);
     let Some(members) = stated.as_object() else {

@@ -9,7 +9,7 @@ use uefi_vars::Vars;
 
 /// A stream in three pieces: 30 bytes of the frame of request 0, to store an option as entry 1; its other bytes, and
 /// the frame of request 1, to remove entry 9; and the frame of request 2, to remove it too, with twelve bytes after it
-/// that are no header.
+/// that aren't a header.
 const PIECES: [&str; 3] = [
     "42510101000000002c00000001000100000020004100000002010c00d041",
     "030a0000000001010600021f03120a000000ffff00007fff0400\

@@ -29,7 +29,7 @@ fn print_add<R: Print + AllocGlobal>(rt: &R) -> Result<Keeper> {
     Ok(next)
 }
 
-/// Delivers an AddFree, and then bytes that are no frame. Gives the variables that are to be stored.
+/// Delivers an AddFree, and then bytes that aren't a frame. Gives the variables that are to be stored.
 fn print_add_free<R: Print + AllocGlobal>(rt: &R, keeper: Keeper) -> Result<Vars> {
     let next = print_delivery(rt, &keeper, "an AddFree", ADD_FREE)?;
     let last = print_delivery(rt, &next, "five bytes", "4251010100")?;

@@ -6,7 +6,7 @@ use uefi_path::{
 };
 use uefi_text::read_guid;
 
-/// Whether the path at the front of the bytes leads through a PCI function.
+/// Whether the path at the start of the bytes leads through a PCI function.
 pub fn has_pci(alloc: Global, bytes: &[u8]) -> Result<bool, PathFault> {
     let (path, _) = read_path(alloc, bytes)?;
     Ok(path.nodes().any(|node| matches!(node, Node::Pci { .. })))

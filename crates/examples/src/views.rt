@@ -9,7 +9,7 @@ pub fn is_tried(bytes: &[u8]) -> Result<bool, OptionFault> {
     Ok(is_normal(check_option(bytes)?.attributes))
 }
 
-/// Whether the path at the front of the bytes has a node of a USB device.
+/// Whether the path at the start of the bytes has a node of a USB device.
 pub fn is_on_usb(bytes: &[u8]) -> Result<bool, PathFault> {
     Ok(nodes(bytes)?.any(|node| node.kind == 3 && node.sub == 5))
 }

@@ -1,4 +1,4 @@
--- What `==` says of load options, where `==` on paths tells whether they are equal.
+-- What `==` says of load options, if `==` on paths tells whether they are equal.
 use Rattle.std.proofs.Common.{◌≡◌, ℕ, Bool, List, Decides, refl, ap, ◌∙◌}
 use Rattle.std.specs.Cmp.Lexicographic.{pointwise}
 use Rattle.std.proofs.lemmas.Bool.Decides.{Decides-eqb, Decides-and, Decides-at}
@@ -19,7 +19,7 @@ ComparesPaths = (p q : List (List Node)) → Decides (path_eq p q) (p ≡ q)
 lists_Decide : {X : Type 0} {E : X → X → Bool} → ((a b : X) → Decides (E a b) (a ≡ b)) → (xs ys : List X) → Decides (pointwise E xs ys) (xs ≡ ys)
 lists_Decide {E = E} each xs ys = slice_eq-Decides each xs ys (pointwise E xs ys) refl
 
--- options are equal where their parts are
+-- options are equal if their parts are
 abbrev SameParts : OptionParts → OptionParts → Type 0
 SameParts o p = (o.attributes ≡ p.attributes) × ((o.description ≡ p.description) × ((o.paths ≡ p.paths) × (o.optional ≡ p.optional)))
 

@@ -1,4 +1,4 @@
--- What stands before the list of a load option: attributes, the length of the list, and a description.
+-- What is before the list of a load option: attributes, the length of the list, and a description.
 use Rattle.std.proofs.Common.{◌≡◌, ◌⊎◌, ℕ, ◌+◌, ◌<◌, ◌^◌, List, [], ◌∷◌, ◌++◌, length, take, drop, refl, sym, ap, ◌∙◌, inl, inr, arith, append_assoc}
 use Rattle.std.specs.Int.{w16, w32, from_le_bytes, to_le_bytes}
 use Rattle.std.specs.List.{AllByRecursion}
@@ -8,7 +8,7 @@ use Rattle.uefi_path.specs.Units.{units_bytes}
 use Rattle.uefi_path.specs.Row.{IsByte}
 use Rattle.uefi_path.specs.Parts.{IsUnit}
 use Rattle.uefi_option.specs.LoadOption.{header_bytes, description_bytes}
-use Rattle.uefi_option.specs.Reading.{HasNoZero}
+use Rattle.uefi_option.specs.Reader.{HasNoZero}
 use Rattle.uefi_option.proofs.Bytes.{bytes_from_recursion}
 
 -- ---- one unit and those that follow it
@@ -57,7 +57,7 @@ same_header a b l m x y fits-a fits-b fits-l fits-m e =
 
 -- ---- the header and the description
 
--- numbers and units that may stand in front of a list
+-- numbers and units that may be before a list
 pub record AreFront (attributes len : ℕ) (units : List ℕ) : Type 0 where
   pub four_bytes : attributes < 2 ^ 32
   pub two_bytes : len < 2 ^ 16
@@ -69,7 +69,7 @@ pub record SameFront (a b l m : ℕ) (us vs x y : List ℕ) : Type 0 where
   pub units : us ≡ vs
   pub rest : x ≡ y
 
--- the bytes of a description and what follows, with the zero unit first behind the units
+-- the bytes of a description and what follows, with the zero unit first after the units
 regroup : (us x : List ℕ) → description_bytes us ++ x ≡ units_bytes us ++ (to_le_bytes w16 0 ++ x)
 regroup us x = append_assoc (units_bytes us) (to_le_bytes w16 0) x
 

@@ -4,6 +4,6 @@ pub mod Lists
 pub mod Comparison
 pub mod Fronts
 pub mod Options
-pub mod Reader
+pub mod Readings
 pub mod Views
 pub mod Lengths

@@ -38,7 +38,7 @@ path_some [] is = absurd (is.some refl)
 path_some (nodes ∷ others) is =
     omega (arith, length-append (flat_map node_bytes nodes) (row_bytes (end_before others) ++ path_bytes others), length-append (row_bytes (end_before others)) (path_bytes others))
 
--- a path at the front of some bytes, and what stands behind it
+-- a path at the start of some bytes, and what comes after it
 pub front_parts : (bytes : List ℕ) (p : Path) (n : ℕ) → IsPathFront bytes p n → (bytes ≡ path_bytes p ++ drop n bytes) × (n ≡ length (path_bytes p))
 front_parts bytes p n front =
     let whole : take n bytes ++ drop n bytes ≡ bytes = take-append-drop n bytes in
@@ -50,7 +50,7 @@ is_front bytes p rest is e =
     let size : length bytes ≡ length (path_bytes p) + length rest = ap length e ∙ length-append (path_bytes p) rest in
     record { within = omega arith; spelled = (is, ap (take (length (path_bytes p))) e ∙ take_at (path_bytes p) rest (length (path_bytes p)) refl) }
 
--- of two fronts of one list the shorter begins the longer
+-- of two prefixes of one list the shorter begins the longer
 pub cut : (a b x y : List ℕ) → a ++ x ≡ b ++ y → length a ≤ length b → (more : List ℕ) × (b ≡ a ++ more) × (x ≡ more ++ y)
 cut [] b x y e le = (b, refl, e)
 cut (c ∷ a) [] x y e le = absurd (omega (arith, le))

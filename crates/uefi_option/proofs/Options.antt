@@ -1,4 +1,4 @@
--- One load option for each spelling, and one first fault where there is none.
+-- One load option for each spelling, and one first fault if there is none.
 use Rattle.std.proofs.Common.{◌≡◌, ◌≢◌, ◌⊎◌, ℕ, ◌+◌, ◌<◌, ◌≤◌, List, [], ◌∷◌, ◌++◌, length, take, drop, refl, sym, ap, subst, ◌∙◌, inl, inr, arith, append_assoc}
 use Rattle.std.specs.Int.{w16, to_le_bytes}
 use Rattle.std.specs.List.{AllByRecursion}
@@ -23,9 +23,9 @@ OneFault = (bytes : List ℕ) (f g : PathFault) → IsFirstPathFault bytes f →
 abbrev pub EachSpelled : Type 0
 EachSpelled = (path : Path) → IsPath path → (bytes : List ℕ) × SpellsPath bytes path × AllByRecursion IsByte bytes
 
--- ---- what stands behind the front
+-- ---- what comes after the prefix
 
--- the input is a front that states this length, and a rest
+-- the input is a prefix that states this length, and a rest
 record HasFront (input : List ℕ) (attributes len : ℕ) (units rest : List ℕ) : Type 0 where
   front : AreFront attributes len units
   parts : input ≡ header_bytes attributes len ++ (description_bytes units ++ rest)
@@ -45,7 +45,7 @@ option_front input o spelled = record {
   parts = spelled.1;
 }
 
--- lists of one length at the front are one list
+-- lists of one length at the start are one list
 same_size : (a b x y : List ℕ) → length a ≡ length b → a ++ x ≡ b ++ y → (a ≡ b) × (x ≡ y)
 same_size a b x y size e =
     (sym (take_at a x (length b) size) ∙ ap (take (length b)) e ∙ take_at b y (length b) refl, sym (drop_at a x (length b) size) ∙ ap (drop (length b)) e ∙ drop_at b y (length b) refl)
@@ -80,7 +80,7 @@ option_is_bytes each two o is =
 
 -- ---- the first fault
 
--- the rest begins with a list of this length, in which the fault stands
+-- the rest begins with a list of this length, in which the fault is
 record HasPathFault (start len : ℕ) (rest : List ℕ) (f : OptionFault) : Type 0 where
   place : ℕ
   path_fault : PathFault
@@ -94,12 +94,12 @@ record HasPathFault (start len : ℕ) (rest : List ℕ) (f : OptionFault) : Type
   at : place ≡ start + length (list_bytes paths)
   has : HasFault list paths left path_fault
 
--- behind a front that states this length stands this rest, and the fault is one of these
+-- after a prefix that states this length comes this rest, and the fault is one of these
 abbrev Behind : ℕ → ℕ → List ℕ → OptionFault → Type 0
 Behind start len rest f =
     ((f ≡ fault.ListPastEnd) × (length rest < len)) ⊎ (((f ≡ fault.EmptyList) × (len ≡ 0)) ⊎ HasPathFault start len rest f)
 
--- how many bytes a front with these units has
+-- how many bytes a prefix with these units has
 abbrev start_of : List ℕ → ℕ
 start_of units = 8 + length (units_bytes units)
 
@@ -162,7 +162,7 @@ kind_of input fault.ZeroUnit h = absurd h
 kind_of input fault.ListTooLong h = absurd h
 kind_of input fault.OutOfMemory h = absurd h
 
--- two faults behind one front are one
+-- two faults after one prefix are one
 same_list_fault : OnePath → NoneBegins → NoFault → OneFault → (list : List ℕ) (ps qs : List Path) (x y : List ℕ) (f g : PathFault) → HasFault list ps x f → HasFault list qs y g → (ps ≡ qs) × (f ≡ g)
 same_list_fault one none no_fault one_fault list ps qs x y f g first second =
     let same = same_paths one none ps qs x y first.before.whole second.before.whole (fault_stops no_fault x f first.first) (fault_stops no_fault y g second.first) (sym first.before.parts ∙ second.before.parts) in
@@ -223,7 +223,7 @@ same_kind one none no_fault one_fault input f g (inr (inr x)) (inr (inr y)) =
 pub same_first_fault : OnePath → NoneBegins → NoFault → OneFault → (input : List ℕ) (f g : OptionFault) → IsFirstFault input f → IsFirstFault input g → f ≡ g
 same_first_fault one none no_fault one_fault input f g first second = same_kind one none no_fault one_fault input f g (kind_of input f first) (kind_of input g second)
 
--- ---- what has a fault is no option
+-- ---- what has a fault isn't an option
 
 behind_no_option : OnePath → NoneBegins → NoFault → (o : OptionParts) → IsOption o → (start len : ℕ) (rest : List ℕ) (f : OptionFault) → Behind start len rest f → len ≡ length (list_bytes o.paths) → rest ≡ list_bytes o.paths ++ o.optional → ⊥
 behind_no_option one none no_fault o is start len rest f (inl x) size parts =

@@ -8,7 +8,7 @@ use Rattle.std.proofs.lemmas.Nat.{le_bytes_2}
 use Rattle.uefi_path.specs.Units.{IsTwoByte, units_bytes, units_of}
 use Rattle.uefi_path.specs.Row.{IsByte}
 use Rattle.uefi_path.specs.Parts.{IsUnit}
-use Rattle.uefi_option.specs.Reading.{AreUnits, SplitsUnits}
+use Rattle.uefi_option.specs.Reader.{AreUnits, SplitsUnits}
 use Rattle.uefi_option.proofs.Bytes.{IsBytes, IsBytes-behind, bytes_from_recursion, AllByRecursion-append}
 
 -- ---- the laws of units that lemmas take, each as its function states it
@@ -21,7 +21,7 @@ TwoBytesEach = (units : List ℕ) → AllByRecursion IsByte (units_bytes units) 
 
 -- ---- one unit
 
--- this is the unit at the front of the rest
+-- this is the unit at the start of the rest
 pub record IsFirstUnit (rest : List ℕ) (unit : ℕ) : Type 0 where
   pub enough : 2 ≤ length rest
   pub is : unit ≡ from_le_bytes w16 (get_or rest 0 0 ∷ get_or rest 1 0 ∷ [])
@@ -54,7 +54,7 @@ pub record HasUnits (bytes rest : List ℕ) : Type 0 where
 pub rest_fits : (bytes rest : List ℕ) → HasUnits bytes rest → IsBytes bytes → IsBytes rest
 rest_fits bytes rest h fits = IsBytes-behind (units_bytes h.units) rest (subst IsBytes h.parts fits)
 
--- what a slice pattern calls the bytes behind the first two
+-- what a slice pattern calls the bytes after the first two
 behind_two : (low high : ℕ) (behind : List ℕ) → take (length (low ∷ high ∷ behind) - 2) (drop 2 (low ∷ high ∷ behind)) ≡ behind
 behind_two low high behind = take_all (length (low ∷ high ∷ behind) - 2) behind (omega arith)
 

@@ -9,11 +9,11 @@ use Rattle.uefi_path.specs.Path.{IsPath}
 use Rattle.uefi_path.specs.Views.{IsSliceAt}
 use Rattle.uefi_option.specs.declared.view.OptionView.{OptionView}
 use Rattle.uefi_option.specs.LoadOption.{OptionParts, option_parts, header_bytes, description_bytes, list_bytes, SpellsOption}
-use Rattle.uefi_option.specs.Reading.{SplitsOption, ArePaths}
+use Rattle.uefi_option.specs.Reader.{SplitsOption, ArePaths}
 use Rattle.uefi_option.specs.View.{ShowsOption, IsCutFrom}
 use Rattle.uefi_option.proofs.Units.{ReadAgain, two_bytes}
 use Rattle.uefi_option.proofs.Lists.{Path, list_some}
-use Rattle.uefi_option.proofs.Reader.{option_read, some_path}
+use Rattle.uefi_option.proofs.Readings.{option_read, some_path}
 
 -- what is split so is shown by the view
 abbrev pub IsSplit : List ℕ → OptionView → Type 0

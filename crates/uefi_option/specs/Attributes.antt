@@ -17,7 +17,7 @@ category_boot = 0x00000000
 abbrev pub IsActive : ℕ → Type 0
 IsActive attributes = bit_and attributes active_bit ≢ 0
 
--- the bits of LOAD_OPTION_CATEGORY, where they stand
+-- the bits of LOAD_OPTION_CATEGORY, where they are
 abbrev pub category_of : ℕ → ℕ
 category_of attributes = bit_and attributes category_bits
 

@@ -11,7 +11,7 @@ use Rattle.uefi_option.specs.declared.fault.OptionFault.{OptionFault}
 use Rattle.uefi_option.specs.declared.fault.OptionFault.TheVariants as fault
 use Rattle.uefi_option.specs.LoadOption.{header_bytes, description_bytes, list_bytes}
 
--- Attributes and FilePathListLength, and behind them units that no zero unit closes: the input ends after them, or
+-- Attributes and FilePathListLength, and after them units that no zero unit closes: the input ends after the units, or
 -- after half a unit more.
 pub record IsUnclosed (input : List ℕ) : Type 0 where
   pub attributes : ℕ
@@ -24,7 +24,7 @@ pub record IsUnclosed (input : List ℕ) : Type 0 where
   pub half : length left < 2
   pub parts : input ≡ header_bytes attributes len ++ (units_bytes units ++ left)
 
--- what stands before the list: Attributes, a FilePathListLength of this number, and a Description
+-- what is before the list: Attributes, a FilePathListLength of this number, and a Description
 pub record IsFront (front : List ℕ) (len : ℕ) : Type 0 where
   pub attributes : ℕ
   pub units : List ℕ
@@ -33,7 +33,7 @@ pub record IsFront (front : List ℕ) (len : ℕ) : Type 0 where
   pub nonzero : AllByRecursion IsUnit units
   pub is : front ≡ header_bytes attributes len ++ description_bytes units
 
--- fewer bytes stand behind the description than the list is to have
+-- fewer bytes follow the description than the list is to have
 pub record IsCutList (input : List ℕ) : Type 0 where
   pub front : List ℕ
   pub len : ℕ

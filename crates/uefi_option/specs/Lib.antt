@@ -4,10 +4,10 @@ pub mod Attributes
 pub mod Text
 pub mod Fault
 pub mod View
-pub mod Making
+pub mod PartsFault
 pub mod Words
 pub mod Equality
 -- what private contracts cite
 pub mod Shared
-pub mod Reading
-pub mod Writing
+pub mod Reader
+pub mod Writer

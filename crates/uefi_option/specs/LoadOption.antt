@@ -33,12 +33,12 @@ list_bytes paths = flat_map path_bytes paths
 abbrev pub description_bytes : List ℕ → List ℕ
 description_bytes units = units_bytes units ++ to_le_bytes w16 0
 
--- what stands before the description: Attributes, and FilePathListLength
+-- what is before the description: Attributes, and FilePathListLength
 abbrev pub header_bytes : ℕ → ℕ → List ℕ
 header_bytes attributes len = to_le_bytes w32 attributes ++ to_le_bytes w16 len
 
--- The spelling of a load option: Attributes, FilePathListLength, Description, FilePathList, OptionalData. The
--- length that it states is that of its list, which two bytes can state where IsOption holds.
+-- The spelling of a load option: Attributes, FilePathListLength, Description, FilePathList, OptionalData. The length
+-- that it states is that of its list, which two bytes can state if IsOption holds.
 abbrev pub option_bytes : OptionParts → List ℕ
 option_bytes o =
     header_bytes o.attributes (length (list_bytes o.paths))

@@ -13,6 +13,6 @@ abbrev pub HaveItems : Lists → List ℕ → List (List (List Node)) → List �
 HaveItems lists description paths optional =
     (lists.description.items ≡ description) × (lists.paths.items ≡ paths) × (lists.optional.items ≡ optional)
 
--- the spellings of the paths have so many bytes together
+-- the spellings of the paths have this many bytes together
 abbrev pub IsListLen : ℕ → Lists → Type 0
 IsListLen len lists = len ≡ length (list_bytes lists.paths.items)

@@ -1,4 +1,4 @@
--- A load option where it stands in the bytes (UEFI 2.10, 3.1.3).
+-- A load option where it is in the bytes (UEFI 2.10, 3.1.3).
 use Rattle.std.specs.Prelude.{◌≡◌, ℕ, ◌+◌, List, length}
 use Rattle.uefi_path.specs.Units.{units_bytes}
 use Rattle.uefi_path.specs.Views.{IsSliceAt}
@@ -13,8 +13,8 @@ pub record ShowsOption (view : OptionView) (o : OptionParts) : Type 0 where
   pub list : view.list.now ≡ list_bytes o.paths
   pub optional : view.optional.now ≡ o.optional
 
--- The parts of the view are what stands in the input at their places: the description behind the six bytes of the
--- header, the list behind the zero unit, and the optional data behind the list, up to the input's end.
+-- The parts of the view are what is in the input at their places: the description after the six bytes of the header,
+-- the list after the zero unit, and the optional data after the list, up to the input's end.
 pub record IsCutFrom (view : OptionView) (input : List ℕ) : Type 0 where
   pub description : IsSliceAt input 6 view.description.now
   pub list : IsSliceAt input (8 + length view.description.now) view.list.now

@@ -6,7 +6,7 @@ ghost use Rattle.uefi_option.specs.Attributes.{IsActive, category_of, IsNormal};
 /// The attribute LOAD_OPTION_ACTIVE: the boot manager tries the option by itself.
 pub const ACTIVE: u32 = 0x0000_0001;
 
-/// The attribute LOAD_OPTION_FORCE_RECONNECT: after the option's driver is loaded, all drivers are connected anew.
+/// The attribute LOAD_OPTION_FORCE_RECONNECT: after the option's driver is loaded, all drivers are connected again.
 pub const FORCE_RECONNECT: u32 = 0x0000_0002;
 
 /// The attribute LOAD_OPTION_HIDDEN: a menu leaves the option out.
@@ -28,7 +28,7 @@ pub fn is_active(attributes: u32) -> bool
     attributes & ACTIVE != 0
 }
 
-/// The bits of LOAD_OPTION_CATEGORY (UEFI 2.10, 3.1.3), where they stand in the attributes: [`CATEGORY_BOOT`],
+/// The bits of LOAD_OPTION_CATEGORY (UEFI 2.10, 3.1.3), where they are in the attributes: [`CATEGORY_BOOT`],
 /// [`CATEGORY_APP`] or a reserved value.
 pub fn category(attributes: u32) -> u32
     ensures { result ≡ category_of attributes }

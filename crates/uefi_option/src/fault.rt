@@ -8,7 +8,7 @@ use std::alloc::{AllocError, AllocFailed, Global};
 use thiserror::Error;
 use uefi_path::{Path, PathFault};
 
-/// Why bytes or parts are no load option.
+/// Why bytes or parts aren't a load option.
 #[derive(Clone, Copy, Debug, PartialEq, Eq, Hash, Error)]
 pub enum OptionFault {
     /// There are fewer bytes than the six of the attributes and of the length of the list.
@@ -23,8 +23,8 @@ pub enum OptionFault {
     /// There is no path: the list has no byte, or the parts have none.
     #[error("EmptyList")]
     EmptyList,
-    /// In the list stand bytes that begin with no path. The number is their offset from the option's first byte,
-    /// and the fault is that of a path in them, up to the end of the list, with its own offset from there.
+    /// In the list are bytes that don't begin with a path. The number is their offset from the option's first byte, and
+    /// the fault is that of a path in them, up to the end of the list, with its own offset from there.
     #[error("Path {0} {1}")]
     Path(usize, PathFault),
     /// A unit of the description is zero.
@@ -54,7 +54,7 @@ pub struct OptionRefused {
 impl OptionFault {
     ghost use Rattle.uefi_option.specs.Words.{option_fault_place, option_fault_words};
 
-    /// The offset of the bytes that begin with no path, from the option's first byte, where the fault is
+    /// The offset of the bytes that don't begin with a path, from the option's first byte, if the fault is
     /// [`OptionFault::Path`]; no other fault has a place.
     pub fn place(&self) -> Option<usize>
         ensures { result ≡ option_fault_place self.now }
@@ -71,8 +71,8 @@ impl OptionFault {
         }
     }
 
-    /// The fault's name and, for [`OptionFault::Path`], its offset in decimal and the words of the path's fault,
-    /// each after a blank. The one refusal is for want of memory.
+    /// The fault's name and, for [`OptionFault::Path`], its offset in decimal and the words of the path's fault, each
+    /// after a blank. This fails only when out of memory.
     pub fn words(&self, alloc: Global) -> Result<String, AllocError>
         ensures { IfOk result (λ text. string_bytes text ≡ option_fault_words self.now) }
     {

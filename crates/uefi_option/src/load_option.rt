@@ -4,12 +4,12 @@ ghost use Rattle.std.specs.Prelude.{◌≡◌, ◌<◌, ◌↔◌, [], length, C
 ghost use Rattle.uefi_option.specs.declared.fault.OptionFault.{OptionFault};
 ghost use Rattle.uefi_option.specs.Attributes.{IsActive, category_of, IsNormal};
 ghost use Rattle.uefi_option.specs.LoadOption.{option_parts, list_max, list_bytes, IsOption};
-ghost use Rattle.uefi_option.specs.Making.{IsPartsFault};
+ghost use Rattle.uefi_option.specs.PartsFault.{IsPartsFault};
 ghost use Rattle.uefi_option.specs.Shared.{option_of, IsListLen};
 
 use crate::attributes;
 use crate::fault::{OptionFault, OptionRefused};
-use crate::making::check_parts;
+use crate::parts::check_parts;
 use crate::shared::Lists;
 use std::alloc::{AllocError, AllocFailed, Global};
 use std::marker::Model;
@@ -20,8 +20,8 @@ use uefi_path::{Path, laws};
 pub const LIST_MAX: usize = 65_535;
 
 /// A load option (UEFI 2.10, 3.1.3), such as a variable `Boot####` holds. It has at least one path, the spellings of
-/// its paths have at most [`LIST_MAX`] bytes together, and no unit of its description is zero; the zero unit that closes
-/// the description in the bytes is not held. Its lists stand in memory that its copies share.
+/// its paths have at most [`LIST_MAX`] bytes together, and no unit of its description is zero; the zero unit that
+/// closes the description in the bytes is not held. Its lists are in memory that its copies share.
 #[derive(Debug, Drop)]
 pub struct LoadOption {
     attributes: u32,
@@ -73,14 +73,15 @@ impl Eq for LoadOption {
 }
 
 impl LoadOption {
-    /// The load option of these parts (UEFI 2.10, 3.1.3), which are not copied. The description is given as CHAR16 units
-    /// without the zero that closes it.
+    /// The load option of these parts (UEFI 2.10, 3.1.3), which are not copied. The description is given as CHAR16
+    /// units without the zero that closes it.
     ///
     /// # Errors
     ///
-    /// The parts are handed back, with [`OptionFault::ZeroUnit`] where a unit of the description is zero; else with
-    /// [`OptionFault::EmptyList`] where there is no path; else with [`OptionFault::ListTooLong`] where the spellings of the
-    /// paths have more than [`LIST_MAX`] bytes together; else with [`OptionFault::OutOfMemory`] where memory was refused.
+    /// The parts are handed back, with [`OptionFault::ZeroUnit`] if a unit of the description is zero; otherwise with
+    /// [`OptionFault::EmptyList`] if there is no path; otherwise with [`OptionFault::ListTooLong`] if the spellings of
+    /// the paths have more than [`LIST_MAX`] bytes together; otherwise with [`OptionFault::OutOfMemory`] if memory was
+    /// refused.
     pub fn from_parts(
         alloc: Global,
         attributes: u32,
@@ -98,7 +99,7 @@ impl LoadOption {
             ↔ ((¬ Contains description.items 0) × (paths.items ≡ [])) }
         ensures list_too_long { IsErrAnd result (λ refused. refused.fault ≡ OptionFault.ListTooLong)
             ↔ ((¬ Contains description.items 0) × (list_max < length (list_bytes paths.items))) }
-        // There is no other refusal, but for want of memory.
+        // The only other refusal is out of memory.
         ensures named { IfErr result (λ refused. IsPartsFault refused.fault) }
 
         ensures handed_back { IfErr result (λ refused. (refused.description ≡ description)
@@ -120,7 +121,7 @@ impl LoadOption {
     }
 
     /// The attributes, the units of the description without the zero that closes it, the paths and the optional data,
-    /// given away. This takes no memory where no copy shares the lists any more; else they are copied, and where memory
+    /// given away. This takes no memory if no copy shares the lists any more; otherwise they are copied, and if memory
     /// is refused the option is handed back.
     pub fn into_parts(
         self,
@@ -152,8 +153,8 @@ impl LoadOption {
         Ok((attributes, lists.description, lists.paths, lists.optional))
     }
 
-    /// The option of these attributes and lists, of which that of the paths has `list_len` bytes, if there is memory for
-    /// it.
+    /// The option of these attributes and lists, of which that of the paths has `list_len` bytes, if there is memory
+    /// for it.
     pub(crate) fn of_lists(
         alloc: Global,
         attributes: u32,
@@ -173,8 +174,8 @@ impl LoadOption {
         })
     }
 
-    /// An equal option, which shares its lists with this one, so that no memory is taken for them. The one refusal is where
-    /// so many options share them that no more can be counted.
+    /// An equal option, which shares its lists with this one, so that no memory is taken for them. This fails only if
+    /// too many options share them to count one more.
     pub fn copy(&self, _alloc: Global) -> Result<LoadOption, AllocError>
         ensures equal { IfOk result (λ option. option ≡ self.now) }
         ensures valid { IsOption self.now }
@@ -210,7 +211,7 @@ impl LoadOption {
         attributes::is_active(self.attributes)
     }
 
-    /// The bits of LOAD_OPTION_CATEGORY (UEFI 2.10, 3.1.3), where they stand in the attributes:
+    /// The bits of LOAD_OPTION_CATEGORY (UEFI 2.10, 3.1.3), where they are in the attributes:
     /// [`CATEGORY_BOOT`](crate::CATEGORY_BOOT), [`CATEGORY_APP`](crate::CATEGORY_APP) or a reserved value.
     pub fn category(&self) -> u32
         ensures value { result ≡ category_of self.now.attributes }
@@ -244,7 +245,7 @@ impl LoadOption {
         &self.lists.paths
     }
 
-    /// The optional data: the bytes behind the list.
+    /// The optional data: the bytes after the list.
     pub fn optional(&self) -> &[u8]
         ensures bytes { result.now ≡ self.now.optional }
         ensures valid { IsOption self.now }

@@ -26,8 +26,8 @@ fn append_unit(unit: u16, text: &mut String) -> Result<(), AllocError>
 }
 
 /// The units of a description (UEFI 2.10, 3.1.3) as one line of ASCII text: a unit from 0x20 to 0x7E other than the
-/// backslash, 0x5C, as itself, and every other as a backslash and its four hexadecimal digits in lower case. The one
-/// refusal is for want of memory.
+/// backslash, 0x5C, as itself, and every other as a backslash and its four hexadecimal digits in lower case. This fails
+/// only when out of memory.
 pub fn description_text(alloc: Global, description: &[u16]) -> Result<String, AllocError>
     ensures { IfOk result (λ text. string_bytes text ≡ units_text description.now) }
 {

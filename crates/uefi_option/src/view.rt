@@ -1,4 +1,4 @@
-//! Load options where they stand in the bytes.
+//! Load options where they are in the bytes.
 
 ghost use Rattle.std.specs.Prelude.{◌≡◌, IfOk};
 ghost use Rattle.std.specs.String.{string_bytes};
@@ -9,7 +9,7 @@ use crate::text::description_text;
 use std::alloc::{AllocError, Global};
 use uefi_path::read_units;
 
-/// A load option where it stands in its bytes (UEFI 2.10, 3.1.3).
+/// A load option where it is in its bytes (UEFI 2.10, 3.1.3).
 #[derive(Clone, Copy, Debug, PartialEq, Eq)]
 pub struct OptionView<'a> {
     /// The attributes, all 32 bits as they are stored.
@@ -18,13 +18,13 @@ pub struct OptionView<'a> {
     pub description: &'a [u8],
     /// The bytes of the list of device paths, one path after the other.
     pub list: &'a [u8],
-    /// The optional data: the bytes behind the list.
+    /// The optional data: the bytes after the list.
     pub optional: &'a [u8],
 }
 
 impl OptionView<'_> {
-    /// The description as one line of ASCII text, as [`description_text`] shows its units. The one refusal is for want
-    /// of memory.
+    /// The description as one line of ASCII text, as [`description_text`] shows its units. This fails only when out of
+    /// memory.
     pub fn description_text(&self, alloc: Global) -> Result<String, AllocError>
         ensures { IfOk result (λ text.
             string_bytes text ≡ units_text (units_of self.now.description.now)) }

@@ -11,7 +11,7 @@ use Rattle.uefi_path.specs.declared.node.Node.TheVariants.{Pci, VendorHw, Acpi, 
 use Rattle.uefi_path.specs.Row.{IsByte, Row, row, IsRow, IsListed, IsOther, pci, acpi, usb, mac, ipv4, sata, vlan, nvme, uri, vendor_hw, vendor_msg, vendor_media, hard_drive, cdrom, file_path}
 use Rattle.uefi_path.specs.Node.{row_of, IsNode, IsTyped, HasTypedNode}
 use Rattle.uefi_path.specs.Parts.{VendorParts, vendor_parts, vendor_bytes, vendor_of, IsVendor, name_bytes, Ipv4Parts, AreIpv4Parts, ipv4_fields, HardDriveParts, AreHardDriveParts, hard_drive_fields}
-use Rattle.uefi_path.specs.Reading.{has_shape, has_type, number_at, bytes_at, ipv4_at, hard_drive_at, fixed_node_of, list_node_of, typed_node_of, name_of, node_of}
+use Rattle.uefi_path.specs.Reader.{has_shape, has_type, number_at, bytes_at, ipv4_at, hard_drive_at, fixed_node_of, list_node_of, typed_node_of, name_of, node_of}
 use Rattle.uefi_path.proofs.Bytes.{bytes_from_recursion, recursion_from_bytes, AllByRecursion-append}
 use Rattle.uefi_path.proofs.Names.{IsNamed, name_found, name_listed, name_again, name_length, name_of_bytes, name_closed}
 use Rattle.uefi_path.proofs.Numbers.{IsBytes-drop, wide_8, wide_16, wide_32, wide_64, FieldsFrom, behind, array_again, number_again, HasLength, no_length, then_length, no_field, then_field, no_bytes, then_bytes, then_octets, then_array, array_bytes, number_below}
@@ -415,7 +415,7 @@ node_of-row_of (Other other) valid =
 pub same_node : (m n : Node) → IsNode m → IsNode n → row_of m ≡ row_of n → m ≡ n
 same_node m n valid-m valid-n e = sym (node_of-row_of m valid-m) ∙ ap node_of e ∙ node_of-row_of n valid-n
 
--- the row of a node is no longer than a row can be, its numbers are bytes, and it is no end
+-- the row of a node is no longer than a row can be, its numbers are bytes, and it isn't an end
 pub row_of_is_row : (node : Node) → IsNode node → IsRow (row_of node) × ((row_of node).kind ≢ 127)
 row_of_is_row (Pci function device) valid =
     let fields = then_bytes w8 _ wide_8 function (then_bytes w8 _ wide_8 device no_bytes) in
@@ -465,7 +465,7 @@ pub found_is_listed : (r : Row) (found : Option Node) → IfSome found (IsFound 
 found_is_listed r None is some = absurd (false≢true some)
 found_is_listed r (Some node) is some = is.listed
 
--- where none of one length is found, one that holds a list is
+-- if none of one length is found, one that holds a list is
 pub or_else : (a b : Option Node) → IsSome (option_or a b) → ¬ IsSome a → IsSome b
 or_else None b some none = some
 or_else (Some node) b some none = absurd (none refl)

@@ -7,7 +7,7 @@ pub mod Inverse
 pub mod Rows
 pub mod Faults
 pub mod Paths
-pub mod Reader
+pub mod Readings
 pub mod Rowed
 pub mod Comparison
 pub mod Whole

@@ -11,13 +11,13 @@ use Rattle.std.proofs.lemmas.List.{nil_from_length, take_all, take_at}
 use Rattle.std.proofs.lemmas.Bool.{cases_lt, lt-ltb, ne_eqb, eqb-true, eqb-false, cond_both, false≢true}
 use Rattle.uefi_path.specs.Parts.{IsUnit, name_bytes}
 use Rattle.uefi_path.specs.Row.{IsByte, AreBytes, IsClosed, last_zero, another_unit}
-use Rattle.uefi_path.specs.Reading.{name_of}
+use Rattle.uefi_path.specs.Reader.{name_of}
 use Rattle.uefi_path.specs.Units.{IsTwoByte, units_bytes, units_of}
 use Rattle.uefi_path.proofs.Bytes.{IsBytes}
 use Rattle.uefi_path.proofs.Numbers.{wide_16}
 use Rattle.uefi_path.proofs.TwoBytes.{units_again, units_length}
 
--- this is the unit at the front of the rest
+-- this is the unit at the start of the rest
 pub record IsFront (rest : List ℕ) (unit : ℕ) : Type 0 where
   pub enough : 2 ≤ length rest
   pub is : unit ≡ from_le_bytes w16 (get_or rest 0 0 ∷ get_or rest 1 0 ∷ [])
@@ -44,7 +44,7 @@ no_earlier units none =
       | inr le ↦ le
     ]
 
--- the units are a name's where no first zero is found
+-- the units are a name's if no first zero is found
 pub no_zero : (units : List ℕ) → ((i : ℕ) → get_or units i 0 < 2 ^ 16) → position (λ (u : ℕ). u == 0) units ≡ None → AllByRecursion IsUnit units
 no_zero units fits none =
     recursion_from_All IsUnit units (All-from_get_or IsUnit units 0 (λ i lt.

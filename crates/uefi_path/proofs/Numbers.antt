@@ -6,7 +6,7 @@ use Rattle.std.proofs.lemmas.List.{take-append-drop, take_at, drop_at, length-ap
 use Rattle.std.proofs.lemmas.Bool.{cases_lt}
 use Rattle.std.proofs.lemmas.Nat.{le_bytes_2, le_bytes_4, le_bytes_8, from_le_bytes-to_le_bytes_2, from_le_bytes-to_le_bytes_4, from_le_bytes-to_le_bytes_8}
 use Rattle.uefi_path.specs.Row.{IsByte, AreBytes}
-use Rattle.uefi_path.specs.Reading.{number_at, bytes_at}
+use Rattle.uefi_path.specs.Reader.{number_at, bytes_at}
 use Rattle.uefi_path.proofs.Bytes.{IsBytes, bytes_from_recursion, recursion_from_bytes, AllByRecursion-append}
 
 -- numbers of this width are those below the limit, and each is its bytes

@@ -10,7 +10,7 @@ use Rattle.uefi_path.specs.Row.{Row, IsByte, IsRow, row_bytes, end_instance, end
 use Rattle.uefi_path.specs.Node.{row_of, node_bytes, IsNode}
 use Rattle.uefi_path.specs.Path.{IsPath, IsPathFront, separator, path_bytes, path_rows}
 use Rattle.uefi_path.specs.Fault.{IsBeforeEnd, IsFirstFault}
-use Rattle.uefi_path.specs.Reading.{node_of}
+use Rattle.uefi_path.specs.Reader.{node_of}
 use Rattle.uefi_path.proofs.Bytes.{AllByRecursion-append}
 use Rattle.uefi_path.proofs.Inverse.{node_of-row_of, node_of_has_row, row_of_is_row}
 use Rattle.uefi_path.proofs.Rows.{same_rows, entire_stops, entire_is_row, instance_is_row, same_parts}
@@ -52,7 +52,7 @@ path_rows_instance [] nodes = ap (λ (t : List Row). t ++ end_instance ∷ []) (
 path_rows_instance (i ∷ instances) nodes =
     rw (separator_push (instances ++ nodes ∷ []) [], separator_push instances nodes, path_rows_instance instances nodes) (sym (append_assoc (map row_of i) (end_instance ∷ path_rows (instances ++ nodes ∷ [])) (end_instance ∷ [])))
 
--- ---- rows that stand before the end
+-- ---- rows that are before the end
 
 pub node_is_inner : (node : Node) → IsNode node → IsBeforeEnd (row_of node)
 node_is_inner node valid = let is = row_of_is_row node valid in record { row = is.0; no_end = inl is.1 }
@@ -95,7 +95,7 @@ instances_of-path_rows nodes (more ∷ others) valid =
     let next : instances_of (path_rows (more ∷ others)) ≡ more ∷ others = instances_of-path_rows more others valid.1 in
     instances_of_nodes nodes [] (more ∷ others) (end_instance ∷ path_rows (more ∷ others)) valid.0 (ap (λ (is : List (List Node)). [] ∷ is) next) ∙ ap (λ (ns : List Node). ns ∷ more ∷ others) (append-nil nodes)
 
--- rows that stand before the end of a path are those of some path
+-- rows that are before the end of a path are those of some path
 path_of : (rows : List Row) → AllByRecursion IsBeforeEnd rows → (first : List Node) × (others : List (List Node)) × AllByRecursion (AllByRecursion IsNode) (first ∷ others) × (path_rows (first ∷ others) ≡ rows)
 path_of [] inner = ([], [], (tt, tt), refl)
 path_of (r ∷ rows) inner =
@@ -139,7 +139,7 @@ no_fault_before input f p behind is e first =
     (sym first.parts ∙ e ∙ rows_of_path p behind is) in
     no_fault_at_end f (length (flat_map row_bytes first.before)) first.rest behind first.fault_at rows.1
 
--- ---- fronts of the input
+-- ---- prefixes of the input
 
 pub front_splits : (input : List ℕ) (p : List (List Node)) (n : ℕ) → IsPathFront input p n → input ≡ path_bytes p ++ drop n input
 front_splits input p n front = sym (take-append-drop n input) ∙ ap (λ (t : List ℕ). t ++ drop n input) front.spelled.1

@@ -8,11 +8,11 @@ use Rattle.uefi_path.specs.declared.fault.PathFault.{PathFault}
 use Rattle.uefi_path.specs.Row.{Row, row_bytes, end_entire}
 use Rattle.uefi_path.specs.Path.{IsPathFront, path_bytes}
 use Rattle.uefi_path.specs.Fault.{IsBeforeEnd, IsFaultAt, IsFirstFault}
-use Rattle.uefi_path.specs.Reading.{SplitsRow}
+use Rattle.uefi_path.specs.Reader.{SplitsRow}
 use Rattle.uefi_path.proofs.Bytes.{AllByRecursion-append}
 use Rattle.uefi_path.proofs.Paths.{rows_of_path, some_path}
 
--- The bytes are those of rows that stand before the end of a path, and the rest.
+-- The bytes are those of rows that are before the end of a path, and the rest.
 pub record HasRows (bytes rest : List ℕ) : Type 0 where
   pub rows : List Row
   pub inner : AllByRecursion IsBeforeEnd rows
@@ -24,7 +24,7 @@ no_rows bytes = record { rows = []; inner = tt; parts = refl }
 rows_len : (bytes rest : List ℕ) (h : HasRows bytes rest) → length bytes ≡ length (flat_map row_bytes h.rows) + length rest
 rows_len bytes rest h = ap length h.parts ∙ length-append (flat_map row_bytes h.rows) rest
 
--- the row that was split off stands before the end, or is the end
+-- the row that was split off is before the end, or is the end
 before_or_end : (rest : List ℕ) (r : Row) (behind : List ℕ) → SplitsRow rest r behind → ((r.kind ≢ 127) ⊎ (r.sub ≢ 255)) → IsBeforeEnd r
 before_or_end rest r behind split more =
     record {

@@ -6,7 +6,7 @@ use Rattle.uefi_path.specs.Row.{Row, row, IsRow, header_bytes, row_bytes, end_in
 use Rattle.uefi_path.specs.Fault.{IsBeforeEnd}
 use Rattle.uefi_path.proofs.Numbers.{wide_16}
 
--- lists of one length in front of two lists that are one
+-- lists of one length at the start of two lists that are one
 pub same_parts : {X : Type 0} (a b x y : List X) → length a ≡ length b → a ++ x ≡ b ++ y → (a ≡ b) × (x ≡ y)
 same_parts [] [] x y len e = (refl, e)
 same_parts [] (b ∷ bs) x y len e = absurd (omega arith)
@@ -18,7 +18,7 @@ same_parts (a ∷ as') (b ∷ bs) x y len e =
     let parts = same_parts as' bs x y size tail in
     (cc, parts.1)
 
--- two headers in front of bytes that are one
+-- two headers at the start of bytes that are one
 pub record SameHeader (k s l k' s' l' : ℕ) (t t' : List ℕ) : Type 0 where
   pub kind : k ≡ k'
   pub sub : s ≡ s'
@@ -31,14 +31,14 @@ same_header k s l k' s' l' t t' fits fits' e =
     let len : l ≡ l' = sym (wide_16.again l fits) ∙ ap (from_le_bytes w16) cells ∙ wide_16.again l' fits' in
     record { kind = cc; sub = cc; len = len; behind = cc }
 
--- one row and the bytes behind it
+-- one row and the bytes after it
 pub same_row : (r s : Row) (x y : List ℕ) → IsRow r → IsRow s → row_bytes r ++ x ≡ row_bytes s ++ y → (r ≡ s) × (x ≡ y)
 same_row r s x y is-r is-s e =
     let header = same_header r.kind r.sub (4 + length r.body) s.kind s.sub (4 + length s.body) (r.body ++ x) (s.body ++ y) (omega (arith, is-r.len)) (omega (arith, is-s.len)) e in
     let parts = same_parts r.body s.body x y (omega (arith, header.len)) header.behind in
     (ap (λ (k : ℕ). row k r.sub r.body) header.kind ∙ ap (λ (n : ℕ). row s.kind n r.body) header.sub ∙ ap (λ (b : List ℕ). row s.kind s.sub b) parts.0, parts.1)
 
--- no row that may stand before the end of a path begins here
+-- no row that may be before the end of a path begins here
 abbrev pub Stops : List ℕ → Type 0
 Stops rest = (r : Row) (behind : List ℕ) → IsBeforeEnd r → rest ≡ row_bytes r ++ behind → ⊥
 
@@ -54,7 +54,7 @@ same_rows (r ∷ rs) (s ∷ ss) x y inner-r inner-s stops-x stops-y e =
     let others = same_rows rs ss x y inner-r.1 inner-s.1 stops-x stops-y first.1 in
     (ap (λ (h : Row). h ∷ rs) first.0 ∙ ap (λ (t : List Row). s ∷ t) others.0, others.1)
 
--- the end of the whole path is no row before it
+-- the end of the whole path isn't a row before it
 pub entire_is_row : IsRow end_entire
 entire_is_row = record { kind = omega arith; sub = omega arith; body = tt; len = omega arith }
 

@@ -1,4 +1,4 @@
--- A row cut off the front of some bytes.
+-- A row cut off the start of some bytes.
 use Rattle.std.proofs.Common.{◌≡◌, ◌≢◌, ◌⊎◌, ℕ, zero, suc, ◌+◌, ◌-◌, ◌<◌, ◌≤◌, List, [], ◌∷◌, ◌++◌, length, get_or, take, drop, refl, sym, ap, subst, ◌∙◌, inl, inr, arith}
 use Rattle.std.specs.Int.{w16, to_le_bytes, from_le_bytes}
 use Rattle.std.specs.List.{AllByRecursion}
@@ -9,7 +9,7 @@ use Rattle.uefi_path.specs.Row.{row, IsByte, header_bytes, row_bytes, end_instan
 use Rattle.uefi_path.specs.declared.fault.PathFault.{PathFault}
 use Rattle.uefi_path.specs.declared.fault.PathFault.TheVariants.{NoEnd, ShortHeader, BadLength, PastEnd, BadEnd, OutOfMemory}
 use Rattle.uefi_path.specs.Fault.{HasHeader, IsEnd, IsFaultAt}
-use Rattle.uefi_path.specs.Reading.{IsHeader, IsHeaderFault, SplitsRow}
+use Rattle.uefi_path.specs.Reader.{IsHeader, IsHeaderFault, SplitsRow}
 use Rattle.uefi_path.proofs.Bytes.{IsBytes, recursion_from_bytes, AllByRecursion-first}
 
 two_bytes : (low high : ℕ) → low < 256 → high < 256 → IsBytes (low ∷ high ∷ [])
@@ -31,7 +31,7 @@ header_of_bytes (a ∷ b ∷ c ∷ d ∷ rest) len long fits is =
       is = ap (λ (t : List ℕ). (a ∷ b ∷ t) ++ rest) (sym spelled);
     }
 
--- the bytes of a header's row are the front of the bytes
+-- the bytes of a header's row are the start of the bytes
 parts_of_header : (bytes : List ℕ) (kind sub len : ℕ) (body : List ℕ) → HasHeader bytes kind sub len → 4 ≤ len → len ≤ length bytes → body ≡ take (len - 4) (drop 4 bytes) → (bytes ≡ row_bytes (row kind sub body) ++ drop len bytes) × (4 + length body ≡ len)
 parts_of_header bytes kind sub len body header least within body-is =
     let spelled : bytes ≡ header_bytes kind sub len ++ header.behind = header.is in
@@ -42,7 +42,7 @@ parts_of_header bytes kind sub len body header least within body-is =
     let whole : bytes ≡ header_bytes kind sub len ++ (body ++ drop len bytes) = spelled ∙ ap (λ (t : List ℕ). header_bytes kind sub len ++ t) (sym behind ∙ sym cut ∙ ap (λ (t : List ℕ). body ++ t) rest) in
     (whole ∙ ap (λ (n : ℕ). header_bytes kind sub n ++ (body ++ drop len bytes)) (sym size), size)
 
--- which rows there are of a type, where the end nodes alone have type 0x7F
+-- which rows there are of a type, if the end nodes alone have type 0x7F
 ends_of : (kind sub : ℕ) (body : List ℕ) (len : ℕ) → 4 + length body ≡ len → (kind ≡ 127 → IsEnd sub len) → (kind ≢ 127) ⊎ ((row kind sub body ≡ end_instance) ⊎ (row kind sub body ≡ end_entire))
 ends_of kind sub body len size ends =
     elim (cases_eq kind 127) [
@@ -53,7 +53,7 @@ ends_of kind sub body len size ends =
       | inr other ↦ inl other
     ]
 
--- the data of the node whose bytes are the front of some bytes
+-- the data of the node whose bytes are the start of some bytes
 pub data_of_front : (bytes node : List ℕ) (len : ℕ) → 4 ≤ len → len ≤ length bytes → node ≡ take len bytes → take (length node - 4) (drop 4 node) ≡ take (len - 4) (drop 4 bytes)
 data_of_front bytes node len least within is =
     let size : length node ≡ len = rw is (omega (arith, length-take len bytes)) in

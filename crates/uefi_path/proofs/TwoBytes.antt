@@ -41,7 +41,7 @@ half_as_long (low ∷ high ∷ rest) = omega (arith, half_as_long rest)
 
 -- ---- numbers over the zeros that were made for them
 
--- so many bytes written behind what was there, over zeros, with so many zeros behind them
+-- `count` bytes written after what was there, over zeros, with `behind` zeros after them
 pub record IsOver (old bytes room : List ℕ) (start count behind : ℕ) : Type 0 where
   pub zeros : ℕ
   pub zeros-is : zeros ≡ count + behind
@@ -49,7 +49,7 @@ pub record IsOver (old bytes room : List ℕ) (start count behind : ℕ) : Type 
   pub room-is : room ≡ take (start + count + behind) old ++ replicate zeros 0
   pub len : length bytes ≡ count
 
--- what the whole is once these bytes stand there
+-- what the whole is once these bytes are there
 abbrev written_over : List ℕ → List ℕ → ℕ → ℕ → List ℕ
 written_over bytes room start count = take start room ++ (bytes ++ drop count (drop start room))
 
@@ -62,7 +62,7 @@ over_zeros old bytes room start count behind over =
     let back : drop count (drop start room) ≡ replicate behind 0 = ap (λ (t : List ℕ). drop count (drop start t)) whole ∙ ap (drop count) (drop_at old zeros start (sym over.start-is)) ∙ drop-replicate count (count + behind) 0 ∙ ap (λ (n : ℕ). replicate {A = ℕ} n 0) left in
     rw (front, back) refl
 
--- the same, where a list of that length is cut out of it and what stands behind
+-- the same, if a list of that length is cut out of it and what follows it
 pub over_zeros_whole : (old bytes room : List ℕ) (start count behind len : ℕ) → IsOver old bytes room start count behind → len ≡ start + count + behind
     → take len (written_over bytes room start count ++ drop (length (written_over bytes room start count)) room) ≡ old ++ (bytes ++ replicate behind 0)
 over_zeros_whole old bytes room start count behind len over long =

@@ -1,4 +1,4 @@
--- The rows that stand in some bytes one after the other.
+-- The rows that are in some bytes one after the other.
 use Rattle.std.proofs.Common.{◌≡◌, ℕ, zero, suc, ◌+◌, ◌-◌, ◌<◌, ◌≤◌, ◌^◌, List, [], ◌∷◌, ◌++◌, length, take, drop, get_or, refl, sym, ap, ◌∙◌, le-leb, arith, append_assoc}
 use Rattle.std.specs.Int.{w16, from_le_bytes}
 use Rattle.std.specs.List.{flat_map, AllByRecursion}
@@ -18,7 +18,7 @@ rows_passed zero bytes = refl
 rows_passed (suc n) [] = refl
 rows_passed (suc n) (b ∷ bytes) = rows_passed n bytes
 
--- the row at the front of some bytes, of which these are the first ones
+-- the row at the start of some bytes, of which these are the first ones
 pub first_row : (bytes : List ℕ) (len : ℕ) (node rest : List ℕ) → 4 ≤ length bytes → len ≡ from_le_bytes w16 (get_or bytes 2 0 ∷ get_or bytes 3 0 ∷ []) → 4 ≤ len → len ≤ length bytes → node ≡ take len bytes → rest ≡ drop len bytes
     → rows_behind 0 bytes ≡ row (get_or bytes 0 0) (get_or bytes 1 0) (take (length node - 4) (drop 4 node)) ∷ rows_behind 0 rest
 first_row [] len node rest long is least within front back = absurd (omega arith)
@@ -69,7 +69,7 @@ at_their_places input rows more parts before after r is =
       is = sym (ap (λ (t : List ℕ). take (length r.body) (drop (length first + 4) t)) whole ∙ ap (take (length r.body)) (drop_at front (r.body ++ (last ++ more)) (length first + 4) size) ∙ take_at r.body (last ++ more) (length r.body) refl);
     }
 
--- the rows of the path at the front of some bytes, and what stands behind them
+-- the rows of the path at the start of some bytes, and what comes after them
 pub front_rows : (input : List ℕ) (path : List (List Node)) (n : ℕ) → IsPathFront input path n → input ≡ flat_map row_bytes (path_rows path) ++ (row_bytes end_entire ++ drop n input)
 front_rows input path n front = front_splits input path n front ∙ rows_of_path path (drop n input) front.spelled.0
 

@@ -10,7 +10,7 @@ use Rattle.uefi_path.specs.declared.fault.PathFault.TheVariants.{NoEnd, ShortHea
 use Rattle.uefi_path.specs.Row.{Row, row, IsByte, row_bytes}
 use Rattle.uefi_path.specs.Path.{IsPathFront}
 use Rattle.uefi_path.specs.Fault.{HasHeader, IsEnd, IsFaultAt, IsFirstFault}
-use Rattle.uefi_path.specs.Reading.{IsHeader, SplitsRow}
+use Rattle.uefi_path.specs.Reader.{IsHeader, SplitsRow}
 use Rattle.uefi_path.proofs.Bytes.{bytes_from_recursion}
 use Rattle.uefi_path.proofs.Split.{header_of_bytes, splits_row}
 use Rattle.uefi_path.proofs.Rowed.{HasRows, no_rows, one_row, path_ends, fault_stands}
@@ -19,7 +19,7 @@ use Rattle.uefi_path.proofs.Rowed.{HasRows, no_rows, one_row, path_ends, fault_s
 abbrev pub Begins : List ℕ → Type 0
 Begins bytes = ((path : List (List Node)) × (n : ℕ) × IsPathFront bytes path n) ⊎ ((fault : PathFault) × IsFirstFault bytes fault)
 
--- what stands at an offset: a fault, or a row
+-- what is at an offset: a fault, or a row
 abbrev Step : ℕ → List ℕ → Type 0
 Step offset rest = ((fault : PathFault) × IsFaultAt fault offset rest) ⊎ ((r : Row) × (behind : List ℕ) × SplitsRow rest r behind)
 

@@ -6,7 +6,7 @@ use Rattle.uefi_path.specs.declared.fault.PathFault.TheVariants.{NoEnd, ShortHea
 use Rattle.uefi_path.specs.declared.fault.PathFault.TheVariants.{OutOfMemory}
 use Rattle.uefi_path.specs.Row.{Row, header_bytes, row_bytes, end_instance, IsRow}
 
--- a row that stands before the end of a path: that of a node, or the end of an instance
+-- a row that is before the end of a path: that of a node, or the end of an instance
 pub record IsBeforeEnd (r : Row) : Type 0 where
   pub row : IsRow r
   pub no_end : (r.kind ≢ 0x7F) ⊎ (r ≡ end_instance)
@@ -25,7 +25,7 @@ StatesLength rest len = (kind : ℕ) × (sub : ℕ) × HasHeader rest kind sub l
 abbrev pub IsEnd : ℕ → ℕ → Type 0
 IsEnd sub len = ((sub ≡ 0x01) ⊎ (sub ≡ 0xFF)) × (len ≡ 4)
 
--- No node stands at this offset, where this is the rest of the input, and the fault says why.
+-- No node is at this offset, with this rest of the input, and the fault says why.
 abbrev pub IsFaultAt : PathFault → ℕ → List ℕ → Type 0
 IsFaultAt (NoEnd at) offset rest = (at ≡ offset) × (rest ≡ [])
 IsFaultAt (ShortHeader at) offset rest = (at ≡ offset) × (0 < length rest) × (length rest < 4)
@@ -38,8 +38,7 @@ IsFaultAt (BadEnd at) offset rest =
     × (4 ≤ len) × (len ≤ length rest) × (¬ IsEnd sub len)
 IsFaultAt OutOfMemory offset rest = ⊥
 
--- The input begins with rows that stand before the end of a path, and the fault is that of what
--- follows them.
+-- The input begins with rows that are before the end of a path, and the fault is that of what follows them.
 pub record IsFirstFault (input : List ℕ) (fault : PathFault) : Type 0 where
   pub before : List Row
   pub rest : List ℕ

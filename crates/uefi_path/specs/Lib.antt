@@ -12,5 +12,5 @@ pub mod Fault
 pub mod Words
 pub mod Equality
 -- what private contracts cite
-pub mod Reading
-pub mod Writing
+pub mod Reader
+pub mod Writer

@@ -18,7 +18,7 @@ vendor_parts guid body = record { guid = guid; body = body }
 abbrev pub vendor_bytes : VendorParts → List ℕ
 vendor_bytes p = p.guid ++ p.body
 
--- the parts of a vendor's data, where there are enough bytes for an identifier
+-- the parts of a vendor's data, if there are enough bytes for an identifier
 abbrev pub vendor_of : List ℕ → Option VendorParts
 vendor_of bytes =
     if leb 16 (length bytes) then Some (vendor_parts (take 16 bytes) (drop 16 bytes)) else None
@@ -108,7 +108,7 @@ pub record AreHardDriveParts (p : HardDriveParts) : Type 0 where
 abbrev pub IsUnit : ℕ → Type 0
 IsUnit n = (n ≢ 0) × (n < 2 ^ 16)
 
--- the units of a file's path name (UEFI 2.10, 10.3.5.4), without the zero behind them
+-- the units of a file's path name (UEFI 2.10, 10.3.5.4), without the zero after them
 abbrev pub IsPathName : List ℕ → Type 0
 IsPathName units = AllByRecursion IsUnit units × (length units ≤ path_name_max)
 

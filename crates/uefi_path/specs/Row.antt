@@ -13,15 +13,15 @@ pub record Row : Type 0 where
 abbrev pub row : ℕ → ℕ → List ℕ → Row
 row kind sub body = record { kind = kind; sub = sub; body = body }
 
--- the four bytes in front of the data: type, sub-type, and the length of the whole node
+-- the four bytes before the data: type, sub-type, and the length of the whole node
 abbrev pub header_bytes : ℕ → ℕ → ℕ → List ℕ
 header_bytes kind sub len = kind ∷ sub ∷ to_le_bytes w16 len
 
--- the spelling of a row: its header and its data, whose length two bytes state where IsRow holds
+-- the spelling of a row: its header and its data, whose length two bytes state if IsRow holds
 abbrev pub row_bytes : Row → List ℕ
 row_bytes r = header_bytes r.kind r.sub (4 + length r.body) ++ r.body
 
--- the node that ends one instance, where another follows, and the node that ends the whole path
+-- the node that ends one instance, if another follows, and the node that ends the whole path
 abbrev pub end_instance : Row
 end_instance = row 0x7F 0x01 []
 
@@ -31,7 +31,7 @@ end_entire = row 0x7F 0xFF []
 abbrev pub IsByte : ℕ → Type 0
 IsByte n = n < 2 ^ 8
 
--- these are so many bytes
+-- these are this many bytes
 abbrev pub AreBytes : ℕ → List ℕ → Type 0
 AreBytes n bytes = (length bytes ≡ n) × AllByRecursion IsByte bytes
 

@@ -1,15 +1,15 @@
 -- The standard's numbers: the limits of nodes, and identifiers that have a meaning.
 use Rattle.std.specs.Prelude.{ℕ}
 
--- the most bytes of data: with the four in front, two bytes state how many (UEFI 2.10, 10.3.1)
+-- the most bytes of data: with the four before them, two bytes state how many (UEFI 2.10, 10.3.1)
 abbrev pub body_max : ℕ
 body_max = 65531
 
--- the most bytes of data behind a vendor's identifier (UEFI 2.10, 10.3.2.4, 10.3.4.17, 10.3.5.3)
+-- the most bytes of data after a vendor's identifier (UEFI 2.10, 10.3.2.4, 10.3.4.17, 10.3.5.3)
 abbrev pub vendor_body_max : ℕ
 vendor_body_max = 65515
 
--- the most units of a path name, without the zero behind them (UEFI 2.10, 10.3.5.4)
+-- the most units of a path name, without the zero after them (UEFI 2.10, 10.3.5.4)
 abbrev pub path_name_max : ℕ
 path_name_max = 32764
 

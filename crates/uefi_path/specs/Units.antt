@@ -11,7 +11,7 @@ IsTwoByte n = n < 2 ^ 16
 abbrev pub units_bytes : List ℕ → List ℕ
 units_bytes units = flat_map (to_le_bytes w16) units
 
--- each two bytes as a number; a byte that is left over is none
+-- each two bytes as a number; a byte that is left over isn't one
 abbrev pub units_of : List ℕ → List ℕ
 units_of (low ∷ high ∷ rest) = from_le_bytes w16 (low ∷ high ∷ []) ∷ units_of rest
 units_of _ = []

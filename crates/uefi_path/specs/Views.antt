@@ -1,4 +1,4 @@
--- Nodes where they stand in the bytes of a path (UEFI 2.10, 10.3.1).
+-- Nodes where they are in the bytes of a path (UEFI 2.10, 10.3.1).
 use Rattle.std.specs.Prelude.{◌≡◌, ℕ, zero, suc, ◌+◌, ◌-◌, ◌≤◌, nat_le, ◌&&◌, if◌then◌else◌, List, [], ◌∷◌, ◌++◌, length, take, drop}
 use Rattle.std.specs.List.{flat_map}
 use Rattle.std.specs.Int.{w16, from_le_bytes}
@@ -10,8 +10,8 @@ use Rattle.uefi_path.specs.Row.{Row, row, row_bytes}
 abbrev pub row_seen : NodeView → Row
 row_seen view = row view.kind view.sub view.body.now
 
--- The rows that stand in the bytes one after the other, behind so many bytes that are passed over: each takes as many
--- bytes as its header states, and they end where no whole row stands.
+-- The rows that are in the bytes one after the other, after this many bytes that are passed over: each takes as many
+-- bytes as its header states, and they end where there is no whole row.
 abbrev pub rows_behind : ℕ → List ℕ → List Row
 rows_behind (suc n) [] = []
 rows_behind (suc n) (_ ∷ bytes) = rows_behind n bytes
@@ -25,12 +25,12 @@ rows_behind zero _ = []
 abbrev pub rows_left : NodeIter → List Row
 rows_left nodes = rows_behind 0 nodes.bytes.now
 
--- the slice is what stands in the input at this place
+-- the slice is what is in the input at this place
 pub record IsSliceAt (input : List ℕ) (at : ℕ) (slice : List ℕ) : Type 0 where
   pub within : at + length slice ≤ length input
   pub is : slice ≡ take (length slice) (drop at input)
 
--- The data of each row stand in the input at their place: behind the bytes of the rows before it, and its own header.
+-- The data of each row are in the input at their place: after the bytes of the rows before it, and its own header.
 abbrev pub AreAtTheirPlaces : List ℕ → List Row → Type 0
 AreAtTheirPlaces input rows =
     (before after : List Row) (r : Row) → rows ≡ before ++ r ∷ after →

@@ -9,14 +9,14 @@ ghost use Rattle.uefi_path.specs.declared.fault.PathFault.TheVariants as path;
 use std::alloc::{AllocError, AllocFailed, Global};
 use thiserror::Error;
 
-/// Why parts make no node.
+/// Why parts don't make a node.
 #[derive(Clone, Copy, Debug, PartialEq, Eq, Hash, Error)]
 pub enum NodeFault {
-    /// The type is 0x7F, that of the end nodes, which are no nodes of a path.
+    /// The type is 0x7F, that of the end nodes, which aren't nodes of a path.
     #[error("BadEnd")]
     BadEnd,
-    /// The data would have more than [`BODY_MAX`](crate::BODY_MAX) bytes, a vendor's identifier included: two bytes cannot
-    /// state the length of the node.
+    /// The data would have more than [`BODY_MAX`](crate::BODY_MAX) bytes, a vendor's identifier included: two bytes
+    /// cannot state the length of the node.
     #[error("TooLong")]
     TooLong,
     /// Memory was refused.
@@ -24,11 +24,11 @@ pub enum NodeFault {
     OutOfMemory,
 }
 
-/// Why bytes begin with no path. The number is the offset of the node with the fault, in bytes from
-/// the first byte of the path.
+/// Why bytes don't begin with a path. The number is the offset of the node with the fault, in bytes from the first byte
+/// of the path.
 #[derive(Clone, Copy, Debug, PartialEq, Eq, Hash, Error)]
 pub enum PathFault {
-    /// No byte remains where a node must stand.
+    /// No byte remains where a node must be.
     #[error("NoEnd {0}")]
     NoEnd(usize),
     /// One to three bytes remain, fewer than the header of a node has.
@@ -40,8 +40,7 @@ pub enum PathFault {
     /// The node states more bytes than remain.
     #[error("PastEnd {0}")]
     PastEnd(usize),
-    /// The node has type 0x7F and is no end node: its sub-type is neither 0x01 nor 0xFF, or its
-    /// length is another than 4.
+    /// The node has type 0x7F and isn't an end node: its sub-type is neither 0x01 nor 0xFF, or its length isn't 4.
     #[error("BadEnd {0}")]
     BadEnd(usize),
     /// Memory was refused.
@@ -49,7 +48,7 @@ pub enum PathFault {
     OutOfMemory,
 }
 
-/// Why units are no path name of a file.
+/// Why units aren't a path name of a file.
 #[derive(Clone, Copy, Debug, PartialEq, Eq, Hash, Error)]
 pub enum NameFault {
     /// A unit is zero. The number is the index of the first such unit.
@@ -67,7 +66,7 @@ pub enum NameFault {
 impl NodeFault {
     ghost use Rattle.uefi_path.specs.Words.{node_fault_words};
 
-    /// The fault's name. The one refusal is for want of memory.
+    /// The fault's name. This fails only when out of memory.
     pub fn words(&self, alloc: Global) -> Result<String, AllocError>
         ensures { IfOk result (λ text. string_bytes text ≡ node_fault_words self.now) }
     {
@@ -82,8 +81,8 @@ impl NodeFault {
 impl PathFault {
     ghost use Rattle.uefi_path.specs.Words.{path_fault_words, path_fault_offset};
 
-    /// The offset of the node with the fault, in bytes from the first byte of the path, where the
-    /// fault has one: all but want of memory have.
+    /// The offset of the node with the fault, in bytes from the first byte of the path, if the fault has one: all but
+    /// out of memory have.
     pub fn offset(&self) -> Option<usize>
         ensures { result ≡ path_fault_offset self.now }
     {
@@ -97,8 +96,7 @@ impl PathFault {
         }
     }
 
-    /// The fault's name and, where it has one, its offset in decimal after a blank. The one refusal
-    /// is for want of memory.
+    /// The fault's name and, if it has one, its offset in decimal after a blank. This fails only when out of memory.
     pub fn words(&self, alloc: Global) -> Result<String, AllocError>
         ensures { IfOk result (λ text. string_bytes text ≡ path_fault_words self.now) }
     {
@@ -116,7 +114,7 @@ impl PathFault {
 impl NameFault {
     ghost use Rattle.uefi_path.specs.Words.{name_fault_words, name_fault_index};
 
-    /// The index of the unit that is refused, where the fault has one.
+    /// The index of the unit that is refused, if the fault has one.
     pub fn index(&self) -> Option<usize>
         ensures { result ≡ name_fault_index self.now }
     {
@@ -126,8 +124,7 @@ impl NameFault {
         }
     }
 
-    /// The fault's name and, where it has one, its index in decimal after a blank. The one refusal
-    /// is for want of memory.
+    /// The fault's name and, if it has one, its index in decimal after a blank. This fails only when out of memory.
     pub fn words(&self, alloc: Global) -> Result<String, AllocError>
         ensures { IfOk result (λ text. string_bytes text ≡ name_fault_words self.now) }
     {

@@ -4,7 +4,7 @@ ghost use Rattle.std.specs.Prelude.{◌≡◌, ◌+◌, ◌<◌, ◌≤◌, ◌+
 ghost use Rattle.std.specs.List.{AllByRecursion};
 ghost use Rattle.std.specs.Int.{w8, w16, w32, w64};
 ghost use Rattle.uefi_path.specs.Row.{IsByte, AreBytes};
-ghost use Rattle.uefi_path.specs.Reading.{number_at, bytes_at as bytes_of};
+ghost use Rattle.uefi_path.specs.Reader.{number_at, bytes_at as bytes_of};
 
 use crate::generic::HEADER_LEN;
 use std::alloc::AllocError;
@@ -48,7 +48,7 @@ pub(crate) fn u64_at(body: &[u8], at: usize) -> u64
     u64::from_le_bytes(bytes_at(body, at))
 }
 
-/// The same array. A contract learns here what the type says: that these are so many bytes.
+/// The same array. A contract learns here what the type says: that these are `N` bytes.
 pub(crate) fn octets<const N: usize>(bytes: [u8; N]) -> [u8; N]
     ensures same { result ≡ bytes.entry }
     ensures valid { AreBytes N bytes.entry }
@@ -57,8 +57,8 @@ pub(crate) fn octets<const N: usize>(bytes: [u8; N]) -> [u8; N]
     bytes
 }
 
-/// The bytes of an array, as many as its type says. A contract sees an array as a list alone, and learns here what the
-/// type says: that these are so many bytes. So the call is made for that too, where its answer is let go.
+/// The bytes of an array, as many as its type says. A contract sees an array only as a list, and learns here what the
+/// type says: that these are `N` bytes. So the call is made for that too, even if its answer isn't used.
 pub fn field<const N: usize>(bytes: &[u8; N]) -> &[u8]
     ensures same { result.now ≡ bytes.now }
     ensures valid { AreBytes N bytes.now }
@@ -74,7 +74,7 @@ pub(crate) fn each_octet(bytes: &[u8]) -> &[u8]
     bytes
 }
 
-/// The first bytes of a node of `N` bytes: its header, and the fields that were put behind it.
+/// The first bytes of a node of `N` bytes: its header, and the fields that were put after it.
 #[derive(Drop)]
 pub(crate) struct NodeBytes<const N: usize> {
     bytes: [u8; N],
@@ -105,7 +105,7 @@ impl<const N: usize> NodeBytes<N> {
         node
     }
 
-    /// Puts a field behind the others.
+    /// Puts a field after the others.
     #[inline(always)]
     pub(crate) fn put(&mut self, field: &[u8])
         requires { length self.old + length field.now ≤ N }

@@ -6,8 +6,8 @@ ghost use Rattle.std.specs.Int.{w16, to_le_bytes};
 ghost use Rattle.uefi_path.specs.declared.fault.NameFault.{NameFault};
 ghost use Rattle.uefi_path.specs.Standard.{body_max, path_name_max};
 ghost use Rattle.uefi_path.specs.Parts.{name_bytes, IsPathName};
-ghost use Rattle.uefi_path.specs.Reading.{name_of};
-ghost use Rattle.uefi_path.specs.Writing.{Extends};
+ghost use Rattle.uefi_path.specs.Reader.{name_of};
+ghost use Rattle.uefi_path.specs.Writer.{Extends};
 
 use crate::fault::NameFault;
 use crate::generic::{BODY_MAX, HEADER_LEN};
@@ -18,10 +18,10 @@ use std::marker::Model;
 /// The most units that a name can have, without the zero that closes it.
 pub const PATH_NAME_MAX: usize = BODY_MAX / UNIT_LEN - 1;
 
-/// Units that are no path name of a file, handed back, and why they are none.
+/// Units that aren't a path name of a file, handed back, and why they aren't.
 #[derive(Debug, Drop)]
 pub struct NameRefused {
-    /// Why they are none. It is never [`NameFault::OutOfMemory`].
+    /// Why they aren't a path name. It is never [`NameFault::OutOfMemory`].
     pub fault: NameFault,
     /// The units.
     pub units: Vec<u16>,
@@ -76,8 +76,8 @@ impl FileNode {
     ///
     /// # Errors
     ///
-    /// [`NameFault::ZeroUnit`] where a unit is zero; else [`NameFault::TooLong`] where there are
-    /// more than [`PATH_NAME_MAX`] units; else [`NameFault::OutOfMemory`] where memory for them was refused.
+    /// [`NameFault::ZeroUnit`] if a unit is zero; otherwise [`NameFault::TooLong`] if there are more than
+    /// [`PATH_NAME_MAX`] units; otherwise [`NameFault::OutOfMemory`] if memory for them was refused.
     pub fn new(alloc: Global, units: &[u16]) -> Result<FileNode, NameFault>
         ensures made { IfOk result (λ node. node ≡ units.now) }
         ensures valid { IfOk result (λ node. IsPathName node) }
@@ -98,8 +98,8 @@ impl FileNode {
     ///
     /// # Errors
     ///
-    /// The units themselves, with the fault: [`NameFault::ZeroUnit`] where a unit is zero; else
-    /// [`NameFault::TooLong`] where there are more than [`PATH_NAME_MAX`] units.
+    /// The units themselves, with the fault: [`NameFault::ZeroUnit`] if a unit is zero; otherwise
+    /// [`NameFault::TooLong`] if there are more than [`PATH_NAME_MAX`] units.
     pub fn from_vec(units: Vec<u16>) -> Result<FileNode, NameRefused>
         ensures made { IfOk result (λ node. node ≡ units.items) }
         ensures valid { IfOk result (λ node. IsPathName node) }
@@ -145,7 +145,7 @@ impl FileNode {
         units
     }
 
-    /// An equal node. The one refusal is for want of memory.
+    /// An equal node. This fails only when out of memory.
     pub fn copy(&self, alloc: Global) -> Result<FileNode, AllocError>
         ensures equal { IfOk result (λ node. node ≡ self.now) }
         ensures valid { OnOk result (IsPathName self.now) }
@@ -177,7 +177,7 @@ impl FileNode {
     }
 }
 
-/// Whether the bytes are those of a name's units with a zero behind it.
+/// Whether the bytes are those of a name's units with a zero after them.
 pub(crate) fn is_path_name(bytes: &[u8]) -> bool
     ensures { result ≡ is_some (name_of bytes.now) }
 {

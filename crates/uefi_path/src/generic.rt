@@ -1,6 +1,6 @@
 //! The numbers of the generic node (UEFI 2.10, 10.3.1).
 
-/// The bytes in front of a node's data: type, sub-type, and length in two bytes.
+/// The bytes before a node's data: type, sub-type, and length in two bytes.
 pub(crate) const HEADER_LEN: usize = 4;
 
 /// The most bytes of data that a node can have: two bytes state its length.

@@ -3,8 +3,8 @@
 ghost use Rattle.std.specs.Prelude.{◌≡◌, ◌≤◌, ◌++◌, length, OnOk, OnErr};
 ghost use Rattle.std.specs.List.{concat};
 ghost use Rattle.uefi_path.specs.Standard.{body_max};
-ghost use Rattle.uefi_path.specs.Reading.{hard_drive_at};
-ghost use Rattle.uefi_path.specs.Writing.{Extends};
+ghost use Rattle.uefi_path.specs.Reader.{hard_drive_at};
+ghost use Rattle.uefi_path.specs.Writer.{Extends};
 ghost use Rattle.uefi_path.specs.Parts.{AreHardDriveParts, hard_drive_parts, hard_drive_fields};
 
 use crate::fields::{NodeBytes, bytes_at, field, octets, u8_at, u32_at, u64_at};
@@ -50,7 +50,7 @@ impl HardDriveNode {
     /// The format of a GUID partition table.
     pub const FORMAT_GPT: u8 = 2;
 
-    /// The type of a signature that there is none of.
+    /// The type of a signature when there is none.
     pub const SIGNATURE_NONE: u8 = 0;
 
     /// The type of a signature of 32 bits, that of the drive in its master boot record.

@@ -3,8 +3,8 @@
 ghost use Rattle.std.specs.Prelude.{◌≡◌, ◌≤◌, ◌++◌, length, OnOk, OnErr};
 ghost use Rattle.std.specs.List.{concat};
 ghost use Rattle.uefi_path.specs.Standard.{body_max};
-ghost use Rattle.uefi_path.specs.Reading.{ipv4_at};
-ghost use Rattle.uefi_path.specs.Writing.{Extends};
+ghost use Rattle.uefi_path.specs.Reader.{ipv4_at};
+ghost use Rattle.uefi_path.specs.Writer.{Extends};
 ghost use Rattle.uefi_path.specs.Parts.{AreIpv4Parts, ipv4_parts, ipv4_fields};
 
 use crate::fields::{NodeBytes, bytes_at, field, octets, u8_at, u16_at};

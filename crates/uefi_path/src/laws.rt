@@ -45,7 +45,7 @@ pub fn bytes_spell_one_node()
     ensures { (bytes : List ℕ) (m n : Node) → SpellsNode bytes m → SpellsNode bytes n → m ≡ n }
 {}
 
-/// Each row that is no end node's is the row of a node.
+/// Each row that isn't an end node's is the row of a node.
 pub fn each_row_is_a_nodes()
     ensures { (r : Row) → IsRow r → r.kind ≢ 0x7F →
         (node : Node) × IsNode node × (row_of node ≡ r) }
@@ -93,7 +93,7 @@ pub fn bytes_begin_with_a_path_or_have_a_fault()
         ⊎ ((fault : PathFault) × IsFirstFault bytes fault) }
 {}
 
-/// Bytes that have a first fault begin with no path.
+/// Bytes that have a first fault don't begin with a path.
 pub fn a_fault_leaves_no_path()
     ensures { (bytes : List ℕ) (fault : PathFault) (path : List (List Node)) (n : ℕ) →
         IsFirstFault bytes fault → IsPathFront bytes path n → ⊥ }
@@ -105,12 +105,12 @@ pub fn bytes_have_one_first_fault()
         IsFirstFault bytes f → IsFirstFault bytes g → f ≡ g }
 {}
 
-/// Numbers of two bytes are read off their bytes again.
+/// Numbers of two bytes are read from their bytes again.
 pub fn units_are_read_again()
     ensures { (units : List ℕ) → AllByRecursion IsTwoByte units → units_of (units_bytes units) ≡ units }
 {}
 
-/// Bytes, even in number, are those of the numbers that are read off them.
+/// Bytes, even in number, are those of the numbers that are read from them.
 pub fn bytes_are_written_again()
     ensures { (bytes : List ℕ) → AllByRecursion IsByte bytes → length bytes % 2 ≡ 0 →
         units_bytes (units_of bytes) ≡ bytes }

@@ -48,7 +48,7 @@ pub enum Node {
     VendorMsg(Vendor),
     /// A MAC address (10.3.4.11).
     Mac {
-        /// The address, mostly six bytes with zeros behind them.
+        /// The address, mostly six bytes with zeros after them.
         address: [u8; 32],
         /// The type of the network interface, such as 1 for Ethernet.
         if_kind: u8,
@@ -59,7 +59,7 @@ pub enum Node {
     Sata {
         /// The port of the host bus adapter.
         hba: u16,
-        /// The port of the multiplier, or 0xFFFF where there is none.
+        /// The port of the multiplier, or 0xFFFF if there is none.
         multiplier: u16,
         /// The logical unit.
         lun: u16,
@@ -112,8 +112,7 @@ impl Node {
         self.shape().sub
     }
 
-    /// Looks at each field, for the contract alone: what a field's type keeps is known where the field
-    /// is looked at.
+    /// Looks at each field, for the contract alone: what a field's type keeps is known when the field is looked at.
     pub(crate) fn look(&self)
         ensures { IsNode self.now }
     {
@@ -169,7 +168,7 @@ impl Node {
         }
     }
 
-    /// An equal node. The one refusal is for want of memory.
+    /// An equal node. This fails only when out of memory.
     pub fn copy(&self, alloc: Global) -> Result<Node, AllocError>
         ensures equal { IfOk result (λ node. node ≡ self.now) }
         ensures valid { OnOk result (IsNode self.now) }

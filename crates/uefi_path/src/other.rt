@@ -61,9 +61,8 @@ impl OtherNode {
     ///
     /// # Errors
     ///
-    /// The data itself, where the type is 0x7F, where there are more than
-    /// [`BODY_MAX`](crate::BODY_MAX) bytes of it, or where another case of `Node` stands for these
-    /// parts, which [`node_from_parts`](crate::node_from_parts) makes.
+    /// The data itself, if the type is 0x7F, if there are more than [`BODY_MAX`](crate::BODY_MAX) bytes of it, or if
+    /// another case of `Node` stands for these parts, which [`node_from_parts`](crate::node_from_parts) makes.
     pub fn from_vec(kind: u8, sub: u8, body: Vec<u8>) -> Result<OtherNode, Vec<u8>>
         ensures made { IfOk result (λ node. node ≡ row kind sub body.items) }
         ensures valid { IfOk result (λ node. IsOther node) }
@@ -110,7 +109,7 @@ impl OtherNode {
         self.sub
     }
 
-    /// The data behind the four bytes of the header.
+    /// The data after the four bytes of the header.
     pub fn body(&self) -> &[u8]
         ensures bytes { result.now ≡ self.now.body }
         ensures valid { IsOther self.now }
@@ -129,7 +128,7 @@ impl OtherNode {
         (kind, sub, body)
     }
 
-    /// An equal node. The one refusal is for want of memory.
+    /// An equal node. This fails only when out of memory.
     pub fn copy(&self, alloc: Global) -> Result<OtherNode, AllocError>
         ensures equal { IfOk result (λ node. node ≡ self.now) }
         ensures valid { OnOk result (IsOther self.now) }

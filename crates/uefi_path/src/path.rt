@@ -92,7 +92,7 @@ impl Path {
         Path { instances }
     }
 
-    /// An equal path. The one refusal is for want of memory.
+    /// An equal path. This fails only when out of memory.
     pub fn copy(&self, alloc: Global) -> Result<Path, AllocError>
         ensures equal { IfOk result (λ path. path ≡ self.now) }
         ensures valid { OnOk result (IsPath self.now) }
@@ -136,7 +136,7 @@ impl Path {
 ///
 /// # Errors
 ///
-/// The list itself, where it is empty: a path has at least one instance.
+/// The list itself, if it is empty: a path has at least one instance.
 pub fn make_path(instances: Vec<Vec<Node>>) -> Result<Path, Vec<Vec<Node>>>
     ensures made { IfOk result (λ path. path ≡ map (λ nodes. nodes.items) instances.items) }
     ensures valid { IfOk result (λ path. IsPath path) }
@@ -152,8 +152,7 @@ pub fn make_path(instances: Vec<Vec<Node>>) -> Result<Path, Vec<Vec<Node>>>
     Ok(Path::from_instances(instances))
 }
 
-/// Looks at each node, for the contract alone: what a value's type keeps is known where the value is
-/// looked at.
+/// Looks at each node, for the contract alone: what a value's type keeps is known when the value is looked at.
 fn look_at_each(nodes: &[Node])
     ensures { AllByRecursion IsNode nodes.now }
 {

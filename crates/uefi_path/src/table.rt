@@ -1,11 +1,11 @@
-//! The table of nodes (UEFI 2.10, 10.3): how each case of `Node` stands in the bytes.
+//! The table of nodes (UEFI 2.10, 10.3): how each case of `Node` is laid out in the bytes.
 
 ghost use Rattle.std.specs.Prelude.{◌≡◌, ◌≢◌, ◌↔◌, ◌≤◌, ◌++◌, ◌∷◌, [], length, is_some, None, IsTrue, IfOk, OnOk, OnErr};
 ghost use Rattle.uefi_path.specs.Standard.{body_max};
 ghost use Rattle.uefi_path.specs.Row.{row, IsListed};
 ghost use Rattle.uefi_path.specs.Node.{row_of, IsNode};
-ghost use Rattle.uefi_path.specs.Reading.{fixed_node_of, list_node_of, node_of};
-ghost use Rattle.uefi_path.specs.Writing.{Extends};
+ghost use Rattle.uefi_path.specs.Reader.{fixed_node_of, list_node_of, node_of};
+ghost use Rattle.uefi_path.specs.Writer.{Extends};
 
 use crate::fields::{NodeBytes, bytes_at, field, u8_at, u16_at, u32_at, u64_at};
 use crate::file::{FileNode, is_path_name};
@@ -18,9 +18,9 @@ use crate::uri::UriNode;
 use crate::vendor::{GUID_LEN, Vendor};
 use std::alloc::{AllocError, Global};
 
-/// The first expression with the node of these parts, where the table has a row for them with data of one length, and else
-/// the second. That expression stands in the arm of each row, so that a node which is put into a list is made there: a
-/// function that answers it would have it moved, and reading would take a fifth more time.
+/// The first expression with the node of these parts, if the table has a row for them with data of one length, and
+/// otherwise the second. The first expression is in the arm of each row, so that a node which is put into a list is
+/// made there: a function that answers it would have it moved, and reading would take a fifth more time.
 macro_rules! match_one_length {
     (($kind:ident, $sub:ident, $body:ident), $node:ident => $then:expr, $other:expr) => {
         match ($kind, $sub, $body.len()) {
@@ -94,8 +94,8 @@ macro_rules! match_one_length {
     };
 }
 
-/// The same for parts that the table has a row with a list for: the first expression with their node, if there is memory
-/// for it, or else the second.
+/// The same for parts that the table has a row with a list for: the first expression with their node, if there is
+/// memory for it, and otherwise the second.
 macro_rules! match_list {
     (($alloc:ident, $kind:ident, $sub:ident, $body:ident), $node:ident => $then:expr, $other:expr) => {
         match ($kind, $sub) {
@@ -172,7 +172,7 @@ impl Node {
         }
     }
 
-    /// The node of these parts, where the table has a row for them with data of one length.
+    /// The node of these parts, if the table has a row for them with data of one length.
     fn of_one_length(kind: u8, sub: u8, body: &[u8]) -> Option<Node>
         ensures { result ≡ fixed_node_of (row kind sub body.now) }
     {
@@ -216,7 +216,8 @@ impl Node {
         }
     }
 
-    /// The node that has these parts, for which the table has no row with data of one length, if there is memory for it.
+    /// The node that has these parts, for which the table has no row with data of one length, if there is memory for
+    /// it.
     fn of_no_length(alloc: Global, kind: u8, sub: u8, body: &[u8]) -> Result<Node, AllocError>
         requires no_end { kind ≢ 0x7F }
         requires len { length body.now ≤ body_max }
@@ -250,8 +251,8 @@ impl Node {
         Ok(())
     }
 
-    /// Appends the node that has these parts, for which the table has no row with data of one length, if there is memory for
-    /// it.
+    /// Appends the node that has these parts, for which the table has no row with data of one length, if there is
+    /// memory for it.
     #[inline(always)]
     fn push_of_no_length(
         alloc: Global,

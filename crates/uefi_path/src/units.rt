@@ -10,11 +10,11 @@ use std::alloc::{AllocError, Global};
 pub(crate) const UNIT_LEN: usize = 2;
 
 /// The numbers that the bytes spell, two bytes each, little-endian (CHAR16 and UINT16 of UEFI 2.10, 2.3.1). A byte that
-/// is left over is no number. Room for the numbers is made once.
+/// is left over isn't a number. Room for the numbers is made once.
 ///
 /// # Errors
 ///
-/// `AllocError` where memory was refused.
+/// `AllocError` if memory was refused.
 pub fn read_units(alloc: Global, bytes: &[u8]) -> Result<Vec<u16>, AllocError>
     ensures { IfOk result (λ units. units.items ≡ units_of bytes.now) }
 {
@@ -32,7 +32,7 @@ pub fn read_units(alloc: Global, bytes: &[u8]) -> Result<Vec<u16>, AllocError>
 ///
 /// # Errors
 ///
-/// `AllocError` where memory was refused; `out` then has the bytes that it had.
+/// `AllocError` if memory was refused; `out` then has the bytes that it had.
 pub fn append_units(units: &[u16], out: &mut Vec<u8>) -> Result<(), AllocError>
     ensures ok { OnOk result (out.new.items ≡ out.old.items ++ units_bytes units.now) }
     ensures err { OnErr result (out.new.items ≡ out.old.items) }
@@ -40,7 +40,7 @@ pub fn append_units(units: &[u16], out: &mut Vec<u8>) -> Result<(), AllocError>
     append_before_zeros(units, 0, out)
 }
 
-/// Appends numbers, each as two bytes, little-endian, and so many zeros. An `Err` leaves the output as it was.
+/// Appends numbers, each as two bytes, little-endian, and this many zeros. An `Err` leaves the output as it was.
 pub(crate) fn append_before_zeros(
     units: &[u16],
     zeros: usize,

@@ -58,8 +58,8 @@ impl UriNode {
     ///
     /// # Errors
     ///
-    /// [`NodeFault::TooLong`] where there are more than [`BODY_MAX`] bytes; else
-    /// [`NodeFault::OutOfMemory`] where memory for them was refused.
+    /// [`NodeFault::TooLong`] if there are more than [`BODY_MAX`] bytes; otherwise [`NodeFault::OutOfMemory`] if memory
+    /// for them was refused.
     pub fn new(alloc: Global, bytes: &[u8]) -> Result<UriNode, NodeFault>
         ensures made { IfOk result (λ node. node ≡ bytes.now) }
         ensures valid { IfOk result (λ node. IsUri node) }
@@ -76,7 +76,7 @@ impl UriNode {
     ///
     /// # Errors
     ///
-    /// The bytes themselves, where there are more than [`BODY_MAX`].
+    /// The bytes themselves, if there are more than [`BODY_MAX`].
     pub fn from_vec(bytes: Vec<u8>) -> Result<UriNode, Vec<u8>>
         ensures made { IfOk result (λ node. node ≡ bytes.items) }
         ensures valid { IfOk result (λ node. IsUri node) }
@@ -117,7 +117,7 @@ impl UriNode {
         bytes
     }
 
-    /// An equal node. The one refusal is for want of memory.
+    /// An equal node. This fails only when out of memory.
     pub fn copy(&self, alloc: Global) -> Result<UriNode, AllocError>
         ensures equal { IfOk result (λ node. node ≡ self.now) }
         ensures valid { OnOk result (IsUri self.now) }

@@ -4,7 +4,7 @@ ghost use Rattle.std.specs.Prelude.{◌≡◌, ◌≢◌, ◌↔◌, ◌<◌, �
 ghost use Rattle.uefi_path.specs.declared.fault.NodeFault.{NodeFault};
 ghost use Rattle.uefi_path.specs.Standard.{body_max, vendor_body_max};
 ghost use Rattle.uefi_path.specs.Parts.{vendor_parts, vendor_bytes, vendor_of, IsVendor};
-ghost use Rattle.uefi_path.specs.Writing.{Extends};
+ghost use Rattle.uefi_path.specs.Writer.{Extends};
 
 use crate::fault::NodeFault;
 use crate::fields::{NodeBytes, bytes_at, each_octet, field, octets};
@@ -13,10 +13,10 @@ use crate::guid::Guid;
 use std::alloc::{AllocError, Global};
 use std::marker::Model;
 
-/// The bytes of the identifier in front of a vendor's data.
+/// The bytes of the identifier before a vendor's data.
 pub(crate) const GUID_LEN: usize = 16;
 
-/// The most bytes of data that a vendor's node can have behind its identifier.
+/// The most bytes of data that a vendor's node can have after its identifier.
 pub const VENDOR_BODY_MAX: usize = BODY_MAX - GUID_LEN;
 
 /// What a vendor's node holds (UEFI 2.10, 10.3.2.4, 10.3.4.17 and 10.3.5.3): the identifier that
@@ -68,8 +68,8 @@ impl Vendor {
     ///
     /// # Errors
     ///
-    /// [`NodeFault::TooLong`] where there are more than [`VENDOR_BODY_MAX`] bytes of data; else
-    /// [`NodeFault::OutOfMemory`] where memory for them was refused.
+    /// [`NodeFault::TooLong`] if there are more than [`VENDOR_BODY_MAX`] bytes of data; otherwise
+    /// [`NodeFault::OutOfMemory`] if memory for them was refused.
     pub fn new(alloc: Global, guid: Guid, body: &[u8]) -> Result<Vendor, NodeFault>
         ensures made { IfOk result (λ node. node ≡ vendor_parts guid.0 body.now) }
         ensures valid { IfOk result (λ node. IsVendor node) }
@@ -87,7 +87,7 @@ impl Vendor {
     ///
     /// # Errors
     ///
-    /// The data itself, where there are more than [`VENDOR_BODY_MAX`] bytes of it.
+    /// The data itself, if there are more than [`VENDOR_BODY_MAX`] bytes of it.
     pub fn from_vec(guid: Guid, body: Vec<u8>) -> Result<Vendor, Vec<u8>>
         ensures made { IfOk result (λ node. node ≡ vendor_parts guid.0 body.items) }
         ensures valid { IfOk result (λ node. IsVendor node) }
@@ -132,7 +132,7 @@ impl Vendor {
         &self.guid
     }
 
-    /// The data behind the identifier.
+    /// The data after the identifier.
     pub fn body(&self) -> &[u8]
         ensures bytes { result.now ≡ self.now.body }
         ensures valid { IsVendor self.now }
@@ -150,7 +150,7 @@ impl Vendor {
         (guid, body)
     }
 
-    /// An equal value. The one refusal is for want of memory.
+    /// An equal value. This fails only when out of memory.
     pub fn copy(&self, alloc: Global) -> Result<Vendor, AllocError>
         ensures equal { IfOk result (λ node. node ≡ self.now) }
         ensures valid { OnOk result (IsVendor self.now) }

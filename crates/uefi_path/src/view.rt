@@ -1,4 +1,4 @@
-//! Nodes where they stand in the bytes of a path.
+//! Nodes where they are in the bytes of a path.
 
 ghost use Rattle.std.specs.Prelude.{◌≡◌, ◌≢◌, ◌↔◌, ◌<◌, length, IfOk, Ok, Err};
 ghost use Rattle.uefi_path.specs.declared.node.Node.{Node};
@@ -10,17 +10,17 @@ ghost use Rattle.uefi_path.specs.Views.{row_seen};
 use crate::fault::NodeFault;
 use crate::generic::HEADER_LEN;
 use crate::node::Node;
-use crate::reading::node_from_parts;
+use crate::reader::node_from_parts;
 use std::alloc::Global;
 
-/// A node where it stands in the bytes of a path (UEFI 2.10, 10.3.1), as [`nodes`](crate::nodes) gives it.
+/// A node where it is in the bytes of a path (UEFI 2.10, 10.3.1), as [`nodes`](crate::nodes) gives it.
 #[derive(Clone, Copy, Debug, PartialEq, Eq)]
 pub struct NodeView<'a> {
     /// The type.
     pub kind: u8,
     /// The sub-type.
     pub sub: u8,
-    /// The data behind the four bytes of the header.
+    /// The data after the four bytes of the header.
     pub body: &'a [u8],
 }
 
@@ -30,9 +30,9 @@ impl NodeView<'_> {
     ///
     /// # Errors
     ///
-    /// [`NodeFault::BadEnd`] where the type is 0x7F, as in the view of the end of an instance; else
-    /// [`NodeFault::TooLong`] where there are more than [`BODY_MAX`](crate::BODY_MAX) bytes of data, which no view that
-    /// [`nodes`](crate::nodes) gives has; else [`NodeFault::OutOfMemory`] where memory for the data was refused.
+    /// [`NodeFault::BadEnd`] if the type is 0x7F, as in the view of the end of an instance; otherwise
+    /// [`NodeFault::TooLong`] if there are more than [`BODY_MAX`](crate::BODY_MAX) bytes of data, which no view that
+    /// [`nodes`](crate::nodes) gives has; otherwise [`NodeFault::OutOfMemory`] if memory for the data was refused.
     pub fn to_node(&self, alloc: Global) -> Result<Node, NodeFault>
         ensures made { IfOk result (λ node. IsNode node × (row_of node ≡ row_seen self.now)) }
         ensures only { (node : Node) → IsNode node → row_of node ≡ row_seen self.now →

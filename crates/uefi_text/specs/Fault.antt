@@ -31,8 +31,8 @@ closed_text instances segments =
     flat_map (λ nodes. instance_text nodes ++ comma ∷ []) instances
     ++ flat_map (λ segment. segment_text segment ++ slash ∷ []) segments
 
--- The text goes on, behind whole instances and segments that stand for nodes, with what is neither a whole segment
--- nor, where an instance may begin, an empty instance.
+-- The text goes on, after whole instances and segments that stand for nodes, with what is neither a whole segment nor,
+-- where an instance may begin, an empty instance.
 pub record IsStuckAt (text : List ℕ) (place : ℕ) : Type 0 where
   pub instances : List (List Segment)
   pub segments : List Segment

@@ -1,5 +1,5 @@
--- The text of a GUID (UEFI 2.10, appendix A): five groups of digits, joined by hyphens. The first three groups
--- are numbers, whose stored bytes stand the other way round.
+-- The text of a GUID (UEFI 2.10, appendix A): five groups of digits, joined by hyphens. The first three groups are
+-- numbers, whose stored bytes are the other way round.
 use Rattle.std.specs.Prelude.{◌≡◌, ℕ, List, [], ◌∷◌, map, reverse, take, drop, length}
 use Rattle.std.specs.List.{join_with_byte}
 use Rattle.uefi_text.specs.Bytes.{Each, IsHexData, hex_text, hyphen}

@@ -14,7 +14,7 @@ pub record IsReadNode (text : List ℕ) (node : Node) (rest : List ℕ) : Type 0
   pub parts : text ≡ segment_text segment ++ rest
   pub closed : ClosesSegment rest
 
--- no segment at the front of the text stands for a node, and the fault's place is there, or up to the end at len
+-- no segment at the start of the text stands for a node, and the fault's place is there, or up to the end at len
 pub record IsRefusedNode (text : List ℕ) (fault : TextFault) (len : ℕ) : Type 0 where
   pub no_node : BeginsWithNode text → ⊥
   pub place : IsPlaceOf fault (len - length text) len
@@ -34,7 +34,7 @@ pub record IsReadInstance (text : List ℕ) (nodes : List Node) (rest : List ℕ
   pub parts : text ≡ instance_text segments ++ rest
   pub closed : EndsOr comma rest
 
--- behind whole segments the text goes on with no segment that stands for a node, and the fault is of that place
+-- after whole segments the text goes on with no segment that stands for a node, and the fault is of that place
 pub record IsRefusedInstance (text : List ℕ) (fault : TextFault) (len : ℕ) : Type 0 where
   pub segments : List Segment
   pub nodes : List Node

@@ -9,10 +9,10 @@ pub mod Printed
 pub mod Fault
 pub mod Words
 -- what private contracts cite
-pub mod Printing
+pub mod Printer
 pub mod Within
-pub mod Reading
-pub mod Answering
-pub mod Placing
-pub mod Cutting
+pub mod Reader
+pub mod Answers
+pub mod Places
+pub mod Cuts
 pub mod Instances

@@ -73,7 +73,7 @@ abbrev pub IsBareName : List ℕ → Type 0
 IsBareName [] = ⊥
 IsBareName (first ∷ others) = (first ≡ 0x5C) × AllByRecursion IsBareUnit others
 
--- the arguments behind the others are data: none, or one argument of hexadecimal digits
+-- the arguments after the others are data: none, or one argument of hexadecimal digits
 abbrev pub IsOptionalData : List (List ℕ) → List ℕ → Type 0
 IsOptionalData [] bytes = bytes ≡ []
 IsOptionalData (hex ∷ []) bytes = IsHexData hex bytes
@@ -84,8 +84,8 @@ abbrev pub IsVendorText : List (List ℕ) → VendorParts → Type 0
 IsVendorText [] vendor = ⊥
 IsVendorText (guid ∷ more) vendor = IsGuid guid vendor.guid × IsOptionalData more vendor.body
 
--- The segment stands for the node, where that is one with its numbers in their ranges. A node of any type has
--- the form `Path`, of its type, its sub-type and its data.
+-- The segment stands for the node, if that is one with its numbers in their ranges. A node of any type has the form
+-- `Path`, of its type, its sub-type and its data.
 pub data MeansNode : Segment → Node → Type 0 where
   pci : {device function : List ℕ} {d f : ℕ} → IsNumber device d → IsNumber function f
       → MeansNode (named (codes "Pci") (device ∷ function ∷ [])) (Pci f d)

@@ -3,7 +3,7 @@ use Rattle.std.specs.Prelude.{◌≡◌, ◌≤◌, ◌⊎◌, ℕ, false, List,
 use Rattle.std.specs.Fmt.{digits}
 use Rattle.std.specs.Str.Parse.{IsNumeral, digits_value}
 
--- one to so many digits of the base, of either case, that write n
+-- one to this many digits of the base, of either case, that write n
 pub record AreDigits (base most : ℕ) (text : List ℕ) (n : ℕ) : Type 0 where
   pub numeral : IsNumeral base text
   pub len : length text ≤ most

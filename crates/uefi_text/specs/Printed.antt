@@ -16,7 +16,7 @@ use Rattle.uefi_text.specs.Segment.{Segment, named, segment_text, cut_text}
 use Rattle.uefi_path.specs.Standard.{pci_root_hid, pcie_root_hid}
 use Rattle.uefi_text.specs.Node.{pnp}
 
--- no argument where there is no data, else its digits
+-- no argument if there is no data, otherwise its digits
 abbrev pub data_arguments : List ℕ → List (List ℕ)
 data_arguments [] = []
 data_arguments (byte ∷ bytes) = hex_text (byte ∷ bytes) ∷ []
@@ -82,7 +82,7 @@ abbrev pub partition_segment : HardDriveParts → List ℕ → List ℕ → Segm
 partition_segment p format signature =
     named (codes "HD") (decimal p.partition ∷ format ∷ signature ∷ number_text p.start ∷ number_text p.size ∷ [])
 
--- the segment of a node, if it has a form of its own, else that of its row
+-- the segment of a node, if it has a form of its own; otherwise that of its row
 abbrev pub segment_of : Node → Segment
 segment_of (Pci function device) = named (codes "Pci") (number_text device ∷ number_text function ∷ [])
 segment_of (VendorHw vendor) = vendor_segment (codes "VenHw") vendor

@@ -10,7 +10,7 @@ text_fault_words (OutOfRange place) = codes "OutOfRange " ++ decimal place
 text_fault_words (BadEnd place) = codes "BadEnd " ++ decimal place
 text_fault_words OutOfMemory = codes "OutOfMemory"
 
--- the place of a fault, which want of memory hasn't
+-- the place of a fault; out of memory has none
 abbrev pub text_fault_place : TextFault → Option ℕ
 text_fault_place (BadSegment place) = Some place
 text_fault_place (BadNumber place) = Some place

@@ -4,7 +4,7 @@ ghost use Rattle.std.specs.Prelude.{◌≡◌, ◌<◌, ◌≤◌, ◌^◌, ◌+
 ghost use Rattle.std.specs.List.{list_all};
 ghost use Rattle.std.specs.Char.{digit_value};
 ghost use Rattle.std.specs.Str.Parse.{digits_value};
-ghost use Rattle.uefi_text.specs.Reading.{Reads, ReadsAs, parts_of, one_of, first_of, two_of, three_of, is_numeral, numeral_of, number_of, number_up_to, TellsNumber, first_two_of, octet_of, address_of, byte_of, pair_of, two_bytes_of, eui_of, guid_read, is_data, data_bytes, data_up_to, mac_of, hid_of, pnp_of, origin_of, one_or_two_of};
+ghost use Rattle.uefi_text.specs.Reader.{Reads, ReadsAs, parts_of, one_of, first_of, two_of, three_of, is_numeral, numeral_of, number_of, number_up_to, TellsNumber, first_two_of, octet_of, address_of, byte_of, pair_of, two_bytes_of, eui_of, guid_read, is_data, data_bytes, data_up_to, mac_of, hid_of, pnp_of, origin_of, one_or_two_of};
 ghost use Rattle.std.specs.Option.{option_map};
 ghost use Rattle.uefi_text.specs.Bytes.{dot, hyphen};
 ghost use Rattle.uefi_text.specs.Within.{Lacks, IsAroundMark};
@@ -28,11 +28,11 @@ const DECIMAL_LEN: usize = 20;
 /// The most digits of a part of an address.
 const OCTET_LEN: usize = 3;
 
-/// The digits behind `PNP`.
+/// The digits after `PNP`.
 const PNP_LEN: usize = 4;
 
-/// The value of each byte as a digit, of either case: 36 where it is no digit and no letter. A look
-/// into a table takes the same time whatever the byte is, where branches on random digits don't.
+/// The value of each byte as a digit, of either case: 36 if it is neither a digit nor a letter. A look into a table
+/// takes the same time whatever the byte is, while branches on random digits don't.
 const DIGIT_VALUES: [u8; 256] = [
     36, 36, 36, 36, 36, 36, 36, 36, 36, 36, 36, 36, 36, 36, 36, 36, 36, 36, 36, 36, 36, 36, 36, 36,
     36, 36, 36, 36, 36, 36, 36, 36, 36, 36, 36, 36, 36, 36, 36, 36, 36, 36, 36, 36, 36, 36, 36, 36,
@@ -47,7 +47,7 @@ const DIGIT_VALUES: [u8; 256] = [
     36, 36, 36, 36, 36, 36, 36, 36, 36, 36, 36, 36, 36, 36,
 ];
 
-/// What stands before the first mark and what stands behind it, if there is one.
+/// What comes before the first mark and what comes after it, if there is one.
 fn split_first(text: &[u8], mark: u8) -> Option<(&[u8], &[u8])>
     ensures { MatchOption result
         (parts_of mark text.now ≡ text.now ∷ [])
@@ -81,7 +81,7 @@ pub(crate) fn first(text: &[u8], mark: u8) -> Result<(&[u8], &[u8]), SegmentFaul
 }
 
 /// The first two of more parts, and the others.
-#[tactic(auto, unfolding(crate::specs::Reading::first_two_of))]
+#[tactic(auto, unfolding(crate::specs::Reader::first_two_of))]
 pub(crate) fn first_two(text: &[u8], mark: u8) -> Result<(&[u8], &[u8], &[u8]), SegmentFault>
     ensures { ReadsAs (λ parts. (parts.0.now, parts.1.now, parts_of mark parts.2.now)) result
         (first_two_of (parts_of mark text.now)) }
@@ -92,7 +92,7 @@ pub(crate) fn first_two(text: &[u8], mark: u8) -> Result<(&[u8], &[u8], &[u8]), 
 }
 
 /// The two parts.
-#[tactic(auto, unfolding(crate::specs::Reading::two_of))]
+#[tactic(auto, unfolding(crate::specs::Reader::two_of))]
 pub(crate) fn two(text: &[u8], mark: u8) -> Result<(&[u8], &[u8]), SegmentFault>
     ensures { ReadsAs (λ parts. (parts.0.now, parts.1.now)) result (two_of (parts_of mark text.now)) }
 {
@@ -116,7 +116,7 @@ pub(crate) fn one_or_two(text: &[u8], mark: u8) -> Result<(&[u8], Option<&[u8]>)
 }
 
 /// The three parts.
-#[tactic(auto, unfolding(crate::specs::Reading::three_of))]
+#[tactic(auto, unfolding(crate::specs::Reader::three_of))]
 pub(crate) fn three(text: &[u8], mark: u8) -> Result<(&[u8], &[u8], &[u8]), SegmentFault>
     ensures { ReadsAs (λ parts. (parts.0.now, parts.1.now, parts.2.now)) result
         (three_of (parts_of mark text.now)) }
@@ -127,7 +127,7 @@ pub(crate) fn three(text: &[u8], mark: u8) -> Result<(&[u8], &[u8], &[u8]), Segm
 }
 
 /// The address of a text: four numbers joined by dots.
-#[tactic(auto, unfolding(crate::specs::Reading::address_of))]
+#[tactic(auto, unfolding(crate::specs::Reader::address_of))]
 pub(crate) fn address_of(text: &[u8]) -> Result<[u8; 4], SegmentFault>
     ensures { Reads result (address_of (parts_of dot text.now)) }
 {
@@ -141,7 +141,7 @@ pub(crate) fn address_of(text: &[u8]) -> Result<[u8; 4], SegmentFault>
 }
 
 /// The part of an address that a text is.
-#[tactic(auto, unfolding(crate::specs::Reading::octet_of, crate::specs::Reading::numeral_of))]
+#[tactic(auto, unfolding(crate::specs::Reader::octet_of, crate::specs::Reader::numeral_of))]
 fn octet_of(text: &[u8]) -> Result<u8, SegmentFault>
     ensures { Reads result (octet_of text.now) }
 {
@@ -152,7 +152,7 @@ fn octet_of(text: &[u8]) -> Result<u8, SegmentFault>
 }
 
 /// The EUI-64 of a text: eight pairs of digits joined by hyphens.
-#[tactic(auto, unfolding(crate::specs::Reading::eui_of))]
+#[tactic(auto, unfolding(crate::specs::Reader::eui_of))]
 pub(crate) fn eui_of(text: &[u8]) -> Result<[u8; 8], SegmentFault>
     ensures { Reads result (eui_of (parts_of hyphen text.now)) }
 {
@@ -190,8 +190,8 @@ pub(crate) fn guid_argument(text: &[u8]) -> Result<Guid, SegmentFault>
     }
 }
 
-/// The digits of the data that the argument before which so many stand is, where there is one: they
-/// write at most so many bytes. Where there is none, no digits.
+/// The digits of the data in the argument after `index` others, if there is one: they write at most `most` bytes. If
+/// there is none, no digits.
 #[tactic(auto, using(crate::proofs::Read::Hex::data_length))]
 pub(crate) fn data_up_to(
     most: usize,
@@ -247,9 +247,8 @@ pub(crate) fn mac_of(text: &[u8]) -> Result<[u8; 32], SegmentFault>
     }
 }
 
-/// The hardware identifier of the argument before which so many stand: `PNP` and four digits, or a
-/// number.
-#[tactic(auto, unfolding(crate::specs::Reading::hid_of))]
+/// The hardware identifier of the argument after `index` others: `PNP` and four digits, or a number.
+#[tactic(auto, unfolding(crate::specs::Reader::hid_of))]
 pub(crate) fn hid_of(text: &[u8], index: usize) -> Result<u32, SegmentFault>
     ensures { Reads result (hid_of text.now) }
 {
@@ -275,8 +274,8 @@ pub(crate) fn origin_of(text: &[u8]) -> Result<u8, SegmentFault>
     }
 }
 
-/// The number of the argument before which so many stand, at most so large.
-#[tactic(auto, unfolding(crate::specs::Reading::number_up_to))]
+/// The number of the argument after `index` others, at most `most`.
+#[tactic(auto, unfolding(crate::specs::Reader::number_up_to))]
 pub(crate) fn number_up_to(most: u64, text: &[u8], index: usize) -> Result<u64, SegmentFault>
     ensures bound { IfOk result (λ value. value ≤ most) }
     ensures value { Reads result (number_up_to most text.now) }
@@ -288,37 +287,37 @@ pub(crate) fn number_up_to(most: u64, text: &[u8], index: usize) -> Result<u64, 
     }
 }
 
-/// The number of 8 bits of the argument before which so many stand.
+/// The number of 8 bits of the argument after `index` others.
 pub(crate) fn u8_of(text: &[u8], index: usize) -> Result<u8, SegmentFault>
     ensures { Reads result (number_up_to 0xff text.now) }
 {
     Ok(number_up_to(0xff, text, index)? as u8)
 }
 
-/// The number of 16 bits of the argument before which so many stand.
+/// The number of 16 bits of the argument after `index` others.
 pub(crate) fn u16_of(text: &[u8], index: usize) -> Result<u16, SegmentFault>
     ensures { Reads result (number_up_to 0xffff text.now) }
 {
     Ok(number_up_to(0xffff, text, index)? as u16)
 }
 
-/// The number of 32 bits of the argument before which so many stand.
+/// The number of 32 bits of the argument after `index` others.
 pub(crate) fn u32_of(text: &[u8], index: usize) -> Result<u32, SegmentFault>
     ensures { Reads result (number_up_to 0xffffffff text.now) }
 {
     Ok(number_up_to(0xffffffff, text, index)? as u32)
 }
 
-/// The number of 64 bits of the argument before which so many stand.
+/// The number of 64 bits of the argument after `index` others.
 pub(crate) fn u64_of(text: &[u8], index: usize) -> Result<u64, SegmentFault>
     ensures { Reads result (number_up_to 0xFFFFFFFFFFFFFFFF text.now) }
 {
     number_up_to(u64::MAX, text, index)
 }
 
-/// The number that a text is read as: `None` for no number's text, and inside it `None` for a
-/// number that 64 bits can't hold.
-#[tactic(auto, unfolding(crate::specs::Reading::number_of))]
+/// The number that a text is read as: `None` if it isn't a number's text, and inside it `None` for a number that 64
+/// bits can't hold.
+#[tactic(auto, unfolding(crate::specs::Reader::number_of))]
 fn number_of(text: &[u8]) -> Option<Option<u64>>
     ensures { TellsNumber result (number_of text.now) }
 {
@@ -328,8 +327,8 @@ fn number_of(text: &[u8]) -> Option<Option<u64>>
     }
 }
 
-/// The number of at most so many digits of a base, in the words of `number_of`.
-#[tactic(auto, unfolding(crate::specs::Reading::numeral_of))]
+/// The number of at most `len` digits of a base, in the words of `number_of`.
+#[tactic(auto, unfolding(crate::specs::Reader::numeral_of))]
 fn numeral(digits: &[u8], base: u8, len: usize) -> Option<Option<u64>>
     requires { 0 < base }
     ensures { TellsNumber result (numeral_of base len digits.now) }
@@ -340,7 +339,7 @@ fn numeral(digits: &[u8], base: u8, len: usize) -> Option<Option<u64>>
     Some(value_of(digits, base))
 }
 
-/// Whether these are one to so many digits.
+/// Whether these are one to `len` digits.
 fn is_numeral(digits: &[u8], base: u8, len: usize) -> bool
     ensures { result ≡ is_numeral base len digits.now }
 {
@@ -353,14 +352,14 @@ fn are_digits(digits: &[u8], base: u8) -> bool
     digits.iter().all(|digit| digit_of(*digit) < base)
 }
 
-/// The value of a digit, of either case: 36 where the byte is no digit and no letter.
+/// The value of a digit, of either case: 36 if the byte is neither a digit nor a letter.
 fn digit_of(byte: u8) -> u8
     ensures { result ≡ digit_value byte }
 {
     DIGIT_VALUES[byte as usize]
 }
 
-/// The number that digits write, where 64 bits hold it.
+/// The number that digits write, if 64 bits hold it.
 fn value_of(digits: &[u8], base: u8) -> Option<u64>
     requires { 0 < base }
     ensures some { IfSome result (λ value. value ≡ digits_value base digits.now) }
@@ -376,7 +375,7 @@ fn value_of(digits: &[u8], base: u8) -> Option<u64>
     Some(value)
 }
 
-/// The number with a digit behind it, where 64 bits hold it.
+/// The number with a digit after it, if 64 bits hold it.
 fn with_digit(value: u64, base: u8, digit: u8) -> Option<u64>
     ensures some { IfSome result (λ more. more ≡ value * base + digit) }
     ensures none { IfNone result (2 ^ 64 ≤ value * base + digit) }
@@ -388,7 +387,7 @@ fn with_digit(value: u64, base: u8, digit: u8) -> Option<u64>
 }
 
 /// The hardware identifier that begins with PNP and goes on with these four digits.
-#[tactic(auto, unfolding(crate::specs::Reading::pnp_of, crate::specs::Reading::numeral_of))]
+#[tactic(auto, unfolding(crate::specs::Reader::pnp_of, crate::specs::Reader::numeral_of))]
 fn pnp(digits: &[u8]) -> Option<u32>
     ensures { result ≡ pnp_of digits.now }
 {
@@ -401,7 +400,7 @@ fn pnp(digits: &[u8]) -> Option<u32>
     }
 }
 
-/// Six bytes, and zeros behind them.
+/// Six bytes, and zeros after them.
 fn padded(six: [u8; 6]) -> [u8; 32]
     ensures { result ≡ six ++ replicate 26 0 }
 {
@@ -413,7 +412,7 @@ fn padded(six: [u8; 6]) -> [u8; 32]
 }
 
 /// The bytes that are written in two parts.
-#[tactic(auto, unfolding(crate::specs::Reading::two_bytes_of))]
+#[tactic(auto, unfolding(crate::specs::Reader::two_bytes_of))]
 fn two_bytes(first: &[u8], second: &[u8]) -> Result<[u8; 2], SegmentFault>
     ensures { ReadsAs (λ bytes. (slice_index bytes 0, slice_index bytes 1)) result
         (two_bytes_of first.now second.now) }
@@ -436,7 +435,7 @@ fn pair(high: u8, low: u8) -> Option<u8>
     }
 }
 
-/// What stands before the first mark, and what stands behind it.
+/// What comes before the first mark, and what comes after it.
 pub(crate) fn around_mark(text: &[u8], mark: u8) -> Option<(&[u8], &[u8])>
     ensures { MatchOption result (Lacks mark text.now) (λ parts.
         IsAroundMark mark text.now parts.0.now parts.1.now) }

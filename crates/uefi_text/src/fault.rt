@@ -4,8 +4,8 @@ ghost use Rattle.std.specs.Prelude.{◌≡◌, ◌+◌, ◌<◌, ◌^◌, Some, 
 ghost use Rattle.std.specs.String.{string_bytes};
 ghost use Rattle.uefi_text.specs.declared.fault.TextFault.TheVariants as text;
 ghost use Rattle.uefi_text.specs.declared.fault.SegmentFault.TheVariants as segment;
-ghost use Rattle.uefi_text.specs.Cutting.{text_of};
-ghost use Rattle.uefi_text.specs.Placing.{IsFaultIn};
+ghost use Rattle.uefi_text.specs.Cuts.{text_of};
+ghost use Rattle.uefi_text.specs.Places.{IsFaultIn};
 
 use crate::segment::Segment;
 use std::alloc::{AllocError, AllocFailed, Global};
@@ -17,12 +17,12 @@ use thiserror::Error;
 /// shape comes first, then its arguments from left to right, then [`TextFault::BadEnd`].
 #[derive(Clone, Copy, Debug, PartialEq, Eq, Error)]
 pub enum TextFault {
-    /// The segment at this place is none: empty where one must stand, without its parentheses, of
-    /// an unknown name, with another number of arguments, or with an argument that isn't of its
-    /// form and no number.
+    /// What is at this place isn't a segment: it is empty where there must be one, without its parentheses, of an
+    /// unknown name, with another number of arguments, or with an argument, other than a number, that isn't of its
+    /// form.
     #[error("BadSegment {0}")]
     BadSegment(usize),
-    /// The argument at this place must be a number and is no number's text.
+    /// The argument at this place must be a number and isn't a number's text.
     #[error("BadNumber {0}")]
     BadNumber(usize),
     /// The argument at this place is out of its range: a number too large, or a name, data or a URI
@@ -40,8 +40,8 @@ pub enum TextFault {
 impl TextFault {
     ghost use Rattle.uefi_text.specs.Words.{text_fault_words, text_fault_place};
 
-    /// The place of the fault in the text, in bytes from its first one, where the fault has one: all
-    /// but want of memory have.
+    /// The place of the fault in the text, in bytes from its first one, if the fault has one: all but out of memory
+    /// have.
     pub fn place(&self) -> Option<usize>
         ensures { result ≡ text_fault_place self.now }
     {
@@ -54,8 +54,7 @@ impl TextFault {
         }
     }
 
-    /// The fault's name and, where it has one, its place in decimal after a blank. The one refusal
-    /// is for want of memory.
+    /// The fault's name and, if it has one, its place in decimal after a blank. This fails only when out of memory.
     pub fn words(&self, alloc: Global) -> Result<String, AllocError>
         ensures { IfOk result (λ words. string_bytes words ≡ text_fault_words self.now) }
     {
@@ -85,8 +84,8 @@ impl<T: Drop> From<AllocFailed<T>> for TextFault {
     }
 }
 
-/// Why a segment stands for no node, by the tests of [`TextFault`]. An argument is told by how many
-/// stand before it.
+/// Why a segment stands for no node, by the tests of [`TextFault`]. An argument is given by how many others come before
+/// it.
 #[derive(Clone, Copy, Debug)]
 pub(crate) enum SegmentFault {
     BadSegment,

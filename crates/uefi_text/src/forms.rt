@@ -5,9 +5,9 @@ ghost use Rattle.std.specs.List.{list_all};
 ghost use Rattle.uefi_path.specs.Parts.{vendor_parts};
 ghost use Rattle.uefi_path.specs.Row.{row};
 ghost use Rattle.uefi_path.specs.Standard.{body_max, vendor_body_max};
-ghost use Rattle.uefi_text.specs.Answering.{AnswersNamed, AnswersSegment, AnswersRow};
-ghost use Rattle.uefi_text.specs.Cutting.{HasBareName};
-ghost use Rattle.uefi_text.specs.Reading.{Reads, arguments_of, pci_of, usb_of, sata_of, vlan_of, root_of, nvme_of, acpi_of, mac_node_of, ipv4_of, hard_drive_of, cdrom_of, signature_of, ReadsAs, Makes, uri_of, file_of, vendor_of, vendor_hw_of, vendor_msg_of, vendor_media_of, is_data, data_bytes, generic_of};
+ghost use Rattle.uefi_text.specs.Answers.{AnswersNamed, AnswersSegment, AnswersRow};
+ghost use Rattle.uefi_text.specs.Cuts.{HasBareName};
+ghost use Rattle.uefi_text.specs.Reader.{Reads, arguments_of, pci_of, usb_of, sata_of, vlan_of, root_of, nvme_of, acpi_of, mac_node_of, ipv4_of, hard_drive_of, cdrom_of, signature_of, ReadsAs, Makes, uri_of, file_of, vendor_of, vendor_hw_of, vendor_msg_of, vendor_media_of, is_data, data_bytes, generic_of};
 ghost use Rattle.std.specs.Int.{w32, to_le_bytes};
 
 use crate::argument::{
@@ -108,7 +108,7 @@ fn is_named(name: &[u8], expected: &[u8]) -> bool
 }
 
 #[inline(never)]
-#[tactic(auto, unfolding(crate::specs::Reading::vendor_hw_of))]
+#[tactic(auto, unfolding(crate::specs::Reader::vendor_hw_of))]
 fn vendor_hw(alloc: Global, inside: &[u8]) -> Result<Node, SegmentFault>
     ensures { Makes result (vendor_hw_of (arguments_of inside.now)) }
 {
@@ -117,7 +117,7 @@ fn vendor_hw(alloc: Global, inside: &[u8]) -> Result<Node, SegmentFault>
 }
 
 #[inline(never)]
-#[tactic(auto, unfolding(crate::specs::Reading::vendor_msg_of))]
+#[tactic(auto, unfolding(crate::specs::Reader::vendor_msg_of))]
 fn vendor_msg(alloc: Global, inside: &[u8]) -> Result<Node, SegmentFault>
     ensures { Makes result (vendor_msg_of (arguments_of inside.now)) }
 {
@@ -126,7 +126,7 @@ fn vendor_msg(alloc: Global, inside: &[u8]) -> Result<Node, SegmentFault>
 }
 
 #[inline(never)]
-#[tactic(auto, unfolding(crate::specs::Reading::vendor_media_of))]
+#[tactic(auto, unfolding(crate::specs::Reader::vendor_media_of))]
 fn vendor_media(alloc: Global, inside: &[u8]) -> Result<Node, SegmentFault>
     ensures { Makes result (vendor_media_of (arguments_of inside.now)) }
 {
@@ -135,7 +135,7 @@ fn vendor_media(alloc: Global, inside: &[u8]) -> Result<Node, SegmentFault>
 }
 
 #[inline(never)]
-#[tactic(auto, unfolding(crate::specs::Reading::pci_of))]
+#[tactic(auto, unfolding(crate::specs::Reader::pci_of))]
 fn pci(inside: &[u8]) -> Result<Node, SegmentFault>
     ensures { Reads result (pci_of (arguments_of inside.now)) }
 {
@@ -146,7 +146,7 @@ fn pci(inside: &[u8]) -> Result<Node, SegmentFault>
 }
 
 #[inline(never)]
-#[tactic(auto, unfolding(crate::specs::Reading::usb_of))]
+#[tactic(auto, unfolding(crate::specs::Reader::usb_of))]
 fn usb(inside: &[u8]) -> Result<Node, SegmentFault>
     ensures { Reads result (usb_of (arguments_of inside.now)) }
 {
@@ -157,7 +157,7 @@ fn usb(inside: &[u8]) -> Result<Node, SegmentFault>
 }
 
 #[inline(never)]
-#[tactic(auto, unfolding(crate::specs::Reading::sata_of))]
+#[tactic(auto, unfolding(crate::specs::Reader::sata_of))]
 fn sata(inside: &[u8]) -> Result<Node, SegmentFault>
     ensures { Reads result (sata_of (arguments_of inside.now)) }
 {
@@ -173,7 +173,7 @@ fn sata(inside: &[u8]) -> Result<Node, SegmentFault>
 }
 
 #[inline(never)]
-#[tactic(auto, unfolding(crate::specs::Reading::vlan_of))]
+#[tactic(auto, unfolding(crate::specs::Reader::vlan_of))]
 fn vlan(inside: &[u8]) -> Result<Node, SegmentFault>
     ensures { Reads result (vlan_of (arguments_of inside.now)) }
 {
@@ -183,7 +183,7 @@ fn vlan(inside: &[u8]) -> Result<Node, SegmentFault>
 }
 
 #[inline(never)]
-#[tactic(auto, unfolding(crate::specs::Reading::root_of))]
+#[tactic(auto, unfolding(crate::specs::Reader::root_of))]
 fn root(inside: &[u8], hid: u32) -> Result<Node, SegmentFault>
     ensures { Reads result (root_of hid (arguments_of inside.now)) }
 {
@@ -193,7 +193,7 @@ fn root(inside: &[u8], hid: u32) -> Result<Node, SegmentFault>
 }
 
 #[inline(never)]
-#[tactic(auto, unfolding(crate::specs::Reading::nvme_of))]
+#[tactic(auto, unfolding(crate::specs::Reader::nvme_of))]
 fn nvme(inside: &[u8]) -> Result<Node, SegmentFault>
     ensures { Reads result (nvme_of (arguments_of inside.now)) }
 {
@@ -204,7 +204,7 @@ fn nvme(inside: &[u8]) -> Result<Node, SegmentFault>
 }
 
 #[inline(never)]
-#[tactic(auto, unfolding(crate::specs::Reading::acpi_of))]
+#[tactic(auto, unfolding(crate::specs::Reader::acpi_of))]
 fn acpi(inside: &[u8]) -> Result<Node, SegmentFault>
     ensures { Reads result (acpi_of (arguments_of inside.now)) }
 {
@@ -215,7 +215,7 @@ fn acpi(inside: &[u8]) -> Result<Node, SegmentFault>
 }
 
 #[inline(never)]
-#[tactic(auto, unfolding(crate::specs::Reading::mac_node_of))]
+#[tactic(auto, unfolding(crate::specs::Reader::mac_node_of))]
 fn mac_node(inside: &[u8]) -> Result<Node, SegmentFault>
     ensures { Reads result (mac_node_of (arguments_of inside.now)) }
 {
@@ -229,7 +229,7 @@ fn mac_node(inside: &[u8]) -> Result<Node, SegmentFault>
 }
 
 #[inline(never)]
-#[tactic(auto, unfolding(crate::specs::Reading::ipv4_of))]
+#[tactic(auto, unfolding(crate::specs::Reader::ipv4_of))]
 fn ipv4(inside: &[u8]) -> Result<Node, SegmentFault>
     ensures { Reads result (ipv4_of (arguments_of inside.now)) }
 {
@@ -246,7 +246,7 @@ fn ipv4(inside: &[u8]) -> Result<Node, SegmentFault>
 }
 
 #[inline(never)]
-#[tactic(auto, unfolding(crate::specs::Reading::hard_drive_of))]
+#[tactic(auto, unfolding(crate::specs::Reader::hard_drive_of))]
 fn hard_drive(inside: &[u8]) -> Result<Node, SegmentFault>
     ensures { Reads result (hard_drive_of (arguments_of inside.now)) }
 {
@@ -260,7 +260,7 @@ fn hard_drive(inside: &[u8]) -> Result<Node, SegmentFault>
 }
 
 /// The signature of a partition, and its type, which is also the format.
-#[tactic(auto, unfolding(crate::specs::Reading::signature_of))]
+#[tactic(auto, unfolding(crate::specs::Reader::signature_of))]
 fn signature_of(format: &[u8], signature: &[u8]) -> Result<([u8; 16], u8), SegmentFault>
     ensures { ReadsAs (λ parts. (parts.0, parts.1)) result (signature_of format.now signature.now) }
 {
@@ -286,7 +286,7 @@ fn mbr_signature(number: u32) -> [u8; 16]
 }
 
 #[inline(never)]
-#[tactic(auto, unfolding(crate::specs::Reading::cdrom_of))]
+#[tactic(auto, unfolding(crate::specs::Reader::cdrom_of))]
 fn cdrom(inside: &[u8]) -> Result<Node, SegmentFault>
     ensures { Reads result (cdrom_of (arguments_of inside.now)) }
 {
@@ -314,7 +314,7 @@ fn uri(alloc: Global, inside: &[u8]) -> Result<Node, SegmentFault>
     }
 }
 
-/// A file path, whose name stands in the parentheses of `File` or by itself.
+/// A file path, whose name is in the parentheses of `File` or by itself.
 #[inline(never)]
 fn file(alloc: Global, name: &[u8]) -> Result<Node, SegmentFault>
     ensures { Makes result (file_of name.now) }
@@ -355,7 +355,7 @@ fn vendor(alloc: Global, inside: &[u8]) -> Result<Vendor, SegmentFault>
 }
 
 /// The identifier of a vendor's node, and the digits of its data.
-#[tactic(auto, unfolding(crate::specs::Reading::vendor_of))]
+#[tactic(auto, unfolding(crate::specs::Reader::vendor_of))]
 fn vendor_texts(inside: &[u8]) -> Result<(Guid, &[u8]), SegmentFault>
     ensures data { IfOk result (λ parts. IsTrue (is_data parts.1.now)) }
     ensures len { IfOk result (λ parts. length (data_bytes parts.1.now) ≤ vendor_body_max) }
@@ -377,7 +377,7 @@ fn generic(alloc: Global, inside: &[u8]) -> Result<Node, SegmentFault>
 }
 
 /// The type and the sub-type of any node, and the digits of its data.
-#[tactic(auto, unfolding(crate::specs::Reading::generic_of))]
+#[tactic(auto, unfolding(crate::specs::Reader::generic_of))]
 fn row_texts(inside: &[u8]) -> Result<(u8, u8, &[u8]), SegmentFault>
     ensures data { IfOk result (λ parts. IsTrue (is_data parts.2.now)) }
     ensures len { IfOk result (λ parts. length (data_bytes parts.2.now) ≤ body_max) }

@@ -4,7 +4,7 @@ ghost use Rattle.std.specs.Prelude.{◌≡◌, Some, IfOk, IfSome};
 ghost use Rattle.std.specs.String.{string_bytes};
 ghost use Rattle.uefi_path.specs.declared.guid.Guid.{Guid};
 ghost use Rattle.std.specs.Option.{option_map};
-ghost use Rattle.uefi_text.specs.Reading.{guid_read};
+ghost use Rattle.uefi_text.specs.Reader.{guid_read};
 ghost use Rattle.uefi_text.specs.Guid.{IsGuid, guid_text as printed_guid};
 
 use std::alloc::{AllocError, Global};
@@ -31,8 +31,8 @@ impl fmt::Display for GuidText<'_> {
     }
 }
 
-/// The text of a GUID (UEFI 2.10, appendix A): 32 hexadecimal digits in lower case, in groups of 8,
-/// 4, 4, 4 and 12 joined by hyphens. The one refusal is for want of memory.
+/// The text of a GUID (UEFI 2.10, appendix A): 32 hexadecimal digits in lower case, in groups of 8, 4, 4, 4 and 12
+/// joined by hyphens. This fails only when out of memory.
 pub fn guid_text(alloc: Global, guid: &Guid) -> Result<String, AllocError>
     ensures { IfOk result (λ text. string_bytes text ≡ printed_guid guid.now.0) }
 {

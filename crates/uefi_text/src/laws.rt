@@ -57,7 +57,7 @@ pub fn a_text_stands_for_one_path()
     uefi_path::laws::bytes_spell_one_node();
 }
 
-/// A text that goes on with no node where one must stand stands for no path.
+/// A text that goes on with no node where there must be one stands for no path.
 pub fn a_stuck_text_stands_for_no_path()
     ensures { (text : List ℕ) (place : ℕ) (path : List (List Node)) →
         IsStuckAt text place → IsPathText text path → ⊥ }

@@ -14,10 +14,10 @@ pub mod laws;
 mod print_node;
 mod print_parts;
 mod print_path;
-mod reading;
+mod reader;
 mod segment;
 
 pub use fault::TextFault;
 pub use guid::{GuidText, guid_text, read_guid};
 pub use print_path::{PathText, path_text};
-pub use reading::read_text;
+pub use reader::read_text;

@@ -36,8 +36,8 @@ pub(crate) const URI_LOW: u8 = 0x21;
 /// The lowest unit of a path name that is printed as it is.
 pub(crate) const NAME_LOW: u8 = 0x20;
 
-/// A node that is written by `{}`: in the form of its type, where it has one, else as a `Path` of
-/// its type, its sub-type and its data.
+/// A node that is written by `{}`: in the form of its type if it has one, otherwise as a `Path` of its type, its
+/// sub-type and its data.
 #[derive(Clone, Copy, Debug)]
 pub(crate) struct NodeText<'a>(pub(crate) &'a Node);
 

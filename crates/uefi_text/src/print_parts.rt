@@ -10,7 +10,7 @@ use uefi_path::field;
 /// The bytes whose digits are written at once.
 const CHUNK: usize = 32;
 
-/// The digits of so many bytes.
+/// The digits of that many bytes.
 const CHUNK_DIGITS: usize = 64;
 
 /// The bytes of a number's prefix, `0x`.
@@ -30,7 +30,8 @@ impl fmt::Display for Number {
     ghost output = { λ number. Some (number_text number.0) };
 
     fn fmt<W: fmt::Write>(&self, f: &mut fmt::Formatter<W>) -> fmt::Result {
-        // The whole text is written at once: the prefix and the digits by themselves took a tenth of the time of printing.
+        // The whole text is written at once: the prefix and the digits by themselves took a tenth of the time of
+        // printing.
         let mut text = [0; NUMBER_LEN];
         let start = write_digits(self.0, &mut text) - PREFIX_LEN;
         text[start] = b'0';
@@ -93,7 +94,7 @@ impl fmt::Display for Digits<'_> {
     }
 }
 
-/// The digits of at most so many bytes, in the buffer.
+/// The digits of at most `CHUNK` bytes, in the buffer.
 fn digits_of<'b>(bytes: &[u8], buffer: &'b mut [u8; CHUNK_DIGITS]) -> Result<&'b str, fmt::Error>
     requires { length bytes.now ≤ CHUNK }
     ensures { IfOk result (λ text. text.now ≡ hex_text bytes.now) }
@@ -176,13 +177,13 @@ impl fmt::Display for Eui<'_> {
     }
 }
 
-/// The data behind other arguments: nothing where there is none, else a comma and its digits.
+/// The data after other arguments: nothing if there is none, otherwise a comma and its digits.
 #[derive(Clone, Copy, Debug)]
 pub(crate) struct OptionalData<'a>(pub(crate) &'a [u8]);
 
 impl fmt::Display for OptionalData<'_> {
     ghost use Rattle.std.specs.Prelude.{Some};
-    ghost use Rattle.uefi_text.specs.Printing.{behind_comma};
+    ghost use Rattle.uefi_text.specs.Printer.{behind_comma};
 
     ghost output = { λ text. Some (behind_comma text.0.now) };
 
@@ -226,7 +227,7 @@ impl fmt::Display for Fields<'_> {
     }
 }
 
-/// The units of a path name and the zero behind them, as the digits of their bytes.
+/// The units of a path name and the zero after them, as the digits of their bytes.
 #[derive(Clone, Copy, Debug)]
 pub(crate) struct NameDigits<'a>(pub(crate) &'a [u16]);
 

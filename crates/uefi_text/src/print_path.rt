@@ -55,8 +55,8 @@ impl fmt::Display for InstanceText<'_> {
     }
 }
 
-/// The text of a path: its instances joined by commas, their nodes joined by slashes, and each node
-/// in the one form that is printed (docs/formats.md). The one refusal is for want of memory.
+/// The text of a path: its instances joined by commas, their nodes joined by slashes, and each node in the one form
+/// that is printed (docs/formats.md). This fails only when out of memory.
 pub fn path_text(alloc: Global, path: &Path) -> Result<String, AllocError>
     ensures text { IfOk result (λ text. string_bytes text ≡ canonical path.now) }
     ensures valid { OnOk result (IsPath path.now) }

@@ -4,7 +4,7 @@ ghost use Rattle.std.specs.Prelude.{◌≡◌, ◌≤◌, ◌<◌, ◌^◌, ◌�
 ghost use Rattle.uefi_text.specs.Segment.{comma};
 ghost use Rattle.uefi_text.specs.Node.{IsBareUnit};
 ghost use Rattle.uefi_text.specs.Fault.{BeginsWithNode, ClosesSegment, EndsOr};
-ghost use Rattle.uefi_text.specs.Cutting.{BeginsBare, IsBareCut, IsFront, IsNamedFront, IsBareFront, IsNamed, IsBare, IsCutOf, text_of};
+ghost use Rattle.uefi_text.specs.Cuts.{BeginsBare, IsBareCut, IsFront, IsNamedFront, IsBareFront, IsNamed, IsBare, IsCutOf, text_of};
 
 use crate::argument::around_mark;
 use crate::print_node::{NAME_LOW, is_plain};
@@ -12,15 +12,15 @@ use crate::print_node::{NAME_LOW, is_plain};
 /// A segment of a text.
 #[derive(Clone, Copy, Debug)]
 pub(crate) enum Segment<'a> {
-    /// A name, and what stands in the parentheses behind it.
+    /// A name, and what is in the parentheses after it.
     Named { name: &'a [u8], inside: &'a [u8] },
     /// A path name that begins with a backslash.
     Bare(&'a [u8]),
 }
 
 impl Segment<'_> {
-    /// The place in the segment of the argument before which so many stand. A bare path name is the
-    /// one argument of its segment.
+    /// The place in the segment of the argument after `index` others. A bare path name is the one argument of its
+    /// segment.
     pub(crate) fn place_of(self, index: usize) -> usize
         requires { length (text_of self) < 2 ^ 64 }
         ensures { result ≤ length (text_of self.entry) }
@@ -32,7 +32,7 @@ impl Segment<'_> {
     }
 }
 
-/// The place of the argument before which so many stand, in the text between the parentheses.
+/// The place of the argument after `index` others, in the text between the parentheses.
 fn place_in(inside: &[u8], index: usize) -> usize
     ensures { result ≤ length inside.now }
 {
@@ -46,8 +46,8 @@ fn place_in(inside: &[u8], index: usize) -> usize
     inside.len() - rest.len()
 }
 
-/// The segment at the front of a text, and what follows it: a slash, a comma or nothing. `None`
-/// where there is no such segment.
+/// The segment at the start of a text, and what follows it: a slash, a comma or nothing. `None` if there is no such
+/// segment.
 pub(crate) fn cut_segment(text: &[u8]) -> Option<(Segment<'_>, &[u8])>
     ensures found { IfSome result (λ cut. IsFront text.now cut.0 cut.1.now) }
     ensures only { (begins : BeginsWithNode text.now) →
@@ -60,7 +60,7 @@ pub(crate) fn cut_segment(text: &[u8]) -> Option<(Segment<'_>, &[u8])>
     }
 }
 
-/// The bare path name at the front of a text, and what follows it.
+/// The bare path name at the start of a text, and what follows it.
 fn cut_bare(text: &[u8]) -> Option<(Segment<'_>, &[u8])>
     requires { BeginsBare text.now }
     ensures found { IfSome result (λ cut. IsFront text.now cut.0 cut.1.now) }
@@ -75,8 +75,8 @@ fn cut_bare(text: &[u8]) -> Option<(Segment<'_>, &[u8])>
     }
 }
 
-/// The name and the parentheses at the front of a text, and what follows them. Any bytes are taken
-/// for a name: whether a form has it is seen where the node is made.
+/// The name and the parentheses at the start of a text, and what follows them. Any bytes are taken for a name: whether
+/// a form has it is seen where the node is made.
 fn cut_named(text: &[u8]) -> Option<(Segment<'_>, &[u8])>
     ensures found { IfSome result (λ cut. IsFront text.now cut.0 cut.1.now) }
     ensures only { (name inside behind : List ℕ) → IsNamedFront text.now name inside behind →
@@ -90,7 +90,7 @@ fn cut_named(text: &[u8]) -> Option<(Segment<'_>, &[u8])>
     Some((Segment::Named { name, inside }, rest))
 }
 
-/// The longest front of a text that has only bytes of a bare path name, and the rest.
+/// The longest prefix of a text that has only bytes of a bare path name, and the rest.
 fn split_bare(text: &[u8]) -> (&[u8], &[u8])
     ensures { IsBareCut text.now result.0.now result.1.now }
 {

@@ -1,4 +1,4 @@
--- Lists of bytes, by their indices and by recursion, lists at the front of lists, and what holds of each element.
+-- Lists of bytes, by their indices and by recursion, lists at the start of lists, and what holds of each element.
 use Rattle.std.proofs.Common.{◌≡◌, ◌⊎◌, ℕ, zero, suc, ◌<◌, List, [], ◌∷◌, ◌++◌, length, map, get_or, take, drop, refl, sym, ap, subst, ◌∙◌, inl, inr, arith}
 use Rattle.std.specs.List.{AllByRecursion}
 use Rattle.std.proofs.lemmas.List.{take_at, drop_at}
@@ -29,7 +29,7 @@ pub AllByRecursion-behind : {X : Type 0} (P : X → Type 0) (xs ys : List X) →
 AllByRecursion-behind P [] ys p = p
 AllByRecursion-behind P (x ∷ xs) ys p = AllByRecursion-behind P xs ys p.1
 
--- lists of one length at the front are one list
+-- lists of one length at the start are one list
 pub same_size : (a b x y : List ℕ) → length a ≡ length b → a ++ x ≡ b ++ y → (a ≡ b) × (x ≡ y)
 same_size a b x y size e =
     (sym (take_at a x (length b) size) ∙ ap (take (length b)) e ∙ take_at b y (length b) refl, sym (drop_at a x (length b) size) ∙ ap (drop (length b)) e ∙ drop_at b y (length b) refl)

@@ -10,12 +10,12 @@ use Rattle.uefi_vars.specs.Order.{HasOrder, HasNext}
 use Rattle.uefi_vars.specs.Plan.{PlanParts, plan_parts, HasPlan, AreNumbersOf}
 use Rattle.uefi_vars.specs.declared.by_number.ByNumber.{ByNumber}
 use Rattle.uefi_vars.specs.ByNumber.{EachTells, kept_by}
-use Rattle.uefi_vars.specs.Choosing.{MayBeNormal, HasNormal, IsNextNumber, AreNormalNumbers}
+use Rattle.uefi_vars.specs.NormalEntry.{MayBeNormal, HasNormal, IsNextNumber, AreNormalNumbers}
 use Rattle.uefi_vars.proofs.Plans.{choice_of, choose, pass, plan_found}
 
 -- ---- of what is kept
 
--- what is kept anew tells of its entry, so all still do
+-- what is newly kept tells of its entry, so all still do
 pub still_tell : {K : Type 0} (Tells : ℕ → K → Type 0) (old new : ByNumber K) (number : ℕ) (value : K) → EachTells Tells old → Tells number value
     → (new.slots.items ≡ old.slots.items) ⊎ ((place : ℕ) × (new.slots.items ≡ set old.slots.items place (kept_by number value))) → EachTells Tells new
 still_tell Tells old new number value each tells (inl same) = subst (All (λ slot. IfSome slot.kept (Tells slot.number))) (sym same) each
@@ -28,7 +28,7 @@ still_tell Tells old new number value each tells (inr changed) =
 module _ (entries : ℕ → Option (List ℕ)) where
   -- ---- what is known of one
 
-  -- bytes that may be a normal option are one where they are found to spell an option at all
+  -- bytes that may be a normal option are one if they are found to spell an option at all
   pub normal_by : {V F : Type 0} (Shows : V → OptionParts → Type 0) (number : ℕ) (bytes : List ℕ) (found : Result V F) → MayBeNormal entries number bytes
       → IfOk found (λ v. (option : OptionParts) × SpellsOption bytes option × Shows v option) → ((option : OptionParts) → SpellsOption bytes option → IsOkAnd found (λ v. Shows v option)) → IsTrue (is_ok found) ↔ HasNormal entries number
   normal_by Shows number bytes (Ok v) may spelled only = ((λ _. (choice_of number spelled.0, ((refl, record { bytes = bytes; stored = may.0; spelled = spelled.1 }), may.1 spelled.0 spelled.1))), (λ _. refl))

@@ -1,4 +1,4 @@
--- The fault of a record: there is one at most, and none where a record stands whose name rises.
+-- The fault of a record: there is one at most, and none if there is a record whose name rises.
 use Rattle.std.proofs.Common.{◌≡◌, ◌≢◌, ◌⊎◌, ℕ, ◌+◌, ◌<◌, ◌≤◌, List, [], ◌∷◌, ◌++◌, length, take, drop, refl, sym, ap, subst, ◌∙◌, inl, inr, arith, append_assoc}
 use Rattle.std.specs.Int.{w32, to_le_bytes, from_le_bytes}
 use Rattle.std.specs.List.{AllByRecursion}
@@ -15,7 +15,7 @@ use Rattle.uefi_vars.specs.Name.{IsNameByte, name_max, IsName}
 use Rattle.uefi_vars.specs.Vars.{name_cmp, data_max, IsData, IsVariable}
 use Rattle.uefi_vars.specs.Set.{name_bytes, data_bytes, record_bytes}
 use Rattle.uefi_vars.specs.Fault.{IsAbove, HasBadNameLength, HasCutName, HasBadCharacter, HasLowName, HasName, StatesLength, IsCutData, StatesBadLength}
-use Rattle.uefi_vars.specs.Reading.{SplitsName, IsNameFault, SplitsData, IsDataFault, IsRecordFault}
+use Rattle.uefi_vars.specs.Reader.{SplitsName, IsNameFault, SplitsData, IsDataFault, IsRecordFault}
 use Rattle.uefi_vars.proofs.Bytes.{all_or_not}
 use Rattle.uefi_vars.proofs.Records.{Pair, same_len, same_name, data_len}
 
@@ -25,9 +25,9 @@ name_len name is = let some : length name ≢ 0 = λ none. is.some (nil_from_len
 value_len : (value : List ℕ) → IsData value → 0 < length value
 value_len value is = let some : length value ≢ 0 = λ none. is.some (nil_from_length value none) in omega arith
 
--- ---- where a name or data stands, it has no fault
+-- ---- a name or data that is there has no fault
 
--- what stands behind the length of a name, and the length
+-- what is after the length of a name, and the length
 behind_len : (bytes : List ℕ) (len : ℕ) (behind name rest : List ℕ) → bytes ≡ len ∷ behind → bytes ≡ name_bytes name ++ rest → (len ≡ length name) × (behind ≡ name ++ rest)
 behind_len bytes len behind name rest e f = (cc, cc)
 
@@ -55,7 +55,7 @@ no_name_fault bytes name rest place f split (inl h) = no_cut_name bytes name res
 no_name_fault bytes name rest place f split (inr (e, inl h)) = no_bad_len bytes name rest split h
 no_name_fault bytes name rest place f split (inr (e, inr h)) = no_bad_character bytes name rest split h
 
--- the length that bytes state is the one that stands there
+-- the length that bytes state is the one that is there
 stated_len : (bytes : List ℕ) (n m : ℕ) (x y : List ℕ) → StatesLength bytes n x → StatesLength bytes m y → (n ≡ m) × (x ≡ y)
 stated_len bytes n m x y first second = same_len n m x y first.four_bytes second.four_bytes (sym first.parts ∙ second.parts)
 
@@ -87,7 +87,7 @@ no_data_fault bytes value rest place f split (inl (e, inl short)) = omega (arith
 no_data_fault bytes value rest place f split (inl (e, inr h)) = no_cut_data bytes value rest split h
 no_data_fault bytes value rest place f split (inr (e, h)) = no_bad_data bytes value rest split h
 
--- ---- no record with a rising name stands at a fault, or at the end
+-- ---- no record with a rising name is at a fault, or at the end
 
 abbrev pub Stops : List (List ℕ) → List ℕ → Type 0
 Stops names rest = (v : Pair) (behind : List ℕ) → IsVariable v → IsAbove names v.0 → rest ≡ record_bytes v ++ behind → ⊥
@@ -107,7 +107,7 @@ fault_stops names rest place f (inr (inr (after, h, g))) v behind is above e =
     let same = same_name h.name v.0 after (data_bytes v.1 ++ behind) (sym h.parts ∙ (splits_name rest v behind is e).parts) in
     no_data_fault after v.1 behind place f (record { is = is.1; parts = same.1 }) g
 
--- a record is at fault only where there is some byte
+-- a record is at fault only if there is some byte
 pub fault_some : (names : List (List ℕ)) (rest : List ℕ) (place : ℕ) (f : SetFault) → IsRecordFault names rest place f → rest ≢ []
 fault_some names rest place f (inl (inl (e, h))) none = let parts = h.parts in cc
 fault_some names rest place f (inl (inr (e, inl h))) none = let parts = h.parts in cc
@@ -169,7 +169,7 @@ same_record_fault names rest place f g (inr (inr x)) (inr (inr y)) =
     let behind : x.0 ≡ y.0 = (same_name x.1.name y.1.name x.0 y.0 (sym x.1.parts ∙ y.1.parts)).1 in
     same_data_fault y.0 place f g (subst (λ (t : List ℕ). IsDataFault t place f) behind x.2) y.2
 
--- ---- every record stands, or has a fault
+-- ---- every record is there, or has a fault
 
 is_name_byte : (byte : ℕ) → IsNameByte byte ⊎ (¬ IsNameByte byte)
 is_name_byte byte =
@@ -182,7 +182,7 @@ is_below : (before name : List ℕ) → (name_cmp before name ≡ Less) ⊎ (¬ 
 is_below before name =
     elim (name_cmp before name) as (λ (o : Ordering). (o ≡ Less) ⊎ (¬ (o ≡ Less))) [ Less ↦ inl refl | Equal ↦ inr (λ e. cc) | Greater ↦ inr (λ e. cc) ]
 
--- the name of this length, which isn't 0 nor too large, at the front of what stands behind it
+-- the name of this length, which isn't 0 nor too large, at the start of what is after it
 cut_name_ends : (len : ℕ) (rest : List ℕ) (place : ℕ) → (0 < len) × (len ≤ name_max) → len ≤ length rest → ((name : List ℕ) × (behind : List ℕ) × SplitsName (len ∷ rest) name behind) ⊎ ((f : SetFault) × IsNameFault (len ∷ rest) place f)
 cut_name_ends len rest place good within =
     let name = take len rest in
@@ -254,7 +254,7 @@ data_ends (a ∷ b ∷ []) place fits = inr (fault.Truncated place, inl (refl, i
 data_ends (a ∷ b ∷ c ∷ []) place fits = inr (fault.Truncated place, inl (refl, inl (omega arith)))
 data_ends (a ∷ b ∷ c ∷ d ∷ rest) place fits = stated_ends _ _ rest place fits (four_state a b c d rest fits)
 
--- the record of this variable, whose name is above the others, stands at the front
+-- the record of this variable, whose name is above the others, is at the start
 pub record Stands (names : List (List ℕ)) (rest : List ℕ) (v : Pair) (behind : List ℕ) : Type 0 where
   pub is : IsVariable v
   pub above : IsAbove names v.0

@@ -2,7 +2,7 @@ pub mod Bytes
 pub mod Chosen
 pub mod Faults
 pub mod LowestFree
-pub mod Made
+pub mod NameChanges
 pub mod MapChanges
 pub mod Maps
 pub mod Names
@@ -11,7 +11,7 @@ pub mod Numbers
 pub mod Places
 pub mod PlanComparison
 pub mod Plans
-pub mod Reader
+pub mod Readings
 pub mod Records
 pub mod Same
 pub mod Sets

@@ -42,7 +42,7 @@ find_none name (p ∷ pairs) none =
       | Greater ↦ λ t. others
     ] refl
 
--- where all are passed, nothing is stored
+-- if all are passed, nothing is stored
 pub none_stored : (vars : Variables) (variables : List (Named (List ℕ))) (i number : ℕ) → pairs_of variables ≡ entries vars → length variables ≤ i → IsPassed vars i number → entry_of vars number ≡ None
 none_stored vars variables i number pairs past passed =
     let end : length (entries vars) ≤ i = omega (arith, ap length pairs, length-map variables pair_of) in

@@ -39,7 +39,7 @@ module _ {K X : Type 0} (R : K → K → Ordering) where
   each_above key [] h = tt
   each_above key (e ∷ es) h = let parts = T_parts _ _ h in (less _ parts.0, each_above key es parts.1)
 
-  -- the entries behind the first have greater keys, and are sorted
+  -- the entries after the first have greater keys, and are sorted
   pub sorted_parts : (e : K × X) (es : List (K × X)) → T (is_sorted R (e ∷ es)) → AllByRecursion (λ f. R e.0 f.0 ≡ Less) es × T (is_sorted R es)
   sorted_parts e es h = let parts = T_parts _ _ h in (each_above e.0 es parts.0, parts.1)
 

@@ -44,11 +44,11 @@ HasOrder-along vars others e order = (λ h. record { is = h.is; stored = sym e �
 
 -- ---- an order or a bad one
 
--- such bytes are no order
+-- such bytes aren't an order
 abbrev AreBad : List ℕ → Type 0
 AreBad bytes = (length bytes % 2 ≢ 0) ⊎ (2 * order_max < length bytes)
 
--- what is stored of an order is no bad order
+-- what is stored of an order isn't a bad order
 not_bad : HaveTwoBytes → (order : List ℕ) → length order ≤ order_max → IsSomeAnd (stored_order order) AreBad → ⊥
 not_bad two [] len bad = bad
 not_bad two (n ∷ order) len bad =

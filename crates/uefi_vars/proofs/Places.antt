@@ -89,7 +89,7 @@ module _ {K X : Type 0} (R : K → K → Ordering) (o : IsTotalOrder R) (key : K
   without_gap [] (suc place) below above = refl
   without_gap (e ∷ es) (suc place) below above = without_first e es Greater (after R o key e.0 below.0) ∙ ap (λ l. e ∷ l) (without_gap es place below.1 above)
 
-  -- a sorted list is below the key before its place, and above it behind
+  -- a sorted list is below the key before its place, and above the key after it
 
   below_at : (x : K) (es : List (K × X)) (place : ℕ) → AllByRecursion (λ e. R x e.0 ≡ Less) es → IsNamed es place → R x key ≡ Less
   below_at x [] place h named = absurd named
@@ -117,7 +117,7 @@ pub not_below_lower : (low high : List ℕ) → name_cmp low high ≡ Less → n
 not_below_lower low high less back = let greater = after name_cmp nat_list_cmp_total high low less in cc
 
 module _ {X : Type 0} (name : List ℕ) (p : List ℕ × X) (pairs : List (List ℕ × X)) where
-  -- a lower pair is passed: the names from this one on are found behind it
+  -- a lower pair is passed: the names from this one on are found after it
   pub find_behind : name_cmp p.0 name ≡ Less → (other : List ℕ) → name_cmp other name ≢ Less → find name_cmp other pairs ≡ find name_cmp other (p ∷ pairs)
   find_behind less other from =
       elim (name_cmp other p.0) as (λ r. name_cmp other p.0 ≡ r → find name_cmp other pairs ≡ cond (is_eq r) (Some p.1) (find name_cmp other pairs)) [
@@ -134,7 +134,7 @@ module _ {X : Type 0} (name : List ℕ) (p : List ℕ × X) (pairs : List (List 
   all_above low less [] h = tt
   all_above low less (e ∷ es) h = (nat_list_cmp_total.trans low name e.0 less h.0, all_above low less es h.1)
 
--- a greater pair at the front leaves none of the name
+-- a greater pair at the start leaves none of the name
 pub find_none : {X : Type 0} (name : List ℕ) (p : List ℕ × X) (pairs : List (List ℕ × X)) → T (is_sorted name_cmp (p ∷ pairs)) → name_cmp p.0 name ≡ Greater → find name_cmp name (p ∷ pairs) ≡ None
 find_none name p pairs rising greater =
     let less : name_cmp name p.0 ≡ Less = nat_list_cmp_total.antisymm name p.0 ∙ ap ordering_reverse greater in

@@ -1,4 +1,4 @@
--- What `==` says of plans, where `==` on load options tells whether they are equal.
+-- What `==` says of plans, if `==` on load options tells whether they are equal.
 use Rattle.std.proofs.Common.{◌≡◌, Bool, List, Option, Some, None, Decides, refl, ap}
 use Rattle.std.specs.Cmp.Lexicographic.{pointwise}
 use Rattle.std.specs.Option.{option_eq as optional_eq}
@@ -16,7 +16,7 @@ use Rattle.uefi_vars.proofs.Plans.{same_choice, same_plan}
 abbrev pub ComparesOptions : Type 0
 ComparesOptions = (o p : OptionParts) → Decides (ghosts.eq o p) (o ≡ p)
 
--- choices are equal where their parts are
+-- choices are equal if their parts are
 abbrev SameChoice : Choice → Choice → Type 0
 SameChoice a b = (a.number ≡ b.number) × (a.option ≡ b.option)
 
@@ -34,7 +34,7 @@ optional_Decides each (Some a) (Some b) = (λ yes. ap Some ((each a b).0 yes), �
 lists_Decide : {X : Type 0} {E : X → X → Bool} → ((a b : X) → Decides (E a b) (a ≡ b)) → (xs ys : List X) → Decides (pointwise E xs ys) (xs ≡ ys)
 lists_Decide {E = E} each xs ys = slice_eq-Decides each xs ys (pointwise E xs ys) refl
 
--- plans are equal where their parts are
+-- plans are equal if their parts are
 abbrev SamePlan : PlanParts → PlanParts → Type 0
 SamePlan p q = (p.next ≡ q.next) × (p.normal ≡ q.normal)
 

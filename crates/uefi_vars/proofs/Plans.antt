@@ -12,7 +12,7 @@ use Rattle.uefi_vars.specs.Vars.{Variables, entry_of}
 use Rattle.uefi_vars.specs.Order.{IsEntryNumber, HasOrder, HasNext}
 use Rattle.uefi_vars.specs.Plan.{PlanParts, plan_parts, HasOption, IsChoice, IsNormalChoice, IsNextChoice, AreNormalChoices, IsPlan, HasPlan}
 
--- ---- what is equal where its parts are
+-- ---- what is equal if its parts are
 
 abbrev pub choice_of : ℕ → OptionParts → Choice
 choice_of number option = record { number = number; option = option }

@@ -16,7 +16,7 @@ use Rattle.uefi_vars.specs.Vars.{name_cmp, IsData, IsVariable}
 use Rattle.uefi_vars.specs.Set.{name_bytes, data_bytes, record_bytes, records_bytes}
 use Rattle.uefi_vars.specs.Fault.{IsAbove}
 use Rattle.uefi_vars.specs.Records.{pair_of, pairs_of}
-use Rattle.uefi_vars.specs.Reading.{names_of}
+use Rattle.uefi_vars.specs.Reader.{names_of}
 use Rattle.uefi_vars.proofs.Bytes.{AllByRecursion-append, AllByRecursion-behind}
 use Rattle.uefi_vars.proofs.Maps.{sorted_parts, T_from_parts}
 use Rattle.uefi_vars.proofs.Bytes.{same_size}

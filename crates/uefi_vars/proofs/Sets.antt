@@ -1,4 +1,4 @@
--- One set for each spelling, and one first fault where there is none.
+-- One set for each spelling, and one first fault if there is none.
 use Rattle.std.proofs.Common.{◌≡◌, ◌⊎◌, ℕ, zero, suc, ◌+◌, ◌<◌, Bool, true, false, eqb, List, [], ◌∷◌, ◌++◌, length, take, drop, refl, sym, ap, subst, ◌∙◌, inl, inr, arith, append_assoc}
 use Rattle.std.specs.List.{AllByRecursion}
 use Rattle.std.specs.List.Sorted.{IsStrictlySortedBy}
@@ -18,14 +18,14 @@ use Rattle.uefi_vars.specs.Name.{IsNameByte}
 use Rattle.uefi_vars.specs.Vars.{Variables, name_cmp, IsVariable, IsVars}
 use Rattle.uefi_vars.specs.Set.{magic, name_bytes, data_bytes, record_bytes, records_bytes, set_bytes, SpellsSet}
 use Rattle.uefi_vars.specs.Fault.{HasNoMagic, HasRestWith, IsAbove, HasCutName, HasNameWith, IsCutData, StatesBadLength, IsFirstFault}
-use Rattle.uefi_vars.specs.Reading.{names_of, HasRecords, IsRecordFault, HasRecordsFault}
+use Rattle.uefi_vars.specs.Reader.{names_of, HasRecords, IsRecordFault, HasRecordsFault}
 use Rattle.uefi_vars.proofs.Maps.{entries-AllByRecursion, IsVars-from_sorted}
 use Rattle.uefi_vars.proofs.Records.{Pair, same_record, above_front, one_above, none_rise, names_rise, pairs_rise}
 use Rattle.uefi_vars.proofs.Faults.{Stops, end_stops, fault_stops, fault_some, same_record_fault, record_ends}
 
 -- ---- two readings of the same bytes
 
--- the variables of records behind those of these names, and what stands behind them
+-- the variables of records after those of these names, and what is after them
 record Reads (before : List (List ℕ)) (pairs : List Pair) (rest : List ℕ) : Type 0 where
   whole : AllByRecursion IsVariable pairs
   rising : IsStrictlySortedBy name_cmp (before ++ names_of pairs)
@@ -41,7 +41,7 @@ behind_one before p pairs rest h =
       stops = subst (λ (names : List (List ℕ)). Stops names rest) same h.stops;
     }
 
--- where no record stands, there is none
+-- if one reading has no record, the other has none
 none_reads : (before : List (List ℕ)) (p : Pair) (pairs : List Pair) (x y : List ℕ) → Reads before [] x → Reads before (p ∷ pairs) y → x ≡ records_bytes (p ∷ pairs) ++ y → ⊥
 none_reads before p pairs x y first second e =
     first.stops p (records_bytes pairs ++ y) second.whole.0 (subst (λ (names : List (List ℕ)). AllByRecursion (λ m. name_cmp m p.0 ≡ Less) names) (sym (append-nil before)) (above_front before p.0 (names_of pairs) second.rising))
@@ -70,13 +70,13 @@ same_set bytes a b first second =
 
 -- ---- the first fault
 
--- the magic and, behind it, records with the fault
+-- the magic and, after it, records with the fault
 record HasFault (input : List ℕ) (f : SetFault) : Type 0 where
   behind : List ℕ
   parts : input ≡ magic ++ behind
   records : HasRecordsFault behind 4 f
 
--- a first fault is that of the magic, or stands in a record
+-- a first fault is that of the magic, or is in a record
 abbrev Kinds : List ℕ → SetFault → Type 0
 Kinds input f = (HasNoMagic input × (f ≡ fault.BadMagic 0)) ⊎ HasFault input f
 
@@ -135,7 +135,7 @@ same_kind input f g (inr x) (inr y) =
 pub same_first_fault : (input : List ℕ) (f g : SetFault) → IsFirstFault input f → IsFirstFault input g → f ≡ g
 same_first_fault input f g first second = same_kind input f g (kind_of input f first) (kind_of input g second)
 
--- ---- what has a fault is no set
+-- ---- what has a fault isn't a set
 
 no_kind : (input : List ℕ) (f : SetFault) (vars : Variables) → Kinds input f → SpellsSet input vars → ⊥
 no_kind input f vars (inl x) spelled = x.0 (records_bytes (entries vars)) spelled.1

@@ -7,7 +7,7 @@ use Rattle.uefi_vars.specs.declared.by_number.ByNumber.{ByNumber}
 abbrev pub IsFree : {T : Type 0} → Slot T → Type 0
 IsFree slot = slot.kept ≡ None
 
--- the value stands here under the number
+-- the value is here under the number
 abbrev pub kept_by : {T : Type 0} → ℕ → T → Slot T
 kept_by number value = record { number = number; kept = Some value }
 

@@ -10,11 +10,11 @@ use Rattle.uefi_vars.specs.Name.{IsNameByte, name_max, IsName}
 use Rattle.uefi_vars.specs.Vars.{name_cmp, data_max, IsVariable}
 use Rattle.uefi_vars.specs.Set.{magic, name_bytes, records_bytes}
 
--- the magic doesn't stand at the front
+-- the magic isn't at the start
 abbrev pub HasNoMagic : List ℕ → Type 0
 HasNoMagic input = (rest : List ℕ) → input ≢ magic ++ rest
 
--- The magic, whole records of rising names, and a rest, in which something is to stand. The place is that of the rest.
+-- The magic, whole records of rising names, and a rest, in which something is to be. The place is that of the rest.
 pub record HasRest (input : List ℕ) (place : ℕ) (names : List (List ℕ)) (rest : List ℕ) : Type 0 where
   pub variables : List (List ℕ × List ℕ)
   pub whole : AllByRecursion IsVariable variables
@@ -27,7 +27,7 @@ pub record HasRest (input : List ℕ) (place : ℕ) (names : List (List ℕ)) (r
 abbrev pub IsAbove : List (List ℕ) → List ℕ → Type 0
 IsAbove names name = AllByRecursion (λ before. name_cmp before name ≡ Less) names
 
--- ---- what may be at fault in a record, behind these names
+-- ---- what may be at fault in a record, after these names
 
 -- a length that no name has
 pub record HasBadNameLength (rest : List ℕ) : Type 0 where
@@ -60,14 +60,14 @@ pub record HasLowName (names : List (List ℕ)) (rest : List ℕ) : Type 0 where
   pub low : ¬ IsAbove names name
   pub parts : rest ≡ name_bytes name ++ behind
 
--- a name that is, and these bytes behind it
+-- a name that is, and these bytes after it
 pub record HasName (names : List (List ℕ)) (rest behind : List ℕ) : Type 0 where
   pub name : List ℕ
   pub is : IsName name
   pub above : IsAbove names name
   pub parts : rest ≡ name_bytes name ++ behind
 
--- ---- what may be at fault in data, behind such a name
+-- ---- what may be at fault in data, after such a name
 
 -- the bytes state this length, and go on with the rest
 pub record StatesLength (bytes : List ℕ) (len : ℕ) (rest : List ℕ) : Type 0 where
@@ -89,7 +89,7 @@ pub record StatesBadLength (bytes : List ℕ) : Type 0 where
   pub stated : StatesLength bytes len rest
   pub bad : (len ≡ 0) ⊎ (data_max < len)
 
--- such a name, and one of these behind it
+-- such a name, and one of these after it
 pub record HasNameWith (names : List (List ℕ)) (rest : List ℕ) (P : List ℕ → Type 0) : Type 0 where
   pub behind : List ℕ
   pub name : HasName names rest behind

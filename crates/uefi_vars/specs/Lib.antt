@@ -1,7 +1,7 @@
 -- what public contracts and the laws cite
 pub mod Name
 pub mod Vars
-pub mod Made
+pub mod NameChanges
 pub mod Iter
 pub mod Set
 pub mod Fault
@@ -14,6 +14,6 @@ pub mod PlanEquality
 -- what private contracts cite
 pub mod Records
 pub mod ChangeRecords
-pub mod Reading
+pub mod Reader
 pub mod ByNumber
-pub mod Choosing
+pub mod NormalEntry

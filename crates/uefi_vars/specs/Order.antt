@@ -16,7 +16,7 @@ order_max = 65536
 abbrev pub IsEntryNumber : ℕ → Type 0
 IsEntryNumber number = number < 2 ^ 16
 
--- what is stored of an order: its numbers, two bytes each, and nothing where it is empty
+-- what is stored of an order: its numbers, two bytes each, and nothing if it is empty
 abbrev pub stored_order : List ℕ → Option (List ℕ)
 stored_order [] = None
 stored_order (number ∷ numbers) = Some (units_bytes (number ∷ numbers))
@@ -41,10 +41,10 @@ pub record HasNext (vars : Variables) (next : Option ℕ) : Type 0 where
   pub is : IfSome next IsEntryNumber
   pub stored : get vars next_text ≡ stored_next next
 
--- the bytes of BootOrder are no numbers of two bytes each, or are too many
+-- the bytes of BootOrder aren't numbers of two bytes each, or are too many
 abbrev pub HasBadOrder : Variables → Type 0
 HasBadOrder vars = IsSomeAnd (get vars order_text) (λ bytes. (length bytes % 2 ≢ 0) ⊎ (2 * order_max < length bytes))
 
--- the bytes of BootNext are no number of two bytes
+-- the bytes of BootNext aren't a number of two bytes
 abbrev pub HasBadNext : Variables → Type 0
 HasBadNext vars = IsSomeAnd (get vars next_text) (λ bytes. length bytes ≢ 2)

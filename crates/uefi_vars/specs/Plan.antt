@@ -36,13 +36,13 @@ IsChoice entries number choice = (choice.number ≡ number) × HasOption entries
 abbrev pub IsNormalChoice : (ℕ → Option (List ℕ)) → ℕ → Choice → Type 0
 IsNormalChoice entries number choice = IsChoice entries number choice × IsNormal choice.option.attributes
 
--- BootNext's option, whatever its attributes are: none where there is no BootNext, or no option under its number
+-- BootNext's option, whatever its attributes are: none if there is no BootNext, or no option under its number
 abbrev pub IsNextChoice : (ℕ → Option (List ℕ)) → Option ℕ → Option Choice → Type 0
 IsNextChoice entries None choice = choice ≡ None
 IsNextChoice entries (Some number) (Some choice) = IsChoice entries number choice
 IsNextChoice entries (Some number) None = (choice : Choice) → IsChoice entries number choice → ⊥
 
--- The normal options of an order: one for each number that has a normal option, as often as it stands there.
+-- The normal options of an order: one for each number that has a normal option, as often as it occurs there.
 abbrev pub AreNormalChoices : (ℕ → Option (List ℕ)) → List ℕ → List Choice → Type 0
 AreNormalChoices entries [] choices = choices ≡ []
 AreNormalChoices entries (number ∷ order) choices =

@@ -21,7 +21,7 @@ pairs_of items = map pair_of items
 abbrev pub IsRising : {X : Type 0} → List (List ℕ × X) → Type 0
 IsRising pairs = T (is_sorted name_cmp pairs)
 
--- names that rise strictly, and variables that may stand in a set
+-- names that rise strictly, and variables that may be in a set
 pub record AreVariables (pairs : List (List ℕ × List ℕ)) : Type 0 where
   pub rising : IsRising pairs
   pub each : AllByRecursion IsVariable pairs

@@ -5,15 +5,15 @@ use Rattle.std.specs.Int.{w32, to_le_bytes}
 use Rattle.std.specs.FinMap.{entries}
 use Rattle.uefi_vars.specs.Vars.{Variables, IsVars}
 
--- the four bytes at the front: BVS1
+-- the four bytes at the start: BVS1
 abbrev pub magic : List ℕ
 magic = 0x42 ∷ 0x56 ∷ 0x53 ∷ 0x31 ∷ []
 
--- a name: its length in one byte, which can state it where IsName holds, and its characters
+-- a name: its length in one byte, which can state it if IsName holds, and its characters
 abbrev pub name_bytes : List ℕ → List ℕ
 name_bytes name = length name ∷ name
 
--- data: its length in four bytes, which can state it where IsData holds, and its bytes
+-- data: its length in four bytes, which can state it if IsData holds, and its bytes
 abbrev pub data_bytes : List ℕ → List ℕ
 data_bytes bytes = to_le_bytes w32 (length bytes) ++ bytes
 

@@ -12,7 +12,7 @@ use Rattle.uefi_vars.specs.Name.{IsName, entry_text}
 abbrev pub name_cmp : List ℕ → List ℕ → Ordering
 name_cmp = slice_cmp nat_cmp
 
--- From names to data. Two such maps are equal exactly where they have the same data under every name.
+-- From names to data. Two such maps are equal exactly if they have the same data under every name.
 abbrev pub Variables : Type 0
 Variables = FinMap name_cmp (List ℕ)
 

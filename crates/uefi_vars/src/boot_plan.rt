@@ -21,7 +21,7 @@ pub struct Choice {
 }
 
 impl Choice {
-    /// An equal choice, whose option shares the lists of this one's. The one refusal is for want of memory.
+    /// An equal choice, whose option shares the lists of this one's. This fails only when out of memory.
     pub fn copy(&self, alloc: Global) -> Result<Choice, AllocError>
         ensures { IfOk result (λ copy. copy ≡ self.now) }
     {
@@ -83,8 +83,8 @@ impl BootPlan {
         BootPlan { next, normal }
     }
 
-    /// BootNext's option, which is tried first whatever its attributes are: `None` where BootNext isn't stored, or its
-    /// entry isn't or is no load option.
+    /// BootNext's option, which is tried first whatever its attributes are: `None` if BootNext isn't stored, or if its
+    /// entry isn't stored or isn't a load option.
     pub fn next(&self) -> Option<&Choice>
         ensures { option_map (λ choice. choice.now) result ≡ self.now.next }
     {
@@ -106,8 +106,8 @@ impl BootPlan {
         (next, normal)
     }
 
-    /// An equal plan, whose options share the lists of this one's: this takes memory for the choices alone. The one refusal
-    /// is for want of memory.
+    /// An equal plan, whose options share the lists of this one's: this takes memory for the choices alone. The call
+    /// fails only if it is out of memory.
     pub fn copy(&self, alloc: Global) -> Result<BootPlan, AllocError>
         ensures { IfOk result (λ plan. plan ≡ self.now) }
     {
@@ -117,8 +117,8 @@ impl BootPlan {
     }
 
     /// The plan as one line of words with one blank between two: `plan`, `next`, the number of the option that is tried
-    /// first, `normal`, and the numbers of the others in their order. A number has four hexadecimal digits, in upper case,
-    /// and `-` stands where there is none. The one refusal is for want of memory.
+    /// first, `normal`, and the numbers of the others in their order. A number has four hexadecimal digits, in upper
+    /// case, and `-` is written if there is none. This fails only when out of memory.
     pub fn words(&self, alloc: Global) -> Result<String, AllocError>
         ensures { IfOk result (λ text. string_bytes text ≡ plan_words self.now) }
     {
@@ -136,7 +136,7 @@ impl BootPlan {
 /// The numbers of what a boot would try (UEFI 2.10, 3.3), without the options.
 #[derive(Debug, PartialEq, Eq, Drop)]
 pub struct PlanNumbers {
-    /// The number of the option that is tried first: `None` where [`BootPlan::next`] gives none.
+    /// The number of the option that is tried first: `None` if [`BootPlan::next`] gives none.
     pub next: Option<u16>,
     /// The numbers of the options that are tried then, in their order, as [`BootPlan::normal`] gives them.
     pub normal: Vec<u16>,

@@ -19,7 +19,7 @@ pub(crate) struct ByNumber<T> {
     slots: Vec<Slot<T>>,
 }
 
-/// The numbers that stand more than once among these, in rising order.
+/// The numbers that occur more than once among these, in rising order.
 fn repeated_numbers(alloc: Global, numbers: &[u16]) -> Result<Vec<u16>, AllocError> {
     // a bit for each number that was met
     let mut met = [0u64; 1024];

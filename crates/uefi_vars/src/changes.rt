@@ -6,7 +6,7 @@ ghost use Rattle.std.specs.FinMap as map;
 ghost use Rattle.uefi_vars.specs.declared.fault.PutFault.{PutFault};
 ghost use Rattle.uefi_vars.specs.Name.{IsName, entry_text};
 ghost use Rattle.uefi_vars.specs.Vars.{Variables, name_cmp, data_max, IsVariable, entry_of};
-ghost use Rattle.uefi_vars.specs.Made.{made, or_before};
+ghost use Rattle.uefi_vars.specs.NameChanges.{with_changes, or_before};
 ghost use Rattle.uefi_vars.specs.ChangeRecords.{AreChanges};
 ghost use Rattle.uefi_vars.specs.Records.{pairs_of};
 ghost use Rattle.uefi_vars.specs.Free.{IsLowestFreeIfAny};
@@ -34,7 +34,7 @@ pub struct Changes {
 impl Model for Changes {
     ghost use Rattle.std.specs.FinMap as map;
     ghost use Rattle.std.specs.Coded.{coded_ℕ, coded_list, coded_option};
-    ghost use Rattle.uefi_vars.specs.Made.{NameChanges};
+    ghost use Rattle.uefi_vars.specs.NameChanges.{NameChanges};
 
     ghost Value = { NameChanges };
 
@@ -51,7 +51,7 @@ impl Model for Changes {
 impl Changes {
     /// Nothing is to change.
     pub fn new(alloc: Global) -> Changes
-        ensures { (vars : Variables) → made vars result ≡ vars }
+        ensures { (vars : Variables) → with_changes vars result ≡ vars }
     {
         Changes {
             changes: Vec::new(alloc),
@@ -69,7 +69,7 @@ impl Changes {
     /// The data of the variable of this name, if there is one then.
     pub fn get<'a>(&'a self, vars: &'a Vars, name: &str) -> Option<&'a [u8]>
         ensures { option_map (λ bytes. bytes.now) result
-            ≡ map.get (made vars.now self.now) name.now }
+            ≡ map.get (with_changes vars.now self.now) name.now }
     {
         match find(&self.changes, name.as_bytes()) {
             Some(Some(data)) => Some(data.as_slice()),
@@ -80,7 +80,7 @@ impl Changes {
 
     /// The data of the entry of this number, the variable `Boot####` (UEFI 2.10, 3.1.1), if there is one then.
     pub fn entry<'a>(&'a self, vars: &'a Vars, number: u16) -> Option<&'a [u8]>
-        ensures { option_map (λ bytes. bytes.now) result ≡ entry_of (made vars.now self.now) number }
+        ensures { option_map (λ bytes. bytes.now) result ≡ entry_of (with_changes vars.now self.now) number }
     {
         let name = entry_name(number);
         self.get(vars, name_text(&name))
@@ -89,7 +89,7 @@ impl Changes {
     /// The least number under which no entry is stored then, or `None` if all of 0x0000 to 0xFFFF are taken, as
     /// [`lowest_free`] finds it. The call takes no memory, and goes over the variables and the changes once.
     pub fn lowest_free(&self, vars: &Vars) -> Option<u16>
-        ensures { IsLowestFreeIfAny (entry_of (made vars.now self.now)) result }
+        ensures { IsLowestFreeIfAny (entry_of (with_changes vars.now self.now)) result }
     {
         if self.changes.is_empty() {
             return lowest_free(vars);
@@ -99,7 +99,7 @@ impl Changes {
 
     /// The same, number by number.
     fn first_free(&self, vars: &Vars) -> Option<u16>
-        ensures { IsLowestFreeIfAny (entry_of (made vars.now self.now)) result }
+        ensures { IsLowestFreeIfAny (entry_of (with_changes vars.now self.now)) result }
     {
         let mut changes = self.changes.as_slice();
         let mut variables = vars.variables();
@@ -122,12 +122,12 @@ impl Changes {
     ///
     /// # Errors
     ///
-    /// [`PutFault::BadName`] if the name isn't one to [`NAME_MAX`](crate::NAME_MAX) characters from 0x21 to 0x7E; else
-    /// [`PutFault::EmptyData`] if there is no data; else [`PutFault::DataTooLong`] if it has more than [`DATA_MAX`]
-    /// bytes; else [`PutFault::OutOfMemory`] if memory for it was refused.
+    /// [`PutFault::BadName`] if the name isn't one to [`NAME_MAX`](crate::NAME_MAX) characters from 0x21 to 0x7E;
+    /// otherwise [`PutFault::EmptyData`] if there is no data; otherwise [`PutFault::DataTooLong`] if it has more than
+    /// [`DATA_MAX`] bytes; otherwise [`PutFault::OutOfMemory`] if memory for it was refused.
     pub fn put(&mut self, name: &str, value: &[u8]) -> Result<(), PutFault>
         ensures put { OnOk result ((vars : Variables) →
-            made vars self.new ≡ map.insert (made vars self.old) name.now value.now) }
+            with_changes vars self.new ≡ map.insert (with_changes vars self.old) name.now value.now) }
         ensures valid { OnOk result (IsVariable (name.now, value.now)) }
         ensures unchanged { OnErr result (self.new ≡ self.old) }
 
@@ -148,11 +148,11 @@ impl Changes {
     ///
     /// # Errors
     ///
-    /// The list, with the fault, which is as for [`Changes::put`]: [`PutFault::BadName`], else [`PutFault::EmptyData`], else
-    /// [`PutFault::DataTooLong`], else [`PutFault::OutOfMemory`].
+    /// The list, with the fault, which is as for [`Changes::put`]: [`PutFault::BadName`], otherwise
+    /// [`PutFault::EmptyData`], otherwise [`PutFault::DataTooLong`], otherwise [`PutFault::OutOfMemory`].
     pub fn put_vec(&mut self, name: &str, value: Vec<u8>) -> Result<(), PutRefusal>
         ensures put { OnOk result ((vars : Variables) →
-            made vars self.new ≡ map.insert (made vars self.old) name.now value.items) }
+            with_changes vars self.new ≡ map.insert (with_changes vars self.old) name.now value.items) }
         ensures valid { OnOk result (IsVariable (name.now, value.items)) }
         ensures unchanged { OnErr result (self.new ≡ self.old) }
         ensures value_returned { IfErr result (λ refusal. refusal.value.items ≡ value.items) }
@@ -177,12 +177,12 @@ impl Changes {
     ///
     /// # Errors
     ///
-    /// [`PutFault::EmptyData`] if there is no data; else [`PutFault::DataTooLong`] if it has more than [`DATA_MAX`]
-    /// bytes; else [`PutFault::OutOfMemory`] if memory for it was refused. [`PutFault::BadName`] never comes, since each
-    /// number has a name.
+    /// [`PutFault::EmptyData`] if there is no data; otherwise [`PutFault::DataTooLong`] if it has more than
+    /// [`DATA_MAX`] bytes; otherwise [`PutFault::OutOfMemory`] if memory for it was refused. [`PutFault::BadName`]
+    /// never comes, since each number has a name.
     pub fn put_entry(&mut self, number: u16, value: &[u8]) -> Result<(), PutFault>
         ensures put { OnOk result ((vars : Variables) →
-            made vars self.new ≡ map.insert (made vars self.old) (entry_text number) value.now) }
+            with_changes vars self.new ≡ map.insert (with_changes vars self.old) (entry_text number) value.now) }
         ensures valid { OnOk result (IsVariable (entry_text number, value.now)) }
         ensures unchanged { OnErr result (self.new ≡ self.old) }
 
@@ -200,11 +200,11 @@ impl Changes {
     ///
     /// # Errors
     ///
-    /// The list, with the fault, which is as for [`Changes::put_entry`]: [`PutFault::EmptyData`], else
-    /// [`PutFault::DataTooLong`], else [`PutFault::OutOfMemory`].
+    /// The list, with the fault, which is as for [`Changes::put_entry`]: [`PutFault::EmptyData`], otherwise
+    /// [`PutFault::DataTooLong`], otherwise [`PutFault::OutOfMemory`].
     pub fn put_entry_vec(&mut self, number: u16, value: Vec<u8>) -> Result<(), PutRefusal>
         ensures put { OnOk result ((vars : Variables) →
-            made vars self.new ≡ map.insert (made vars self.old) (entry_text number) value.items) }
+            with_changes vars self.new ≡ map.insert (with_changes vars self.old) (entry_text number) value.items) }
         ensures valid { OnOk result (IsVariable (entry_text number, value.items)) }
         ensures unchanged { OnErr result (self.new ≡ self.old) }
         ensures value_returned { IfErr result (λ refusal. refusal.value.items ≡ value.items) }
@@ -226,7 +226,7 @@ impl Changes {
     /// [`AllocError`] if memory was refused.
     pub fn remove(&mut self, name: &str) -> Result<(), AllocError>
         ensures removed { OnOk result ((vars : Variables) →
-            made vars self.new ≡ map.remove (made vars self.old) name.now) }
+            with_changes vars self.new ≡ map.remove (with_changes vars self.old) name.now) }
         ensures unchanged { OnErr result (self.new ≡ self.old) }
     {
         store_removal(&mut self.changes, name)?;
@@ -241,7 +241,7 @@ impl Changes {
     /// [`AllocError`] if memory was refused.
     pub fn remove_entry(&mut self, number: u16) -> Result<(), AllocError>
         ensures removed { OnOk result ((vars : Variables) →
-            made vars self.new ≡ map.remove (made vars self.old) (entry_text number)) }
+            with_changes vars self.new ≡ map.remove (with_changes vars self.old) (entry_text number)) }
         ensures unchanged { OnErr result (self.new ≡ self.old) }
     {
         let name = entry_name(number);
@@ -249,7 +249,8 @@ impl Changes {
     }
 }
 
-/// Whether there is a variable of a name then, by the change of the name, if any, and else by the data that there is now.
+/// Whether there is a variable of a name then, by the change of the name, if any, and otherwise by the data that there
+/// is now.
 fn is_stored(change: Option<&Option<Shared>>, before: Option<&Shared>) -> bool
     ensures { result ≡ is_some (or_before
         (option_map (λ kept. kept.now) change.entry) (option_map (λ kept. kept.now) before.entry)) }

@@ -36,8 +36,8 @@ pub struct PutRefusal {
     pub value: Vec<u8>,
 }
 
-/// Why bytes are no set file. The number is the offset of the record with the fault, in bytes from the first byte of the
-/// file; a bad magic stands at 0.
+/// Why bytes aren't a set file. The number is the offset of the record with the fault, in bytes from the first byte of
+/// the file; a bad magic is at 0.
 #[derive(Clone, Copy, Debug, PartialEq, Eq, Hash, Error)]
 pub enum SetFault {
     /// The file doesn't begin with the four bytes `BVS1`.
@@ -77,7 +77,7 @@ pub enum VarFault {
 impl PutFault {
     ghost use Rattle.uefi_vars.specs.Words.{put_fault_words};
 
-    /// The fault's name. The one refusal is for want of memory.
+    /// The fault's name. This fails only when out of memory.
     pub fn words(&self, alloc: Global) -> Result<String, AllocError>
         ensures { IfOk result (λ text. string_bytes text ≡ put_fault_words self.now) }
     {
@@ -93,7 +93,7 @@ impl PutFault {
 impl SetFault {
     ghost use Rattle.uefi_vars.specs.Words.{set_fault_words, set_fault_place};
 
-    /// The offset of the record with the fault, in bytes from the first byte of the file, or `None` where memory was
+    /// The offset of the record with the fault, in bytes from the first byte of the file, or `None` if memory was
     /// refused.
     pub fn place(&self) -> Option<usize>
         ensures { result ≡ set_fault_place self.now }
@@ -108,7 +108,7 @@ impl SetFault {
         }
     }
 
-    /// The fault's name and, after a blank, its offset in decimal. The one refusal is for want of memory.
+    /// The fault's name and, after a blank, its offset in decimal. This fails only when out of memory.
     pub fn words(&self, alloc: Global) -> Result<String, AllocError>
         ensures { IfOk result (λ text. string_bytes text ≡ set_fault_words self.now) }
     {
@@ -126,7 +126,7 @@ impl SetFault {
 impl VarFault {
     ghost use Rattle.uefi_vars.specs.Words.{var_fault_words};
 
-    /// The fault's name. The one refusal is for want of memory.
+    /// The fault's name. This fails only when out of memory.
     pub fn words(&self, alloc: Global) -> Result<String, AllocError>
         ensures { IfOk result (λ text. string_bytes text ≡ var_fault_words self.now) }
     {

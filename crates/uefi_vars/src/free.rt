@@ -6,9 +6,9 @@ ghost use Rattle.uefi_vars.specs.Free.{IsLowestFreeIfAny};
 use crate::name::entry_number;
 use crate::vars::Vars;
 
-/// The least number under which no entry is stored (UEFI 2.10, 3.3), or `None` where all of 0x0000 to 0xFFFF are taken. A
-/// number is taken by the variable `Boot####` (3.1.1), whatever its data is. The call takes no memory, and goes over the
-/// variables once.
+/// The least number under which no entry is stored (UEFI 2.10, 3.3), or `None` if all of 0x0000 to 0xFFFF are taken. A
+/// number is taken by the variable `Boot####` (3.1.1), whatever its data is. The call takes no memory, and goes over
+/// the variables once.
 pub fn lowest_free(vars: &Vars) -> Option<u16>
     ensures free { IsLowestFreeIfAny (entry_of vars.now) result }
     ensures valid { IsVars vars.now }

@@ -24,7 +24,7 @@ use crate::vars::{DATA_MAX, Vars};
 use uefi_option::laws as option_laws;
 use uefi_path::laws as path_laws;
 
-/// Variables that may stand in a set have a spelling, of bytes.
+/// Variables that may be in a set have a spelling, of bytes.
 pub fn each_set_is_spelled()
     ensures { (vars : Variables) → IsVars vars →
         (bytes : List ℕ) × SpellsSet bytes vars × AllByRecursion IsByte bytes }
@@ -66,14 +66,14 @@ pub fn variables_have_one_order()
     path_laws::units_are_read_again();
 }
 
-/// Where BootOrder is bad, it gives no order.
+/// If BootOrder is bad, it gives no order.
 pub fn a_bad_order_gives_no_order()
     ensures { (vars : Variables) (order : List ℕ) → HasBadOrder vars → HasOrder vars order → ⊥ }
 {
     path_laws::units_have_two_bytes_each();
 }
 
-/// Where variables may stand in a set, BootOrder gives an order, or is bad.
+/// If variables may be in a set, BootOrder gives an order, or is bad.
 pub fn variables_have_an_order_or_a_bad_one()
     ensures { (vars : Variables) → IsVars vars →
         ((order : List ℕ) × HasOrder vars order) ⊎ HasBadOrder vars }
@@ -87,12 +87,12 @@ pub fn variables_have_one_next()
     ensures { (vars : Variables) (a b : Option ℕ) → HasNext vars a → HasNext vars b → a ≡ b }
 {}
 
-/// Where BootNext is bad, it is neither a number nor none.
+/// If BootNext is bad, it is neither a number nor none.
 pub fn a_bad_next_gives_no_next()
     ensures { (vars : Variables) (next : Option ℕ) → HasBadNext vars → HasNext vars next → ⊥ }
 {}
 
-/// Where variables may stand in a set, BootNext is a number or none, or is bad.
+/// If variables may be in a set, BootNext is a number or none, or is bad.
 pub fn variables_have_a_next_or_a_bad_one()
     ensures { (vars : Variables) → IsVars vars →
         ((next : Option ℕ) × HasNext vars next) ⊎ HasBadNext vars }
@@ -120,7 +120,7 @@ pub fn var_faults_compare_as_values()
     ensures { (a b : VarFault) → IsTrue (⟦<VarFault as PartialEq>⟧.eq a b) ↔ (a ≡ b) }
 {}
 
-/// Variables are equal where they have the same data under each name.
+/// Variables are equal if they have the same data under each name.
 pub fn variables_are_equal_name_by_name()
     ensures { (a b : Variables) → ((name : List ℕ) → map.get a name ≡ map.get b name) → a ≡ b }
 {}

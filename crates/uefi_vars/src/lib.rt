@@ -2,28 +2,28 @@
 //! version 2.10, chapter 3).
 //!
 //! [`Vars`] is a finite map from names to data. [`read_set`] reads one from the bytes of a set file, all of them, and
-//! [`write_set`] gives its one spelling. [`Changes`] gathers what is to become of variables, and [`Vars::make`] makes it.
-//! Copies share the bytes of names and of data, and so do a set and the copy of the file that it was read from.
-//! Load options stand under the names that [`entry_name`] gives, and [`entry_option`] reads one; [`lowest_free`] finds a
-//! number for one more. [`boot_order`] and [`boot_next`] read which of them are to be tried, [`plan`] puts together what a
-//! boot would try, and [`plan_numbers`] its numbers alone.
+//! [`write_set`] gives its one spelling. [`Changes`] gathers what is to become of variables, and [`Vars::make`] makes
+//! it. Copies share the bytes of names and of data, and so do a set and the copy of the file that it was read from.
+//! Load options are stored under the names that [`entry_name`] gives, and [`entry_option`] reads one; [`lowest_free`]
+//! finds a number for one more. [`boot_order`] and [`boot_next`] read which of them are to be tried, [`plan`] puts
+//! together what a boot would try, and [`plan_numbers`] its numbers alone.
 #![tactic(auto)]
 
 mod boot_plan;
 mod by_number;
 mod changes;
-mod choosing;
 mod fault;
 mod free;
 pub mod laws;
 mod name;
 mod named;
+mod normal_entry;
 mod order;
-mod planning;
-mod reading;
+mod planner;
+mod reader;
 mod shared;
 mod vars;
-mod writing;
+mod writer;
 
 pub use boot_plan::{BootPlan, Choice, PlanNumbers};
 pub use changes::Changes;
@@ -31,7 +31,7 @@ pub use fault::{PutFault, PutRefusal, SetFault, VarFault};
 pub use free::lowest_free;
 pub use name::{BOOT_NEXT, BOOT_ORDER, NAME_MAX, entry_name, entry_number};
 pub use order::{ORDER_MAX, boot_next, boot_order};
-pub use planning::{entry_option, plan, plan_numbers};
-pub use reading::read_set;
+pub use planner::{entry_option, plan, plan_numbers};
+pub use reader::read_set;
 pub use vars::{DATA_MAX, Iter, Vars};
-pub use writing::write_set;
+pub use writer::write_set;

@@ -79,7 +79,7 @@ pub fn entry_name(number: u16) -> [u8; 8]
 }
 
 /// The number of the entry that has this name (UEFI 2.10, 3.1.1 and 3.3), if it is that of an entry: as ASCII, `Boot`
-/// and four hexadecimal digits, of which the letters are in upper case. `Boot00ab` is no entry's name.
+/// and four hexadecimal digits, of which the letters are in upper case. `Boot00ab` isn't an entry's name.
 pub fn entry_number(name: &str) -> Option<u16>
     ensures { (number : ℕ) →
         (result ≡ Some number) ↔ ((number < 2 ^ 16) × (name.now ≡ entry_text number)) }

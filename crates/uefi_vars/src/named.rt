@@ -21,13 +21,14 @@ pub(crate) struct Named<T> {
 /// Where what is kept under a name goes.
 #[derive(Drop)]
 pub(crate) enum Place {
-    /// Where the name stands already.
+    /// Where the name already is.
     Taken(usize),
-    /// Where the name is to stand, and the name.
+    /// Where the name is to go, and the name.
     Free(usize, SharedText),
 }
 
-/// Where this name stands among those of these, which are in the order of their names, or else where it would.
+/// Where this name is among those of these, which are in the order of their names, or where it would go if it isn't
+/// there.
 pub(crate) fn search<T>(items: &[Named<T>], name: &[u8]) -> Result<usize, usize>
     requires { IsRising (pairs_of items.now) }
     ensures found { IfOk result (IsAt (pairs_of items.now) name.now) }

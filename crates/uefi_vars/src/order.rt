@@ -19,7 +19,7 @@ pub const ORDER_MAX: usize = 65_536;
 /// The bytes of a number.
 const NUMBER_LEN: usize = 2;
 
-/// The bytes of BootOrder, two for each number, little-endian. There are none where it isn't stored.
+/// The bytes of BootOrder, two for each number, little-endian. There are none if it isn't stored.
 pub(crate) fn order_bytes(vars: &Vars) -> Result<&[u8], VarFault>
     ensures found { IfOk result (λ bytes. HasOrder vars.now (units_of bytes.now)) }
     ensures bad_order { (result ≡ Err VarFault.BadOrder) ↔ HasBadOrder vars.now }
@@ -37,20 +37,20 @@ pub(crate) fn order_bytes(vars: &Vars) -> Result<&[u8], VarFault>
     Ok(bytes)
 }
 
-/// The numbers of BootOrder (UEFI 2.10, 3.3), two bytes each, little-endian, in their order; a number may stand there
-/// twice. There are none where BootOrder isn't stored.
+/// The numbers of BootOrder (UEFI 2.10, 3.3), two bytes each, little-endian, in their order; a number may be there
+/// twice. There are none if BootOrder isn't stored.
 ///
 /// # Errors
 ///
-/// [`VarFault::BadOrder`] where its bytes are odd in number or more than two for each of [`ORDER_MAX`] numbers; else
-/// [`VarFault::OutOfMemory`] where memory for the numbers was refused.
+/// [`VarFault::BadOrder`] if its bytes are odd in number or more than two for each of [`ORDER_MAX`] numbers; otherwise
+/// [`VarFault::OutOfMemory`] if memory for the numbers was refused.
 pub fn boot_order(alloc: Global, vars: &Vars) -> Result<Vec<u16>, VarFault>
     ensures found { IfOk result (λ order. HasOrder vars.now order.items) }
     ensures only { (order : List ℕ) → HasOrder vars.now order →
         MatchResult result (λ numbers. numbers.items ≡ order)
         (λ fault. fault ≡ VarFault.OutOfMemory) }
     ensures bad_order { (result ≡ Err VarFault.BadOrder) ↔ HasBadOrder vars.now }
-    // There is no other refusal, but for want of memory.
+    // The only other fault is OutOfMemory.
     ensures named { IfErr result (λ fault. fault ≢ VarFault.BadNext) }
     ensures valid { IsVars vars.now }
 {
@@ -60,11 +60,11 @@ pub fn boot_order(alloc: Global, vars: &Vars) -> Result<Vec<u16>, VarFault>
     Ok(read_units(alloc, bytes)?)
 }
 
-/// The number in BootNext (UEFI 2.10, 3.3), two bytes, little-endian, or `None` where BootNext isn't stored.
+/// The number in BootNext (UEFI 2.10, 3.3), two bytes, little-endian, or `None` if BootNext isn't stored.
 ///
 /// # Errors
 ///
-/// [`VarFault::BadNext`] where it has another number of bytes than two. No other comes: the call takes no memory.
+/// [`VarFault::BadNext`] if it has another number of bytes than two. There is no other fault: the call takes no memory.
 pub fn boot_next(vars: &Vars) -> Result<Option<u16>, VarFault>
     ensures found { IfOk result (λ next. HasNext vars.now next) }
     ensures only { (next : Option ℕ) → HasNext vars.now next → result ≡ Ok next }

@@ -78,7 +78,7 @@ impl Shared {
         })
     }
 
-    /// So many of the bytes from this place on, which the two share.
+    /// This many of the bytes from this place on, which the two share.
     pub(crate) fn part(&self, start: usize, len: usize) -> Result<Shared, AllocError>
         requires { start + len ≤ length self.now }
         ensures { IfOk result (λ part. part ≡ take len (drop start self.now)) }

@@ -9,7 +9,7 @@ ghost use Rattle.uefi_vars.specs.declared.fault.PutFault.{PutFault};
 ghost use Rattle.uefi_vars.specs.Name.{IsName, entry_text};
 ghost use Rattle.uefi_vars.specs.Vars.{name_cmp, data_max, IsVariable, IsVars, entry_of};
 ghost use Rattle.uefi_vars.specs.Records.{pair_of, pairs_of, AreVariables, vars_of, without};
-ghost use Rattle.uefi_vars.specs.Made.{made, with_data, after_each, IsChange};
+ghost use Rattle.uefi_vars.specs.NameChanges.{with_changes, with_data, after_each, IsChange};
 
 use crate::changes::{Change, Changes};
 use crate::fault::{PutFault, PutRefusal};
@@ -134,10 +134,10 @@ impl Vars {
         &self.variables
     }
 
-    /// An equal value. The two share the bytes of the names and of the data, so this takes memory for one list alone, and no
-    /// later change of one shows in the other. Bytes stay in memory as long as one value has them: those of a list that
-    /// [`Vars::put_vec`] took over, and those of a whole file that [`read_set`](crate::read_set) read, as long as one variable
-    /// of that file is in one of the values. The one refusal is for want of memory.
+    /// An equal value. The two share the bytes of the names and of the data, so this takes memory for one list alone,
+    /// and no later change of one shows in the other. Bytes stay in memory as long as one value has them: those of a
+    /// list that [`Vars::put_vec`] took over, and those of a whole file that [`read_set`](crate::read_set) read, as
+    /// long as one variable of that file is in one of the values. This fails only when out of memory.
     pub fn copy(&self, alloc: Global) -> Result<Vars, AllocError>
         ensures equal { IfOk result (λ vars. vars ≡ self.now) }
         ensures valid { IsVars self.now }
@@ -178,8 +178,8 @@ impl Vars {
         find_data(&self.variables, &entry_name(number))
     }
 
-    /// The variable at this place in the rising order of the names' bytes, counted from 0: its name and its data, if there
-    /// are so many.
+    /// The variable at this place in the rising order of the names' bytes, counted from 0: its name and its data, if
+    /// there is one.
     pub fn item(&self, index: usize) -> Option<(&str, &[u8])>
         ensures item { option_map (λ item. (item.0.now, item.1.now)) result
             ≡ slice_get (map.entries self.now) index }
@@ -199,14 +199,14 @@ impl Vars {
         }
     }
 
-    /// Sets the variable of this name to this data, which is copied: one more variable where there was none of the name,
-    /// and else its new data. A refusal changes nothing.
+    /// Sets the variable of this name to this data, which is copied: one more variable if there was none of the name,
+    /// otherwise its new data. A refusal changes nothing.
     ///
     /// # Errors
     ///
-    /// [`PutFault::BadName`] where the name isn't one to [`NAME_MAX`](crate::NAME_MAX) characters from 0x21 to 0x7E; else
-    /// [`PutFault::EmptyData`] where there is no data; else [`PutFault::DataTooLong`] where it has more than [`DATA_MAX`]
-    /// bytes; else [`PutFault::OutOfMemory`] where memory for it was refused.
+    /// [`PutFault::BadName`] if the name isn't one to [`NAME_MAX`](crate::NAME_MAX) characters from 0x21 to 0x7E;
+    /// otherwise [`PutFault::EmptyData`] if there is no data; otherwise [`PutFault::DataTooLong`] if it has more than
+    /// [`DATA_MAX`] bytes; otherwise [`PutFault::OutOfMemory`] if memory for it was refused.
     pub fn put(&mut self, name: &str, value: &[u8]) -> Result<(), PutFault>
         ensures put { OnOk result (self.new ≡ map.insert self.old name.now value.now) }
         ensures unchanged { OnErr result (self.new ≡ self.old) }
@@ -229,8 +229,8 @@ impl Vars {
     ///
     /// # Errors
     ///
-    /// The list, with the fault, which is as for [`Vars::put`]: [`PutFault::BadName`], else [`PutFault::EmptyData`], else
-    /// [`PutFault::DataTooLong`], else [`PutFault::OutOfMemory`].
+    /// The list, with the fault, which is as for [`Vars::put`]: [`PutFault::BadName`], otherwise
+    /// [`PutFault::EmptyData`], otherwise [`PutFault::DataTooLong`], otherwise [`PutFault::OutOfMemory`].
     pub fn put_vec(&mut self, name: &str, value: Vec<u8>) -> Result<(), PutRefusal>
         ensures put { OnOk result (self.new ≡ map.insert self.old name.now value.items) }
         ensures unchanged { OnErr result (self.new ≡ self.old) }
@@ -252,14 +252,14 @@ impl Vars {
         Ok(())
     }
 
-    /// Sets the entry of this number, the variable `Boot####` (UEFI 2.10, 3.1.1), to this data, which is copied: one more
-    /// variable where there was no such entry, and else its new data. A refusal changes nothing.
+    /// Sets the entry of this number, the variable `Boot####` (UEFI 2.10, 3.1.1), to this data, which is copied: one
+    /// more variable if there was no such entry, otherwise its new data. A refusal changes nothing.
     ///
     /// # Errors
     ///
-    /// [`PutFault::EmptyData`] where there is no data; else [`PutFault::DataTooLong`] where it has more than [`DATA_MAX`]
-    /// bytes; else [`PutFault::OutOfMemory`] where memory for it was refused. [`PutFault::BadName`] never comes, since each
-    /// number has a name.
+    /// [`PutFault::EmptyData`] if there is no data; otherwise [`PutFault::DataTooLong`] if it has more than
+    /// [`DATA_MAX`] bytes; otherwise [`PutFault::OutOfMemory`] if memory for it was refused. [`PutFault::BadName`]
+    /// never comes, since each number has a name.
     pub fn put_entry(&mut self, number: u16, value: &[u8]) -> Result<(), PutFault>
         ensures put { OnOk result (self.new ≡ map.insert self.old (entry_text number) value.now) }
         ensures unchanged { OnErr result (self.new ≡ self.old) }
@@ -279,8 +279,8 @@ impl Vars {
     ///
     /// # Errors
     ///
-    /// The list, with the fault, which is as for [`Vars::put_entry`]: [`PutFault::EmptyData`], else
-    /// [`PutFault::DataTooLong`], else [`PutFault::OutOfMemory`].
+    /// The list, with the fault, which is as for [`Vars::put_entry`]: [`PutFault::EmptyData`], otherwise
+    /// [`PutFault::DataTooLong`], otherwise [`PutFault::OutOfMemory`].
     pub fn put_entry_vec(&mut self, number: u16, value: Vec<u8>) -> Result<(), PutRefusal>
         ensures put { OnOk result (self.new ≡ map.insert self.old (entry_text number) value.items) }
         ensures unchanged { OnErr result (self.new ≡ self.old) }
@@ -322,7 +322,7 @@ impl Vars {
     ///
     /// [`AllocError`] if memory was refused.
     pub fn make(&mut self, changes: Changes) -> Result<(), AllocError>
-        ensures made { OnOk result (self.new ≡ made self.old changes) }
+        ensures made { OnOk result (self.new ≡ with_changes self.old changes) }
         ensures unchanged { OnErr result (self.new ≡ self.old) }
         ensures valid { IsVars self.new }
     {
@@ -330,7 +330,7 @@ impl Vars {
     }
 }
 
-/// Whether this name and this data may stand in a set.
+/// Whether this name and this data may be in a set.
 pub(crate) fn check_variable(name: &str, value: &[u8]) -> Result<(), PutFault>
     ensures valid { OnOk result (IsVariable (name.now, value.now)) }
     ensures bad_name { (result ≡ Err PutFault.BadName) ↔ (¬ IsName name.now) }

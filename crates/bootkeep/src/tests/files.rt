@@ -1,4 +1,4 @@
-//! Files in memory that are read alone, and can't be locked.
+//! Files in memory that are only read, and can't be locked.
 
 use boot_commands::OutputFile;
 use std::fs::{Metadata, OpenOptions};
@@ -10,11 +10,11 @@ use std::rt::Files;
 pub enum Contents<'a> {
     /// These bytes.
     Bytes(&'a [u8]),
-    /// So many zeros.
+    /// This many zeros.
     Zeros(u64),
     /// An error at the first read, as of a folder.
     Refused,
-    /// Want of memory at the first read.
+    /// Out of memory at the first read.
     OutOfMemory,
 }
 

@@ -28,7 +28,7 @@ const ADD_LINES: &str =
 /// The frame of request 2, which makes entry 2 the next one.
 const NEXT_2: &[u8] = b"BQ\x01\x05\x02\0\0\0\x02\0\0\0\x02\0";
 
-/// What stands in front of the option in the frames of requests 1 and 0, which add it as entries 2 and 1.
+/// What comes before the option in the frames of requests 1 and 0, which add it as entries 2 and 1.
 const ADD_FRAMES: [&[u8]; 2] = [
     b"BQ\x01\x01\x01\0\0\0\x2c\0\0\0\x02\0",
     b"BQ\x01\x01\0\0\0\0\x2c\0\0\0\x01\0",
@@ -249,7 +249,7 @@ const STREAM_WORDS: [[&str; 7]; 3] = [
 ];
 
 /// Streams that change nothing, with the status, standard output and standard error of a run. The last is a header of a
-/// frame that is to have 131,073 bytes behind it.
+/// frame that is to have 131,073 bytes after it.
 const IDLE_STREAMS: [(&[u8], u8, &str, &str); 4] = [
     (b"", 0, "", ""),
     (b"BQ\x01\x06\0\0\0\0\0\0\0\0", 0, "malformed BadKind\n", ""),

@@ -53,7 +53,7 @@ impl Stream {
 pub enum Words<'a> {
     /// The program's name and what follows it.
     Given(&'a [&'a str]),
-    /// Bytes that are no UTF-8.
+    /// Bytes that aren't UTF-8.
     NotText,
 }
 
@@ -173,7 +173,7 @@ impl<F: Files> Files for FakeRuntime<'_, F> {
     }
 }
 
-/// What a run leaves behind.
+/// What a run leaves.
 #[derive(Drop)]
 pub struct Run {
     pub status: u8,
@@ -197,7 +197,7 @@ impl Run {
         })
     }
 
-    /// The status, and what stands on standard output and on standard error.
+    /// The status, and what is on standard output and on standard error.
     pub fn answer(&self) -> (u8, &str, &str) {
         (self.status, self.stdout.as_str(), self.stderr.as_str())
     }

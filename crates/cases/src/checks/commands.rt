@@ -107,7 +107,7 @@ fn inputs(alloc: Global) -> Result<bool> {
             Err(InputFault::TooMuch),
             MOST + 1,
         ),
-        // what fails behind the first byte past the limit isn't read
+        // what fails after the first byte past the limit isn't read
         (
             u64::MAX,
             usize::MAX,
@@ -133,7 +133,7 @@ fn inputs(alloc: Global) -> Result<bool> {
     Ok(true)
 }
 
-/// What so many times a byte, of which reading fails after so many, are refused for.
+/// What a byte repeated this many times is refused for. Reading fails after `fails_at` bytes, if that is given.
 fn refused_for(
     alloc: Global,
     form: Form,
@@ -197,7 +197,7 @@ fn long_streams(alloc: Global) -> Result<bool> {
     Ok(true)
 }
 
-/// Whether a run whose answers find room for so many bytes ends with a failed write, after these bytes.
+/// Whether a run with room for just these bytes of its answers writes them and ends with a failed write.
 fn is_cut_short(
     alloc: Global,
     (form, bytes): (Form, &[u8]),
@@ -225,7 +225,7 @@ fn is_cut_short(
         && writer.inner.bytes.as_slice() == front
 }
 
-/// Whether each front of the lines that answer a run can be all that there is room for, if a write takes one byte or many.
+/// Whether [`is_cut_short`] holds for each prefix of the lines that answer a run, if a write takes one byte or many.
 fn failed_answers(alloc: Global, form: Form, bytes: &[u8], lines: &[u8]) -> Result<bool> {
     for room in 0..lines.len() {
         let Some((front, _)) = lines.split_at_checked(room) else {

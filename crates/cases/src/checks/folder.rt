@@ -37,7 +37,7 @@ impl Folder {
         }
     }
 
-    /// What stands under the name of the set, and under the other one.
+    /// What is under the name of the set, and under the other one.
     pub fn into_parts(self) -> (Option<Vec<u8>>, Option<Vec<u8>>) {
         let Folder {
             alloc: _,
@@ -59,7 +59,7 @@ impl Folder {
         Ok(())
     }
 
-    /// That the path is one of the two names or the folder, and that something stands there.
+    /// That the path is one of the two names or the folder, and that something is there.
     fn find(&self, path: &str) -> io::Result<()> {
         let is_there = match path {
             SET => self.set.try_borrow()?.is_some(),

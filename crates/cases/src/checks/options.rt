@@ -65,7 +65,7 @@ fn are_attributes() -> bool {
         && LIST_MAX == 65_535
 }
 
-/// The path without nodes, so many times.
+/// The path without nodes, `count` times.
 fn empty_paths(alloc: Global, count: usize) -> Result<Vec<Path>> {
     let mut paths = Vec::new(alloc);
     for _ in 0..count {

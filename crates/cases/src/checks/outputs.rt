@@ -1,4 +1,4 @@
-//! Checks of files that are written where a step of it fails.
+//! Checks of writing a file when a step of it fails.
 
 use crate::checks::Findings;
 use crate::checks::folder::{Folder, SET};
@@ -13,7 +13,7 @@ const NEW_BYTES: &[u8] = b"a new set";
 
 const REFUSED: Result<(), OutputFault> = Err(OutputFault::Write);
 
-/// What stands in the folder after a file was written, or wasn't.
+/// What is in the folder after a file was written, or wasn't.
 #[derive(Clone, Copy, Debug, PartialEq, Eq)]
 enum Left {
     /// The old file, and nothing else.
@@ -75,7 +75,7 @@ fn what_is_left(folder: Folder, old: Option<&[u8]>) -> Left {
 }
 
 fn old_or_new(alloc: Global) -> Result<bool> {
-    // the old file; the first step that fails, and the one behind the last; what is answered, and what is left
+    // the old file; the first step that fails, and the one after the last; what is answered, and what is left
     let table: [(Option<&[u8]>, usize, usize, Result<(), OutputFault>, Left); 8] = [
         // it is looked at, opened, locked and looked at again, and the new one is opened
         (Some(OLD_BYTES), 0, 9, REFUSED, Left::Old),

@@ -3,7 +3,7 @@
 use std::cell::Cell;
 use std::io::{self, Read};
 
-/// A reader of one byte so many times, a few at once, that fails after some, and counts what it has given.
+/// A reader that gives one byte a number of times, a few at once, fails after some, and counts what it has given.
 #[derive(Drop)]
 pub struct Repeated<'a> {
     pub byte: u8,

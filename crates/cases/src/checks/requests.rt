@@ -27,7 +27,7 @@ const FRAMES: [&str; 3] = [
     "42510101000000002c00000001000100000020004100000002010c00d041030a0000000001010600021f03120a000000ffff00007fff0400",
 ];
 
-/// Twelve bytes that begin no frame.
+/// Twelve bytes that don't begin a frame.
 const NO_FRAME: &str = "424200000000000000000000";
 
 /// Makes the checks.
@@ -206,7 +206,7 @@ fn drive(alloc: Global) -> Result<LoadOption> {
     Ok(read_option(alloc, &DRIVE)?)
 }
 
-/// Requests of each kind, each another one.
+/// Requests of each kind, all different.
 fn requests(alloc: Global) -> Result<Vec<Request>> {
     let mut requests = Vec::new(alloc);
     requests.push(Request::Add(1, drive(alloc)?))?;
@@ -247,7 +247,7 @@ fn deliveries(alloc: Global) -> Result<bool> {
     Ok(copied && apart && events_compare(alloc, both)?)
 }
 
-/// Whether the delivery of these bytes, which are 1 and 2, is that of equal ones, and the one of none is no restart.
+/// Whether the delivery of these bytes, which are 1 and 2, equals that of equal ones, and that of none isn't a restart.
 fn events_compare(alloc: Global, both: Bytes) -> Result<bool> {
     let other = Event::Deliver(bytes_of(alloc, &[0x01, 0x02])?);
     let none = Event::Deliver(bytes_of(alloc, &[])?);
@@ -262,7 +262,7 @@ fn opened(alloc: Global, vars: Vars) -> Result<Keeper> {
     }
 }
 
-/// The keeper behind the delivery of a request, which has to be answered so.
+/// The keeper after the delivery of a request, which has to be answered so.
 fn step_to(
     alloc: Global,
     keeper: &Keeper,
@@ -311,7 +311,7 @@ fn three_frames(alloc: Global) -> Result<Vec<Bytes>> {
     Ok(frames)
 }
 
-/// The stream of these frames, with twelve bytes behind them that begin none.
+/// The stream of these frames, with twelve bytes after them that don't begin one.
 fn bad_stream(alloc: Global, frames: &[Bytes]) -> Result<Vec<u8>> {
     let mut stream = Vec::new(alloc);
     for frame in frames {

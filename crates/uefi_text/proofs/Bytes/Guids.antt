@@ -9,7 +9,7 @@ use Rattle.std.specs.Prelude.{Some, None, Option, slice_index, if◌then◌else�
 use Rattle.std.proofs.lemmas.Bool.{and_parts}
 use Rattle.std.proofs.lemmas.List.{get_or_default}
 use Rattle.std.specs.Option.{option_map}
-use Rattle.uefi_text.specs.Reading.{guid_read}
+use Rattle.uefi_text.specs.Reader.{guid_read}
 use Rattle.uuid.proofs.RoundTrips.{swap_twice}
 use Rattle.uuid.proofs.TextLemmas.{by_index_same}
 use Rattle.std.specs.List.{list_all, AllByRecursion, join_with_byte}
@@ -263,6 +263,6 @@ chosen_none : (b : Bool) (o : Option (List ℕ)) → None ≡ o → None ≡ (if
 chosen_none true o e = e
 chosen_none false o e = refl
 
--- what the crate doesn't read is no GUID
+-- what the crate doesn't read isn't a GUID
 pub guid_none : (text : List ℕ) → ((x : List ℕ) → parsed text ≡ Some x → ⊥) → None ≡ guid_read text
 guid_none text h = chosen_none (eqb (length text) 36) (option_map swap_fields (parsed text)) (none_mapped (parsed text) h)

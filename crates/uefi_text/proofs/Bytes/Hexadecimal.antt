@@ -39,11 +39,11 @@ hex_encoded (b ∷ bytes) h =
     let rest = hex_encoded bytes h.1 in
     cc
 
--- the text of a front, and of what follows it
+-- the text of a prefix, and of what follows it
 pub hex_text-split : (i : ℕ) (bytes : List ℕ) → hex_text (take i bytes) ++ hex_text (drop i bytes) ≡ hex_text bytes
 hex_text-split i bytes = sym (flat_map-append (pair_text false) (take i bytes) (drop i bytes)) ∙ ap hex_text (take-append-drop i bytes)
 
--- a front that is written, behind what is written so far
+-- a prefix that is written, after what is written so far
 pub hex_text-more : (done : List ℕ) (i : ℕ) (rest front behind all : List ℕ) → front ≡ take i rest → behind ≡ drop i rest
     → done ++ hex_text rest ≡ all → (done ++ hex_text front) ++ hex_text behind ≡ all
 hex_text-more done i rest front behind all f b e =
@@ -83,7 +83,7 @@ pub hex_text-whole : {X : Type 0} (f : X → List ℕ) (xs : List X) (i : ℕ) �
     → flat_map (λ x. hex_text (f x)) (take i xs) ≡ hex_text (flat_map f xs)
 hex_text-whole f xs i past = rw (take_all i xs past) (hex_text-flat_map f xs)
 
--- and with something behind them
+-- and with something after them
 pub hex_text-behind : (f : ℕ → List ℕ) (xs behind : List ℕ) (i : ℕ) → length xs ≤ i
     → flat_map (λ x. hex_text (f x)) (take i xs) ++ hex_text behind ≡ hex_text (flat_map f xs ++ behind)
 hex_text-behind f xs behind i past =

@@ -73,7 +73,7 @@ pub other_segment : (p : HardDriveParts) → is_gpt p ≡ false → is_mbr p ≡
     → segment_text (generic_segment (row_of (HardDrive p))) ≡ segment_text (segment_of (HardDrive p))
 other_segment p gpt mbr = rw (gpt, mbr) refl
 
--- what is joined is the first, and each other behind the mark
+-- what is joined is the first, and each other after the mark
 pub join-first : {X : Type 0} (mark : ℕ) (text : X → List ℕ) (first : X) (others : List X)
     → join_with_byte mark (map text (first ∷ others)) ≡ text first ++ flat_map (λ x. mark ∷ text x) others
 join-first mark text first [] = sym (append-nil (text first))

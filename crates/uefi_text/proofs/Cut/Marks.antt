@@ -8,7 +8,7 @@ abbrev pub StopsAt : {X : Type 0} → (X → Type 0) → List X → Type 0
 StopsAt P [] = Unit {0}
 StopsAt P (x ∷ _) = P x → ⊥
 
--- lists of what the property holds of, in front of what it does not hold of
+-- lists of what the property holds of, before what it does not hold of
 pub same_fronts : {X : Type 0} (P : X → Type 0) (a b x y : List X) → AllByRecursion P a → AllByRecursion P b → StopsAt P x → StopsAt P y → a ++ x ≡ b ++ y → (a ≡ b) × (x ≡ y)
 same_fronts P [] [] x y all-a all-b stops-x stops-y e = (refl, e)
 same_fronts P [] (b ∷ bs) [] y all-a all-b stops-x stops-y e = absurd (cc)
@@ -23,21 +23,21 @@ same_fronts P (a ∷ as') (b ∷ bs) x y all-a all-b stops-x stops-y e =
     let parts = same_fronts P as' bs x y all-a.1 all-b.1 stops-x stops-y tail in
     (cc, parts.1)
 
--- what stands in front of the first mark
+-- what comes before the first mark
 pub same_before_mark : (mark : ℕ) (a b x y : List ℕ) → Lacks mark a → Lacks mark b → a ++ (mark ∷ x) ≡ b ++ (mark ∷ y) → (a ≡ b) × (x ≡ y)
 same_before_mark mark a b x y lacks-a lacks-b e =
     let parts = same_fronts (λ c. c ≢ mark) a b (mark ∷ x) (mark ∷ y) lacks-a lacks-b (λ no. no refl) (λ no. no refl) e in
     let tails : mark ∷ x ≡ mark ∷ y = parts.1 in
     (parts.0, cc)
 
--- a list without the mark is no list with one
+-- a list without the mark isn't a list with one
 no_mark : (mark : ℕ) (a b x : List ℕ) → Lacks mark a → Lacks mark b → a ≡ b ++ (mark ∷ x) → ⊥
 no_mark mark a b x lacks-a lacks-b e =
     let parts = same_fronts (λ c. c ≢ mark) a b [] (mark ∷ x) lacks-a lacks-b tt (λ no. no refl) (append-nil a ∙ e) in
     let tails : [] ≡ mark ∷ x = parts.1 in
     cc
 
--- lists that are joined by a mark, where none has the mark
+-- lists that are joined by a mark, if none has the mark
 pub same_joined : (mark : ℕ) (as' bs : List (List ℕ)) → AllByRecursion (Lacks mark) as' → AllByRecursion (Lacks mark) bs → as' ≢ [] → bs ≢ [] → join_with_byte mark as' ≡ join_with_byte mark bs → as' ≡ bs
 same_joined mark [] bs lacks-a lacks-b some-a some-b e = absurd (some-a refl)
 same_joined mark (a ∷ as') [] lacks-a lacks-b some-a some-b e = absurd (some-b refl)
@@ -58,7 +58,7 @@ joined_some mark [] bs some e = some refl
 joined_some mark (c ∷ b) [] some e = cc
 joined_some mark (c ∷ b) (d ∷ bs) some e = cc
 
--- lists that are joined by a mark, where none has the mark or is empty
+-- lists that are joined by a mark, if none has the mark or is empty
 pub same_parted : (mark : ℕ) (as' bs : List (List ℕ)) → AllByRecursion (Lacks mark) as' → AllByRecursion (Lacks mark) bs → AllByRecursion (λ part. part ≢ []) as' → AllByRecursion (λ part. part ≢ []) bs → join_with_byte mark as' ≡ join_with_byte mark bs → as' ≡ bs
 same_parted mark [] [] lacks-a lacks-b some-a some-b e = refl
 same_parted mark [] (b ∷ bs) lacks-a lacks-b some-a some-b e = absurd (joined_some mark b bs some-b.0 (sym e))

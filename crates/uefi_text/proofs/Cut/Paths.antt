@@ -8,12 +8,12 @@ use Rattle.uefi_text.proofs.Cut.Segments.{IsPlainSegment, same_segment, begins_p
 abbrev pub IsPlainInstance : List Segment → Type 0
 IsPlainInstance segments = AllByRecursion IsPlainSegment segments
 
--- what stands behind the first segment of an instance
+-- what comes after the first segment of an instance
 abbrev pub behind_segment : List Segment → List ℕ
 behind_segment [] = []
 behind_segment (s ∷ segments) = slash ∷ instance_text (s ∷ segments)
 
--- what stands behind the first instance of a text
+-- what comes after the first instance of a text
 abbrev pub behind_instance : List (List Segment) → List ℕ
 behind_instance [] = []
 behind_instance (i ∷ instances) = comma ∷ cut_text (i ∷ instances)
@@ -26,7 +26,7 @@ pub text_parts : (i : List Segment) (instances : List (List Segment)) → cut_te
 text_parts i [] = sym (append-nil (instance_text i))
 text_parts i (j ∷ instances) = refl
 
--- an instance in front of something, by its first segment
+-- an instance before something, by its first segment
 pub instance_front : (s : Segment) (segments : List Segment) (x : List ℕ) → instance_text (s ∷ segments) ++ x ≡ segment_text s ++ (behind_segment segments ++ x)
 instance_front s segments x =
     ap (λ (t : List ℕ). t ++ x) (instance_parts s segments) ∙ append_assoc (segment_text s) (behind_segment segments) x
@@ -50,12 +50,12 @@ no_segment s (c ∷ x) y plain closed e =
 marks_differ : comma ≡ slash → ⊥
 marks_differ e = omega arith
 
--- where a comma or the end follows, no slash does
+-- if a comma or the end follows, no slash does
 no_slash : (x y : List ℕ) → EndsOr comma x → x ≡ slash ∷ y → ⊥
 no_slash [] y closed e = cc
 no_slash (c ∷ x) y closed e = let head : c ≡ slash = cc in absurd (marks_differ (sym closed ∙ head))
 
--- an instance that stands in front of a comma or the end is cut off in one way
+-- an instance before a comma or the end is cut off in one way
 pub same_instance : (a b : List Segment) (x y : List ℕ) → IsPlainInstance a → IsPlainInstance b → EndsOr comma x → EndsOr comma y → instance_text a ++ x ≡ instance_text b ++ y → (a ≡ b) × (x ≡ y)
 same_instance [] [] x y plain-a plain-b closed-x closed-y e = (refl, e)
 same_instance [] (t ∷ ts) x y plain-a plain-b closed-x closed-y e =
@@ -112,7 +112,7 @@ pub record BeginsWith (Q : Segment → Type 0) (text : List ℕ) : Type 0 where
   pub holds : Q segment
   pub closed : ClosesSegment behind
 
--- a segment's text, and the slash behind it
+-- a segment's text, and the slash after it
 abbrev pub before_slash : Segment → List ℕ
 before_slash segment = segment_text segment ++ slash ∷ []
 
@@ -125,7 +125,7 @@ first_segment s segments rest = simp append_assoc
 first_instance : (i : List Segment) (instances : List (List Segment)) (segments : List Segment) (rest : List ℕ) → closed_text (i ∷ instances) segments ++ rest ≡ instance_text i ++ (comma ∷ (closed_text instances segments ++ rest))
 first_instance i instances segments rest = simp append_assoc
 
--- behind whole segments an instance goes on with a segment, or there are none on either side
+-- after whole segments an instance goes on with a segment, or there are none on either side
 pub instance_goes_on : (Q : Segment → Type 0) → ((s : Segment) → Q s → IsPlainSegment s) → (segments : List Segment) (rest : List ℕ) (i : List Segment) (x : List ℕ) → IsPlainInstance segments → AllByRecursion Q i → EndsOr comma x
     → flat_map before_slash segments ++ rest ≡ instance_text i ++ x → GoesOn Q segments i rest
 instance_goes_on Q plain-of [] rest [] x plain holds closed e = inr (refl, refl, subst (EndsOr comma) (sym e) closed)
@@ -145,7 +145,7 @@ instance_goes_on Q plain-of (s ∷ ss) rest (t ∷ u ∷ us) x plain holds close
       | inr none ↦ let empty : u ∷ us ≡ [] = none.1 in absurd (cc)
     ]
 
--- behind whole instances and segments a text goes on with a segment, or an empty instance closes
+-- after whole instances and segments a text goes on with a segment, or an empty instance closes
 pub text_goes_on : (Q : Segment → Type 0) → ((s : Segment) → Q s → IsPlainSegment s) → (instances : List (List Segment)) (segments : List Segment) (rest : List ℕ) (cut : List (List Segment)) → AllByRecursion IsPlainInstance instances → IsPlainInstance segments → AllByRecursion (AllByRecursion Q) cut → cut ≢ []
     → closed_text instances segments ++ rest ≡ cut_text cut → BeginsWith Q rest ⊎ ((segments ≡ []) × EndsOr comma rest)
 text_goes_on Q plain-of instances segments rest [] plain-i plain-s holds some e = absurd (some refl)
@@ -164,7 +164,7 @@ text_goes_on Q plain-of (i ∷ instances) segments rest (c ∷ d ∷ cut) plain-
     let tails : closed_text instances segments ++ rest ≡ cut_text (d ∷ cut) = cc in
     text_goes_on Q plain-of instances segments rest (d ∷ cut) plain-i.1 plain-s holds.1 (λ no. cc) tails
 
--- whole segments in front of what begins with none
+-- whole segments before what begins with none
 same_segments : (Q : Segment → Type 0) → ((s : Segment) → Q s → IsPlainSegment s) → (a b : List Segment) (x y : List ℕ) → AllByRecursion Q a → AllByRecursion Q b → (BeginsWith Q x → ⊥) → (BeginsWith Q y → ⊥)
     → flat_map before_slash a ++ x ≡ flat_map before_slash b ++ y → a ≡ b
 same_segments Q plain-of [] [] x y holds-a holds-b none-x none-y e = refl
@@ -192,7 +192,7 @@ instance_is_not_stuck Q plain-of segments rest i x holds holds-i closed stuck e 
       | inr none ↦ stuck.no_empty none.0 none.2
     ]
 
--- whole instances and segments in front of where a text is stuck
+-- whole instances and segments before the place where a text is stuck
 pub same_closed : (Q : Segment → Type 0) → ((s : Segment) → Q s → IsPlainSegment s) → (a b : List (List Segment)) (s t : List Segment) (x y : List ℕ) → AllByRecursion (AllByRecursion Q) a → AllByRecursion (AllByRecursion Q) b → AllByRecursion Q s → AllByRecursion Q t → IsStuck Q s x → IsStuck Q t y
     → closed_text a s ++ x ≡ closed_text b t ++ y → (a ≡ b) × (s ≡ t)
 same_closed Q plain-of [] [] s t x y holds-a holds-b holds-s holds-t stuck-x stuck-y e =

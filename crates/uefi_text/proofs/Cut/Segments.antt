@@ -57,7 +57,7 @@ all_joined P mark (x ∷ []) p h = h.0
 all_joined P mark (x ∷ y ∷ xs) p h =
     all_append P x (mark ∷ join_with_byte mark (y ∷ xs)) h.0 (p, all_joined P mark (y ∷ xs) p h.1)
 
--- the text of a named segment in front of something
+-- the text of a named segment before something
 pub named_text : (name : List ℕ) (arguments : List (List ℕ)) (x : List ℕ) → segment_text (named name arguments) ++ x ≡ name ++ (0x28 ∷ (join_with_byte comma arguments ++ (0x29 ∷ x)))
 named_text name arguments x = simp append_assoc
 
@@ -90,8 +90,8 @@ same_named name name' arguments arguments' x y plain plain' e =
     let same = same_arguments (takes_all name) arguments arguments' plain.parted parted' plain.some plain'.some inner.0 in
     (ap (λ (n : List ℕ). named n arguments) outer.0 ∙ ap (λ (as' : List (List ℕ)). named name' as') same, inner.1)
 
--- what closes a segment is no byte of a bare path name
-closed_stops : (x : List ℕ) → ClosesSegment x → StopsAt IsBareUnit x
+-- what closes a segment isn't a byte of a bare path name
+pub closed_stops : (x : List ℕ) → ClosesSegment x → StopsAt IsBareUnit x
 closed_stops [] closed = tt
 closed_stops (c ∷ x) (inl is) = λ unit. unit.no_slash is
 closed_stops (c ∷ x) (inr is) = λ unit. unit.no_comma is
@@ -106,7 +106,7 @@ same_bare (a ∷ as') (b ∷ bs) x y plain-a plain-b closed-x closed-y e =
     let same : as' ≡ bs = parts.0 in
     (cc, parts.1)
 
--- a named segment is no bare one
+-- a named segment isn't a bare one
 named_is_not_bare : (name : List ℕ) (arguments : List (List ℕ)) (path_name x y : List ℕ) → IsPlainNamed name arguments → IsBareName path_name → segment_text (named name arguments) ++ x ≡ path_name ++ y → ⊥
 named_is_not_bare name arguments [] x y plain is-bare e = absurd is-bare
 named_is_not_bare [] arguments (b ∷ bs) x y plain is-bare e =
@@ -118,7 +118,7 @@ named_is_not_bare (n ∷ name) arguments (b ∷ bs) x y plain is-bare e =
     let head : n ≡ b = cc in
     absurd (plain.name_bytes.0.no_backslash (head ∙ is-bare.0))
 
--- a segment that stands in front of what closes it is cut off in one way
+-- a segment before what closes it is cut off in one way
 pub same_segment : (s t : Segment) (x y : List ℕ) → IsPlainSegment s → IsPlainSegment t → ClosesSegment x → ClosesSegment y → segment_text s ++ x ≡ segment_text t ++ y → (s ≡ t) × (x ≡ y)
 same_segment (named name arguments) (named name' arguments') x y plain-s plain-t closed-x closed-y e = same_named name name' arguments arguments' x y plain-s plain-t e
 same_segment (named name arguments) (bare path_name) x y plain-s plain-t closed-x closed-y e = absurd (named_is_not_bare name arguments path_name x y plain-s plain-t e)

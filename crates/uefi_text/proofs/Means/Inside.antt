@@ -1,4 +1,4 @@
--- What stands between the parentheses of a named segment that stands for a node.
+-- What is between the parentheses of a named segment that stands for a node.
 use Rattle.std.proofs.Common.{◌≡◌, ◌≢◌, ℕ, Bool, true, false, List, [], ◌∷◌, sym, ap, subst, ◌∙◌}
 use Rattle.std.specs.List.{AllByRecursion, join_with_byte}
 use Rattle.uefi_path.specs.declared.node.Node.{Node}

@@ -1,4 +1,4 @@
--- A text stands for at most one path, and for none where it is stuck.
+-- A text stands for at most one path, and for none if it is stuck.
 use Rattle.std.proofs.Common.{◌≡◌, ◌≢◌, ◌⊎◌, ℕ, List, length, [], ◌∷◌, ◌++◌, refl, sym, ap, subst, ◌∙◌, inl, inr}
 use Rattle.std.specs.List.{AllByRecursion}
 use Rattle.uefi_path.specs.declared.node.Node.{Node}
@@ -49,7 +49,7 @@ IsSomeNodes segment = (node : Node) × IsNodeText segment node
 some_nodes_is_plain : (s : Segment) → IsSomeNodes s → IsPlainSegment s
 some_nodes_is_plain s is = plain_of_text s is.0 is.1
 
--- behind whole instances and segments a text of a path goes on with a segment, or an empty instance closes
+-- after whole instances and segments a text of a path goes on with a segment, or an empty instance closes
 pub path_goes_on : (text : List ℕ) (path : List (List Node)) (instances : List (List Segment)) (segments : List Segment) (rest : List ℕ) → IsPathText text path → AllByRecursion IsPlainInstance instances → IsPlainInstance segments → text ≡ closed_text instances segments ++ rest
     → BeginsWith IsSomeNodes rest ⊎ ((segments ≡ []) × EndsOr comma rest)
 path_goes_on text path instances segments rest is plain-i plain-s parts =

@@ -31,7 +31,7 @@ hexadecimal_is_not_decimal text most m n hex decimal =
     let x : digit_value 0x78 < 10 = all.1.0 in
     omega (arith, x)
 
--- one number, where the two texts are one
+-- one number, if the two texts are one
 pub number_one : (s t : List ℕ) (m n : ℕ) → s ≡ t → IsNumber s m → IsNumber t n → m ≡ n
 number_one s t m n same (inl (tail, is, digits)) (inl (tail', is', digits')) =
     let cells : codes "0x" ++ tail ≡ codes "0x" ++ tail' = sym is ∙ same ∙ is' in

@@ -16,23 +16,20 @@ use Rattle.uefi_text.specs.Number.{AreDigits, IsNumber}
 use Rattle.uefi_text.specs.Bytes.{Each, IsOctet, IsAddress, dot}
 use Rattle.uefi_text.specs.Guid.{IsGuid}
 use Rattle.uefi_text.specs.Node.{IsOrigin, pnp_hid}
-use Rattle.uefi_text.specs.Reading.{◌>>=◌, numeral_of, number_up_to, parts_of, octet_of, address_of, two_of, first_two_of, guid_read, pnp_of, begins_pnp, hid_of, is_text, origin_of, signature_of}
+use Rattle.uefi_text.specs.Reader.{◌>>=◌, numeral_of, number_up_to, parts_of, octet_of, address_of, two_of, first_two_of, guid_read, pnp_of, begins_pnp, hid_of, is_text, origin_of, signature_of}
 use Rattle.uefi_text.specs.Within.{Lacks}
 use Rattle.uefi_text.proofs.Bytes.Guids.{guid_found, guid_again, guid_length}
+use Rattle.uefi_text.proofs.Read.Hex.{mapped}
 use Rattle.uefi_text.proofs.Read.Marks.{arguments_one, arguments_more}
 use Rattle.uefi_text.proofs.Means.Reads.{IsHid, IsSignature}
 use Rattle.uefi_text.proofs.Means.Texts.{all_from_each, digits_lack}
 use Rattle.uefi_text.proofs.Read.Numbers.{bind_some, chosen_some, some_same, numeral_found, numeral_again, up_to_found, up_to_again}
 
-mapped : (f : List ℕ → List ℕ) (o : Option (List ℕ)) (y : List ℕ) → option_map f o ≡ Some y → (x : List ℕ) × (o ≡ Some x) × (f x ≡ y)
-mapped f None y e = cc
-mapped f (Some x) y e = (x, refl, cc)
-
 pub chosen_again : {A : Type 0} (b : Bool) (x : Option A) (y : A) → b ≡ true → x ≡ Some y → (if b then x else None) ≡ Some y
 chosen_again true x y is e = e
 chosen_again false x y is e = cc
 
--- the first step, where it gave a value
+-- the first step, if it gave a value
 pub after_some : {A B : Type 0} (o : Option A) (f : A → Option B) (x : A) → o ≡ Some x → (o >>= f) ≡ f x
 after_some o f x e = ap (λ q. q >>= f) e
 

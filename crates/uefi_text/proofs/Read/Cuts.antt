@@ -1,18 +1,18 @@
 -- Where a text is cut: at the first byte of a kind.
-use Rattle.std.proofs.Common.{Bor, ◌≡◌, ◌≢◌, ◌<◌, ℕ, zero, suc, true, Option, Some, None, MatchOption, unwrap_or, List, [], ◌∷◌, ◌++◌, length, take, drop, eqb, inl, inr, refl, sym, subst, ◌∙◌, drop-cons, arith}
+use Rattle.std.proofs.Common.{Bor, ◌≡◌, ◌≢◌, ◌<◌, ℕ, zero, suc, true, Option, Some, None, MatchOption, unwrap_or, List, [], ◌∷◌, ◌++◌, length, take, drop, eqb, refl, sym, subst, ◌∙◌, drop-cons, arith}
 use Rattle.std.specs.List.{AllWithin, AllByRecursion, HoldsAt, list_any, join_with_byte}
 use Rattle.std.proofs.lemmas.List.{drop_all, take-append-drop}
 use Rattle.uefi_text.specs.declared.segment.Segment as code
 use Rattle.uefi_text.specs.Segment.{Segment, named, bare, comma, segment_text}
 use Rattle.uefi_text.specs.Node.{IsBareUnit, IsBareName}
-use Rattle.uefi_text.specs.Cutting.{IsBareCut, StopsBare, open_mark, close_mark, IsNamedFront, IsBareFront, BeginsBare, IsNamed, IsBare, IsCutOf}
+use Rattle.uefi_text.specs.Cuts.{IsBareCut, StopsBare, open_mark, close_mark, IsNamedFront, IsBareFront, BeginsBare, IsNamed, IsBare, IsCutOf}
 use Rattle.uefi_text.proofs.Cut.Marks.{StopsAt, same_fronts, same_before_mark}
 use Rattle.uefi_text.specs.Within.{Lacks, IsAroundMark}
 use Rattle.uefi_text.specs.Fault.{ClosesSegment}
-use Rattle.uefi_text.proofs.Cut.Segments.{IsNameByte, IsArgumentByte, IsPlainNamed, IsPlainSegment, named_text, all_from, all_joined}
+use Rattle.uefi_text.proofs.Cut.Segments.{IsNameByte, IsArgumentByte, IsPlainNamed, IsPlainSegment, named_text, all_from, all_joined, closed_stops}
 use Rattle.std.proofs.lemmas.Bool.{ne_eqb}
 
--- what holds of each element below an index holds of each of the front
+-- what holds of each element below an index holds of each of the prefix
 pub first_of : (P : ℕ → Type 0) (xs : List ℕ) (i : ℕ) → AllWithin P xs 0 i → AllByRecursion P (take i xs)
 first_of P xs zero h = tt
 first_of P [] (suc i) h = tt
@@ -84,12 +84,6 @@ stops_bare : (rest : List ℕ) → StopsBare rest → StopsAt IsBareUnit rest
 stops_bare [] stops = tt
 stops_bare (c ∷ rest) stops = stops
 
--- what closes a segment is no byte of a bare path name
-closed_stops : (rest : List ℕ) → ClosesSegment rest → StopsAt IsBareUnit rest
-closed_stops [] closed = tt
-closed_stops (c ∷ rest) (inl is) = λ unit. unit.no_slash is
-closed_stops (c ∷ rest) (inr is) = λ unit. unit.no_comma is
-
 -- the bare path name and the rest, as they are cut off
 pub same_bare_parts : (text path_name behind before rest : List ℕ) → IsBareFront text path_name behind → IsBareCut text before rest → (before ≡ path_name) × (rest ≡ behind)
 same_bare_parts text [] behind before rest front cut = absurd front.name
@@ -101,7 +95,7 @@ joined_lacks mark arguments differs h =
     all_from IsArgumentByte (λ c. c ≢ mark) differs (join_with_byte comma arguments)
     (all_joined IsArgumentByte comma arguments (record { no_open = (λ e. omega arith); no_close = (λ e. omega arith) }) h)
 
--- a plain segment at the front of a text that doesn't begin with a backslash is a named one, and its parts are plain
+-- a plain segment at the start of a text that doesn't begin with a backslash is a named one, and its parts are plain
 pub named_front : (name : List ℕ) (arguments : List (List ℕ)) (text behind : List ℕ) → text ≡ segment_text (named name arguments) ++ behind → IsPlainNamed name arguments → ClosesSegment behind → IsNamedFront text name (join_with_byte comma arguments) behind
 named_front name arguments text behind e plain closed = record {
   parts = e ∙ named_text name arguments behind;

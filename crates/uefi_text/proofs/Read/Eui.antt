@@ -4,7 +4,7 @@ use Rattle.std.specs.Prelude.{Some}
 use Rattle.std.proofs.lemmas.Bool.{and_parts, ltb-true, lt-ltb}
 use Rattle.std.specs.Char.{digit_value}
 use Rattle.uefi_text.specs.Bytes.{Each, IsPair, IsByteText, IsEui, hyphen}
-use Rattle.uefi_text.specs.Reading.{parts_of, pair_of, byte_of, two_bytes_of, two_of, first_two_of, eui_of}
+use Rattle.uefi_text.specs.Reader.{parts_of, pair_of, byte_of, two_bytes_of, two_of, first_two_of, eui_of}
 use Rattle.uefi_text.specs.Within.{Lacks}
 use Rattle.uefi_text.proofs.Means.Texts.{all_from_each, hex_lacks}
 use Rattle.uefi_text.proofs.Read.Numbers.{bind_some, chosen_some, some_same}

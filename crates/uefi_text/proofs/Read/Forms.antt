@@ -1,4 +1,5 @@
--- What the reader's functions read of a segment's arguments is what the definitions say, for forms of more than numbers.
+-- What the reader's functions read of a segment's arguments is what the definitions say, for forms of more than
+-- numbers.
 use Rattle.std.proofs.Common.{◌≡◌, ◌<◌, ◌^◌, ℕ, zero, suc, List, [], ◌∷◌, length-append, refl, sym, ap, subst, ◌∙◌, inl, inr, codes, arith}
 use Rattle.std.specs.Prelude.{Some, replicate}
 use Rattle.std.specs.List.{AllByRecursion}
@@ -12,7 +13,7 @@ use Rattle.uefi_text.specs.Guid.{IsGuid, guid_groups}
 use Rattle.uefi_text.specs.Segment.{named}
 use Rattle.uefi_text.specs.Node as means
 use Rattle.uefi_text.specs.Path.{IsNodeText}
-use Rattle.uefi_text.specs.Reading.{parts_of, two_of, first_two_of, three_of, number_up_to, address_of, eui_of, hid_of, mac_of, origin_of, signature_of, nvme_of, acpi_of, mac_node_of, ipv4_of, hard_drive_of}
+use Rattle.uefi_text.specs.Reader.{parts_of, two_of, first_two_of, three_of, number_up_to, address_of, eui_of, hid_of, mac_of, origin_of, signature_of, nvme_of, acpi_of, mac_node_of, ipv4_of, hard_drive_of}
 use Rattle.uefi_text.proofs.Cut.Segments.{all_append}
 use Rattle.uefi_text.proofs.Bytes.Guids.{sixteen}
 use Rattle.uefi_text.proofs.Means.Forms as forms

@@ -9,8 +9,8 @@ use Rattle.uefi_path.specs.Node.{row_of, IsNode}
 use Rattle.uefi_text.specs.declared.fault.SegmentFault.{SegmentFault}
 use Rattle.uefi_text.specs.Segment.{named, comma}
 use Rattle.uefi_text.specs.Path.{IsNodeText}
-use Rattle.uefi_text.specs.Answering.{MeansNamed, AnswersNamed, AnswersRow}
-use Rattle.uefi_text.specs.Reading.{arguments_of, vendor_of, vendor_hw_of, vendor_msg_of, vendor_media_of, generic_of, IsOfRow, is_data, data_bytes}
+use Rattle.uefi_text.specs.Answers.{MeansNamed, AnswersNamed, AnswersRow}
+use Rattle.uefi_text.specs.Reader.{arguments_of, vendor_of, vendor_hw_of, vendor_msg_of, vendor_media_of, generic_of, IsOfRow, is_data, data_bytes}
 use Rattle.uefi_text.proofs.Read.Marks.{told_from}
 use Rattle.uefi_text.proofs.Read.Numbers.{bind_some, some_same}
 use Rattle.uefi_text.proofs.Read.Answers.{cut_args}

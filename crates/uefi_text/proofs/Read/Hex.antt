@@ -13,7 +13,7 @@ use Rattle.hex.specs.Hex.{hex_digit_value, value_at, pair_value, ◌>>=◌, deco
 use Rattle.hex.proofs.HexLemmas.{decode_of-even, decode_of-ok, decode_sized-twice, decode_sized-ok}
 use Rattle.uefi_text.specs.Bytes.{IsPair, IsHexData}
 use Rattle.uefi_text.specs.Node.{IsMacAddress}
-use Rattle.uefi_text.specs.Reading.{is_data, data_bytes, data_of, mac_of}
+use Rattle.uefi_text.specs.Reader.{is_data, data_bytes, data_of, mac_of}
 use Rattle.uefi_text.proofs.Bytes.Guids.{hex_length}
 use Rattle.uefi_text.proofs.Read.Numbers.{chosen_some, some_same}
 
@@ -34,7 +34,7 @@ value_found c i v e =
 value_again : (c i : ℕ) → digit_value c < 16 → value_at c i ≡ Ok (digit_value c)
 value_again c i low = rw (hex_value c low) refl
 
--- the second step, where both gave a value
+-- the second step, if both gave a value
 then_ok : {A B : Type 0} (r : Result A FromHexError) (f : A → Result B FromHexError) (y : B) → (r >>= f) ≡ Ok y → (x : A) × (r ≡ Ok x) × (f x ≡ Ok y)
 then_ok (Ok x) f y e = (x, refl, e)
 then_ok (Err e') f y e = cc
@@ -100,7 +100,7 @@ even_up n h = let two : suc (suc n) % 2 ≡ 0 = eqb-true _ 0 h in eq-eqb (n % 2)
 even_down : (n : ℕ) → (n % 2 == 0) ≡ true → (suc (suc n) % 2 == 0) ≡ true
 even_down n h = let two : n % 2 ≡ 0 = eqb-true _ 0 h in eq-eqb (suc (suc n) % 2) 0 (omega arith)
 
--- a pair of digits in front of data
+-- a pair of digits before data
 pub data_pair : (high low : ℕ) (text : List ℕ) → is_data (high ∷ low ∷ text) ≡ true → (digit_value high < 16) × (digit_value low < 16) × (is_data text ≡ true)
 data_pair high low text h =
     let both = and_parts (suc (suc (length text)) % 2 == 0) (list_all (λ d. ltb (digit_value d) 16) (high ∷ low ∷ text)) h in
@@ -152,13 +152,13 @@ and_none : (b : Bool) (x : Option (List ℕ)) → (if b && false then x else Non
 and_none true x = refl
 and_none false x = refl
 
--- too many digits for so many bytes
+-- too many digits for this many bytes
 pub data_long : (most : ℕ) (text : List ℕ) → most < length text / 2 → data_of most text ≡ None
 data_long most text long =
     let over : leb (length (data_bytes text)) most ≡ false = lt-leb (length (data_bytes text)) most (omega (arith, data_length text)) in
     rw over (and_none (is_data text) (Some (data_bytes text)))
 
-mapped : (f : List ℕ → List ℕ) (o : Option (List ℕ)) (y : List ℕ) → option_map f o ≡ Some y → (x : List ℕ) × (o ≡ Some x) × (f x ≡ y)
+pub mapped : (f : List ℕ → List ℕ) (o : Option (List ℕ)) (y : List ℕ) → option_map f o ≡ Some y → (x : List ℕ) × (o ≡ Some x) × (f x ≡ y)
 mapped f None y e = cc
 mapped f (Some x) y e = (x, refl, cc)
 

@@ -27,7 +27,7 @@ pushed_some : {X : Type 0} (xs : List X) (x : X) → xs ++ x ∷ [] ≡ [] → �
 pushed_some [] x e = cc
 pushed_some (a ∷ xs) x e = cc
 
--- what has its mark behind it, and one more
+-- what has its mark after it, and one more
 pub closed_more : {X : Type 0} (f : X → List ℕ) (mark : ℕ) (xs : List X) (x : X) (rest : List ℕ) → flat_map (λ x. f x ++ mark ∷ []) xs ++ (f x ++ mark ∷ rest) ≡ flat_map (λ x. f x ++ mark ∷ []) (xs ++ x ∷ []) ++ rest
 closed_more f mark [] x rest = simp (append_assoc, append-nil)
 closed_more f mark (y ∷ xs) x rest =
@@ -35,7 +35,7 @@ closed_more f mark (y ∷ xs) x rest =
     ∙ ap (λ (t : List ℕ). (f y ++ mark ∷ []) ++ t) (closed_more f mark xs x rest)
     ∙ sym (append_assoc (f y ++ mark ∷ []) (flat_map (λ x. f x ++ mark ∷ []) (xs ++ x ∷ [])) rest)
 
--- what has its mark behind it, and a last one, are joined by the mark
+-- what has its mark after it, and a last one, are joined by the mark
 pub joined_last : {X : Type 0} (f : X → List ℕ) (mark : ℕ) (xs : List X) (x : X) → flat_map (λ x. f x ++ mark ∷ []) xs ++ f x ≡ join_with_byte mark (map f (xs ++ x ∷ []))
 joined_last f mark [] x = refl
 joined_last f mark (y ∷ []) x = simp (append_assoc, append-nil)
@@ -44,7 +44,7 @@ joined_last f mark (y ∷ z ∷ xs) x =
     ∙ ap (λ (t : List ℕ). (f y ++ mark ∷ []) ++ t) (joined_last f mark (z ∷ xs) x)
     ∙ append_assoc (f y) (mark ∷ []) (join_with_byte mark (map f (z ∷ xs ++ x ∷ [])))
 
--- what stands behind the slash
+-- what comes after the slash
 abbrev pub behind_mark : List ℕ → List ℕ
 behind_mark behind = take (length behind - 1) (drop 1 behind)
 

@@ -9,7 +9,7 @@ use Rattle.uefi_path.specs.Node.{IsNode, row_of}
 use Rattle.uefi_text.specs.Segment.{named}
 use Rattle.uefi_text.specs.Node.{IsVendorText, vendor_hw, vendor_msg, vendor_media, generic}
 use Rattle.uefi_text.specs.Path.{IsNodeText}
-use Rattle.uefi_text.specs.Reading.{number_up_to, guid_read, data_of, vendor_of, generic_of}
+use Rattle.uefi_text.specs.Reader.{number_up_to, guid_read, data_of, vendor_of, generic_of}
 use Rattle.uefi_text.proofs.Read.Numbers.{bind_some, some_same, up_to_found, up_to_again}
 use Rattle.uefi_text.proofs.Read.Forms.{hex_bytes, guid_bytes}
 use Rattle.uefi_text.proofs.Read.Hex.{data_found, data_again}

@@ -11,11 +11,11 @@ use Rattle.std.proofs.lemmas.List.Elements.{recursion_from_All, All-from_get_or}
 use Rattle.std.proofs.Math.Seq.{drop-cons}
 use Rattle.uefi_text.specs.Printed.{is_plain_from}
 use Rattle.uefi_text.specs.Within.{Lacks, IsAroundMark}
-use Rattle.uefi_text.specs.Reading.{parts_of, one_of, first_of, one_or_two_of, Tells}
+use Rattle.uefi_text.specs.Reader.{parts_of, one_of, first_of, one_or_two_of, Tells}
 use Rattle.uefi_text.specs.declared.fault.SegmentFault.{SegmentFault}
 use Rattle.uefi_text.specs.declared.fault.SegmentFault.TheVariants.{BadSegment, BadNumber, OutOfRange, BadEnd, OutOfMemory}
 
--- what stands before the first byte of the kind, that byte, and what stands behind it
+-- what comes before the first byte of the kind, that byte, and what comes after it
 pub record IsPlace (p : ℕ → Bool) (xs : List ℕ) (i : ℕ) : Type 0 where
   pub within : i < length xs
   pub parts : xs ≡ take i xs ++ (get_or xs i 0 ∷ drop (i + 1) xs)
@@ -90,7 +90,7 @@ no_more mark a xs = some_argument mark (λ others. one_of (a ∷ others) ≡ Non
 pub one_more : (mark : ℕ) (a xs : List ℕ) → first_of (a ∷ parts_of mark xs) ≡ Some (a, parts_of mark xs)
 one_more mark a xs = some_argument mark (λ others. first_of (a ∷ others) ≡ Some (a, others)) (λ first others. refl) xs
 
--- where one thing isn't read because of another, the fault is that of the other
+-- if one thing isn't read because of another, the fault is that of the other
 pub told_from : {A B C D : Type 0} (fault : SegmentFault) → (A → B) → (C → D) → Tells fault A C → Tells fault B D
 told_from BadSegment f g h = f h
 told_from (BadNumber at) f g h = f h

@@ -18,11 +18,11 @@ use Rattle.uefi_text.specs.Node.{pci, usb, sata, nvme, pci_root, pcie_root, acpi
 use Rattle.uefi_text.specs.Node.{MeansNode, bare_file, IsBareName, IsBareUnit, IsNameUnit}
 use Rattle.uefi_text.specs.Path.{IsNodeText}
 use Rattle.uefi_text.specs.Fault.{IsPlaceOf, BeginsWithNode}
-use Rattle.uefi_text.specs.Cutting.{IsCutOf, IsFront, text_of}
+use Rattle.uefi_text.specs.Cuts.{IsCutOf, IsFront, text_of}
 use Rattle.uefi_text.specs.Instances.{IsRefusedNode}
-use Rattle.uefi_text.specs.Placing.{IsFaultIn}
-use Rattle.uefi_text.specs.Answering.{MeansNamed, AnswersNamed, MeansCut, AnswersSegment}
-use Rattle.uefi_text.specs.Reading.{Makes, file_of}
+use Rattle.uefi_text.specs.Places.{IsFaultIn}
+use Rattle.uefi_text.specs.Answers.{MeansNamed, AnswersNamed, MeansCut, AnswersSegment}
+use Rattle.uefi_text.specs.Reader.{Makes, file_of}
 use Rattle.uefi_text.proofs.Cut.Segments.{all_from}
 use Rattle.uefi_text.proofs.Read.Cuts.{first_is_bare}
 use Rattle.uefi_text.proofs.Read.Marks.{told_from}
@@ -113,7 +113,7 @@ refused_node text cut told end len only within none is = record {
   place = place_up told (len - length text) end len within is;
 }
 
--- what a segment's fault says of the front of the text that the segment was cut off
+-- what a segment's fault says of the start of the text that the segment was cut off
 pub segment_refused : (text : List ℕ) (cut : code.Segment) (fault : SegmentFault) (told : TextFault) (end len : ℕ) → ((begins : BeginsWithNode text) → IsCutOf cut begins.segment)
     → end ≤ len → AnswersSegment cut (Err fault) → IsFaultIn fault told (len - length text) end → told ≢ text_fault.OutOfMemory → IsRefusedNode text told len
 segment_refused text cut BadSegment told end len only within h is kept = refused_node text cut told end len only within h is
@@ -122,7 +122,7 @@ segment_refused text cut (OutOfRange at) told end len only within h is kept = re
 segment_refused text cut BadEnd told end len only within h is kept = refused_node text cut told end len only within h is
 segment_refused text cut OutOfMemory told end len only within h is kept = absurd (kept is)
 
--- want of memory says that the segment stands for a node
+-- out of memory says that the segment stands for a node
 pub segment_wanted : (cut : code.Segment) (fault : SegmentFault) (told : TextFault) (place end : ℕ) → AnswersSegment cut (Err fault) → IsFaultIn fault told place end
     → told ≡ text_fault.OutOfMemory → (node : Node) × MeansCut cut node
 segment_wanted cut BadSegment told place end h is e = absurd (subst (λ f. IsPlaceOf f place end) e is)
@@ -137,7 +137,7 @@ text_is (Named n i) (bare p) is = absurd is
 text_is (Bare text) (named name arguments) is = absurd is
 text_is (Bare text) (bare p) is = is
 
--- a text begins with the segment that was cut off it, where that stands for a node
+-- a text begins with the segment that was cut off it, if that stands for a node
 pub begins_with : (text : List ℕ) (cut : code.Segment) (rest : List ℕ) (node : Node) → IsFront text cut rest → MeansCut cut node → BeginsWithNode text
 begins_with text cut rest node front means = record {
   segment = means.0;

@@ -7,9 +7,9 @@ use Rattle.std.specs.Str.Parse.{AllDigits, digits_value}
 use Rattle.std.proofs.lemmas.Bool.{and_parts, ltb-true, leb-true, eqb-true, lt-ltb, le-leb}
 use Rattle.std.proofs.lemmas.Bool.Decides.{nat_tests}
 use Rattle.uefi_text.specs.Number.{AreDigits, IsNumber}
-use Rattle.uefi_text.specs.Reading.{◌>>=◌, is_numeral, numeral_of, begins_hexadecimal, number_of, number_up_to}
+use Rattle.uefi_text.specs.Reader.{◌>>=◌, is_numeral, numeral_of, begins_hexadecimal, number_of, number_up_to}
 
--- what a step reads behind another
+-- what a step reads after another
 pub bind_some : {A B : Type 0} (o : Option A) (f : A → Option B) (y : B) → (o >>= f) ≡ Some y → (x : A) × (o ≡ Some x) × (f x ≡ Some y)
 bind_some None f y e = cc
 bind_some (Some x) f y e = (x, refl, e)

@@ -7,7 +7,7 @@ use Rattle.uefi_text.specs.Segment.{named}
 use Rattle.uefi_path.specs.Standard.{pci_root_hid, pcie_root_hid}
 use Rattle.uefi_text.specs.Node.{pci, usb, sata, vlan, pci_root, pcie_root, cdrom}
 use Rattle.uefi_text.specs.Path.{IsNodeText}
-use Rattle.uefi_text.specs.Reading.{two_of, three_of, number_up_to, pci_of, usb_of, sata_of, vlan_of, root_of, cdrom_of}
+use Rattle.uefi_text.specs.Reader.{two_of, three_of, number_up_to, pci_of, usb_of, sata_of, vlan_of, root_of, cdrom_of}
 use Rattle.uefi_text.proofs.Read.Numbers.{bind_some, some_same, up_to_found, up_to_again}
 use Rattle.uefi_text.proofs.Means.Forms.{pci_count, pci_arguments, usb_count, usb_arguments, sata_count, sata_arguments, vlan_count, vlan_arguments, cdrom_count, cdrom_arguments, pci_root_count, pci_root_arguments, pcie_root_count, pcie_root_arguments}
 

@@ -13,9 +13,9 @@ use Rattle.uefi_path.specs.Row.{IsByte}
 use Rattle.uefi_text.specs.Segment.{named}
 use Rattle.uefi_text.specs.Node.{uri, file, IsUriByte, IsNameUnit}
 use Rattle.uefi_text.specs.Path.{IsNodeText}
-use Rattle.uefi_text.specs.Answering.{MeansNamed}
+use Rattle.uefi_text.specs.Answers.{MeansNamed}
 use Rattle.uefi_text.specs.Printed.{is_plain_from}
-use Rattle.uefi_text.specs.Reading.{uri_of, file_of}
+use Rattle.uefi_text.specs.Reader.{uri_of, file_of}
 use Rattle.uefi_text.proofs.Read.Numbers.{chosen_some, some_same}
 use Rattle.uefi_text.proofs.Means.Inside.{IsInside, inside_whole}
 use Rattle.uefi_text.proofs.Means.Forms.{uri_argument, file_argument}

@@ -1,7 +1,7 @@
 use Rattle.std.proofs.Common.{List, ℕ, refl, sym, subst, ◌∙◌, arith}
 use Rattle.std.proofs.lemmas.Result.{err_from_is_err_and}
 use Rattle.boot_requests.specs.Pieces.{IsMissing, Begins}
-use Rattle.boot_requests.proofs.Pieces.{none_taken, appended, taken_on, taken_whole, nothing_missing, cuts_on, begins_on, fault_left}
+use Rattle.boot_requests.proofs.Streams.Pieces.{none_taken, appended, taken_on, taken_whole, nothing_missing, cuts_on, begins_on, fault_left}
 use Rattle.boot_requests.proofs.inbox.cut_piece.Goals as goal
 
 pub loop-rest-init : goal.loop-rest-init

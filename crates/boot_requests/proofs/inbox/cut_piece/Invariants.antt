@@ -1,6 +1,6 @@
 use Rattle.std.proofs.Common.{◌++◌, length}
 use Rattle.boot_requests.specs.Pieces.{IsMissing}
-use Rattle.boot_requests.proofs.Pieces.{Taken}
+use Rattle.boot_requests.proofs.Streams.Pieces.{Taken}
 use Rattle.boot_requests.proofs.inbox.cut_piece.Given as goal
 
 abbrev pub invariant-loop-rest : goal.invariant-loop-rest

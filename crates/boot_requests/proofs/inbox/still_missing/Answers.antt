@@ -1,7 +1,7 @@
 use Rattle.std.proofs.Common.{◌∙◌, ℕ, List, sym, ap, subst, length, ◌++◌, ◌-◌, arith}
 use Rattle.std.proofs.lemmas.List.{length-append}
 use Rattle.boot_requests.specs.Pieces.{IsMissing}
-use Rattle.boot_requests.proofs.Headers.{missing_less}
+use Rattle.boot_requests.proofs.Streams.Headers.{missing_less}
 use Rattle.boot_requests.proofs.inbox.still_missing.Goals as goal
 
 pub returns-clause-count : goal.returns-clause-count

@@ -1,5 +1,5 @@
 use Rattle.std.proofs.Common.{arith}
-use Rattle.boot_requests.proofs.Pieces.{back_to_first, back_to_held}
+use Rattle.boot_requests.proofs.Streams.Pieces.{back_to_first, back_to_held}
 use Rattle.boot_requests.proofs.inbox.take_back.Goals.{then-len-frames_len+in-Some, then-len-frames_len+in_default, else-len-frames_len}
 use Rattle.boot_requests.proofs.inbox.take_back.Goals as goal
 

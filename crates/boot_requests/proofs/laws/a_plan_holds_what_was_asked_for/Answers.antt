@@ -1,4 +1,4 @@
-use Rattle.boot_requests.proofs.Held.{in_next, in_normal}
+use Rattle.boot_requests.proofs.Variables.PlanEntries.{in_next, in_normal}
 use Rattle.boot_requests.proofs.laws.a_plan_holds_what_was_asked_for.Goals as goal
 
 pub returns-clause-next : goal.returns-clause-next

@@ -1,4 +1,4 @@
-use Rattle.boot_requests.proofs.Pendings.{by_hand, after_boot}
+use Rattle.boot_requests.proofs.WholeRuns.Pendings.{by_hand, after_boot}
 use Rattle.boot_requests.proofs.laws.a_plan_is_handed_out_after_its_boot.Goals as goal
 
 pub returns-clause-hand : goal.returns-clause-hand

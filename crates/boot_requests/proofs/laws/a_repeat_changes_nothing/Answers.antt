@@ -1,6 +1,6 @@
 use Rattle.boot_requests.specs.Seen.{Came}
 use Rattle.std.proofs.Common.{◌∷◌}
-use Rattle.boot_requests.proofs.Repeats.{alike_repeat, alike_later, state_alike, reply_alike}
+use Rattle.boot_requests.proofs.WholeRuns.Repeats.{alike_repeat, alike_later, state_alike, reply_alike}
 use Rattle.boot_requests.proofs.laws.a_repeat_changes_nothing.Goals as goal
 
 pub returns : goal.returns

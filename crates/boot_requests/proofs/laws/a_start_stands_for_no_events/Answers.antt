@@ -1,5 +1,5 @@
 use Rattle.boot_requests.proofs.laws.a_start_stands_for_no_events.Goals as goal
-use Rattle.boot_requests.proofs.Turns.{start_stands}
+use Rattle.boot_requests.proofs.Turn.Turns.{start_stands}
 
 pub returns : goal.returns
 returns c = start_stands

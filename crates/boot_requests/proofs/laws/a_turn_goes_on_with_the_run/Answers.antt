@@ -1,5 +1,5 @@
 use Rattle.boot_requests.proofs.laws.a_turn_goes_on_with_the_run.Goals as goal
-use Rattle.boot_requests.proofs.Turns.{turn_goes_on}
+use Rattle.boot_requests.proofs.Turn.Turns.{turn_goes_on}
 
 pub returns : goal.returns
 returns c = record {

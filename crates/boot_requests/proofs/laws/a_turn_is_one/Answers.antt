@@ -1,4 +1,4 @@
-use Rattle.boot_requests.proofs.Replies.{one_turn}
+use Rattle.boot_requests.proofs.Turn.Replies.{one_turn}
 use Rattle.boot_requests.proofs.laws.a_turn_is_one.Goals as goal
 
 pub returns : goal.returns

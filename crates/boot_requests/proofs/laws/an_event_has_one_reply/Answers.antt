@@ -1,4 +1,4 @@
-use Rattle.boot_requests.proofs.Replies.{one_reply}
+use Rattle.boot_requests.proofs.Turn.Replies.{one_reply}
 use Rattle.boot_requests.proofs.laws.an_event_has_one_reply.Goals as goal
 
 pub returns : goal.returns

@@ -1,4 +1,4 @@
-use Rattle.boot_requests.proofs.Events.{seen_as_one}
+use Rattle.boot_requests.proofs.Frames.Events.{seen_as_one}
 use Rattle.boot_requests.proofs.laws.an_event_is_seen_as_one.Goals as goal
 
 pub returns : goal.returns

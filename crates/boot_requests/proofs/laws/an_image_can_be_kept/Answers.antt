@@ -1,4 +1,4 @@
-use Rattle.boot_requests.proofs.Images.{image_opens, opened_has_no_fault}
+use Rattle.boot_requests.proofs.Variables.Images.{image_opens, opened_has_no_fault}
 use Rattle.boot_requests.proofs.laws.an_image_can_be_kept.Goals as goal
 
 pub returns : goal.returns

@@ -1,4 +1,4 @@
-use Rattle.boot_requests.proofs.Images.{image_opens, migrated_same}
+use Rattle.boot_requests.proofs.Variables.Images.{image_opens, migrated_same}
 use Rattle.boot_requests.proofs.laws.an_image_is_migrated_to_itself.Goals as goal
 
 pub returns-clause-opens : goal.returns-clause-opens

@@ -1,5 +1,5 @@
-use Rattle.boot_requests.proofs.Answers.{decided, some_reply, before_read}
-use Rattle.boot_requests.proofs.Valid.{state_valid}
+use Rattle.boot_requests.proofs.Turn.Answers.{decided, some_reply, before_read}
+use Rattle.boot_requests.proofs.WholeRuns.Valid.{state_valid}
 use Rattle.boot_requests.specs.Run.{before_taken}
 use Rattle.boot_requests.proofs.laws.each_event_has_a_reply.Goals as goal
 

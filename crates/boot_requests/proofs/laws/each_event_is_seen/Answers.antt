@@ -1,4 +1,4 @@
-use Rattle.boot_requests.proofs.Events.{is_seen}
+use Rattle.boot_requests.proofs.Frames.Events.{is_seen}
 use Rattle.boot_requests.proofs.laws.each_event_is_seen.Goals as goal
 
 pub returns : goal.returns

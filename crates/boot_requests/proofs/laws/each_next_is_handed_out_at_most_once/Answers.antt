@@ -1,5 +1,5 @@
 use Rattle.boot_requests.proofs.laws.each_next_is_handed_out_at_most_once.Goals as goal
-use Rattle.boot_requests.proofs.Hands.{hands_up_to_sets}
+use Rattle.boot_requests.proofs.WholeRuns.Hands.{hands_up_to_sets}
 
 pub returns : goal.returns
 returns c = hands_up_to_sets

@@ -1,4 +1,4 @@
-use Rattle.boot_requests.proofs.Answers.{decided, some_turn}
+use Rattle.boot_requests.proofs.Turn.Answers.{decided, some_turn}
 use Rattle.boot_requests.proofs.laws.each_plain_state_has_a_turn.Goals as goal
 
 pub returns : goal.returns

@@ -1,4 +1,4 @@
-use Rattle.boot_requests.proofs.Streams.{each_cut}
+use Rattle.boot_requests.proofs.Streams.Cuts.{each_cut}
 use Rattle.boot_requests.proofs.laws.each_stream_has_a_cut.Goals as goal
 
 pub returns : goal.returns

@@ -1,4 +1,4 @@
-use Rattle.boot_requests.proofs.Orders.{same_state}
+use Rattle.boot_requests.proofs.WholeRuns.Orders.{same_state}
 use Rattle.boot_requests.proofs.laws.the_order_of_deliveries_does_not_matter.Goals as goal
 
 pub returns : goal.returns

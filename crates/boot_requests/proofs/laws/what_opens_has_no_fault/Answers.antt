@@ -1,4 +1,4 @@
-use Rattle.boot_requests.proofs.Images.{opened_has_no_fault}
+use Rattle.boot_requests.proofs.Variables.Images.{opened_has_no_fault}
 use Rattle.boot_requests.proofs.laws.what_opens_has_no_fault.Goals as goal
 
 pub returns : goal.returns

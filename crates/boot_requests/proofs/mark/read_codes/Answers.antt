@@ -1,6 +1,6 @@
 use Rattle.std.proofs.Common.{◌≡◌, ◌≢◌, ◌∷◌, [], ◌++◌, sym, ◌∙◌, rules}
 use Rattle.boot_requests.specs.declared.outcome.Code.TheVariants.{NoFree}
-use Rattle.boot_requests.proofs.OutcomeBytes.{same_code, no_codes, codes_more, first_codes_more, kept_more}
+use Rattle.boot_requests.proofs.Variables.OutcomeBytes.{same_code, no_codes, codes_more, first_codes_more, kept_more}
 use Rattle.boot_requests.proofs.mark.read_codes.Goals as goal
 
 pub returns-in_default : goal.returns-in_default

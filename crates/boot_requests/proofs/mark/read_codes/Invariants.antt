@@ -2,7 +2,7 @@ use Rattle.std.proofs.Common.{◌≡◌, List, map, take}
 use Rattle.std.specs.List.{AllByRecursion}
 use Rattle.boot_requests.specs.declared.outcome.Code.{Code}
 use Rattle.boot_requests.specs.Outcome.{without_entry, code_byte}
-use Rattle.boot_requests.specs.Opening.{IsFirstCode}
+use Rattle.boot_requests.specs.StoredState.{IsFirstCode}
 use Rattle.boot_requests.proofs.mark.read_codes.Given as goal
 
 abbrev pub invariant-loop-byte : goal.invariant-loop-byte

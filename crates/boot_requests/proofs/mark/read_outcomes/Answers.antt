@@ -1,6 +1,6 @@
 use Rattle.std.proofs.Common.{◌≢◌, ◌<◌, length, sym, ◌∙◌, arith}
 use Rattle.std.proofs.lemmas.Bool.{eqb-true, eqb-false}
-use Rattle.boot_requests.proofs.Outcomes.{no_outcomes, no_outcome_first, too_few, read_whole}
+use Rattle.boot_requests.proofs.Variables.Marks.{no_outcomes, no_outcome_first, too_few, read_whole}
 use Rattle.boot_requests.proofs.mark.read_outcomes.Goals.{then-is_empty, else-is_empty}
 use Rattle.boot_requests.proofs.mark.read_outcomes.Goals as goal
 

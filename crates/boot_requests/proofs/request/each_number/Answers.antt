@@ -1,5 +1,5 @@
 use Rattle.std.proofs.Common.{arith}
-use Rattle.boot_requests.proofs.TwoBytes.{numbers_from_fits}
+use Rattle.boot_requests.proofs.Frames.TwoBytes.{numbers_from_fits}
 use Rattle.boot_requests.proofs.request.each_number.Goals as goal
 
 pub returns-clause-valid : goal.returns-clause-valid

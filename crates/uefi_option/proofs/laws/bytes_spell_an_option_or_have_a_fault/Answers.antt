@@ -1,4 +1,4 @@
-use Rattle.uefi_option.proofs.Reader.{bytes_end}
+use Rattle.uefi_option.proofs.Readings.{bytes_end}
 use Rattle.uefi_option.proofs.laws.bytes_spell_an_option_or_have_a_fault.Goals as goal
 
 pub returns : goal.returns

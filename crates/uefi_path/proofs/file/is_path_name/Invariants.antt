@@ -1,5 +1,5 @@
 use Rattle.std.proofs.Common.{◌≡◌, is_some, length}
-use Rattle.uefi_path.specs.Reading.{name_of}
+use Rattle.uefi_path.specs.Reader.{name_of}
 use Rattle.uefi_path.proofs.file.is_path_name.Given as goal
 
 abbrev pub invariant-loop-rest : goal.invariant-loop-rest

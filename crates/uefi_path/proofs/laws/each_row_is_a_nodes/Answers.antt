@@ -1,4 +1,4 @@
-use Rattle.uefi_path.specs.Reading.{node_of}
+use Rattle.uefi_path.specs.Reader.{node_of}
 use Rattle.uefi_path.proofs.Inverse.{node_of_has_row}
 use Rattle.uefi_path.proofs.laws.each_row_is_a_nodes.Goals as goal
 

@@ -1,5 +1,5 @@
 use Rattle.std.proofs.Common.{◌≡◌, ◌++◌, true, length}
-use Rattle.uefi_text.specs.Reading.{is_data, data_bytes}
+use Rattle.uefi_text.specs.Reader.{is_data, data_bytes}
 use Rattle.uefi_text.proofs.argument.bytes_of.Given as goal
 
 abbrev pub invariant-loop-rest : goal.invariant-loop-rest

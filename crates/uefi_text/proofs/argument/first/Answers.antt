@@ -1,5 +1,5 @@
 use Rattle.std.proofs.Common.{ap, ◌∙◌}
-use Rattle.uefi_text.specs.Reading.{first_of}
+use Rattle.uefi_text.specs.Reader.{first_of}
 use Rattle.uefi_text.proofs.Read.Marks.{one_more}
 use Rattle.uefi_text.proofs.argument.first.Goals as goal
 

@@ -1,5 +1,5 @@
 use Rattle.std.proofs.Common.{ap, ◌∙◌}
-use Rattle.uefi_text.specs.Reading.{one_of}
+use Rattle.uefi_text.specs.Reader.{one_of}
 use Rattle.uefi_text.proofs.Read.Marks.{no_more}
 use Rattle.uefi_text.proofs.argument.one.Goals as goal
 

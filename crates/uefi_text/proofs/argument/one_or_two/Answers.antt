@@ -1,5 +1,5 @@
 use Rattle.std.proofs.Common.{ap, ◌∙◌}
-use Rattle.uefi_text.specs.Reading.{one_or_two_of}
+use Rattle.uefi_text.specs.Reader.{one_or_two_of}
 use Rattle.uefi_text.proofs.Read.Marks.{told_from, two_more}
 use Rattle.uefi_text.proofs.argument.one_or_two.Goals as goal
 

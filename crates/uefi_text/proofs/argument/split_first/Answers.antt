@@ -1,5 +1,5 @@
 use Rattle.std.proofs.Common.{ap, ◌∙◌}
-use Rattle.uefi_text.specs.Reading.{parts_of}
+use Rattle.uefi_text.specs.Reader.{parts_of}
 use Rattle.uefi_text.proofs.Read.Marks.{arguments_one, arguments_more}
 use Rattle.uefi_text.proofs.argument.split_first.Goals as goal
 

@@ -1,8 +1,8 @@
 use Rattle.std.proofs.Common.{ℕ, List, sym, subst, refl, ◌∙◌, true≢false}
 use Rattle.std.specs.Prelude.{codes}
 use Rattle.uefi_path.specs.Standard.{pci_root_hid, pcie_root_hid}
-use Rattle.uefi_text.specs.Reading.{pci_of, usb_of, sata_of, vlan_of, root_of, acpi_of, nvme_of, mac_node_of, ipv4_of, hard_drive_of, cdrom_of, vendor_hw_of, vendor_msg_of, vendor_media_of, uri_of, file_of}
-use Rattle.uefi_text.specs.Answering.{AnswersNamed}
+use Rattle.uefi_text.specs.Reader.{pci_of, usb_of, sata_of, vlan_of, root_of, acpi_of, nvme_of, mac_node_of, ipv4_of, hard_drive_of, cdrom_of, vendor_hw_of, vendor_msg_of, vendor_media_of, uri_of, file_of}
+use Rattle.uefi_text.specs.Answers.{AnswersNamed}
 use Rattle.uefi_text.proofs.Read.Answers.{cut_answers, whole_answers, makes, no_form}
 use Rattle.uefi_text.proofs.Read.Forms.{nvme_found, nvme_again, acpi_found, acpi_again, mac_node_found, mac_node_again, ipv4_found, ipv4_again, hard_drive_found, hard_drive_again}
 use Rattle.uefi_text.proofs.Read.Whole.{uri_found, uri_again, file_found, file_again}

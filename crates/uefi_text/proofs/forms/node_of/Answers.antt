@@ -1,5 +1,5 @@
 use Rattle.std.proofs.Common.{subst}
-use Rattle.uefi_text.specs.Cutting.{HasBareName}
+use Rattle.uefi_text.specs.Cuts.{HasBareName}
 use Rattle.uefi_text.proofs.Read.Node.{named_segment, bare_segment}
 use Rattle.uefi_text.proofs.forms.node_of.Goals as goal
 

@@ -1,6 +1,6 @@
 use Rattle.std.proofs.Common.{sym, subst, true≢false, ◌∙◌}
 use Rattle.uefi_text.specs.Fault.{ClosesSegment}
-use Rattle.uefi_text.specs.Cutting.{open_mark}
+use Rattle.uefi_text.specs.Cuts.{open_mark}
 use Rattle.uefi_text.specs.Within.{Lacks}
 use Rattle.uefi_text.proofs.Read.Cuts.{same_parts, has_open, has_close, has_some}
 use Rattle.uefi_text.proofs.segment.cut_named.Goals as goal

@@ -3,7 +3,7 @@ use Rattle.std.specs.FinMap.Entries.{put}
 use Rattle.uefi_vars.specs.Vars.{name_cmp}
 use Rattle.uefi_vars.specs.Records.{pairs_of, IsPlace}
 use Rattle.uefi_vars.specs.ChangeRecords.{AreChanges}
-use Rattle.uefi_vars.proofs.Made.{AreChanges-put}
+use Rattle.uefi_vars.proofs.NameChanges.{AreChanges-put}
 use Rattle.uefi_vars.proofs.changes.store_removal.Goals as goal
 
 pub set_at-requires-clause-place : goal.set_at-requires-clause-place

@@ -2,7 +2,7 @@ use Rattle.std.proofs.Common.{sym, ap, subst, ◌∙◌}
 use Rattle.std.specs.FinMap.Entries.{find}
 use Rattle.uefi_vars.specs.Vars.{name_cmp}
 use Rattle.uefi_vars.specs.Records.{pair_of, pairs_of, IsRising, FindsAllFrom}
-use Rattle.uefi_vars.proofs.Made.{none_of}
+use Rattle.uefi_vars.proofs.NameChanges.{none_of}
 use Rattle.uefi_vars.proofs.Maps.{sorted_parts}
 use Rattle.uefi_vars.proofs.Places.{not_below_itself, find_behind, find_here, find_none}
 use Rattle.uefi_vars.proofs.named.seek.Goals as goal

@@ -3,7 +3,7 @@ use Rattle.std.specs.List.{AllByRecursion}
 use Rattle.std.specs.Vec.{vec_len, vec_capacity}
 use Rattle.std.specs.Vec.Iter.{into_iter_items, into_iter_len}
 use Rattle.uefi_vars.specs.Records.{pairs_of, AreVariables, vars_of}
-use Rattle.uefi_vars.specs.Made.{after_each, IsChange}
+use Rattle.uefi_vars.specs.NameChanges.{after_each, IsChange}
 use Rattle.uefi_vars.proofs.vars.make_each.Given as goal
 
 abbrev pub invariant-loop-change : goal.invariant-loop-change

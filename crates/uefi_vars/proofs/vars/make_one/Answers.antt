@@ -1,7 +1,7 @@
 use Rattle.std.proofs.Common.{sym, ap, ◌∙◌}
 use Rattle.std.specs.FinMap.{from_sorted}
 use Rattle.uefi_vars.specs.Records.{pairs_of, vars_of, without}
-use Rattle.uefi_vars.specs.Made.{with_data}
+use Rattle.uefi_vars.specs.NameChanges.{with_data}
 use Rattle.uefi_vars.proofs.Maps.{from_sorted-put, from_sorted-without}
 use Rattle.uefi_vars.proofs.vars.make_one.Goals as goal
 

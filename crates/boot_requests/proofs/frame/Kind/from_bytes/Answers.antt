@@ -3,7 +3,7 @@ use Rattle.std.proofs.lemmas.Iterator.{YieldsList-from_slice}
 use Rattle.std.proofs.lemmas.Iterator.Consumers.{YieldsList-from_copied}
 use Rattle.std.proofs.lemmas.Iterator.Search.{find_from_yields_List}
 use Rattle.boot_requests.specs.declared.frame.TheConstants.Kind.{ALL}
-use Rattle.boot_requests.proofs.KindBytes.{has_both, kind_found}
+use Rattle.boot_requests.proofs.Frames.KindBytes.{has_both, kind_found}
 use Rattle.boot_requests.proofs.frame.Kind.from_bytes.Goals as goal
 
 pub returns : goal.returns

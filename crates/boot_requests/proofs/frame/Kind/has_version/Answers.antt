@@ -2,7 +2,7 @@ use Rattle.std.proofs.Common.{rules, tests}
 use Rattle.std.proofs.lemmas.Iterator.{YieldsList-from_slice}
 use Rattle.std.proofs.lemmas.Iterator.Search.{any_from_yields_List}
 use Rattle.boot_requests.specs.declared.frame.TheConstants.Kind.{ALL}
-use Rattle.boot_requests.proofs.KindBytes.{has_version, version_found}
+use Rattle.boot_requests.proofs.Frames.KindBytes.{has_version, version_found}
 use Rattle.boot_requests.proofs.frame.Kind.has_version.Goals as goal
 
 pub returns : goal.returns

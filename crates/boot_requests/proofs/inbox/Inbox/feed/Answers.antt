@@ -1,7 +1,7 @@
 use Rattle.std.proofs.Common.{ℕ, List, Option, Some, Err, sym, ap, ◌∙◌}
 use Rattle.boot_requests.specs.declared.fault.FeedFault.{FeedFault}
 use Rattle.boot_requests.specs.Stream.{Kept, kept_in}
-use Rattle.boot_requests.proofs.Feeding.{not_memory, open_held, fault_held, feeds_open, feeds_fault, feeds_again}
+use Rattle.boot_requests.proofs.Streams.Feeding.{not_memory, open_held, fault_held, feeds_open, feeds_fault, feeds_again}
 use Rattle.boot_requests.proofs.inbox.Inbox.feed.Goals as goal
 
 pub returns-in-Some-clause-fed : goal.returns-in-Some-clause-fed

@@ -1,5 +1,5 @@
 use Rattle.std.proofs.Common.{arith}
-use Rattle.boot_requests.proofs.Feeding.{held_len}
+use Rattle.boot_requests.proofs.Streams.Feeding.{held_len}
 use Rattle.boot_requests.proofs.inbox.Inbox.held.Goals as goal
 
 pub returns-clause-bound : goal.returns-clause-bound

@@ -1,5 +1,5 @@
 use Rattle.std.proofs.Common.{None, refl, inl, arith, length, ap}
-use Rattle.boot_requests.proofs.Feeding.{open_held}
+use Rattle.boot_requests.proofs.Streams.Feeding.{open_held}
 use Rattle.boot_requests.proofs.inbox.Inbox.new.Goals as goal
 
 pub invariant_of-result : goal.invariant_of-result

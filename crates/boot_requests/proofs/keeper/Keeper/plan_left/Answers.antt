@@ -2,16 +2,16 @@ use Rattle.std.proofs.Common.{◌≡◌, Option, None, refl, sym, ap, subst, inl
 use Rattle.uefi_vars.specs.Plan.{PlanParts}
 use Rattle.boot_requests.specs.declared.update.Update.{Update}
 use Rattle.boot_requests.specs.Turn.{Plain}
-use Rattle.boot_requests.specs.Update.{with_plan, updated}
+use Rattle.boot_requests.specs.Update.{with_plan, after_update}
 use Rattle.boot_requests.proofs.keeper.Keeper.plan_left.Goals as goal
 
 pub returns-in_ok-plan-in-Nothing : goal.returns-in_ok-plan-in-Nothing
 returns-in_ok-plan-in-Nothing c =
-    ap (λ (plan : Option PlanParts). updated (with_plan c.args.self.now plan) c.args.update.now) (c.in_ok-plan-in-Nothing.ensures ∙ ap (λ (k : Plain). k.plan) c.self.view_is)
+    ap (λ (plan : Option PlanParts). after_update (with_plan c.args.self.now plan) c.args.update.now) (c.in_ok-plan-in-Nothing.ensures ∙ ap (λ (k : Plain). k.plan) c.self.view_is)
 
 -- the plan goes, whatever it is
 abbrev Goes : Plain → Update → Type 0
-Goes k update = updated (with_plan k None) update ≡ updated k update
+Goes k update = after_update (with_plan k None) update ≡ after_update k update
 
 pub returns-in-Prepared : goal.returns-in-Prepared
 returns-in-Prepared c =

@@ -1,6 +1,6 @@
 use Rattle.std.proofs.Common.{◌-◌, length, take, drop}
 use Rattle.std.proofs.lemmas.Result.{IfOk-weaker}
-use Rattle.boot_requests.proofs.Outcomes.{first_found, one_then}
+use Rattle.boot_requests.proofs.Variables.Marks.{first_found, one_then}
 use Rattle.boot_requests.proofs.mark.Mark.read.Goals as goal
 
 pub returns-in-1 : goal.returns-in-1

@@ -1,4 +1,4 @@
-use Rattle.boot_requests.proofs.Slots.{free_slots, freed_is}
+use Rattle.boot_requests.proofs.Turn.Slots.{free_slots, freed_is}
 use Rattle.boot_requests.proofs.window.Window.clear.Goals as goal
 
 pub returns : goal.returns

@@ -2,7 +2,7 @@ use Rattle.std.proofs.Common.{List, Option, Some, length, ap, ◌∙◌}
 use Rattle.std.proofs.Math.ListN.{set, length-set}
 use Rattle.boot_requests.specs.declared.request.Request.{Request}
 use Rattle.boot_requests.specs.Slots.{place_of}
-use Rattle.boot_requests.proofs.Slots.{kept_slots, edited_is}
+use Rattle.boot_requests.proofs.Turn.Slots.{kept_slots, edited_is}
 use Rattle.boot_requests.proofs.window.Window.keep.Goals as goal
 
 pub invariant_of-self : goal.invariant_of-self

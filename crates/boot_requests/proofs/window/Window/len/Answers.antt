@@ -1,15 +1,15 @@
 use Rattle.std.proofs.Common.{◌≡◌, ◌<◌, ◌+◌, ◌≤◌, length, sym, ap, ◌∙◌, arith}
 use Rattle.boot_requests.specs.Slots.{place_of, slot_at}
-use Rattle.boot_requests.proofs.Slots.{no_slot, count_more, some_count, none_count, same_slot}
+use Rattle.boot_requests.proofs.Turn.Slots.{no_slot, count_more, some_count, none_count, same_slot}
 use Rattle.boot_requests.proofs.window.Window.len.Goals.{then-is_taken, else-is_taken}
 use Rattle.boot_requests.proofs.window.Window.len.Goals as goal
 
 pub loop-distance-init : goal.loop-distance-init
-loop-distance-init c = record { below = omega arith; count = sym (no_slot c.args.next c.self.inside.slots.items) }
+loop-distance-init c = record { below = omega arith; count = sym (no_slot c.args.next_number c.self.inside.slots.items) }
 
 pub loop-distance-preserved : goal.loop-distance-preserved
 loop-distance-preserved c =
-    let next = c.args.next in
+    let next = c.args.next_number in
     let slots = c.self.inside.slots.items in
     let distance = c.loop-distance.distance in
     let count = c.loop-distance.count in

@@ -6,5 +6,5 @@ use Rattle.boot_requests.proofs.window.Window.len.Given as goal
 abbrev pub invariant-loop-distance : goal.invariant-loop-distance
 invariant-loop-distance l = record {
   below : l.count + 1 ≤ l.distance;
-  count : l.count ≡ map.len (waiting_in (l.distance - 1) l.next l.self-inside.slots.items);
+  count : l.count ≡ map.len (waiting_in (l.distance - 1) l.next_number l.self-inside.slots.items);
 }

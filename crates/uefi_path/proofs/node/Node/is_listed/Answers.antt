@@ -2,7 +2,7 @@ use Rattle.std.proofs.Common.{◌≡◌, Option, is_some, sym, ap, ◌∙◌, ar
 use Rattle.std.proofs.lemmas.Bool.{false≢true}
 use Rattle.uefi_path.specs.declared.node.Node.{Node}
 use Rattle.uefi_path.specs.Row.{IsRow, row}
-use Rattle.uefi_path.specs.Reading.{fixed_node_of, list_node_of}
+use Rattle.uefi_path.specs.Reader.{fixed_node_of, list_node_of}
 use Rattle.uefi_path.proofs.Bytes.{recursion_from_bytes}
 use Rattle.uefi_path.proofs.Inverse.{fixed_node_found, list_node_found, found_is_listed, typed_node_listed, or_else}
 use Rattle.uefi_path.proofs.node.Node.is_listed.Goals as goal

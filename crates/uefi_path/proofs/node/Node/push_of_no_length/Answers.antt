@@ -2,7 +2,7 @@ use Rattle.std.proofs.Common.{◌≡◌, ◌++◌, ◌∷◌, [], None, sym, ap,
 use Rattle.std.proofs.lemmas.Grind.{common_steps}
 use Rattle.uefi_path.specs.declared.node.Node.{Node}
 use Rattle.uefi_path.specs.Row.{row}
-use Rattle.uefi_path.specs.Reading.{list_node_of, node_of}
+use Rattle.uefi_path.specs.Reader.{list_node_of, node_of}
 use Rattle.uefi_path.proofs.Bytes.{recursion_from_bytes}
 use Rattle.uefi_path.proofs.Inverse.{unlisted_name, none_listed, other_of_row}
 use Rattle.uefi_path.proofs.node.Node.push_of_no_length.Goals.{in_default-via-in-1-eq4+else-body-ge-GUID_LEN, in_default-via-in-1+in_default, in_default-via-in-3-eq10+else-body-ge-GUID_LEN-2, in_default-via-in-3+in_default, in_default-via-in-4-eq3+else-body-ge-GUID_LEN-3, in_default-via-in-4-eq4+else-is_path_name, in_default-via-in-4+in_default, in_default-via-in_default}

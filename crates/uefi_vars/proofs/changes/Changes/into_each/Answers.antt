@@ -1,6 +1,6 @@
 use Rattle.std.proofs.Common.{sym, ap, ◌∙◌}
 use Rattle.std.specs.FinMap.{entries}
-use Rattle.uefi_vars.proofs.Made.{entries-changes_of}
+use Rattle.uefi_vars.proofs.NameChanges.{entries-changes_of}
 use Rattle.uefi_vars.proofs.changes.Changes.into_each.Goals as goal
 
 pub returns-clause-each : goal.returns-clause-each

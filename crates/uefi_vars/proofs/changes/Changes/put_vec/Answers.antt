@@ -1,11 +1,11 @@
 use Rattle.std.proofs.Common.{Some, ap, ◌∙◌}
 use Rattle.std.specs.FinMap.{from_sorted, insert}
-use Rattle.uefi_vars.specs.Made.{made}
-use Rattle.uefi_vars.proofs.Made.{made-put}
+use Rattle.uefi_vars.specs.NameChanges.{with_changes}
+use Rattle.uefi_vars.proofs.NameChanges.{with_changes-put}
 use Rattle.uefi_vars.proofs.changes.Changes.put_vec.Goals as goal
 
 pub returns-clause-put : goal.returns-clause-put
 returns-clause-put c vars =
     let name = c.args.name.now in
     let value = c.args.value.items in
-    ap (λ l. made vars (from_sorted l)) c.in_ok-store.ensures.stored ∙ made-put _ c.self.invariant name (Some value) vars ∙ ap (λ m. insert (made vars m) name value) c.self.view_is
+    ap (λ l. with_changes vars (from_sorted l)) c.in_ok-store.ensures.stored ∙ with_changes-put _ c.self.invariant name (Some value) vars ∙ ap (λ m. insert (with_changes vars m) name value) c.self.view_is

@@ -1,0 +1,105 @@
+-- Lists of numbers, one number after the other: whether one is there, and whether one is there twice.
+use Rattle.std.proofs.Common.{◌≡◌, ◌≢◌, ℕ, ◌+◌, ◌<◌, ◌≤◌, ◌==◌, not, zero, suc, Bool, true, false, cond, List, [], ◌∷◌, ◌++◌, length, take, drop, get_or, refl, sym, ap, subst, ◌∙◌, ⊎_elim, arith}
+use Rattle.std.proofs.Math.ListN.{set}
+use Rattle.std.proofs.Math.Seq.{drop-cons}
+use Rattle.std.proofs.lemmas.List.{take_more, take-append-drop, get_or-set_same, get_or-set_other}
+use Rattle.std.proofs.lemmas.Bool.{cases_eq, cond-true, cond-false, lt-ltb, le-ltb, false≢true, eqb-true, eqb-false, eq-eqb, ne_eqb, or_cases, or_parts, or_from, or_left, or_right}
+use Rattle.uefi_vars.specs.Order.{order_max}
+use Rattle.uefi_path.specs.Units.{units_bytes}
+use Rattle.boot_requests.specs.declared.request.Request.{Request}
+use Rattle.boot_requests.specs.declared.request.Request.TheVariants.{Order}
+use Rattle.boot_requests.specs.Limits.{payload_max}
+use Rattle.boot_requests.specs.Request.{payload_of}
+use Rattle.boot_requests.specs.Apply.{is_in, repeats, order_with, without}
+use Rattle.boot_requests.proofs.Frames.TwoBytes.{HaveTwoBytes}
+
+pub stands_there : (before : List ℕ) (number : ℕ) (rest : List ℕ) → is_in (before ++ number ∷ rest) number ≡ true
+stands_there [] number rest = or_left _ _ (eq-eqb number number refl)
+stands_there (other ∷ before) number rest = or_right _ _ (stands_there before number rest)
+
+pub not_there : (before : List ℕ) (number other : ℕ) → is_in before other ≡ false → number ≢ other → is_in (before ++ number ∷ []) other ≡ false
+not_there [] number other h differ = or_from _ _ (ne_eqb number other differ) refl
+not_there (first ∷ before) number other h differ =
+    let parts = or_parts (first == other) (is_in before other) h in or_from _ _ parts.0 (not_there before number other parts.1 differ)
+
+pub still_there : (before : List ℕ) (number other : ℕ) → is_in before other ≡ true → is_in (before ++ number ∷ []) other ≡ true
+still_there [] number other h = absurd (false≢true h)
+still_there (first ∷ before) number other h =
+    ⊎_elim (λ here. or_left _ _ here) (λ later. or_right _ _ (still_there before number other later)) (or_cases (first == other) (is_in before other) h)
+
+-- a number that isn't the last one is there as before
+pub as_before : (before : List ℕ) (number other : ℕ) → number ≢ other → is_in (before ++ number ∷ []) other ≡ is_in before other
+as_before before number other differ =
+    elim (is_in before other) as (λ b. is_in before other ≡ b → is_in (before ++ number ∷ []) other ≡ b) [
+      | true ↦ λ e. still_there before number other e
+      | false ↦ λ e. not_there before number other e differ
+    ] refl
+
+pub repeats_found : (before : List ℕ) (number : ℕ) (rest : List ℕ) → is_in before number ≡ true → repeats (before ++ number ∷ rest) ≡ true
+repeats_found [] number rest h = absurd (false≢true h)
+repeats_found (first ∷ before) number rest h =
+    ⊎_elim (λ here. or_left _ _ (subst (λ (k : ℕ). is_in (before ++ number ∷ rest) k ≡ true) (sym (eqb-true first number here)) (stands_there before number rest)))
+    (λ later. or_right _ _ (repeats_found before number rest later)) (or_cases (first == number) (is_in before number) h)
+
+pub repeats_none : (before : List ℕ) (number : ℕ) → repeats before ≡ false → is_in before number ≡ false → repeats (before ++ number ∷ []) ≡ false
+repeats_none [] number none new = refl
+repeats_none (first ∷ before) number none new =
+    let old = or_parts (is_in before first) (repeats before) none in
+    let apart = or_parts (first == number) (is_in before number) new in
+    or_from _ _ (not_there before number first old.0 (λ e. eqb-false first number apart.0 (sym e))) (repeats_none before number old.1 apart.1)
+
+pub no_longer : (numbers : List ℕ) (number : ℕ) → length (without numbers number) ≤ length numbers
+no_longer [] number = omega arith
+no_longer (first ∷ numbers) number =
+    elim (first == number) as (λ b. length (cond (not b) (first ∷ without numbers number) (without numbers number)) ≤ suc (length numbers)) [
+      | true ↦ omega (arith, no_longer numbers number)
+      | false ↦ omega (arith, no_longer numbers number)
+    ]
+
+pub without_absent : (numbers : List ℕ) (number : ℕ) → is_in numbers number ≡ false → without numbers number ≡ numbers
+without_absent [] number none = refl
+without_absent (first ∷ numbers) number none =
+    let parts = or_parts (first == number) (is_in numbers number) none in
+    cond-true _ _ _ (ap not parts.0) ∙ ap (λ (others : List ℕ). first ∷ others) (without_absent numbers number parts.1)
+
+pub order_with_there : (order : List ℕ) (number : ℕ) → is_in order number ≡ true → order_with order number ≡ order
+order_with_there order number h = cond-true _ _ _ h
+
+pub order_with_full : (order : List ℕ) (number : ℕ) → is_in order number ≡ false → order_max ≤ length order → order_with order number ≡ order
+order_with_full order number h full = cond-false _ _ _ h ∙ cond-false _ _ _ (le-ltb (length order) order_max full)
+
+pub order_with_last : (order : List ℕ) (number : ℕ) → is_in order number ≡ false → length order < order_max → order_with order number ≡ order ++ number ∷ []
+order_with_last order number h room = cond-false _ _ _ h ∙ cond-true _ _ _ (lt-ltb (length order) order_max room)
+
+-- ---- numbers that are marked one after the other
+
+parts : (numbers : List ℕ) (i : ℕ) → i < length numbers → take i numbers ++ get_or numbers i 0 ∷ drop (suc i) numbers ≡ numbers
+parts numbers i within = ap (λ (t : List ℕ). take i numbers ++ t) (sym (drop-cons numbers i 0 within)) ∙ take-append-drop i numbers
+
+module _ (numbers : List ℕ) (i : ℕ) (within : i < length numbers) where
+  pub twice : is_in (take i numbers) (get_or numbers i 0) ≡ true → repeats numbers ≡ true
+  twice found = subst (λ (xs : List ℕ). repeats xs ≡ true) (parts numbers i within) (repeats_found (take i numbers) (get_or numbers i 0) (drop (suc i) numbers) found)
+
+  pub once_more : repeats (take i numbers) ≡ false → is_in (take i numbers) (get_or numbers i 0) ≡ false → repeats (take (i + 1) numbers) ≡ false
+  once_more none new = ap repeats (take_more numbers i 0 within) ∙ repeats_none (take i numbers) (get_or numbers i 0) none new
+
+  pub marks_more : (marked : List Bool) → length marked ≡ 65536 → get_or numbers i 0 < 65536 → ((k : ℕ) → k < 65536 → get_or marked k false ≡ is_in (take i numbers) k)
+      → (k : ℕ) → k < 65536 → get_or (set marked (get_or numbers i 0) true) k false ≡ is_in (take (i + 1) numbers) k
+  marks_more marked len fits before k h =
+      let number = get_or numbers i 0 in
+      ⊎_elim (λ same. subst (λ (j : ℕ). get_or (set marked number true) j false ≡ is_in (take (i + 1) numbers) j) same
+      (get_or-set_same marked number true false (omega (arith, len, fits)) ∙ sym (ap (λ (xs : List ℕ). is_in xs number) (take_more numbers i 0 within) ∙ stands_there (take i numbers) number [])))
+      (λ differ. get_or-set_other marked number k true false (λ e. differ (sym e)) ∙ before k h ∙ sym (ap (λ (xs : List ℕ). is_in xs k) (take_more numbers i 0 within) ∙ as_before (take i numbers) number k differ))
+      (cases_eq number k)
+
+pub same_item : (xs : List Bool) (i : ℕ) (d e : Bool) → i < length xs → get_or xs i d ≡ get_or xs i e
+same_item [] i d e h = absurd (omega (arith, h))
+same_item (x ∷ xs) zero d e h = refl
+same_item (x ∷ xs) (suc i) d e h = same_item xs i d e (omega (arith, h))
+
+-- ---- a payload's numbers
+
+pub order_fits : HaveTwoBytes → (r : Request) (numbers : List ℕ) → r ≡ Order numbers → length (payload_of r) ≤ payload_max → length numbers ≤ order_max
+order_fits two r numbers is fits =
+    let few : length (units_bytes numbers) ≤ payload_max = subst (λ (q : Request). length (payload_of q) ≤ payload_max) is fits in
+    omega (arith, few, (two numbers).1)

@@ -1,8 +1,0 @@
-use Rattle.std.proofs.Common.{◌≤◌, ℕ, List, length, sym, subst}
-use Rattle.uefi_vars.specs.Order.{order_max}
-use Rattle.boot_requests.proofs.OrderLists.{order_fits}
-use Rattle.boot_requests.proofs.applying.carry_out.Goals as goal
-
-pub set_order-requires : goal.set_order-requires
-set_order-requires c =
-    subst (λ (ns : List ℕ). length ns ≤ order_max) (sym c.numbers.ensures.numbers) (order_fits c.args.request.now _ c.in-Order.is c.requires)

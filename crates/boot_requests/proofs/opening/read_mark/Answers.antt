@@ -1,6 +1,0 @@
-use Rattle.std.proofs.Common.{sym}
-use Rattle.boot_requests.proofs.Outcomes.{found_is}
-use Rattle.boot_requests.proofs.opening.read_mark.Goals as goal
-
-pub returns : goal.returns
-returns c = found_is c.args.vars.now c.in-Some.bytes.now (sym c.in-Some.ensures.value) c.in_ok-found.found c.in_ok-found.ensures

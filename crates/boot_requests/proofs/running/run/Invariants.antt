@@ -1,5 +1,0 @@
-use Rattle.boot_requests.proofs.Followed.{Ran}
-use Rattle.boot_requests.proofs.running.run.Given as goal
-
-abbrev pub invariant-loop-event : goal.invariant-loop-event
-invariant-loop-event l = Ran l.fn.keeper l.events l.fn.replies.items l.event-index l.now l.replies.items
