@@ -6,7 +6,7 @@
  * from 1, and refused from the number REFUSE_FROM of the environment to the number REFUSE_TO, both of them too. At the
  * second read of the clock it writes to file descriptor 3 how many were refused.
  *
- * Each block is made anew from one large piece of memory, with its length in front of it. None is used twice, since a run
+ * Each block is cut from one large piece of memory, with its length before it. None is used twice, since a run
  * is short. So a block moves whenever it grows, and the length that was asked for is known exactly.
  */
 #define _GNU_SOURCE
@@ -39,7 +39,7 @@ static unsigned long number_of(const char *name)
     return digits ? strtoul(digits, NULL, 10) : 0;
 }
 
-/* A new block, with its length in the unit in front of it. */
+/* A new block, with its length in the unit before it. */
 static void *make(size_t len, size_t align)
 {
     if (!room) {
