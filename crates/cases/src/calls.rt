@@ -2,7 +2,7 @@
 
 use crate::input::{bytes_of, ends_of, text_of};
 use crate::variables::stated_text;
-use crate::{frames, options, paths, plans, reports, runs, sets, streams, texts};
+use crate::{changes, frames, options, paths, plans, reports, runs, sets, streams, texts};
 use anyhow::{Result, bail};
 use serde_json::Value;
 use std::alloc::Global;
@@ -161,6 +161,7 @@ fn of_members(alloc: Global, call: &str, case: &Value) -> Result<String> {
         "boot_next" => sets::next(alloc, case),
         "entry_option" => sets::option(alloc, case),
         "plan" => plans::make(alloc, case),
+        "boot_changes" => changes::between(alloc, case),
         "write_frame" => frames::write(alloc, case),
         "open" => runs::open(alloc, case),
         "run" => runs::events(alloc, case),

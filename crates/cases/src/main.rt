@@ -8,6 +8,7 @@
 #![tactic(auto)]
 
 mod calls;
+mod changes;
 mod checks;
 mod counting;
 mod failing;

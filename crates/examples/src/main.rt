@@ -1,11 +1,12 @@
 //! Runs the examples of how the libraries are called from code, and tells what each of them answers.
 //!
-//! The files `paths`, `options`, `views`, `variables`, `keeper` and `inbox` have the examples of docs/library.md, word
-//! for word: a file one block, below its first line. The files `.._calls` call the functions of each, and print a line
-//! for each call: the function, what it is called on, and, after a colon, the answer. docs/formats.md says what that
-//! has to be.
+//! The files `paths`, `options`, `views`, `variables`, `changes`, `keeper` and `inbox` have the examples of
+//! docs/library.md, word for word: a file one block, below its first line. The files `.._calls` call the functions of
+//! each, and print a line for each call: the function, what it is called on, and, after a colon, the answer.
+//! docs/formats.md says what that has to be.
 #![tactic(auto)]
 
+mod changes;
 mod inbox;
 mod inbox_calls;
 mod keeper;

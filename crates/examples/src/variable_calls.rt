@@ -1,5 +1,6 @@
-//! Calls of the example of variables.
+//! Calls of the examples of variables and of changes.
 
+use crate::changes::changed;
 use crate::values::{DRIVE_OPTION, bytes, numbers, yes_or_no};
 use crate::variables::{can_start, entries, store};
 use anyhow::Result;
@@ -41,6 +42,7 @@ pub fn print<R: Print + AllocGlobal>(rt: &R) -> Result<()> {
             yes_or_no(alloc, can_start(alloc, &vars))?
         )?;
     }
+    print_changed(rt)?;
     print_store(rt)
 }
 
@@ -64,6 +66,21 @@ fn print_store<R: Print + AllocGlobal>(rt: &R) -> Result<()> {
     match store(alloc, &mut vars, 1, &[], &[1]) {
         Ok(()) => println!(rt; "store of no bytes: stored")?,
         Err(fault) => println!(rt; "store of no bytes: {fault}")?,
+    }
+    Ok(())
+}
+
+/// The names that change from the one set to the other, and from a set to itself.
+fn print_changed<R: Print + AllocGlobal>(rt: &R) -> Result<()> {
+    let alloc = rt.alloc();
+    let from = read_set(alloc, &bytes(alloc, DRIVE_SET)?)?;
+    let to = read_set(alloc, &bytes(alloc, BROKEN_SET)?)?;
+    for (name, other) in [("another set", &to), ("the same set", &from)] {
+        print!(rt; "changed to {name}:")?;
+        for changed in &changed(alloc, &from, other)? {
+            print!(rt; " {changed}")?;
+        }
+        println!(rt)?;
     }
     Ok(())
 }
