@@ -1,8 +1,8 @@
 //! Load options, as values and as bytes.
 
 use crate::node::Path;
-use crate::reading::{self, check_path, read_path};
-use crate::writing::write_path;
+use crate::reader::{self, check_path, read_path};
+use crate::writer::write_path;
 use std::error::Error;
 use std::fmt;
 
@@ -21,7 +21,7 @@ pub enum Fault {
     NoTerminator,
     ListPastEnd,
     EmptyList,
-    Path(usize, reading::Fault),
+    Path(usize, reader::Fault),
     ListTooLong,
 }
 

@@ -1,7 +1,7 @@
 //! Reading, writing, printing and parsing paths.
 
 use crate::node::{Node, Path};
-use crate::{parsing, printing, reading, writing};
+use crate::{reader, text_reader, text_writer, writer};
 use std::error::Error;
 use std::hint::black_box;
 use std::time::{Duration, Instant};
@@ -9,14 +9,14 @@ use std::time::{Duration, Instant};
 /// How many nodes the path has, how many bytes it and its text take, and how many instances and
 /// nodes of the case `Other` it has; and its text.
 pub fn held(bytes: &[u8]) -> Result<(String, String), Box<dyn Error>> {
-    let (path, _) = reading::read_path(bytes)?;
+    let (path, _) = reader::read_path(bytes)?;
     let nodes = path.iter().flatten().count();
     let others = path
         .iter()
         .flatten()
         .filter(|node| matches!(node, Node::Other { .. }))
         .count();
-    let text = printing::path_text(&path)?;
+    let text = text_writer::path_text(&path)?;
     let held = format!(
         "{nodes} {} {} {} {others}",
         bytes.len(),
@@ -38,7 +38,7 @@ pub fn times(bytes: &[u8], text: &str) -> Result<Vec<Duration>, Box<dyn Error>> 
 
 fn read_timed(bytes: &[u8]) -> Result<(Path, Duration), Box<dyn Error>> {
     let start = Instant::now();
-    let (path, len) = black_box(reading::read_path(black_box(bytes)))?;
+    let (path, len) = black_box(reader::read_path(black_box(bytes)))?;
     let time = start.elapsed();
     if len != bytes.len() {
         return Err(format!("plain Rust reads {len} bytes of a path of {}", bytes.len()).into());
@@ -50,7 +50,7 @@ fn read_timed(bytes: &[u8]) -> Result<(Path, Duration), Box<dyn Error>> {
 fn write_timed(path: &Path, bytes: &[u8]) -> Result<Duration, Box<dyn Error>> {
     let mut out = Vec::new();
     let start = Instant::now();
-    writing::write_path(black_box(path), &mut out);
+    writer::write_path(black_box(path), &mut out);
     let time = start.elapsed();
     if out != bytes {
         return Err("plain Rust writes other bytes than it has read".into());
@@ -61,7 +61,7 @@ fn write_timed(path: &Path, bytes: &[u8]) -> Result<Duration, Box<dyn Error>> {
 /// Prints the path, which has this text.
 fn print_timed(path: &Path, text: &str) -> Result<Duration, Box<dyn Error>> {
     let start = Instant::now();
-    let printed = black_box(printing::path_text(black_box(path)))?;
+    let printed = black_box(text_writer::path_text(black_box(path)))?;
     let time = start.elapsed();
     if printed != text {
         return Err("plain Rust prints the path in two ways".into());
@@ -72,10 +72,10 @@ fn print_timed(path: &Path, text: &str) -> Result<Duration, Box<dyn Error>> {
 /// Reads the text, which is that of the path that the bytes spell.
 fn parse_timed(text: &str, bytes: &[u8]) -> Result<Duration, Box<dyn Error>> {
     let start = Instant::now();
-    let path = black_box(parsing::read_text(black_box(text)))?;
+    let path = black_box(text_reader::read_text(black_box(text)))?;
     let time = start.elapsed();
     let mut out = Vec::new();
-    writing::write_path(&path, &mut out);
+    writer::write_path(&path, &mut out);
     if out != bytes {
         return Err("plain Rust reads another path off the text".into());
     }

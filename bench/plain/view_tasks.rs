@@ -1,6 +1,6 @@
 //! Looking at the nodes of paths where they are in the bytes.
 
-use crate::reading::{check_path, nodes};
+use crate::reader::{check_path, nodes};
 use std::error::Error;
 use std::hint::black_box;
 use std::time::{Duration, Instant};

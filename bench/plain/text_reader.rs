@@ -1,7 +1,7 @@
 //! Text to paths.
 
 use crate::node::{HardDrive, Ipv4, Node, Path, Vendor};
-use crate::reading::node;
+use crate::reader::node;
 use std::error::Error;
 use std::fmt;
 
