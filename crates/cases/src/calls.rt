@@ -124,6 +124,7 @@ fn of_bytes(alloc: Global, call: &str, bytes: &[u8]) -> Result<String> {
         "check_option" => options::view(alloc, bytes),
         "description_text" => options::text(alloc, bytes),
         "read_set" => sets::read(alloc, bytes),
+        "read_store" => changes::read(alloc, bytes),
         "read_frame" => frames::read(alloc, bytes),
         "feed" => streams::feed(alloc, bytes),
         "option_report" => reports::option(alloc, bytes),

@@ -8,6 +8,7 @@ mod paths;
 mod readers;
 mod requests;
 mod sets;
+mod stores;
 
 use anyhow::Result;
 use std::alloc::Global;
@@ -44,6 +45,7 @@ pub fn report(alloc: Global) -> Result<String> {
     paths::check(alloc, &mut findings)?;
     options::check(alloc, &mut findings)?;
     sets::check(alloc, &mut findings)?;
+    stores::check(alloc, &mut findings)?;
     requests::check(alloc, &mut findings)?;
     commands::check(alloc, &mut findings)?;
     outputs::check(alloc, &mut findings)?;

@@ -1,4 +1,8 @@
 pub mod Names
+pub mod Records
+pub mod Stores
+pub mod OneReading
+pub mod StoreFaults
 pub mod Distinct
 pub mod Afterwards
 pub mod Members

@@ -16,7 +16,7 @@ use Rattle.var_stores.proofs.Names.{same_name-is}
 
 -- ---- the same data
 
-bytes_same : (a b : List ℕ) → (pointwise ◌==◌ a b ≡ true → a ≡ b) × (a ≡ b → pointwise ◌==◌ a b ≡ true)
+pub bytes_same : (a b : List ℕ) → (pointwise ◌==◌ a b ≡ true → a ≡ b) × (a ≡ b → pointwise ◌==◌ a b ≡ true)
 bytes_same a b = slice_eq-Decides Decides-eqb a b (pointwise ◌==◌ a b) refl
 
 pub same_data-is : (a b : Option (List ℕ)) → same_data a b ≡ true → a ≡ b

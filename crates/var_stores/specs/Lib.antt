@@ -1,2 +1,7 @@
 -- what public contracts and the laws cite, in the order in which to read it
 pub mod BootChange
+pub mod Record
+pub mod Volume
+pub mod Words
+-- for private functions
+pub mod RecordsFault

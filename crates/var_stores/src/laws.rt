@@ -7,6 +7,8 @@ ghost use Rattle.uefi_vars.specs.Name.{entry_text};
 ghost use Rattle.uefi_vars.specs.Vars.{Variables};
 ghost use Rattle.uefi_vars.specs.NameChanges.{after_each};
 ghost use Rattle.var_stores.specs.BootChange.{ChangeParts, same_name, is_entry_name, is_boot_name, changes_from, new_data, IsNeeded, DanglesInOrder, DanglesAsNext};
+ghost use Rattle.var_stores.specs.declared.fault.StoreFault.{StoreFault};
+ghost use Rattle.var_stores.specs.Volume.{StoreParts, SpellsStore, IsStoreFault};
 
 use uefi_vars::laws as vars_laws;
 
@@ -65,3 +67,14 @@ pub fn nothing_dangles_in_between()
 {
     vars_laws::order_and_next_are_no_entries();
 }
+
+/// A file has at most one store of variables.
+pub fn a_file_has_one_store()
+    ensures { (file : List ℕ) (s t : StoreParts) → SpellsStore file s → SpellsStore file t → s ≡ t }
+{}
+
+/// A file with a fault has no store of variables.
+pub fn a_fault_leaves_no_store()
+    ensures { (file : List ℕ) (fault : StoreFault) (store : StoreParts) → fault ≢ StoreFault.OutOfMemory →
+        IsStoreFault file fault → SpellsStore file store → ⊥ }
+{}

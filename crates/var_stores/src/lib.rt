@@ -4,9 +4,18 @@
 //! [`boot_changes`] lists the single changes of Boot####, BootOrder and BootNext, in an order in which a machine can make
 //! them: after each of them, BootOrder and BootNext name a missing entry only if they did before all of them or do after
 //! them.
+//!
+//! [`read_store`] finds the records of variables in an emulator's variable file, as edk2 writes it.
 #![tactic(auto)]
 
 mod boot_change;
+mod fault;
 pub mod laws;
+mod record;
+mod store;
+mod volume;
 
 pub use boot_change::{BootChange, boot_changes};
+pub use fault::StoreFault;
+pub use record::Record;
+pub use store::{VariableStore, read_store};
