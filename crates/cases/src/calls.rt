@@ -1,14 +1,29 @@
 //! The calls that cases name.
 
-use crate::input::{bytes_of, ends_of, text_of};
-use crate::variables::stated_text;
-use crate::{changes, frames, options, paths, plans, reports, runs, sets, streams, texts};
+use crate::{frames, options, paths, plans, reports, runs, sets, streams, texts};
 use anyhow::{Result, bail};
+use case_files::Calls;
+use case_files::input::{bytes_of, ends_of, text_of};
+use case_files::variables::stated_text;
 use serde_json::Value;
 use std::alloc::Global;
 
+/// The calls of the libraries, by their names.
+#[derive(Clone, Copy, Debug)]
+pub struct LibraryCalls;
+
+impl Calls for LibraryCalls {
+    fn answer(&self, alloc: Global, call: &str, case: &Value) -> Result<String> {
+        answer(alloc, call, case)
+    }
+
+    fn wanted(&self, alloc: Global, case: &Value) -> Result<String> {
+        wanted(alloc, case)
+    }
+}
+
 /// What the case says that the call answers.
-pub fn wanted(alloc: Global, case: &Value) -> Result<String> {
+fn wanted(alloc: Global, case: &Value) -> Result<String> {
     if case.get("replies").is_some() {
         return runs::wanted(alloc, case);
     }
@@ -28,7 +43,7 @@ fn with_variables(alloc: Global, case: &Value, mut answer: String) -> Result<Str
 }
 
 /// What the call answers.
-pub fn answer(alloc: Global, call: &str, case: &Value) -> Result<String> {
+fn answer(alloc: Global, call: &str, case: &Value) -> Result<String> {
     match case.get("input") {
         None => of_members(alloc, call, case),
         Some(input) if takes_text(call) => {
@@ -124,7 +139,6 @@ fn of_bytes(alloc: Global, call: &str, bytes: &[u8]) -> Result<String> {
         "check_option" => options::view(alloc, bytes),
         "description_text" => options::text(alloc, bytes),
         "read_set" => sets::read(alloc, bytes),
-        "read_store" => changes::read(alloc, bytes),
         "read_frame" => frames::read(alloc, bytes),
         "feed" => streams::feed(alloc, bytes),
         "option_report" => reports::option(alloc, bytes),
@@ -162,7 +176,6 @@ fn of_members(alloc: Global, call: &str, case: &Value) -> Result<String> {
         "boot_next" => sets::next(alloc, case),
         "entry_option" => sets::option(alloc, case),
         "plan" => plans::make(alloc, case),
-        "boot_changes" => changes::between(alloc, case),
         "write_frame" => frames::write(alloc, case),
         "open" => runs::open(alloc, case),
         "run" => runs::events(alloc, case),

@@ -1,9 +1,9 @@
 //! Runs by a reader and a writer of the standard library that go a few bytes at a time, and fail after some.
 
-use crate::input::{ends_of, number};
 use crate::runs::{Form, words_of};
 use anyhow::{Result, bail};
 use boot_commands::{ScriptFault, Watched, run_script, run_stream};
+use case_files::input::{ends_of, number};
 use serde_json::Value;
 use std::alloc::Global;
 use std::io::{self, ErrorKind, Read, Write};

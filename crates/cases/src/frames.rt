@@ -1,9 +1,9 @@
 //! Calls of `boot_requests` about frames.
 
-use crate::input::{member, number_u32, text_of};
-use crate::paths::unless;
 use anyhow::{Result, bail};
 use boot_requests::{OrderList, Request, read_frame, write_frame};
+use case_files::input::{member, number_u32, text_of};
+use case_files::unless;
 use serde_json::Value;
 use std::alloc::Global;
 use uefi_option::{LoadOption, read_option, write_option};

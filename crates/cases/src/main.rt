@@ -8,12 +8,9 @@
 #![tactic(auto)]
 
 mod calls;
-mod changes;
 mod checks;
-mod counting;
 mod failing;
 mod frames;
-mod input;
 mod nodes;
 mod options;
 mod paths;
@@ -23,33 +20,19 @@ mod reports;
 mod runs;
 mod sets;
 mod streams;
-mod suite;
 mod texts;
-mod variables;
 
+use crate::calls::LibraryCalls;
 use anyhow::{Context, Result};
+use case_files::{file_names, report};
 use std::fs;
 
 fn main(rt: HostRuntime) -> Result<()> {
-    for name in &suite_names(&rt)? {
+    for name in &file_names(&rt)? {
         let text = fs::read_to_string(&rt, name.as_str())?;
-        let told = suite::report(rt.alloc(), name, &text);
+        let told = report(rt.alloc(), &LibraryCalls, name, &text);
         rt.print(told.context(format_args!("in {name}"))?)?;
     }
     rt.print(checks::report(rt.alloc())?)?;
     Ok(())
-}
-
-/// The names of the files with cases, in the order of their bytes.
-fn suite_names(rt: &HostRuntime) -> Result<Vec<String>> {
-    let mut names = Vec::new(rt.alloc());
-    for entry in fs::read_dir(rt, ".")? {
-        let entry = entry?;
-        let name = entry.file_name();
-        if name.ends_with(".json") {
-            names.push(String::from_str(rt.alloc(), name)?)?;
-        }
-    }
-    names.sort()?;
-    Ok(names)
 }

@@ -1,9 +1,9 @@
 //! Calls of `uefi_option`.
 
-use crate::input::{bytes, bytes_of, list, member, number, number_u32};
 use crate::nodes::append_units;
-use crate::paths::unless;
 use anyhow::{Result, bail};
+use case_files::input::{bytes, bytes_of, list, member, number, number_u32};
+use case_files::unless;
 use serde_json::Value;
 use std::alloc::Global;
 use uefi_option::{

@@ -1,8 +1,9 @@
 //! Calls of `uefi_path`.
 
-use crate::input::{bytes, number_u8};
 use crate::nodes::{Digits, Units, Words};
 use anyhow::Result;
+use case_files::input::{bytes, number_u8};
+use case_files::unless;
 use serde_json::Value;
 use std::alloc::Global;
 use std::fmt::Display;
@@ -16,11 +17,6 @@ use uefi_path::{
 const GUID: Guid = Guid([
     0x61, 0xdf, 0xe4, 0x8b, 0xca, 0x93, 0xd2, 0x11, 0xaa, 0x0d, 0x00, 0xe0, 0x98, 0x03, 0x2b, 0x8c,
 ]);
-
-/// The complaint, unless what is due holds.
-pub fn unless(holds: bool, complaint: &'static str) -> &'static str {
-    if holds { "" } else { complaint }
-}
 
 /// `read_path`, with what `check_path`, `nodes`, `write_path`, `path_len`, `copy` and `make_path` have to say of its
 /// answer.

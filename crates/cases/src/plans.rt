@@ -1,8 +1,8 @@
 //! Calls of `uefi_vars` for plans.
 
-use crate::paths::unless;
 use crate::sets::stated;
 use anyhow::Result;
+use case_files::unless;
 use serde_json::Value;
 use std::alloc::Global;
 use uefi_vars::{BootPlan, Choice, PlanNumbers, VarFault, Vars, entry_option, plan, plan_numbers};

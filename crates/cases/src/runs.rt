@@ -1,13 +1,13 @@
 //! Runs of events over variables: calls of `boot_commands`, and of `boot_requests` below them.
 
 use crate::failing;
-use crate::input::{bytes, ends_of, list, member, number, text_of};
-use crate::paths::unless;
 use crate::pipes::{Given, Taken};
-use crate::variables::{text_of_vars, vars_of};
 use anyhow::{Result, bail};
 use boot_commands::{ScriptFault, Watched, read_script, read_stream, run_script, run_stream};
 use boot_requests::{Event, Keeper, Reply, reply_line, run};
+use case_files::input::{bytes, ends_of, list, member, number, text_of};
+use case_files::unless;
+use case_files::variables::{text_of_vars, vars_of};
 use serde_json::Value;
 use std::alloc::Global;
 use uefi_vars::{Vars, write_set};

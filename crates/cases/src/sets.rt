@@ -1,10 +1,10 @@
 //! Calls of `uefi_vars`, except those for plans.
 
-use crate::input::{bytes, list, member, number_u16, string};
 use crate::options;
-use crate::paths::unless;
-use crate::variables::{text_of_vars, vars_of};
 use anyhow::{Result, bail};
+use case_files::input::{bytes, list, member, number_u16, string};
+use case_files::unless;
+use case_files::variables::{text_of_vars, vars_of};
 use serde_json::Value;
 use std::alloc::Global;
 use uefi_vars::{

@@ -1,8 +1,8 @@
 //! Calls of `boot_requests` about streams.
 
-use crate::paths::unless;
 use anyhow::{Result, bail};
 use boot_requests::{Bytes, FeedFault, Inbox};
+use case_files::unless;
 use std::alloc::Global;
 
 /// The most bytes of a stream that is fed in every two pieces.

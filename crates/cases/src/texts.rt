@@ -1,7 +1,7 @@
 //! Calls of `uefi_text`.
 
-use crate::paths::unless;
 use anyhow::{Result, bail};
+use case_files::unless;
 use std::alloc::Global;
 use uefi_path::{Guid, Path, read_path};
 use uefi_text::{GuidText, PathText, guid_text, path_text, read_guid, read_text};

@@ -1,13 +1,12 @@
 //! Checks of `boot_commands`.
 
-use crate::checks::Findings;
-use crate::checks::paths::is_shown;
 use crate::checks::readers::Repeated;
 use crate::failing::{Failure, Narrow};
 use crate::pipes::{Given, Taken};
 use anyhow::{Result, bail};
 use boot_commands::{InputFault, LIMIT, ScriptFault, Watched, read_input, run_script, run_stream};
 use boot_requests::{FeedFault, OpenFault};
+use case_files::{Findings, is_shown};
 use std::alloc::Global;
 use std::cell::Cell;
 use uefi_vars::Vars;

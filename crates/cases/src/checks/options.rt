@@ -1,8 +1,7 @@
 //! Checks of `uefi_option`.
 
-use crate::checks::Findings;
-use crate::checks::paths::is_shown;
 use anyhow::{Result, bail};
+use case_files::{Findings, is_shown};
 use std::alloc::Global;
 use uefi_option::{
     ACTIVE, CATEGORY, CATEGORY_APP, CATEGORY_BOOT, FORCE_RECONNECT, HIDDEN, LIST_MAX, LoadOption,

@@ -1,9 +1,9 @@
 //! Checks of writing a file when a step of it fails.
 
-use crate::checks::Findings;
 use crate::checks::folder::{Folder, SET};
 use anyhow::Result;
 use boot_commands::{OutputFault, lock_file, write_file};
+use case_files::Findings;
 use std::alloc::Global;
 use std::io::ErrorKind;
 

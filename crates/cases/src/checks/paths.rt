@@ -1,9 +1,8 @@
 //! Checks of `uefi_path` and `uefi_text`.
 
-use crate::checks::Findings;
 use anyhow::Result;
+use case_files::{Findings, is_shown};
 use std::alloc::Global;
-use std::fmt::Display;
 use uefi_path::{
     BODY_MAX, HardDriveNode, Ipv4Node, NameFault, Node, NodeFault, PATH_NAME_MAX, PathFault,
     VENDOR_BODY_MAX, append_units, field, make_path, node_from_parts, nodes, path_len, read_units,
@@ -29,11 +28,6 @@ pub fn check(alloc: Global, findings: &mut Findings) -> Result<()> {
     findings.note("all units are read and written", all_units(alloc))?;
     findings.note("views end once", ended_views())?;
     findings.note("the limits and the bytes of a field", limits())
-}
-
-/// Whether a value is shown so.
-pub fn is_shown(alloc: Global, value: &impl Display, text: &str) -> Result<bool> {
-    Ok(format!(in alloc; "{value}")?.as_str() == text)
 }
 
 fn path_faults(alloc: Global) -> Result<bool> {

@@ -1,13 +1,12 @@
 //! Checks of `boot_requests`.
 
-use crate::checks::Findings;
-use crate::checks::paths::is_shown;
 use crate::streams::Fed;
 use anyhow::{Result, bail};
 use boot_requests::{
     Bytes, Code, Event, FeedFault, FrameFault, KEPT_MAX, Keeper, OpenFault, OrderList, Outcome,
     PAYLOAD_MAX, Reply, Request, WIDTH, reply_line, write_frame,
 };
+use case_files::{Findings, is_shown};
 use std::alloc::Global;
 use uefi_option::{LoadOption, OptionFault, read_option};
 use uefi_path::PathFault;

@@ -1,8 +1,7 @@
 //! Checks of `uefi_vars`.
 
-use crate::checks::Findings;
-use crate::checks::paths::is_shown;
 use anyhow::Result;
+use case_files::{Findings, is_shown};
 use std::alloc::Global;
 use uefi_vars::{
     BOOT_NEXT, BOOT_ORDER, DATA_MAX, NAME_MAX, ORDER_MAX, PutFault, SetFault, VarFault, Vars, plan,
