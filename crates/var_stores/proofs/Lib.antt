@@ -8,3 +8,16 @@ pub mod Afterwards
 pub mod Members
 pub mod Fronts
 pub mod Changes
+pub mod Found
+pub mod StoredNames
+pub mod PresentRecords
+pub mod StoredVars
+pub mod OfEachOne
+pub mod GlobalKeys
+pub mod PresentValues
+pub mod NewRecords
+pub mod SameHead
+pub mod Kept
+pub mod WholeRecords
+pub mod RewrittenStores
+pub mod AfterWriting

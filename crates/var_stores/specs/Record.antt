@@ -28,6 +28,9 @@ number_in header place = from_le_bytes w32 (take 4 (drop place header))
 abbrev pub attributes_in : List ℕ → ℕ
 attributes_in header = number_in header 1
 
+abbrev pub attribute_bytes : List ℕ → List ℕ
+attribute_bytes header = take 4 (drop 1 header)
+
 abbrev pub name_size_in : List ℕ → ℕ
 name_size_in header = number_in header 33
 
@@ -35,7 +38,7 @@ abbrev pub value_size_in : List ℕ → ℕ
 value_size_in header = number_in header 37
 
 abbrev pub vendor_in : List ℕ → List ℕ
-vendor_in header = take 16 (drop 41 header)
+vendor_in header = drop 41 header
 
 -- the greatest number of four bytes, which memory that wasn't written reads as
 abbrev pub blank : ℕ

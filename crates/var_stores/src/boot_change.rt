@@ -1,7 +1,7 @@
 //! What changes of the boot manager's variables from one set to another.
 
 ghost use Rattle.std.specs.Prelude.{◌≡◌, ◌++◌, map, IfOk, OnOk};
-ghost use Rattle.var_stores.specs.BootChange.{change_parts, is_entry_name, differs, put_names, removed_names, if_differs, change_under, changes_from};
+ghost use Rattle.var_stores.specs.BootChange.{change_parts, same_name, is_entry_name, is_boot_name, differs, put_names, removed_names, if_differs, change_under, changes_from};
 
 use std::alloc::{AllocError, Global};
 use uefi_vars::{BOOT_NEXT, BOOT_ORDER, Vars, entry_number, laws as vars_laws};
@@ -109,8 +109,23 @@ fn is_entry(name: &str) -> bool
     entry_number(name).is_some()
 }
 
+/// Whether it is the name of a variable of the boot manager: Boot####, BootOrder or BootNext.
+pub(crate) fn is_boot_name(name: &str) -> bool
+    ensures { result ≡ is_boot_name name.now }
+{
+    vars_laws::constants_are_those_of_the_definitions();
+    is_entry(name) || is_same(name, BOOT_ORDER) || is_same(name, BOOT_NEXT)
+}
+
+/// Whether the two names are the same.
+fn is_same(name: &str, other: &str) -> bool
+    ensures { result ≡ same_name name.now other.now }
+{
+    name == other
+}
+
 /// Whether the two sets have other data under the name, or one of them has none.
-fn is_changed(from: &Vars, to: &Vars, name: &str) -> bool
+pub(crate) fn is_changed(from: &Vars, to: &Vars, name: &str) -> bool
     ensures { result ≡ differs from.now to.now name.now }
 {
     from.get(name) != to.get(name)

@@ -1,6 +1,7 @@
 //! The laws of the definitions. Each is a function that does nothing, and whose contract is the law.
 
-ghost use Rattle.std.specs.Prelude.{◌≡◌, ◌≢◌, ◌⊎◌, ◌↔◌, ℕ, ◌^◌, ◌<◌, List, [], map, take, slice_get, Some, true, false};
+ghost use Rattle.std.specs.Prelude.{◌≡◌, ◌≢◌, ◌⊎◌, ◌↔◌, ℕ, ◌^◌, ◌<◌, List, [], ◌∷◌, ◌++◌, ◌&&◌, None, map, take, slice_get, Some, true, false};
+ghost use Rattle.std.specs.Option.{option_map};
 ghost use Rattle.std.specs.List.{AllByRecursion, IsDistinct};
 ghost use Rattle.std.specs.FinMap as map;
 ghost use Rattle.uefi_vars.specs.Name.{entry_text};
@@ -9,6 +10,9 @@ ghost use Rattle.uefi_vars.specs.NameChanges.{after_each};
 ghost use Rattle.var_stores.specs.BootChange.{ChangeParts, same_name, is_entry_name, is_boot_name, changes_from, new_data, IsNeeded, DanglesInOrder, DanglesAsNext};
 ghost use Rattle.var_stores.specs.declared.fault.StoreFault.{StoreFault};
 ghost use Rattle.var_stores.specs.Volume.{StoreParts, SpellsStore, IsStoreFault};
+ghost use Rattle.var_stores.specs.Record.{RecordParts};
+ghost use Rattle.var_stores.specs.Present.{global_key, is_of, is_added, is_alive, found};
+ghost use Rattle.var_stores.specs.Rewriting.{IsWritten};
 
 use uefi_vars::laws as vars_laws;
 
@@ -77,4 +81,32 @@ pub fn a_file_has_one_store()
 pub fn a_fault_leaves_no_store()
     ensures { (file : List ℕ) (fault : StoreFault) (store : StoreParts) → fault ≢ StoreFault.OutOfMemory →
         IsStoreFault file fault → SpellsStore file store → ⊥ }
+{}
+
+/// The record of a variable that is there is the first of its records that was added; if none was, the last that is being
+/// replaced; and if there is none of either kind, the variable isn't there.
+pub fn one_record_of_a_variable_is_there()
+    ensures added { (key : List ℕ) (before after : List RecordParts) (r : RecordParts) →
+        AllByRecursion (λ s. (is_of key s && is_added s) ≡ false) before → (is_of key r && is_added r) ≡ true →
+        found key (before ++ (r ∷ after)) ≡ Some r }
+    ensures replaced { (key : List ℕ) (before after : List RecordParts) (r : RecordParts) →
+        AllByRecursion (λ s. (is_of key s && is_added s) ≡ false) before → (is_of key r && is_alive r) ≡ true →
+        AllByRecursion (λ s. (is_of key s && is_alive s) ≡ false) after → found key (before ++ (r ∷ after)) ≡ Some r }
+    ensures none { (key : List ℕ) (records : List RecordParts) →
+        AllByRecursion (λ s. (is_of key s && is_alive s) ≡ false) records → found key records ≡ None }
+{}
+
+/// Once they are written, the boot manager's variables are those that were asked for.
+pub fn written_boot_variables_are_those_asked_for()
+    ensures { (file bytes : List ℕ) (to : Variables) (written : IsWritten file to bytes) (name : List ℕ) → is_boot_name name ≡ true →
+        option_map (λ r. r.value) (found (global_key name) written.after.records) ≡ map.get to name }
+{
+    vars_laws::boot_names_are_names();
+}
+
+/// Every other variable is there as before: its record is the same, with its attributes and its value.
+pub fn other_variables_are_there_as_before()
+    ensures { (file bytes : List ℕ) (to : Variables) (written : IsWritten file to bytes) (key : List ℕ) →
+        ((name : List ℕ) → is_boot_name name ≡ true → key ≢ global_key name) →
+        found key written.after.records ≡ found key written.before.records }
 {}

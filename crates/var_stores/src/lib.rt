@@ -11,11 +11,18 @@
 mod boot_change;
 mod fault;
 pub mod laws;
+mod present;
 mod record;
 mod store;
+mod stored_vars;
 mod volume;
+mod write_fault;
+mod writer;
 
 pub use boot_change::{BootChange, boot_changes};
 pub use fault::StoreFault;
 pub use record::Record;
 pub use store::{VariableStore, read_store};
+pub use stored_vars::{left_out, store_vars};
+pub use write_fault::WriteFault;
+pub use writer::write_boot_vars;

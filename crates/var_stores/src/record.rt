@@ -1,11 +1,12 @@
 //! Records of a variable store, where they are in the bytes.
 
 ghost use Rattle.std.specs.Prelude.{◌≡◌, ◌≢◌, ◌≤◌, ◌<◌, ◌+◌, ◌^◌, ℕ, List, ◌∷◌, ◌++◌, length, map, IfSome, IfErr, IfOk, IsTrue, ◌↔◌, MatchOption, Some, None, take, drop};
-ghost use Rattle.var_stores.specs.Record.{RecordParts, record_parts, header_len, number_in, is_unfinished, name_len, value_len, padding_len, IsRecord, record_bytes, BeginsRecord, HasRecords, IsCutRecord};
+ghost use Rattle.var_stores.specs.Record.{RecordParts, record_parts, header_len, vendor_in, attribute_bytes, number_in, is_unfinished, name_len, value_len, padding_len, IsRecord, record_bytes, BeginsRecord, HasRecords, IsCutRecord};
+ghost use Rattle.var_stores.specs.Present.{key_of, is_added, is_alive};
 ghost use Rattle.var_stores.specs.RecordsFault.{IsFaultOf};
 
 use crate::volume::array_at;
-use std::alloc::Global;
+use std::alloc::{AllocError, Global};
 
 /// The bytes by which a record begins.
 const START: [u8; 2] = [0xAA, 0x55];
@@ -19,6 +20,14 @@ const ATTRIBUTES: usize = 1;
 const NAME_SIZE: usize = 33;
 
 const VALUE_SIZE: usize = 37;
+
+const VENDOR: usize = 41;
+
+/// The state of a record whose variable was added.
+pub(crate) const ADDED: u8 = 0x3F;
+
+/// The state of a record whose variable is being replaced.
+const REPLACED: u8 = 0x3E;
 
 /// The greatest number of four bytes, which memory that wasn't written reads as.
 const BLANK: u32 = u32::MAX;
@@ -39,6 +48,49 @@ pub struct Record<'a> {
     pub value: &'a [u8],
     /// The bytes after the value up to a multiple of four.
     pub padding: &'a [u8],
+}
+
+impl<'a> Record<'a> {
+    /// The vendor's GUID, as it is stored.
+    pub(crate) fn vendor(&self) -> &'a [u8]
+        ensures { result.now ≡ vendor_in self.now.header.now }
+    {
+        match self.header.split_at_checked(VENDOR) {
+            Some((_front, vendor)) => vendor,
+            None => &[],
+        }
+    }
+
+    /// Of which variable it is: the vendor's GUID and then the name, both as they are stored.
+    pub(crate) fn key(&self, alloc: Global) -> Result<Vec<u8>, AllocError>
+        ensures { IfOk result (λ key. key.items ≡ key_of (record_parts self.now)) }
+    {
+        let mut key = Vec::from_slice(alloc, self.vendor())?;
+        key.extend_from_slice(self.name)?;
+        Ok(key)
+    }
+
+    /// The bytes of the variable's attributes.
+    pub(crate) fn attributes(&self) -> [u8; 4]
+        requires { length self.now.header.now ≡ header_len }
+        ensures { result ≡ attribute_bytes self.now.header.now }
+    {
+        array_at(self.header, ATTRIBUTES)
+    }
+
+    /// Whether it is of a variable that was added.
+    pub(crate) fn is_added(&self) -> bool
+        ensures { result ≡ is_added (record_parts self.now) }
+    {
+        self.state == ADDED
+    }
+
+    /// Whether it is of a variable that was added, or that is being replaced.
+    pub(crate) fn is_alive(&self) -> bool
+        ensures { result ≡ is_alive (record_parts self.now) }
+    {
+        self.is_added() || self.state == REPLACED
+    }
 }
 
 /// Why the records of a store aren't read.
@@ -73,7 +125,7 @@ pub(crate) fn read_records(
 }
 
 /// Whether a record begins with the bytes.
-fn begins_record(bytes: &[u8]) -> bool
+pub(crate) fn begins_record(bytes: &[u8]) -> bool
     ensures { IsTrue result ↔ BeginsRecord bytes.now }
 {
     bytes.starts_with(&START)
@@ -149,7 +201,7 @@ fn number_in(header: &[u8], place: usize) -> u32
 }
 
 /// How many bytes follow this many up to a multiple of four.
-fn padding_len(len: usize) -> usize
+pub(crate) fn padding_len(len: usize) -> usize
     ensures { result ≡ padding_len len }
 {
     (4 - len % 4) % 4

@@ -1,0 +1,270 @@
+-- What is there once the boot manager's variables were written.
+use Rattle.std.proofs.Common.{◌≡◌, ℕ, ◌-◌, ◌<◌, ◌^◌, Bool, true, false, cond, ◌&&◌, ◌||◌, not, List, [], ◌∷◌, ◌++◌, length, Option, Some, None, IfSome, inl, inr, refl, sym, ap, subst, ◌∙◌, arith}
+use Rattle.std.specs.Option.{option_map, option_map_or, is_none}
+use Rattle.std.specs.List.{AllByRecursion}
+use Rattle.std.specs.FinMap.{get, entries, find, get-entries}
+use Rattle.std.proofs.lemmas.Bool.{and_parts, or_parts, or_cases, false_from_ne_true, false≢true, true≢false, not-false}
+use Rattle.uefi_vars.specs.Name.{IsName, entry_text, order_text, next_text}
+use Rattle.uefi_vars.specs.Vars.{Variables, name_cmp}
+use Rattle.var_stores.specs.Record.{RecordParts, vendor_in, IsRecord}
+use Rattle.var_stores.specs.BootChange.{same_name, is_entry_name, is_boot_name, differs}
+use Rattle.var_stores.specs.Present.{global_guid, stored_name, name_in, key_of, global_key, is_of, is_alive, is_added_there, found_with, found_after, found, is_set_value, set_data, IsSetOf}
+use Rattle.var_stores.specs.Rewriting.{is_rewritten, is_outdated, deleted, without_outdated, unless_outdated, attributes_there, new_record, added, new_records, AreKept, IsWritten}
+use Rattle.var_stores.proofs.Names.{same_name-is, same_name-of, entry_of_name}
+use Rattle.var_stores.proofs.Members.{same_data-is}
+use Rattle.var_stores.proofs.Found.{IsFoundAs, found_after-append, found_after-added, found_after-is, found_after-all}
+use Rattle.var_stores.proofs.GlobalKeys.{vendor_len, global_name}
+use Rattle.var_stores.proofs.PresentRecords.{stays_of_other, takes_over}
+use Rattle.var_stores.proofs.Records.{same_size}
+use Rattle.var_stores.proofs.StoredNames.{name_in-stored_name, stored_name-name_in, stored_name-same}
+use Rattle.var_stores.proofs.WholeRecords.{alive_state, attributes-there}
+
+same_end : (a b : List ℕ) → global_guid ++ a ≡ global_guid ++ b → a ≡ b
+same_end a b e = (same_size global_guid global_guid a b refl e).1
+
+-- ---- records of a variable, and whether they are outdated
+
+-- a record of a variable of the standard that is alive is outdated if the variable changes
+outdated_is : (from to : Variables) (r : RecordParts) (name : List ℕ) → IsRecord r → IsName name → is_alive r ≡ true → key_of r ≡ global_key name → is_outdated from to r ≡ is_rewritten from to name
+outdated_is from to r name whole is alive key =
+    let parts = global_name r name (vendor_len r whole) (sym key) in
+    ap (λ b. b && (same_name global_guid (vendor_in r.header) && option_map_or (is_rewritten from to) (name_in r.name) false)) alive
+    ∙ ap (λ b. b && option_map_or (is_rewritten from to) (name_in r.name) false) (same_name-of global_guid (vendor_in r.header) (sym parts.0))
+    ∙ ap (λ n. option_map_or (is_rewritten from to) n false) (ap name_in parts.1 ∙ name_in-stored_name name is.printing)
+
+-- an outdated record is of a variable of the boot manager
+of_boot : (from to : Variables) (r : RecordParts) → is_outdated from to r ≡ true → (is_alive r ≡ true) × (name : List ℕ) × (is_rewritten from to name ≡ true) × (key_of r ≡ global_key name)
+of_boot from to r outdated =
+    let first = and_parts (is_alive r) (same_name global_guid (vendor_in r.header) && option_map_or (is_rewritten from to) (name_in r.name) false) outdated in
+    let second = and_parts (same_name global_guid (vendor_in r.header)) (option_map_or (is_rewritten from to) (name_in r.name) false) first.1 in
+    let named = go (name_in r.name) refl second.1 in
+    (first.0, named.0, named.1, ap (λ (v : List ℕ). v ++ r.name) (sym (same_name-is global_guid (vendor_in r.header) second.0)) ∙ ap (λ (n : List ℕ). global_guid ++ n) named.2)
+  where
+    go : (n : Option (List ℕ)) → name_in r.name ≡ n → option_map_or (is_rewritten from to) n false ≡ true → (name : List ℕ) × (is_rewritten from to name ≡ true) × (r.name ≡ stored_name name)
+    go None e none = absurd (false≢true none)
+    go (Some name) e some = (name, some, stored_name-name_in r.name name e)
+
+not_alive : (r : RecordParts) → is_alive r ≡ true → is_alive (deleted r) ≡ false
+not_alive r alive = elim (alive_state r alive) [
+  | inl e ↦ ap (λ n. is_alive (record { state = n - 2; header = r.header; name = r.name; value = r.value; padding = r.padding })) e
+  | inr e ↦ ap (λ n. is_alive (record { state = n - 2; header = r.header; name = r.name; value = r.value; padding = r.padding })) e
+]
+
+dead : (key : List ℕ) (before : Option RecordParts) (r : RecordParts) → is_alive r ≡ false → found_with key before r ≡ before
+dead key before r e = ap (λ b. cond ((b && is_of key r) && not (is_added_there before)) (Some r) before) e
+
+-- ---- records in their places
+
+-- a variable that doesn't change is found as before
+pub stays : (from to : Variables) (key : List ℕ) (before : Option RecordParts) (records : List RecordParts) →
+    ((r : RecordParts) → is_outdated from to r ≡ true → is_of key r ≡ true → ⊥) → found_after key before (without_outdated from to records) ≡ found_after key before records
+stays from to key before [] apart = refl
+stays from to key before (r ∷ records) apart =
+    ap (λ o. found_after key o (without_outdated from to records)) (one (is_outdated from to r) refl) ∙ stays from to key (found_with key before r) records apart
+  where
+    one : (b : Bool) → is_outdated from to r ≡ b → found_with key before (cond b (deleted r) r) ≡ found_with key before r
+    one false e = refl
+    one true e =
+        dead key before (deleted r) (not_alive r (of_boot from to r e).0) ∙ stays_of_other key before r (false_from_ne_true (is_of key r) (apart r e))
+
+-- one that changes isn't found any more
+pub goes : (from to : Variables) (name : List ℕ) (records : List RecordParts) → AllByRecursion IsRecord records → IsName name → is_rewritten from to name ≡ true →
+    found (global_key name) (without_outdated from to records) ≡ None
+goes from to name [] whole is rewritten = refl
+goes from to name (r ∷ records) whole is rewritten =
+    ap (λ o. found_after (global_key name) o (without_outdated from to records)) (one (is_outdated from to r) refl) ∙ goes from to name records whole.1 is rewritten
+  where
+    alive_one : (b c : Bool) → is_alive r ≡ b → is_of (global_key name) r ≡ c → is_outdated from to r ≡ false → found_with (global_key name) None r ≡ None
+    alive_one false c a o e = dead (global_key name) None r a
+    alive_one true false a o e = sym (stays_of_other (global_key name) None r o)
+    alive_one true true a o e =
+        absurd (false≢true (sym e ∙ outdated_is from to r name whole.0 is a (sym (same_name-is (global_key name) (key_of r) o)) ∙ rewritten))
+
+    one : (b : Bool) → is_outdated from to r ≡ b → found_with (global_key name) None (cond b (deleted r) r) ≡ None
+    one true e = dead (global_key name) None (deleted r) (not_alive r (of_boot from to r e).0)
+    one false e = alive_one (is_alive r) (is_of (global_key name) r) refl refl e
+
+-- ---- new records
+
+-- a new record is of the variable of its name
+pub key_of_new : (attributes name value : List ℕ) → length attributes ≡ 4 → key_of (new_record attributes name value) ≡ global_key name
+key_of_new [] name value four = absurd (omega (arith, four))
+key_of_new (a ∷ []) name value four = absurd (omega (arith, four))
+key_of_new (a ∷ b ∷ []) name value four = absurd (omega (arith, four))
+key_of_new (a ∷ b ∷ c ∷ []) name value four = absurd (omega (arith, four))
+key_of_new (a ∷ b ∷ c ∷ d ∷ []) name value four = refl
+key_of_new (a ∷ b ∷ c ∷ d ∷ e ∷ rest) name value four = absurd (omega (arith, four))
+
+module _ (from to : Variables) (of : List ℕ → Option RecordParts) (four : (name : List ℕ) → length (attributes_there (of name)) ≡ 4) where
+  abbrev made : List ℕ → List ℕ → RecordParts
+  made name value = new_record (attributes_there (of name)) name value
+
+  key_of_made : (name value : List ℕ) → key_of (made name value) ≡ global_key name
+  key_of_made name value = key_of_new (attributes_there (of name)) name value (four name)
+
+  -- one that is of no new record's name is found as before
+  pub added_others : (key : List ℕ) (before : Option RecordParts) (variables : List (List ℕ × List ℕ)) →
+      ((name : List ℕ) → is_rewritten from to name ≡ true → key ≡ global_key name → ⊥) → found_after key before (added from to of variables) ≡ before
+  added_others key before [] apart = refl
+  added_others key before (variable ∷ rest) apart = one (added_others key before rest apart) (is_rewritten from to variable.0) refl
+    where
+      one : found_after key before (added from to of rest) ≡ before → (b : Bool) → is_rewritten from to variable.0 ≡ b →
+          found_after key before (cond b (made variable.0 variable.1 ∷ added from to of rest) (added from to of rest)) ≡ before
+      one again false e = again
+      one again true e =
+          ap (λ o. found_after key o (added from to of rest))
+          (sym (stays_of_other key before (made variable.0 variable.1) (false_from_ne_true (is_of key (made variable.0 variable.1))
+          (λ same. apart variable.0 e (same_name-is key (key_of (made variable.0 variable.1)) same ∙ key_of_made variable.0 variable.1))))) ∙ again
+
+  -- one that changes is found as the set has it
+  pub added_found : (name : List ℕ) (variables : List (List ℕ × List ℕ)) → is_rewritten from to name ≡ true →
+      found_after (global_key name) None (added from to of variables) ≡ option_map (made name) (find name_cmp name variables)
+  added_found name [] rewritten = refl
+  added_found name (variable ∷ rest) rewritten = one (added_found name rest rewritten) (same_name name variable.0) refl (is_rewritten from to variable.0) refl
+    where
+      one : found_after (global_key name) None (added from to of rest) ≡ option_map (made name) (find name_cmp name rest) →
+          (b : Bool) → same_name name variable.0 ≡ b → (c : Bool) → is_rewritten from to variable.0 ≡ c →
+          found_after (global_key name) None (cond c (made variable.0 variable.1 ∷ added from to of rest) (added from to of rest)) ≡ option_map (made name) (cond b (Some variable.1) (find name_cmp name rest))
+      one again true same false other = absurd (true≢false (sym rewritten ∙ ap (is_rewritten from to) (same_name-is name variable.0 same) ∙ other))
+      one again true same true e =
+          ap (λ o. found_after (global_key name) o (added from to of rest))
+          (sym (takes_over (global_key name) None (made variable.0 variable.1) refl
+          (same_name-of (global_key name) (key_of (made variable.0 variable.1)) (ap global_key (same_name-is name variable.0 same) ∙ sym (key_of_made variable.0 variable.1))) refl))
+          ∙ found_after-added (global_key name) (made variable.0 variable.1) (added from to of rest) refl ∙ ap (λ n. Some (made n variable.1)) (sym (same_name-is name variable.0 same))
+      one again false other false e = again
+      one again false other true e =
+          ap (λ o. found_after (global_key name) o (added from to of rest))
+          (sym (stays_of_other (global_key name) None (made variable.0 variable.1) (false_from_ne_true (is_of (global_key name) (made variable.0 variable.1))
+          (λ same. false≢true (sym other ∙ same_name-of name variable.0
+          (stored_name-same name variable.0 (same_end (stored_name name) (stored_name variable.0) (same_name-is (global_key name) (key_of (made variable.0 variable.1)) same ∙ key_of_made variable.0 variable.1))))))))
+          ∙ again
+
+-- ---- the laws
+
+module _ (records : List RecordParts) (from to : Variables) (whole : AllByRecursion IsRecord records) (from_is : IsSetOf records from) where
+  abbrev new : List RecordParts
+  new = new_records records from to
+
+  four : (name : List ℕ) → length (attributes_there (found (global_key name) records)) ≡ 4
+  four name = (attributes-there records name whole).0
+
+  -- a variable that changes, where no record of it is left
+  written_new : (name : List ℕ) (others : List RecordParts) → is_rewritten from to name ≡ true → found (global_key name) others ≡ None →
+      option_map (λ r. r.value) (found (global_key name) (others ++ new)) ≡ get to name
+  written_new name others rewritten gone =
+      ap (option_map (λ r. r.value)) (found_after-append (global_key name) None others new ∙ ap (λ o. found_after (global_key name) o new) gone
+      ∙ added_found from to (λ n. found (global_key n) records) four name (entries to) rewritten)
+      ∙ values (find name_cmp name (entries to)) ∙ sym (get-entries to name)
+    where
+      values : (o : Option (List ℕ)) → option_map (λ r. r.value) (option_map (made from to (λ n. found (global_key n) records) four name) o) ≡ o
+      values None = refl
+      values (Some value) = refl
+
+  -- a variable that doesn't change, whose record is still there
+  written_before : (name : List ℕ) (others : List RecordParts) → IsName name → is_boot_name name ≡ true → is_rewritten from to name ≡ false →
+      found (global_key name) others ≡ found (global_key name) records → option_map (λ r. r.value) (found (global_key name) (others ++ new)) ≡ get to name
+  written_before name others is boot same there =
+      ap (option_map (λ r. r.value)) (found_after-append (global_key name) None others new
+      ∙ added_others from to (λ n. found (global_key n) records) four (global_key name) (found (global_key name) others) (entries to)
+      (λ other e key. true≢false (sym e ∙ ap (is_rewritten from to) (sym (stored_name-same name other (same_end (stored_name name) (stored_name other) key))) ∙ same)) ∙ there)
+      ∙ value_there (found (global_key name) records) (sym (from_is name is)) ∙ equal
+    where
+      parts : (is_none (get to name) ≡ false) × (differs from to name ≡ false)
+      parts = or_parts (is_none (get to name)) (differs from to name) (sym (ap (λ b. b && (is_none (get to name) || differs from to name)) boot) ∙ same)
+
+      equal : get from name ≡ get to name
+      equal = same_data-is (get from name) (get to name) (not-false _ parts.1)
+
+      some : (o : Option (List ℕ)) → is_none o ≡ false → (value : List ℕ) × (o ≡ Some value)
+      some None e = absurd (true≢false e)
+      some (Some value) e = (value, refl)
+
+      value_there : (o : Option RecordParts) → set_data o ≡ get from name → option_map (λ r. r.value) o ≡ get from name
+      value_there None e = e
+      value_there (Some r) e = go (is_set_value r.value) e
+        where
+          go : (b : Bool) → cond b (Some r.value) None ≡ get from name → Some r.value ≡ get from name
+          go true e' = e'
+          go false e' = let held = some (get to name) parts.0 in let none : None ≡ Some held.0 = e' ∙ equal ∙ held.1 in cc
+
+  unless_same : (o : Option RecordParts) → ((r : RecordParts) → o ≡ Some r → is_outdated from to r ≡ false) → unless_outdated from to o ≡ o
+  unless_same None apart = refl
+  unless_same (Some r) apart = ap (λ b. cond b None (Some r)) (apart r refl)
+
+  unless_gone : (o : Option RecordParts) → ((r : RecordParts) → o ≡ Some r → is_outdated from to r ≡ true) → unless_outdated from to o ≡ None
+  unless_gone None all = refl
+  unless_gone (Some r) all = ap (λ b. cond b None (Some r)) (all r refl)
+
+  found_own : (name : List ℕ) (r : RecordParts) → IsName name → found (global_key name) records ≡ Some r → is_outdated from to r ≡ is_rewritten from to name
+  found_own name r is e =
+      let own = subst (λ (o : Option RecordParts). IfSome o (IsFoundAs (global_key name))) e (found_after-is (global_key name) None records tt) in
+      outdated_is from to r name (subst (λ (o : Option RecordParts). IfSome o IsRecord) e (found_after-all (global_key name) IsRecord None records whole tt)) is own.1 own.0
+
+  -- Records that keep what doesn't change, and no record of what changes: as those in their places, and those that were moved.
+  pub asked_for : (name : List ℕ) (others : List RecordParts) → IsName name → is_boot_name name ≡ true →
+      (is_rewritten from to name ≡ true → found (global_key name) others ≡ None) → (is_rewritten from to name ≡ false → found (global_key name) others ≡ found (global_key name) records) →
+      option_map (λ r. r.value) (found (global_key name) (others ++ new)) ≡ get to name
+  asked_for name others is boot gone kept = go (is_rewritten from to name) refl
+    where
+      go : (b : Bool) → is_rewritten from to name ≡ b → option_map (λ r. r.value) (found (global_key name) (others ++ new)) ≡ get to name
+      go true e = written_new name others e (gone e)
+      go false e = written_before name others is boot e (kept e)
+
+  same_rewritten : (name other : List ℕ) → global_key name ≡ global_key other → name ≡ other
+  same_rewritten name other key = stored_name-same name other (same_end (stored_name name) (stored_name other) key)
+
+  pub in_place : (name : List ℕ) → IsName name → is_boot_name name ≡ true → option_map (λ r. r.value) (found (global_key name) (without_outdated from to records ++ new)) ≡ get to name
+  in_place name is boot = asked_for name (without_outdated from to records) is boot (λ e. goes from to name records whole is e)
+      (λ e. stays from to (global_key name) None records (λ r outdated same.
+      let own = of_boot from to r outdated in
+      true≢false (sym own.2 ∙ ap (is_rewritten from to) (sym (same_rewritten name own.1 (same_name-is (global_key name) (key_of r) same ∙ own.3))) ∙ e)))
+
+  pub after_moving : (name : List ℕ) (kept : List RecordParts) → AreKept records from to kept → IsName name → is_boot_name name ≡ true →
+      option_map (λ r. r.value) (found (global_key name) (kept ++ new)) ≡ get to name
+  after_moving name kept are is boot = asked_for name kept is boot
+      (λ e. are.each (global_key name) ∙ unless_gone (found (global_key name) records) (λ r found_r. found_own name r is found_r ∙ e))
+      (λ e. are.each (global_key name) ∙ unless_same (found (global_key name) records) (λ r found_r. found_own name r is found_r ∙ e))
+
+  -- and every other variable
+  pub others_in_place : (key : List ℕ) → ((name : List ℕ) → is_boot_name name ≡ true → key ≡ global_key name → ⊥) → found key (without_outdated from to records ++ new) ≡ found key records
+  others_in_place key apart =
+      found_after-append key None (without_outdated from to records) new
+      ∙ added_others from to (λ n. found (global_key n) records) four key (found key (without_outdated from to records)) (entries to) (λ name e is. apart name (and_parts (is_boot_name name) _ e).0 is)
+      ∙ stays from to key None records (λ r outdated same. let own = of_boot from to r outdated in apart own.1 (and_parts (is_boot_name own.1) _ own.2).0 (same_name-is key (key_of r) same ∙ own.3))
+
+  pub others_after_moving : (key : List ℕ) (kept : List RecordParts) → AreKept records from to kept → ((name : List ℕ) → is_boot_name name ≡ true → key ≡ global_key name → ⊥) →
+      found key (kept ++ new) ≡ found key records
+  others_after_moving key kept are apart =
+      found_after-append key None kept new
+      ∙ added_others from to (λ n. found (global_key n) records) four key (found key kept) (entries to) (λ name e is. apart name (and_parts (is_boot_name name) _ e).0 is)
+      ∙ are.each key ∙ unless_same (found key records) (λ r e. false_from_ne_true (is_outdated from to r) (λ outdated.
+      let own = of_boot from to r outdated in
+      let found_as = subst (λ (o : Option RecordParts). IfSome o (IsFoundAs key)) e (found_after-is key None records tt) in
+      apart own.1 (and_parts (is_boot_name own.1) _ own.2).0 (sym found_as.0 ∙ own.3)))
+
+-- ---- a file that was written
+
+pub boot_is_name : ((number : ℕ) → number < 2 ^ 16 → IsName (entry_text number)) → IsName order_text → IsName next_text → (name : List ℕ) → is_boot_name name ≡ true → IsName name
+boot_is_name entry order next name boot = elim (or_cases (is_entry_name name) (same_name name order_text || same_name name next_text) boot) [
+  | inl e ↦ let own = entry_of_name name e in subst IsName (sym own.2) (entry own.0 own.1)
+  | inr e ↦ elim (or_cases (same_name name order_text) (same_name name next_text) e) [
+    | inl o ↦ subst IsName (sym (same_name-is name order_text o)) order
+    | inr n ↦ subst IsName (sym (same_name-is name next_text n)) next
+  ]
+]
+
+pub boot_as_asked : (file bytes : List ℕ) (to : Variables) (written : IsWritten file to bytes) (name : List ℕ) → IsName name → is_boot_name name ≡ true →
+    option_map (λ r. r.value) (found (global_key name) written.after.records) ≡ get to name
+boot_as_asked file bytes to written name is boot = elim written.records [
+  | inl appended ↦ ap (λ (rs : List RecordParts). option_map (λ r. r.value) (found (global_key name) rs)) appended.records
+      ∙ in_place written.before.records written.from to written.was.area.whole written.from_is name is boot
+  | inr moved ↦ ap (λ (rs : List RecordParts). option_map (λ r. r.value) (found (global_key name) rs)) moved.records
+      ∙ after_moving written.before.records written.from to written.was.area.whole written.from_is name moved.kept moved.are is boot
+]
+
+pub others_as_before : (file bytes : List ℕ) (to : Variables) (written : IsWritten file to bytes) (key : List ℕ) → ((name : List ℕ) → is_boot_name name ≡ true → key ≡ global_key name → ⊥) →
+    found key written.after.records ≡ found key written.before.records
+others_as_before file bytes to written key apart = elim written.records [
+  | inl appended ↦ ap (found key) appended.records ∙ others_in_place written.before.records written.from to written.was.area.whole written.from_is key apart
+  | inr moved ↦ ap (found key) moved.records ∙ others_after_moving written.before.records written.from to written.was.area.whole written.from_is key moved.kept moved.are apart
+]

@@ -1,0 +1,43 @@
+-- The keys of the standard's variables.
+use Rattle.std.proofs.Common.{◌≡◌, ℕ, ◌-◌, Bool, true, false, cond, ◌&&◌, List, length, ◌++◌, Some, refl, sym, ap, ◌∙◌}
+use Rattle.std.proofs.lemmas.List.{length-drop}
+use Rattle.std.proofs.lemmas.Bool.{false_from_ne_true}
+use Rattle.std.specs.FinMap.{get}
+use Rattle.uefi_vars.specs.Vars.{Variables}
+use Rattle.var_stores.specs.Record.{RecordParts, vendor_in, IsRecord}
+use Rattle.var_stores.specs.BootChange.{same_name}
+use Rattle.var_stores.specs.Present.{global_guid, stored_name, key_of, global_key, is_of, is_set_value}
+use Rattle.var_stores.specs.PresentMap.{PutsStored, PutsRecord}
+use Rattle.var_stores.proofs.Names.{same_name-is, same_name-of}
+use Rattle.var_stores.proofs.Records.{same_size}
+
+same_truth : (a b : Bool) → (a ≡ true → b ≡ true) → (b ≡ true → a ≡ true) → a ≡ b
+same_truth true b there back = sym (there refl)
+same_truth false b there back = sym (false_from_ne_true b (λ e. let back = back e in cc))
+
+pub vendor_len : (r : RecordParts) → IsRecord r → length (vendor_in r.header) ≡ 16
+vendor_len r is = length-drop 41 r.header ∙ ap (λ n. n - 41) is.header
+
+pub global_name : (r : RecordParts) (name : List ℕ) → length (vendor_in r.header) ≡ 16 → global_key name ≡ key_of r → (vendor_in r.header ≡ global_guid) × (r.name ≡ stored_name name)
+global_name r name len same =
+    let parts = same_size global_guid (vendor_in r.header) (stored_name name) r.name (sym len) same in (sym parts.0, sym parts.1)
+
+pub is_of-global : (r : RecordParts) (name : List ℕ) → vendor_in r.header ≡ global_guid → is_of (global_key name) r ≡ same_name r.name (stored_name name)
+is_of-global r name vendor = same_truth (is_of (global_key name) r) (same_name r.name (stored_name name))
+    (λ same. same_name-of r.name (stored_name name) (global_name r name (ap length vendor) (same_name-is (global_key name) (key_of r) same)).1)
+    (λ same. same_name-of (global_key name) (key_of r)
+    (ap (λ (n : List ℕ). global_guid ++ n) (sym (same_name-is r.name (stored_name name) same)) ∙ ap (λ (v : List ℕ). v ++ r.name) (sym vendor)))
+
+pub is_of-foreign : (r : RecordParts) (name : List ℕ) → length (vendor_in r.header) ≡ 16 → (vendor_in r.header ≡ global_guid → ⊥) → is_of (global_key name) r ≡ false
+is_of-foreign r name len other =
+    false_from_ne_true (is_of (global_key name) r) (λ same. other (global_name r name len (same_name-is (global_key name) (key_of r) same)).0)
+
+-- what a set has once the record of a variable of the standard was put into it
+pub puts_global : (old new : Variables) (r : RecordParts) → vendor_in r.header ≡ global_guid → PutsStored old new r.name r.value → PutsRecord old new r
+puts_global old new r vendor puts name is =
+    puts name is ∙ ap (λ b. cond (b && is_set_value r.value) (Some r.value) (get old name)) (sym (is_of-global r name vendor))
+
+-- or of one of another vendor
+pub puts_foreign : (vars : Variables) (r : RecordParts) → length (vendor_in r.header) ≡ 16 → (vendor_in r.header ≡ global_guid → ⊥) → (name : List ℕ) →
+    get vars name ≡ cond (is_of (global_key name) r && is_set_value r.value) (Some r.value) (get vars name)
+puts_foreign vars r len other name = ap (λ b. cond (b && is_set_value r.value) (Some r.value) (get vars name)) (sym (is_of-foreign r name len other))

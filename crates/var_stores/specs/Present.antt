@@ -1,0 +1,85 @@
+-- Which records of a store are the variables that are there, and which of these a set has.
+use Rattle.std.specs.Prelude.{◌≡◌, ℕ, ◌==◌, nat_lt, ◌||◌, ◌&&◌, not, Bool, false, if◌then◌else◌, List, [], ◌∷◌, ◌++◌, length, Option, Some, None}
+use Rattle.std.specs.Option.{option_map}
+use Rattle.std.specs.Char.{is_ascii_graphic}
+use Rattle.std.specs.FinMap.{get}
+use Rattle.uefi_vars.specs.Name.{IsName}
+use Rattle.uefi_vars.specs.Vars.{Variables, data_max}
+use Rattle.var_stores.specs.BootChange.{same_name}
+use Rattle.var_stores.specs.Record.{RecordParts, vendor_in}
+
+-- ---- names
+
+-- 8be4df61-93ca-11d2-aa0d-00e098032b8c, the vendor's GUID of the variables that the standard names, as it is stored
+abbrev pub global_guid : List ℕ
+global_guid = 0x61 ∷ 0xDF ∷ 0xE4 ∷ 0x8B ∷ 0xCA ∷ 0x93 ∷ 0xD2 ∷ 0x11 ∷ 0xAA ∷ 0x0D ∷ 0x00 ∷ 0xE0 ∷ 0x98 ∷ 0x03 ∷ 0x2B ∷ 0x8C ∷ []
+
+-- a name as it is stored: each character as a CHAR16 unit, and then a zero unit
+abbrev pub stored_name : List ℕ → List ℕ
+stored_name [] = 0 ∷ 0 ∷ []
+stored_name (byte ∷ name) = byte ∷ 0 ∷ stored_name name
+
+-- the name that is stored so, each of whose characters is ASCII that prints, and no blank
+abbrev pub name_in : List ℕ → Option (List ℕ)
+name_in (low ∷ high ∷ stored) =
+    if (high == 0) && is_ascii_graphic low then option_map (λ name. low ∷ name) (name_in stored)
+    else if ((low == 0) && (high == 0)) && (length stored == 0) then Some [] else None
+name_in _ = None
+
+-- ---- which record is there
+
+-- of which variable a record is: the vendor's GUID, and then the name, both as they are stored
+abbrev pub key_of : RecordParts → List ℕ
+key_of r = vendor_in r.header ++ r.name
+
+abbrev pub is_of : List ℕ → RecordParts → Bool
+is_of key r = same_name key (key_of r)
+
+-- the state of a variable that was added
+abbrev pub is_added : RecordParts → Bool
+is_added r = r.state == 0x3F
+
+-- or of one that is being replaced
+abbrev pub is_alive : RecordParts → Bool
+is_alive r = is_added r || (r.state == 0x3E)
+
+abbrev pub is_added_there : Option RecordParts → Bool
+is_added_there None = false
+is_added_there (Some r) = is_added r
+
+-- the record of the variable among those found before and one more: one that was added stays, and another gives way
+abbrev pub found_with : List ℕ → Option RecordParts → RecordParts → Option RecordParts
+found_with key found r = if (is_alive r && is_of key r) && not (is_added_there found) then Some r else found
+
+-- the same with more records, one after the other
+abbrev pub found_after : List ℕ → Option RecordParts → List RecordParts → Option RecordParts
+found_after key found [] = found
+found_after key found (r ∷ records) = found_after key (found_with key found r) records
+
+-- the record of the variable that is there, if there is one: the first that was added, or else the last that is being
+-- replaced
+abbrev pub found : List ℕ → List RecordParts → Option RecordParts
+found key records = found_after key None records
+
+-- ---- the variables of the standard's names as a set
+
+-- whether a set can hold this value
+abbrev pub is_set_value : List ℕ → Bool
+is_set_value value = not (length value == 0) && not (nat_lt data_max (length value))
+
+-- the value of a record, if a set can hold it
+abbrev pub set_data : Option RecordParts → Option (List ℕ)
+set_data None = None
+set_data (Some r) = if is_set_value r.value then Some r.value else None
+
+-- that of the standard's variable of this name
+abbrev pub global_key : List ℕ → List ℕ
+global_key name = global_guid ++ stored_name name
+
+-- what a set has under this name
+abbrev pub data_there : List RecordParts → List ℕ → Option (List ℕ)
+data_there records name = set_data (found (global_key name) records)
+
+-- the set has what is there under each name that a set can have
+abbrev pub IsSetOf : List RecordParts → Variables → Type 0
+IsSetOf records vars = (name : List ℕ) → IsName name → get vars name ≡ data_there records name

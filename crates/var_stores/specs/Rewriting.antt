@@ -1,0 +1,133 @@
+-- What becomes of a store if the boot manager's variables are to be those of a set.
+use Rattle.std.specs.Prelude.{◌≡◌, ◌⊎◌, ℕ, ◌+◌, ◌-◌, ◌<◌, ◌≤◌, ◌||◌, ◌&&◌, not, Bool, false, if◌then◌else◌, List, [], ◌∷◌, ◌++◌, length, map, drop, Option, Some, None}
+use Rattle.std.specs.Option.{is_none, option_map_or}
+use Rattle.std.specs.List.{filter, flat_map}
+use Rattle.std.proofs.Math.ListN.{replicate}
+use Rattle.std.specs.List.Sorted.{IsStrictlySortedBy}
+use Rattle.std.specs.Int.{w32, to_le_bytes}
+use Rattle.std.specs.FinMap.{get, entries}
+use Rattle.uefi_vars.specs.Vars.{Variables, name_cmp}
+use Rattle.var_stores.specs.BootChange.{same_name, differs, is_boot_name}
+use Rattle.var_stores.specs.Record.{RecordParts, vendor_in, attribute_bytes, padding_len, record_bytes, BeginsRecord}
+use Rattle.var_stores.specs.Volume.{area_of, StoreParts, SpellsStore}
+use Rattle.var_stores.specs.Present.{global_guid, stored_name, name_in, key_of, global_key, is_alive, found, IsSetOf}
+
+-- ---- which variables change
+
+-- whether the variable of this name is one of the boot manager's that isn't in both sets, with equal data
+abbrev pub is_rewritten : Variables → Variables → List ℕ → Bool
+is_rewritten from to name = is_boot_name name && (is_none (get to name) || differs from to name)
+
+-- whether the record is one of a variable that changes
+abbrev pub is_outdated : Variables → Variables → RecordParts → Bool
+is_outdated from to r =
+    is_alive r && (same_name global_guid (vendor_in r.header) && option_map_or (is_rewritten from to) (name_in r.name) false)
+
+-- ---- records in their places
+
+-- the record as it is once it is deleted
+abbrev pub deleted : RecordParts → RecordParts
+deleted r = record { state = r.state - 2; header = r.header; name = r.name; value = r.value; padding = r.padding }
+
+-- the records, of which those of variables that change are deleted
+abbrev pub without_outdated : Variables → Variables → List RecordParts → List RecordParts
+without_outdated from to records = map (λ r. if is_outdated from to r then deleted r else r) records
+
+-- those of variables that don't change
+abbrev pub unchanged : Variables → Variables → List RecordParts → List RecordParts
+unchanged from to records = filter (λ r. not (is_outdated from to r)) records
+
+-- ---- new records
+
+-- the bytes of the attributes by which a variable is kept, and is there for loaders and for the system that they start
+abbrev pub boot_attributes : List ℕ
+boot_attributes = 7 ∷ 0 ∷ 0 ∷ 0 ∷ []
+
+-- those of the record that is replaced, if there is one
+abbrev pub attributes_there : Option RecordParts → List ℕ
+attributes_there None = boot_attributes
+attributes_there (Some r) = attribute_bytes r.header
+
+-- the header after the state: its count, its time and the index of its key are zero
+abbrev pub header_of : List ℕ → ℕ → ℕ → List ℕ
+header_of attributes name_size value_size =
+    0 ∷ (attributes ++ (replicate 28 0 ++ (to_le_bytes w32 name_size ++ (to_le_bytes w32 value_size ++ global_guid))))
+
+abbrev pub new_record : List ℕ → List ℕ → List ℕ → RecordParts
+new_record attributes name value = record {
+  state = 0x3F;
+  header = header_of attributes (length (stored_name name)) (length value);
+  name = stored_name name;
+  value = value;
+  padding = replicate (padding_len (length (stored_name name) + length value)) 0xFF;
+}
+
+-- a record for each of these variables that changes, with the attributes of those of its name
+abbrev pub added : Variables → Variables → (List ℕ → Option RecordParts) → List (List ℕ × List ℕ) → List RecordParts
+added from to before [] = []
+added from to before (variable ∷ rest) =
+    if is_rewritten from to variable.0 then new_record (attributes_there (before variable.0)) variable.0 variable.1 ∷ added from to before rest
+    else added from to before rest
+
+-- a record for each variable that changes and is in the set, in the order of their names
+abbrev pub new_records : List RecordParts → Variables → Variables → List RecordParts
+new_records records from to = added from to (λ name. found (global_key name) records) (entries to)
+
+abbrev pub new_bytes : List RecordParts → Variables → Variables → List ℕ
+new_bytes records from to = flat_map record_bytes (new_records records from to)
+
+-- ---- room
+
+-- the records go to the start of the free bytes, and none begins with what is left of these
+pub record Fits (new free : List ℕ) : Type 0 where
+  pub room : length new ≤ length free
+  pub stops : ¬ BeginsRecord (drop (length new) free)
+
+-- the record, if there is one, and it isn't of a variable that changes
+abbrev pub unless_outdated : Variables → Variables → Option RecordParts → Option RecordParts
+unless_outdated from to None = None
+unless_outdated from to (Some r) = if is_outdated from to r then None else Some r
+
+-- the records of the variables that are there and don't change, in the order of their vendors and names
+pub record AreKept (records : List RecordParts) (from to : Variables) (kept : List RecordParts) : Type 0 where
+  pub order : IsStrictlySortedBy name_cmp (map key_of kept)
+  pub each : (key : List ℕ) → found key kept ≡ unless_outdated from to (found key records)
+
+-- ---- the file
+
+-- new records are written to the free bytes
+pub record IsAppended (from to : Variables) (before after : StoreParts) : Type 0 where
+  pub fits : Fits (new_bytes before.records from to) before.free
+  pub records : after.records ≡ without_outdated from to before.records ++ new_records before.records from to
+  pub free : after.free ≡ drop (length (new_bytes before.records from to)) before.free
+
+-- the records that are there and stay are moved together, and the new ones written after them
+pub record IsMoved (from to : Variables) (before after : StoreParts) : Type 0 where
+  pub full : ¬ Fits (new_bytes before.records from to) before.free
+  pub kept : List RecordParts
+  pub are : AreKept before.records from to kept
+  pub records : after.records ≡ kept ++ new_records before.records from to
+  pub free : after.free ≡ replicate (length after.free) 0xFF
+
+-- the bytes are the file once the boot manager's variables are those of the set
+pub record IsWritten (file : List ℕ) (to : Variables) (bytes : List ℕ) : Type 0 where
+  pub before : StoreParts
+  pub after : StoreParts
+  pub was : SpellsStore file before
+  pub is : SpellsStore bytes after
+  pub head : after.head ≡ before.head
+  pub rest : after.rest ≡ before.rest
+  pub from : Variables
+  pub from_is : IsSetOf before.records from
+  pub records : IsAppended from to before after ⊎ IsMoved from to before after
+
+-- the records that would be in the store have more bytes than it has for them
+pub record IsFull (file : List ℕ) (to : Variables) : Type 0 where
+  pub before : StoreParts
+  pub was : SpellsStore file before
+  pub from : Variables
+  pub from_is : IsSetOf before.records from
+  pub full : ¬ Fits (new_bytes before.records from to) before.free
+  pub kept : List RecordParts
+  pub are : AreKept before.records from to kept
+  pub many : length (area_of file) < length (flat_map record_bytes kept ++ new_bytes before.records from to)
