@@ -1,0 +1,17 @@
+-- The load option that is made of words (UEFI 2.10, 3.1.3).
+use Rattle.std.specs.Prelude.{◌≡◌, ℕ, List, map}
+use Rattle.uefi_path.specs.declared.node.Node.{Node}
+use Rattle.uefi_option.specs.LoadOption.{OptionParts}
+use Rattle.uefi_text.specs.Bytes.{Each}
+use Rattle.uefi_text.specs.Path.{IsPathText}
+use Rattle.boot_texts.specs.declared.option.OptionWords.{OptionWords}
+
+-- each text stands for the path at its place
+abbrev pub ArePathTexts : List (List ℕ) → List (List (List Node)) → Type 0
+ArePathTexts texts paths = Each IsPathText texts paths
+
+-- the option has the attributes and the optional data of the words, and the paths for which their texts stand
+pub record IsOptionOfWords (words : OptionWords) (option : OptionParts) : Type 0 where
+  pub attributes : option.attributes ≡ words.attributes
+  pub paths : ArePathTexts (map (λ text. text.now) words.paths.now) option.paths
+  pub optional : option.optional ≡ words.optional.now

@@ -1,0 +1,229 @@
+//! What differs between two sets of variables, by `bootvars diff`.
+
+use crate::content::{Content, DataText, EntryDigits, Quoted};
+use crate::json::json_line;
+use crate::shown_option::{AttributeWords, ShownOption};
+use serde::Serialize;
+use std::alloc::{AllocError, Global};
+use std::fmt;
+use uefi_vars::{Vars, entry_number};
+use var_stores::{BootChange, boot_changes};
+
+/// What differs between two sets, as it is shown: the fields of its JSON.
+#[derive(Drop, Serialize)]
+struct ShownDiff<'a> {
+    /// Whether nothing does.
+    equal: bool,
+    /// The changes from the first set to the second, in the order in which a machine can make them.
+    changes: Vec<ShownChange<'a>>,
+}
+
+/// A change as it is shown.
+#[derive(Drop, Serialize)]
+struct ShownChange<'a> {
+    /// What becomes of the variable.
+    change: ChangeKind,
+    /// The name of the variable.
+    name: &'a str,
+    /// The number of the entry, if the variable is one.
+    entry: Option<EntryDigits>,
+    /// What it held.
+    before: Option<Content>,
+    /// What it holds.
+    after: Option<Content>,
+}
+
+/// What becomes of a variable.
+#[derive(Clone, Copy, PartialEq, Eq, Drop, Serialize)]
+#[serde(rename_all = "lowercase")]
+enum ChangeKind {
+    /// It is new.
+    Added,
+    /// It is taken out.
+    Removed,
+    /// It has new data.
+    Changed,
+}
+
+impl ChangeKind {
+    /// The kind of the change: one that holds data on neither side is none, and is shown as changed.
+    fn of(change: &BootChange<'_>) -> ChangeKind {
+        match (change.before, change.after) {
+            (None, Some(_)) => ChangeKind::Added,
+            (Some(_), None) => ChangeKind::Removed,
+            _ => ChangeKind::Changed,
+        }
+    }
+
+    /// The sign before its line.
+    fn sign(self) -> char {
+        match self {
+            ChangeKind::Added => '+',
+            ChangeKind::Removed => '-',
+            ChangeKind::Changed => '~',
+        }
+    }
+}
+
+impl<'a> ShownChange<'a> {
+    /// What is shown of a change.
+    fn new(alloc: Global, change: &BootChange<'a>) -> Result<ShownChange<'a>, AllocError> {
+        Ok(ShownChange {
+            change: ChangeKind::of(change),
+            name: change.name,
+            entry: entry_number(change.name).map(EntryDigits),
+            before: content_of(alloc, change.name, change.before)?,
+            after: content_of(alloc, change.name, change.after)?,
+        })
+    }
+}
+
+/// What a variable with this name and perhaps these data holds.
+fn content_of(
+    alloc: Global,
+    name: &str,
+    data: Option<&[u8]>,
+) -> Result<Option<Content>, AllocError> {
+    match data {
+        Some(data) => Ok(Some(Content::new(alloc, name, data)?)),
+        None => Ok(None),
+    }
+}
+
+/// Shows which of Boot####, BootOrder and BootNext differ in two sets (UEFI 2.10, 3.3), as lines for a person, in the
+/// order of [`boot_changes`]: nothing if they are equal. The lines of each change are those of [`change_report`].
+///
+/// # Errors
+///
+/// [`AllocError`] if memory was refused.
+pub fn diff_report(alloc: Global, from: &Vars, to: &Vars) -> Result<String, AllocError> {
+    let mut report = String::new(alloc);
+    for change in &boot_changes(alloc, from, to)? {
+        append_change(alloc, change, &mut report)?;
+    }
+    Ok(report)
+}
+
+/// Shows which of Boot####, BootOrder and BootNext differ in two sets as JSON, an object on one line that ends with a
+/// line feed. docs/formats.md has each member.
+///
+/// # Errors
+///
+/// [`AllocError`] if memory was refused.
+pub fn diff_json(alloc: Global, from: &Vars, to: &Vars) -> Result<String, AllocError> {
+    let boot_changes = boot_changes(alloc, from, to)?;
+    let mut changes = Vec::with_capacity(alloc, boot_changes.len())?;
+    for change in &boot_changes {
+        changes.push(ShownChange::new(alloc, change)?)?;
+    }
+    let equal = changes.is_empty();
+    json_line(alloc, &ShownDiff { equal, changes })
+}
+
+/// Shows one change of a variable of the boot manager as lines for a person. The first has `+` for a variable that is
+/// new, `-` for one that is taken out or `~` for one that has new data, its name, and what it holds: the description of
+/// an entry between quotes and its first path, the numbers of BootOrder, or that of BootNext. Of an entry whose load
+/// option changes to another, indented lines say which parts do. docs/formats.md has each line.
+///
+/// # Errors
+///
+/// [`AllocError`] if memory was refused.
+pub fn change_report(alloc: Global, change: &BootChange<'_>) -> Result<String, AllocError> {
+    let mut report = String::new(alloc);
+    append_change(alloc, change, &mut report)?;
+    Ok(report)
+}
+
+/// Appends the lines of a change.
+fn append_change(
+    alloc: Global,
+    change: &BootChange<'_>,
+    report: &mut String,
+) -> Result<(), AllocError> {
+    let ShownChange {
+        change: kind,
+        name,
+        before,
+        after,
+        ..
+    } = ShownChange::new(alloc, change)?;
+    write!(report, "{} {name}", kind.sign())?;
+    match (&before, &after) {
+        (Some(Content::LoadOption(before)), Some(Content::LoadOption(after))) => {
+            writeln!(report, " {}", Quoted(&after.description))?;
+            append_parts(before, after, report)
+        }
+        (Some(before), Some(after)) => writeln!(report, "{before} ->{after}"),
+        (Some(before), None) => writeln!(report, "{before}"),
+        (None, Some(after)) => writeln!(report, "{after}"),
+        (None, None) => report.push('\n'),
+    }
+}
+
+/// Appends an indented line for each part in which two options differ.
+fn append_parts(
+    before: &ShownOption,
+    after: &ShownOption,
+    report: &mut String,
+) -> Result<(), AllocError> {
+    if before.description != after.description {
+        let (before, after) = (Quoted(&before.description), Quoted(&after.description));
+        writeln!(report, "  description {before} -> {after}")?;
+    }
+    if before.attributes != after.attributes {
+        let (before, after) = (
+            AttributeWords(before.attributes),
+            AttributeWords(after.attributes),
+        );
+        writeln!(report, "  attributes {before} -> {after}")?;
+    }
+    append_paths(&before.paths, &after.paths, report)?;
+    if before.optional != after.optional {
+        let before = OptionalData(before.optional.as_ref());
+        let after = OptionalData(after.optional.as_ref());
+        writeln!(report, "  optional {before} -> {after}")?;
+    }
+    Ok(())
+}
+
+/// Appends an indented line for each place of a list of paths in which two lists differ.
+fn append_paths(
+    before: &[String],
+    after: &[String],
+    report: &mut String,
+) -> Result<(), AllocError> {
+    for place in 0..before.len().max(after.len()) {
+        let (old, new) = (before.get(place), after.get(place));
+        if old != new {
+            let number = place.saturating_add(1);
+            writeln!(report, "  path {number} {} -> {}", OrNone(old), OrNone(new))?;
+        }
+    }
+    Ok(())
+}
+
+/// A text, or `none` if there is none.
+#[derive(Clone, Copy)]
+struct OrNone<'a>(Option<&'a String>);
+
+impl fmt::Display for OrNone<'_> {
+    fn fmt<W: fmt::Write>(&self, f: &mut fmt::Formatter<W>) -> fmt::Result {
+        match self.0 {
+            Some(text) => f.write_str(text),
+            None => f.write_str("none"),
+        }
+    }
+}
+
+/// The optional data of an option, which is given in hexadecimal digits, or `none` if there are none.
+#[derive(Clone, Copy)]
+struct OptionalData<'a>(Option<&'a String>);
+
+impl fmt::Display for OptionalData<'_> {
+    fn fmt<W: fmt::Write>(&self, f: &mut fmt::Formatter<W>) -> fmt::Result {
+        match self.0 {
+            Some(digits) => write!(f, "{}", DataText(digits)),
+            None => f.write_str("none"),
+        }
+    }
+}

@@ -1,0 +1,222 @@
+//! What variables hold, as it is shown.
+
+use crate::reason::{bytes_reason, numbers_reason};
+use crate::shown_option::ShownOption;
+use serde::{Described, Serialize, Serializer};
+use std::alloc::{AllocError, Global};
+use std::fmt;
+use uefi_option::{OptionFault, read_option};
+use uefi_path::read_units;
+use uefi_vars::{BOOT_NEXT, BOOT_ORDER, ORDER_MAX, VarFault};
+
+/// The number of an entry, shown as the four hexadecimal digits in upper case that its variable's name has (UEFI 2.10,
+/// 3.1.1).
+#[derive(Clone, Copy, PartialEq, Eq, PartialOrd, Ord)]
+pub(crate) struct EntryDigits(pub(crate) u16);
+
+impl fmt::Display for EntryDigits {
+    fn fmt<W: fmt::Write>(&self, f: &mut fmt::Formatter<W>) -> fmt::Result {
+        write!(f, "{:04X}", self.0)
+    }
+}
+
+impl Described for EntryDigits {}
+
+impl Serialize for EntryDigits {
+    fn serialize<S: Serializer>(&self, out: &mut S) -> Result<(), S::Error> {
+        out.collect_str(self)
+    }
+}
+
+/// Numbers of entries, each after a blank, or ` -` if there is none.
+#[derive(Clone, Copy)]
+pub(crate) struct NumberList<'a>(pub(crate) &'a [EntryDigits]);
+
+impl fmt::Display for NumberList<'_> {
+    fn fmt<W: fmt::Write>(&self, f: &mut fmt::Formatter<W>) -> fmt::Result {
+        if self.0.is_empty() {
+            return f.write_str(" -");
+        }
+        for number in self.0 {
+            write!(f, " {number}")?;
+        }
+        Ok(())
+    }
+}
+
+/// Bytes that aren't what their variable is to hold, as they are shown: the fields of their JSON.
+#[derive(Drop, Serialize)]
+pub(crate) struct ShownFault {
+    /// The words of the fault.
+    pub(crate) fault: String,
+    /// The offset of the fault in the bytes, if it has one.
+    pub(crate) place: Option<usize>,
+    /// The fault in plain words.
+    pub(crate) reason: &'static str,
+    /// The bytes in hexadecimal digits.
+    pub(crate) data: String,
+}
+
+impl fmt::Display for ShownFault {
+    fn fmt<W: fmt::Write>(&self, f: &mut fmt::Formatter<W>) -> fmt::Result {
+        write!(f, "undecodable, {}: {}", self.fault, self.reason)
+    }
+}
+
+/// What a variable holds, as it is shown. Its JSON has the member `kind`.
+#[derive(Drop, Serialize)]
+#[serde(tag = "kind", rename_all = "lowercase")]
+pub(crate) enum Content {
+    /// A load option, of an entry.
+    #[serde(rename = "option")]
+    LoadOption(ShownOption),
+    /// The numbers of BootOrder.
+    Order { entries: Vec<EntryDigits> },
+    /// The number of BootNext.
+    Next { entry: EntryDigits },
+    /// Bytes that aren't what the variable is to hold.
+    Undecodable(ShownFault),
+}
+
+impl Content {
+    /// What the variable of the boot manager with this name holds (UEFI 2.10, 3.3): a name that is neither BootOrder's
+    /// nor BootNext's is taken for an entry's.
+    ///
+    /// # Errors
+    ///
+    /// [`AllocError`] if memory was refused.
+    pub(crate) fn new(alloc: Global, name: &str, bytes: &[u8]) -> Result<Content, AllocError> {
+        match name {
+            BOOT_ORDER => Content::of_order(alloc, bytes),
+            BOOT_NEXT => Content::of_next(alloc, bytes),
+            _ => Content::of_entry(alloc, bytes),
+        }
+    }
+
+    /// The load option that the bytes are, or why they are none.
+    pub(crate) fn of_entry(alloc: Global, bytes: &[u8]) -> Result<Content, AllocError> {
+        match read_option(alloc, bytes) {
+            Ok(option) => Ok(Content::LoadOption(ShownOption::new(alloc, &option)?)),
+            Err(OptionFault::OutOfMemory) => Err(AllocError),
+            Err(fault) => Ok(Content::Undecodable(ShownFault {
+                fault: fault.words(alloc)?,
+                place: option_place(&fault),
+                reason: bytes_reason(bytes, &fault),
+                data: hex::encode(alloc, bytes)?,
+            })),
+        }
+    }
+
+    /// The numbers that the bytes of BootOrder are, or why they are none.
+    pub(crate) fn of_order(alloc: Global, bytes: &[u8]) -> Result<Content, AllocError> {
+        if bytes.len() % 2 != 0 || bytes.len() / 2 > ORDER_MAX {
+            return Content::of_bad_numbers(alloc, bytes, VarFault::BadOrder);
+        }
+        let entries = digits_of(alloc, &read_units(alloc, bytes)?)?;
+        Ok(Content::Order { entries })
+    }
+
+    /// The number that the bytes of BootNext are, or why they are none.
+    pub(crate) fn of_next(alloc: Global, bytes: &[u8]) -> Result<Content, AllocError> {
+        match bytes {
+            [low, high] => Ok(Content::Next {
+                entry: EntryDigits(u16::from_le_bytes([*low, *high])),
+            }),
+            _ => Content::of_bad_numbers(alloc, bytes, VarFault::BadNext),
+        }
+    }
+
+    /// Bytes that are no numbers of entries.
+    fn of_bad_numbers(alloc: Global, bytes: &[u8], fault: VarFault) -> Result<Content, AllocError> {
+        Ok(Content::Undecodable(ShownFault {
+            fault: fault.words(alloc)?,
+            place: None,
+            reason: numbers_reason(&fault),
+            data: hex::encode(alloc, bytes)?,
+        }))
+    }
+}
+
+/// What is in one line of a variable: of an option the description between quotes and the first path, and of bytes
+/// that can't be decoded all of them.
+impl fmt::Display for Content {
+    fn fmt<W: fmt::Write>(&self, f: &mut fmt::Formatter<W>) -> fmt::Result {
+        match self {
+            Content::LoadOption(option) => write!(f, " {}", Summary(option)),
+            Content::Order { entries } => write!(f, "{}", NumberList(entries)),
+            Content::Next { entry } => write!(f, " {entry}"),
+            Content::Undecodable(fault) => write!(f, " {fault}, {}", DataText(&fault.data)),
+        }
+    }
+}
+
+/// An option in one line: the description between quotes, and the first path.
+#[derive(Clone, Copy)]
+pub(crate) struct Summary<'a>(pub(crate) &'a ShownOption);
+
+impl fmt::Display for Summary<'_> {
+    fn fmt<W: fmt::Write>(&self, f: &mut fmt::Formatter<W>) -> fmt::Result {
+        write!(f, "{}", Quoted(&self.0.description))?;
+        match self.0.paths.first() {
+            Some(path) => write!(f, " {path}"),
+            None => Ok(()),
+        }
+    }
+}
+
+/// A description between quotes. A quote in it is shown as `\0022`, so that the second quote ends it.
+#[derive(Clone, Copy)]
+pub(crate) struct Quoted<'a>(pub(crate) &'a str);
+
+impl fmt::Display for Quoted<'_> {
+    fn fmt<W: fmt::Write>(&self, f: &mut fmt::Formatter<W>) -> fmt::Result {
+        f.write_char('"')?;
+        for character in self.0.chars() {
+            match character {
+                '"' => f.write_str("\\0022")?,
+                character => f.write_char(character)?,
+            }
+        }
+        f.write_char('"')
+    }
+}
+
+/// Data that are given in hexadecimal digits: how many bytes they are, and the digits.
+#[derive(Clone, Copy)]
+pub(crate) struct DataText<'a>(pub(crate) &'a str);
+
+impl fmt::Display for DataText<'_> {
+    fn fmt<W: fmt::Write>(&self, f: &mut fmt::Formatter<W>) -> fmt::Result {
+        write!(f, "{} {}", ByteCount(self.0.len() / 2), self.0)
+    }
+}
+
+/// A number of bytes, in words.
+#[derive(Clone, Copy)]
+pub(crate) struct ByteCount(pub(crate) usize);
+
+impl fmt::Display for ByteCount {
+    fn fmt<W: fmt::Write>(&self, f: &mut fmt::Formatter<W>) -> fmt::Result {
+        match self.0 {
+            1 => f.write_str("1 byte"),
+            count => write!(f, "{count} bytes"),
+        }
+    }
+}
+
+/// The numbers, to be shown.
+pub(crate) fn digits_of(alloc: Global, numbers: &[u16]) -> Result<Vec<EntryDigits>, AllocError> {
+    let mut digits = Vec::with_capacity(alloc, numbers.len())?;
+    for number in numbers {
+        digits.push(EntryDigits(*number))?;
+    }
+    Ok(digits)
+}
+
+/// The offset of an option's fault in its bytes, if it is known: that of the node at fault.
+pub(crate) fn option_place(fault: &OptionFault) -> Option<usize> {
+    match fault {
+        OptionFault::Path(place, fault) => place.checked_add(fault.offset()?),
+        _ => None,
+    }
+}

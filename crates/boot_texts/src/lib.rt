@@ -1,0 +1,31 @@
+//! What the command `bootvars` prints of boot variables and of requests, and what it makes of words: values and texts
+//! alone, with no file and no machine (UEFI specification, version 2.10, chapters 3 and 10).
+//!
+//! [`vars_report`] shows variables, [`diff_report`] what differs between two sets, [`change_report`] one change, and
+//! [`explain_report`] what the frames of a script or a stream ask for, each as lines for a person. [`vars_json`],
+//! [`diff_json`] and [`explain_json`] have the same as JSON, and docs/formats.md has each line and each field.
+//!
+//! [`option_bytes`] makes a load option of words, and [`frame_bytes`] a frame, which [`frame_line`] puts into a line of
+//! a script. [`attribute_bits`], [`attributes_of_text`], [`optional_text`], [`entry_of_digits`] and
+//! [`number_of_digits`] read the words that these take. Faults are sentences for a person, by `{}`.
+#![tactic(auto)]
+
+mod changes;
+mod content;
+mod digits;
+mod explain;
+mod frame;
+mod json;
+mod option;
+mod reason;
+mod shown_option;
+mod shown_vars;
+
+pub use changes::{change_report, diff_json, diff_report};
+pub use digits::{DigitsFault, attributes_of_text, entry_of_digits, number_of_digits};
+pub use explain::{Explained, explain_json, explain_report};
+pub use frame::{FrameWords, FrameWordsFault, frame_bytes, frame_line};
+pub use option::{
+    Flags, OptionWords, OptionWordsFault, attribute_bits, option_bytes, optional_text,
+};
+pub use shown_vars::{vars_json, vars_report};

@@ -1,0 +1,225 @@
+//! Load options of words.
+
+ghost use Rattle.std.specs.Prelude.{map, IfOk};
+ghost use Rattle.uefi_option.specs.LoadOption.{OptionParts, SpellsOption};
+ghost use Rattle.uefi_text.specs.Path.{IsPathText};
+ghost use Rattle.boot_texts.specs.OptionOfWords.{ArePathTexts, IsOptionOfWords};
+
+use crate::reason::{option_reason, text_reason};
+use std::alloc::{AllocError, AllocFailed, Global};
+use thiserror::Error;
+use uefi_option::{
+    ACTIVE, CATEGORY_APP, FORCE_RECONNECT, HIDDEN, OptionFault, make_option, write_option,
+};
+use uefi_path::{Node, Path, append_units, check_path};
+use uefi_text::{TextFault, read_text};
+
+/// What is said of a word in a path that is neither a node nor the name of a file.
+const PLAIN_NAME: &str =
+    "there is neither a node, with parentheses, nor a file name with backslashes, as \\EFI\\BOOT\\BOOTX64.EFI";
+
+/// What a load option is made of (UEFI 2.10, 3.1.3).
+#[derive(Clone, Copy, Debug)]
+pub struct OptionWords<'a> {
+    /// The attributes, all 32 bits.
+    pub attributes: u32,
+    /// The description.
+    pub description: &'a str,
+    /// The text of each device path.
+    pub paths: &'a [&'a str],
+    /// The optional data.
+    pub optional: &'a [u8],
+}
+
+/// What is said of a load option's attributes, one bit each (UEFI 2.10, 3.1.3).
+#[derive(Clone, Copy, Debug, Default)]
+pub struct Flags {
+    /// The boot manager doesn't try the option by itself: LOAD_OPTION_ACTIVE is left out.
+    pub inactive: bool,
+    /// A menu leaves the option out: LOAD_OPTION_HIDDEN.
+    pub hidden: bool,
+    /// The option is an application that the user starts: LOAD_OPTION_CATEGORY_APP.
+    pub app: bool,
+    /// All drivers are connected again after the option's driver is loaded: LOAD_OPTION_FORCE_RECONNECT.
+    pub reconnect: bool,
+}
+
+/// Why no load option is made of words. A path is told by its number, counted from 1.
+#[derive(Debug, Drop, Error)]
+pub enum OptionWordsFault {
+    /// A path is empty.
+    #[error("path {0} is empty: it leads nowhere")]
+    EmptyPath(usize),
+    /// A path is given by its bytes in hexadecimal digits.
+    #[error("path {0} is the bytes of a path: give its text, as `bootkeep path` shows it")]
+    PathOfBytes(usize),
+    /// The name of a file in a path has slashes.
+    #[error("path {0}: firmware takes no slashes in the name of a file: write backslashes, as \\EFI\\BOOT\\BOOTX64.EFI")]
+    Slashes(usize),
+    /// A text stands for no path. The characters of its fault are counted from 0.
+    #[error("path {path}: {fault}: at that character, counted from 0, {reason}")]
+    Path {
+        /// The number of the path.
+        path: usize,
+        /// The fault of its text, with the place.
+        fault: TextFault,
+        /// The fault in plain words.
+        reason: &'static str,
+    },
+    /// The parts make no load option.
+    #[error("{0}: {reason}", reason = option_reason(.0))]
+    Option(OptionFault),
+    /// Memory was refused.
+    #[error("out of memory")]
+    OutOfMemory,
+}
+
+impl From<AllocError> for OptionWordsFault {
+    fn from(_refusal: AllocError) -> OptionWordsFault {
+        OptionWordsFault::OutOfMemory
+    }
+}
+
+impl<T: Drop> From<AllocFailed<T>> for OptionWordsFault {
+    fn from(_refusal: AllocFailed<T>) -> OptionWordsFault {
+        OptionWordsFault::OutOfMemory
+    }
+}
+
+impl From<OptionFault> for OptionWordsFault {
+    fn from(fault: OptionFault) -> OptionWordsFault {
+        match fault {
+            OptionFault::OutOfMemory => OptionWordsFault::OutOfMemory,
+            fault => OptionWordsFault::Option(fault),
+        }
+    }
+}
+
+/// The attributes of a load option of which this is said (UEFI 2.10, 3.1.3).
+pub fn attribute_bits(flags: Flags) -> u32 {
+    let active = if flags.inactive { 0 } else { ACTIVE };
+    let hidden = if flags.hidden { HIDDEN } else { 0 };
+    let app = if flags.app { CATEGORY_APP } else { 0 };
+    let reconnect = if flags.reconnect { FORCE_RECONNECT } else { 0 };
+    active | hidden | app | reconnect
+}
+
+/// The bytes of the load option of these words (UEFI 2.10, 3.1.3). The description becomes units of UTF-16, and each
+/// path's text is read as `uefi_text` reads it.
+///
+/// # Errors
+///
+/// The fault of the first path that has one: [`OptionWordsFault::EmptyPath`] if it is empty,
+/// [`OptionWordsFault::PathOfBytes`] if it is bytes of a path in hexadecimal digits, [`OptionWordsFault::Slashes`] if
+/// the name of a file in it has slashes, which firmware takes for no folder, and [`OptionWordsFault::Path`] if it stands
+/// for no path. Otherwise [`OptionWordsFault::Option`] with [`OptionFault::ZeroUnit`] if the description has a zero
+/// character, with [`OptionFault::EmptyList`] if there is no path, or with [`OptionFault::ListTooLong`] if the paths
+/// have more than 65,535 bytes together. [`OptionWordsFault::OutOfMemory`] comes if memory was refused, also before
+/// these.
+pub fn option_bytes(alloc: Global, words: &OptionWords<'_>) -> Result<Vec<u8>, OptionWordsFault>
+    ensures { IfOk result (λ bytes.
+        (option : OptionParts) × IsOptionOfWords words.now option × SpellsOption bytes.items option) }
+{
+    let paths = read_paths(alloc, words.paths)?;
+    let description = units_of(alloc, words.description)?;
+    let option = make_option(
+        alloc,
+        words.attributes,
+        &description,
+        &paths,
+        words.optional,
+    )?;
+    Ok(write_option(alloc, &option)?)
+}
+
+/// A text as optional data: its units of UTF-16, two bytes each, little-endian, without a zero unit after them, as
+/// `efibootmgr -u` stores it. This fails only when out of memory.
+pub fn optional_text(alloc: Global, text: &str) -> Result<Vec<u8>, AllocError> {
+    let mut bytes = Vec::new(alloc);
+    append_units(&units_of(alloc, text)?, &mut bytes)?;
+    Ok(bytes)
+}
+
+/// The units of UTF-16 that a text has.
+fn units_of(alloc: Global, text: &str) -> Result<Vec<u16>, AllocError> {
+    let mut units = Vec::new(alloc);
+    for unit in text.encode_utf16() {
+        units.push(unit)?;
+    }
+    Ok(units)
+}
+
+/// The paths that the texts stand for.
+fn read_paths(alloc: Global, texts: &[&str]) -> Result<Vec<Path>, OptionWordsFault>
+    ensures { IfOk result (λ paths. ArePathTexts (map (λ text. text.now) texts.now) paths.items) }
+{
+    let mut paths = Vec::with_capacity(alloc, texts.len())?;
+    for text in texts {
+        let number = paths.len().saturating_add(1);
+        paths.push(read_path(alloc, text, number)?)?;
+    }
+    Ok(paths)
+}
+
+/// The path that a text stands for, which is the one of this number.
+fn read_path(alloc: Global, text: &str, number: usize) -> Result<Path, OptionWordsFault>
+    ensures { IfOk result (λ path. IsPathText text.now path) }
+{
+    if text.is_empty() {
+        return Err(OptionWordsFault::EmptyPath(number));
+    }
+    match read_text(alloc, text) {
+        Ok(path) if has_slashes(&path) => Err(OptionWordsFault::Slashes(number)),
+        Ok(path) => Ok(path),
+        Err(TextFault::OutOfMemory) => Err(OptionWordsFault::OutOfMemory),
+        Err(fault) => Err(text_fault(alloc, text, number, fault)),
+    }
+}
+
+/// Whether the name of a file in the path has slashes.
+fn has_slashes(path: &Path) -> bool {
+    path.nodes().any(|node| match node {
+        Node::FilePath(file) => file.units().contains(&u16::from(b'/')),
+        _ => false,
+    })
+}
+
+/// What is told of a text with this fault, of the path of this number.
+fn text_fault(alloc: Global, text: &str, number: usize, fault: TextFault) -> OptionWordsFault {
+    if is_path_of_bytes(alloc, text) {
+        return OptionWordsFault::PathOfBytes(number);
+    }
+    let reason = if is_plain_name(text, fault) {
+        PLAIN_NAME
+    } else {
+        text_reason(&fault)
+    };
+    OptionWordsFault::Path {
+        path: number,
+        fault,
+        reason,
+    }
+}
+
+/// Whether the text is the hexadecimal digits of bytes that begin with a path. If there is no memory for them, it is
+/// taken for something else.
+fn is_path_of_bytes(alloc: Global, text: &str) -> bool {
+    match hex::decode(alloc, text) {
+        Ok(bytes) => check_path(&bytes).is_ok(),
+        Err(_) => false,
+    }
+}
+
+/// Whether what is at the place of the fault has neither parentheses nor a backslash before it, as `EFI` in
+/// `HD(..)/EFI/BOOT/BOOTX64.EFI`. A slash may come before it.
+fn is_plain_name(text: &str, fault: TextFault) -> bool {
+    let TextFault::BadSegment(place) = fault else {
+        return false;
+    };
+    let Some(rest) = text.get(place..) else {
+        return false;
+    };
+    let rest = rest.trim_start_matches('/');
+    let segment = rest.split(['/', ',']).next().unwrap_or(rest);
+    !segment.is_empty() && !segment.contains(['(', ')'])
+}

@@ -1,0 +1,92 @@
+//! Why bytes or a text are refused, in plain words.
+
+use boot_requests::FrameFault;
+use uefi_option::{OptionFault, check_option};
+use uefi_path::PathFault;
+use uefi_text::TextFault;
+use uefi_vars::VarFault;
+
+/// The bytes of the attributes that Linux shows before a variable's value.
+const ATTRIBUTES_LEN: usize = 4;
+
+/// What is said of an option that has the attributes of its variable before it.
+const HAS_ATTRIBUTES: &str =
+    "four bytes come before the load option, as in a file of efivarfs: leave them out";
+
+/// Whether the bytes are a load option after four others, as the file of an entry in efivarfs has it.
+fn has_attributes(bytes: &[u8]) -> bool {
+    bytes
+        .get(ATTRIBUTES_LEN..)
+        .is_some_and(|rest| check_option(rest).is_ok())
+}
+
+/// Why the bytes, which have this fault, are no load option (UEFI 2.10, 3.1.3).
+pub(crate) fn bytes_reason(bytes: &[u8], fault: &OptionFault) -> &'static str {
+    if has_attributes(bytes) {
+        HAS_ATTRIBUTES
+    } else {
+        option_reason(fault)
+    }
+}
+
+/// Why there is no load option (UEFI 2.10, 3.1.3).
+pub(crate) fn option_reason(fault: &OptionFault) -> &'static str {
+    match fault {
+        OptionFault::Short => "it has fewer bytes than the six before a description",
+        OptionFault::NoTerminator => "no zero unit closes the description",
+        OptionFault::ListPastEnd => "the list of paths has fewer bytes than it states",
+        OptionFault::EmptyList => "it has no device path",
+        OptionFault::Path(_, fault) => path_reason(fault),
+        OptionFault::ZeroUnit => "the description has a zero unit",
+        OptionFault::ListTooLong => "the paths have more than 65535 bytes together",
+        OptionFault::OutOfMemory => "out of memory",
+    }
+}
+
+/// Why bytes don't begin with a device path (UEFI 2.10, 10.3).
+fn path_reason(fault: &PathFault) -> &'static str {
+    match fault {
+        PathFault::NoEnd(_) => "a path has no end node",
+        PathFault::ShortHeader(_) => "a path ends within the header of a node",
+        PathFault::BadLength(_) => "a node of a path states fewer bytes than its header has",
+        PathFault::PastEnd(_) => "a node of a path states more bytes than there are",
+        PathFault::BadEnd(_) => "an end node of a path isn't one of the standard",
+        PathFault::OutOfMemory => "out of memory",
+    }
+}
+
+/// Why a text stands for no device path (UEFI 2.10, 10.6), after the words `at that character`.
+pub(crate) fn text_reason(fault: &TextFault) -> &'static str {
+    match fault {
+        TextFault::BadSegment(_) => "no node is written so",
+        TextFault::BadNumber(_) => "a number is wanted, such as 0x1",
+        TextFault::OutOfRange(_) => "what is written is too large",
+        TextFault::BadEnd(_) => "the end of a path isn't written",
+        TextFault::OutOfMemory => "out of memory",
+    }
+}
+
+/// Why the bytes of a variable are no numbers of entries (UEFI 2.10, 3.3).
+pub(crate) fn numbers_reason(fault: &VarFault) -> &'static str {
+    match fault {
+        VarFault::BadOrder => "it isn't two bytes for each entry, of 65536 entries at most",
+        VarFault::BadNext => "it isn't the two bytes of one entry",
+        VarFault::OutOfMemory => "out of memory",
+    }
+}
+
+/// Why bytes are no frame.
+pub(crate) fn frame_reason(fault: &FrameFault) -> &'static str {
+    match fault {
+        FrameFault::Short => "it has fewer bytes than the twelve of a header",
+        FrameFault::BadMagic => "a frame begins with the bytes 42 51",
+        FrameFault::BadVersion => "its version is neither 1 nor 2",
+        FrameFault::TooLong => "its payload has more than 131072 bytes",
+        FrameFault::BadSize => "its payload hasn't as many bytes as it states",
+        FrameFault::BadKind => "no request of its version has its kind",
+        FrameFault::BadNumber => "4294967295 is the number of no request",
+        FrameFault::BadPayload => "its payload isn't one of its kind",
+        FrameFault::Option(fault) => option_reason(fault),
+        FrameFault::OutOfMemory => "out of memory",
+    }
+}
