@@ -64,17 +64,30 @@ pub(crate) enum Found<F> {
 ///
 /// [`OutputFault::Write`] if the file can't be opened for writing, the folder can't be opened for reading, the system
 /// gives no lock, or the path leads to another file after each of 10,000 waits, and [`OutputFault::OutOfMemory`] if
-/// memory was refused.
+/// memory was refused. [`try_lock_file`] tells the system's reason instead.
 pub fn lock_file<R: Files<File: OutputFile> + AllocGlobal>(
     rt: &R,
     path: &str,
 ) -> Result<FileLock<R::File>, OutputFault> {
+    Ok(try_lock_file(rt, path)?)
+}
+
+/// Does what [`lock_file`] does, and keeps the system's reason if it fails.
+///
+/// # Errors
+///
+/// That of the step that failed, or [`ErrorKind::ResourceBusy`] if the path leads to another file after each of 10,000
+/// waits.
+pub fn try_lock_file<R: Files<File: OutputFile> + AllocGlobal>(
+    rt: &R,
+    path: &str,
+) -> io::Result<FileLock<R::File>> {
     for _ in 0..TURNS {
         if let Some(lock) = lock_once(rt, path)? {
             return Ok(lock);
         }
     }
-    Err(OutputFault::Write)
+    Err(io::Error::from(ErrorKind::ResourceBusy))
 }
 
 /// Locks what the path leads to, or gives none if it leads elsewhere once the lock is there.

@@ -80,13 +80,27 @@ impl From<io::Error> for OutputFault {
 ///
 /// [`OutputFault::Write`] if a step of this fails, or the path or the name of the new file no longer leads to what it
 /// led to, and [`OutputFault::OutOfMemory`] if memory was refused. The last step is that the system brings the new name
-/// to the disk; if that fails, the file is the new one.
+/// to the disk; if that fails, the file is the new one. [`try_write_file`] tells the system's reason instead.
 pub fn write_file<R: Files<File: OutputFile> + AllocGlobal>(
     rt: &R,
     lock: FileLock<R::File>,
     bytes: &[u8],
 ) -> Result<(), OutputFault> {
-    Ok(write_at(rt, lock.path.as_path(), &lock.found, bytes)?)
+    Ok(try_write_file(rt, lock, bytes)?)
+}
+
+/// Does what [`write_file`] does, and keeps the system's reason if it fails.
+///
+/// # Errors
+///
+/// That of the step that failed, or [`ErrorKind::ResourceBusy`] if the path or the name of the new file no longer leads
+/// to what it led to.
+pub fn try_write_file<R: Files<File: OutputFile> + AllocGlobal>(
+    rt: &R,
+    lock: FileLock<R::File>,
+    bytes: &[u8],
+) -> io::Result<()> {
+    write_at(rt, lock.path.as_path(), &lock.found, bytes)
 }
 
 /// Makes these bytes what is at the path, which leads to what was found.
