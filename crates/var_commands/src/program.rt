@@ -1,0 +1,196 @@
+//! A run of the program, over any runtime.
+
+ghost use Rattle.std.specs.Prelude.{◌≡◌, MatchResult};
+ghost use Rattle.var_commands.specs.Failure.{status_of, ending_status};
+
+use crate::command_line::{Action, Form, read_words};
+use crate::failure::Failure;
+use crate::input::{STANDARD, name_of};
+use crate::making::{explain, make_frame, make_option};
+use crate::output::{lock, print, write};
+use crate::place::read_place;
+use crate::reason::Reason;
+use crate::write::write_place;
+use boot_commands::OutputFile;
+use boot_texts::{diff_json, diff_report, vars_json, vars_report};
+use clap::error::ErrorKind;
+use std::alloc::{AllocError, Global};
+use std::rt::{Env, Files};
+use std::{env, io};
+use uefi_vars::{BOOT_NEXT, BOOT_ORDER, Changes, Vars, entry_number, write_set};
+use var_stores::boot_changes;
+
+/// How the program ends if it did what it was asked to.
+#[derive(Clone, Copy, Debug, PartialEq, Eq)]
+pub(crate) enum Ending {
+    /// It is done.
+    Done,
+    /// It was asked how two places differ, and they do.
+    Differs,
+}
+
+impl Ending {
+    /// The status that the program ends with: 1 if two places differ, otherwise 0.
+    fn status(self) -> u8
+        ensures { result ≡ ending_status self }
+    {
+        match self {
+            Ending::Done => 0,
+            Ending::Differs => 1,
+        }
+    }
+}
+
+/// Does what the words of the command line ask for, and returns the status to end with: 0, or 1 if two places were
+/// compared and differ, or 2 if the words are wrong, 3 if a file can't be read or written, 4 if memory was refused, and 5
+/// if an input is refused. From 2 on, a message is on standard error.
+pub fn run<R: Env + Files<File: OutputFile> + Input + Print + Eprint + AllocGlobal>(rt: &R) -> u8 {
+    tell(rt, answer(rt))
+}
+
+/// Ends a run: writes the message of a failure to standard error, and returns the status.
+fn tell<R: Eprint>(rt: &R, outcome: Result<Ending, Failure>) -> u8
+    ensures { MatchResult outcome (λ ending. result ≡ ending_status ending) (λ failure. result ≡ status_of failure) }
+{
+    match outcome {
+        Ok(ending) => ending.status(),
+        Err(failure) => {
+            let status = failure.status();
+            // If standard error takes nothing, there is no place left to say so: the status tells it all the same.
+            let _ = eprintln!(rt; "bootvars: {failure}");
+            status
+        }
+    }
+}
+
+fn answer<R: Env + Files<File: OutputFile> + Input + Print + Eprint + AllocGlobal>(
+    rt: &R,
+) -> Result<Ending, Failure> {
+    let alloc = rt.alloc();
+    let words = words(rt)?;
+    match read_words(alloc, words.as_slice()) {
+        Ok(Some(action)) => act(rt, action),
+        Ok(None) => Err(Failure::of_word(alloc, "no command is named")),
+        Err(error) if error.kind() == ErrorKind::OutOfMemory => Err(Failure::Memory),
+        Err(error) if error.use_stderr() => Err(wrong_words(alloc, &error)),
+        // The help or the version.
+        Err(error) => {
+            print(rt, format!(in alloc; "{error}")?.as_bytes())?;
+            Ok(Ending::Done)
+        }
+    }
+}
+
+/// The words of the command line.
+fn words<R: Env + AllocGlobal>(rt: &R) -> Result<Vec<String>, Failure> {
+    let given = env::args(rt).map_err(|error| match error.kind() {
+        io::ErrorKind::OutOfMemory => Failure::Memory,
+        _ => Failure::of_word(rt.alloc(), "a word of the command line isn't UTF-8"),
+    })?;
+    let mut words = Vec::new(rt.alloc());
+    for word in given {
+        words.push(word)?;
+    }
+    Ok(words)
+}
+
+/// What it is to the program that `clap` finds words wrong: its message, with the usage.
+fn wrong_words(alloc: Global, error: &clap::Error) -> Failure {
+    match format!(in alloc; "{error}") {
+        Ok(text) => {
+            let message = text.trim_end();
+            Failure::of_word(alloc, message.strip_prefix("error: ").unwrap_or(message))
+        }
+        Err(AllocError) => Failure::Memory,
+    }
+}
+
+/// Does what is asked for.
+fn act<R: Files<File: OutputFile> + Input + Print + Eprint + AllocGlobal>(
+    rt: &R,
+    action: Action<'_>,
+) -> Result<Ending, Failure> {
+    match action {
+        Action::Read {
+            place,
+            out,
+            boot_only,
+        } => make_set(rt, place, out, boot_only)?,
+        Action::Show { place, form } => show(rt, place, form)?,
+        Action::Diff { from, to, form } => return diff(rt, from, to, form),
+        Action::Write(words) => write_place(rt, &words)?,
+        Action::LoadOption(words) => make_option(rt, &words)?,
+        Action::Frame {
+            number,
+            request,
+            raw,
+        } => make_frame(rt, number, &request, raw)?,
+        Action::Explain { file, form } => explain(rt, file, form)?,
+    }
+    Ok(Ending::Done)
+}
+
+/// Makes a set file of the variables of a place. It is locked before the place is read, which may be the same file.
+fn make_set<R: Files<File: OutputFile> + Input + Print + Eprint + AllocGlobal>(
+    rt: &R,
+    place: &str,
+    out: &str,
+    boot_only: bool,
+) -> Result<(), Failure> {
+    let output = lock(rt, out);
+    let mut vars = read_place(rt, place)?;
+    if boot_only {
+        keep_boot_variables(rt.alloc(), &mut vars)?;
+    }
+    write(rt, output?, &write_set(rt.alloc(), &vars)?)
+}
+
+/// Takes out all variables but Boot####, BootOrder and BootNext.
+fn keep_boot_variables(alloc: Global, vars: &mut Vars) -> Result<(), AllocError> {
+    let mut changes = Changes::new(alloc);
+    for (name, _data) in vars.iter() {
+        if entry_number(name).is_none() && name != BOOT_ORDER && name != BOOT_NEXT {
+            changes.remove(name)?;
+        }
+    }
+    vars.make(changes)
+}
+
+/// Prints the boot variables of a place.
+fn show<R: Files + Input + Print + Eprint + AllocGlobal>(
+    rt: &R,
+    place: &str,
+    form: Form,
+) -> Result<(), Failure> {
+    let vars = read_place(rt, place)?;
+    let text = match form {
+        Form::Text => vars_report(rt.alloc(), &vars)?,
+        Form::Json => vars_json(rt.alloc(), &vars)?,
+    };
+    print(rt, text.as_bytes())
+}
+
+/// Prints how the boot variables of two places differ.
+fn diff<R: Files + Input + Print + Eprint + AllocGlobal>(
+    rt: &R,
+    from: &str,
+    to: &str,
+    form: Form,
+) -> Result<Ending, Failure> {
+    let alloc = rt.alloc();
+    if from == STANDARD && to == STANDARD {
+        return Err(Failure::refused(alloc, name_of(to), Reason::StandardTwice));
+    }
+    let from = read_place(rt, from)?;
+    let to = read_place(rt, to)?;
+    let text = match form {
+        Form::Text => diff_report(alloc, &from, &to)?,
+        Form::Json => diff_json(alloc, &from, &to)?,
+    };
+    print(rt, text.as_bytes())?;
+    Ok(if boot_changes(alloc, &from, &to)?.is_empty() {
+        Ending::Done
+    } else {
+        Ending::Differs
+    })
+}
