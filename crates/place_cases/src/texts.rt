@@ -157,18 +157,31 @@ fn frame(alloc: Global, case: &Value) -> Result<String> {
     for entry in list(case, "entries")? {
         entries.push(entry_in(entry)?)?;
     }
-    let words = match (string(case, "request")?, entries.as_slice()) {
-        ("add", [entry]) => FrameWords::Add(*entry, &option),
-        ("replace", [entry]) => FrameWords::Replace(*entry, &option),
-        ("add-free", []) => FrameWords::AddFree(&option),
-        ("remove", [entry]) => FrameWords::Remove(*entry),
-        ("order", entries) => FrameWords::Order(entries),
-        ("next", [entry]) => FrameWords::Next(*entry),
-        _ => bail!("no request"),
-    };
+    let words = frame_words(string(case, "request")?, &entries, &option)?;
     match frame_bytes(alloc, number, words) {
         Ok(frame) => Ok(frame_line(alloc, &frame)?),
         Err(fault) => shown(alloc, &fault),
+    }
+}
+
+/// The words of a request with these entries and this option.
+fn frame_words<'a>(request: &str, entries: &'a [u16], option: &'a [u8]) -> Result<FrameWords<'a>> {
+    Ok(match request {
+        "add" => FrameWords::Add(only(entries)?, option),
+        "replace" => FrameWords::Replace(only(entries)?, option),
+        "add-free" => FrameWords::AddFree(option),
+        "remove" => FrameWords::Remove(only(entries)?),
+        "order" => FrameWords::Order(entries),
+        "next" => FrameWords::Next(only(entries)?),
+        _ => bail!("no request"),
+    })
+}
+
+/// The entry of a list of one.
+fn only(entries: &[u16]) -> Result<u16> {
+    match entries {
+        [entry] => Ok(*entry),
+        _ => bail!("not one entry"),
     }
 }
 
