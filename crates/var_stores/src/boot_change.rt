@@ -109,8 +109,8 @@ fn is_entry(name: &str) -> bool
     entry_number(name).is_some()
 }
 
-/// Whether it is the name of a variable of the boot manager: Boot####, BootOrder or BootNext.
-pub(crate) fn is_boot_name(name: &str) -> bool
+/// Whether it is the name of a variable of the boot manager: Boot####, BootOrder or BootNext (UEFI 2.10, 3.3).
+pub fn is_boot_name(name: &str) -> bool
     ensures { result ≡ is_boot_name name.now }
 {
     vars_laws::constants_are_those_of_the_definitions();

@@ -19,7 +19,7 @@ mod volume;
 mod write_fault;
 mod writer;
 
-pub use boot_change::{BootChange, boot_changes};
+pub use boot_change::{BootChange, boot_changes, is_boot_name};
 pub use fault::StoreFault;
 pub use record::Record;
 pub use store::{VariableStore, read_store};
