@@ -157,7 +157,7 @@ pub enum RequestWords<'a> {
     },
     /// To set the order in which entries are tried.
     Order {
-        /// The entries, as they are written.
+        /// The entries, as they are written: none if the flag for an empty order is given.
         entries: Vec<&'a str>,
     },
     /// To set the entry that the next boot tries first.
@@ -387,10 +387,19 @@ fn remove_request<'a>(alloc: Global) -> Result<Command<'a>, AllocError> {
 }
 
 fn order_request<'a>(alloc: Global) -> Result<Command<'a>, AllocError> {
+    let entries = Arg::new(alloc, "ENTRY")
+        .help("The entries, each as 0003")
+        .action(ArgAction::Append);
+    let order = ArgGroup::new(alloc, "order")
+        .arg("ENTRY")?
+        .arg("empty")?
+        .required(true);
     Command::new(alloc, "order")
         .about("Sets the order in which entries are tried")
         .after_help("Example:\n  bootvars frame 5 order 0001 0000")
-        .arg(value(alloc, "ENTRY", "The entries, each as 0003").action(ArgAction::Append))
+        .arg(entries)?
+        .arg(flag(alloc, "empty", "Sets an order without entries"))?
+        .group(order)
 }
 
 fn next_request<'a>(alloc: Global) -> Result<Command<'a>, AllocError> {

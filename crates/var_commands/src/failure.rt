@@ -4,6 +4,7 @@ ghost use Rattle.std.specs.Prelude.{◌≡◌};
 ghost use Rattle.var_commands.specs.Failure.{status_of};
 ghost use Rattle.var_commands.specs.declared.failure.Failure.TheVariants as failure;
 
+use crate::note::shown;
 use crate::reason::Reason;
 use std::alloc::{AllocError, AllocFailed, Global};
 use std::fmt::Display;
@@ -20,7 +21,7 @@ pub(crate) enum Failure {
     /// A file or a folder can't be read.
     #[error("{name} can't be read: {error}")]
     Read {
-        /// What it is called.
+        /// What it is called, as messages show it.
         name: String,
         /// The system's reason.
         error: io::Error,
@@ -28,7 +29,7 @@ pub(crate) enum Failure {
     /// A file can't be locked or written.
     #[error("{name} can't be written: {error}")]
     Write {
-        /// What it is called.
+        /// What it is called, as messages show it.
         name: String,
         /// The system's reason.
         error: io::Error,
@@ -36,7 +37,7 @@ pub(crate) enum Failure {
     /// A variable of a folder can't be changed.
     #[error("{place}: {variable} can't be changed: {error}; {made}")]
     Change {
-        /// What the folder is called.
+        /// What the folder is called, as messages show it.
         place: String,
         /// The name of the variable.
         variable: String,
@@ -51,7 +52,7 @@ pub(crate) enum Failure {
     /// An input is refused.
     #[error("{name}: {reason}")]
     Refused {
-        /// What the file, the place or the word is called.
+        /// What the file, the place or the word is called, as messages show it.
         name: String,
         /// Why.
         reason: Reason,
@@ -74,7 +75,7 @@ impl Failure {
 
     /// What it is to the program that something of this name can't be read.
     pub(crate) fn of_read(alloc: Global, name: &str, error: io::Error) -> Failure {
-        match copied_unless_memory(alloc, name, &error) {
+        match shown_unless_memory(alloc, name, &error) {
             Ok(name) => Failure::Read { name, error },
             Err(AllocError) => Failure::Memory,
         }
@@ -82,7 +83,7 @@ impl Failure {
 
     /// What it is to the program that something of this name can't be written.
     pub(crate) fn of_write(alloc: Global, name: &str, error: io::Error) -> Failure {
-        match copied_unless_memory(alloc, name, &error) {
+        match shown_unless_memory(alloc, name, &error) {
             Ok(name) => Failure::Write { name, error },
             Err(AllocError) => Failure::Memory,
         }
@@ -90,7 +91,7 @@ impl Failure {
 
     /// What it is to the program that something of this name is refused.
     pub(crate) fn refused(alloc: Global, name: &str, reason: Reason) -> Failure {
-        match String::from_str(alloc, name) {
+        match shown(alloc, name) {
             Ok(name) => Failure::Refused { name, reason },
             Err(AllocError) => Failure::Memory,
         }
@@ -113,16 +114,12 @@ impl Failure {
     }
 }
 
-/// A copy of the name, unless the error is that memory was refused.
-fn copied_unless_memory(
-    alloc: Global,
-    name: &str,
-    error: &io::Error,
-) -> Result<String, AllocError> {
+/// The name, as messages show it, unless the error is that memory was refused.
+fn shown_unless_memory(alloc: Global, name: &str, error: &io::Error) -> Result<String, AllocError> {
     if error.kind() == ErrorKind::OutOfMemory {
         return Err(AllocError);
     }
-    String::from_str(alloc, name)
+    shown(alloc, name)
 }
 
 impl From<AllocError> for Failure {

@@ -43,6 +43,32 @@ pub(crate) enum OtherKind {
     Unknown,
 }
 
+/// What a file looks like that is no load option. Its `Display` says so, and what to do.
+#[derive(Clone, Copy, Debug, PartialEq, Eq, Error)]
+pub(crate) enum NoOption {
+    /// It has no byte.
+    #[error("it is empty, and no load option: `bootvars option` makes one")]
+    Empty,
+    /// It is a set file.
+    #[error("it is a set file, and no load option: `bootvars show` shows its entries, `bootvars option` makes an option")]
+    Set,
+    /// It is an emulator's variable file.
+    #[error("it is an emulator's variable file, and no load option: `bootvars show` shows its entries")]
+    VariableFile,
+    /// It is a file of efivarfs with a load option.
+    #[error("it is one variable of efivarfs: its first four bytes are attributes, and `tail -c +5` leaves them out")]
+    Efivar,
+    /// It begins with a frame.
+    #[error("it is a stream of requests, and no load option: `bootvars explain` shows it")]
+    Stream,
+    /// It begins with a line of a script.
+    #[error("it is a script of requests, and no load option: `bootvars explain` shows it")]
+    Script,
+    /// It is an image of a disk that only an emulator reads.
+    #[error("it is a qcow2 image, and no load option")]
+    DiskImage,
+}
+
 /// What kind of file the bytes are. A set file begins with `BVS1`, and a firmware volume has its signature at byte 40.
 pub(crate) fn file_kind(bytes: &[u8]) -> FileKind
     ensures { IsKind result bytes.now }
@@ -93,4 +119,28 @@ pub(crate) fn other_kind(bytes: &[u8]) -> OtherKind {
 /// a value after them.
 fn is_efivar(bytes: &[u8]) -> bool {
     matches!(bytes, [1..=0x7f, 0, 0, 0, _, ..])
+}
+
+/// What the bytes of a file look like that is no load option, if they look like anything else.
+pub(crate) fn no_option(bytes: &[u8]) -> Option<NoOption> {
+    match file_kind(bytes) {
+        FileKind::Set => Some(NoOption::Set),
+        FileKind::VariableFile => Some(NoOption::VariableFile),
+        FileKind::Other => match other_kind(bytes) {
+            OtherKind::Empty => Some(NoOption::Empty),
+            // A damaged option begins as a file of efivarfs does, so there has to be an option after the attributes.
+            OtherKind::Efivar => Some(NoOption::Efivar).filter(|_| has_option(bytes)),
+            OtherKind::Stream => Some(NoOption::Stream),
+            OtherKind::Script => Some(NoOption::Script),
+            OtherKind::DiskImage => Some(NoOption::DiskImage),
+            OtherKind::LoadOption | OtherKind::Unknown => None,
+        },
+    }
+}
+
+/// Whether a load option comes after the four bytes of a variable's attributes.
+fn has_option(bytes: &[u8]) -> bool {
+    bytes
+        .get(4..)
+        .is_some_and(|rest| check_option(rest).is_ok())
 }

@@ -3,12 +3,17 @@
 use crate::failure::Failure;
 use crate::file_kind::{FileKind, file_kind, other_kind};
 use crate::folder::{KEEP_STATE, LeftOut};
+use crate::input::{STANDARD, read_file};
 use crate::note::note;
 use crate::reason::Reason;
+use boot_commands::LIMIT;
 use std::alloc::{AllocError, Global};
+use std::fs;
+use std::io::{self, ErrorKind};
+use std::rt::Files;
 use uefi_option::description_text;
 use uefi_path::read_units;
-use uefi_vars::{Changes, DATA_MAX, PutFault, Vars, read_set, write_set};
+use uefi_vars::{Changes, DATA_MAX, PutFault, SetFault, Vars, read_set, write_set};
 use var_stores::{
     BootChange, Record, StoreFault, WriteFault, left_out, read_store, store_vars, write_boot_vars,
 };
@@ -46,6 +51,40 @@ pub(crate) fn set_vars(alloc: Global, name: &str, bytes: &[u8]) -> Result<Vars, 
         Some(reason) => Failure::refused(alloc, name, reason),
         None => Failure::Memory,
     })
+}
+
+/// Whether a set file with BootKeepState is at this path. What can't be read, or is no set, has none, and nor has standard
+/// output, whose path is `-`.
+///
+/// # Errors
+///
+/// [`AllocError`] if memory was refused.
+pub(crate) fn has_keep_state<R: Files + AllocGlobal>(
+    rt: &R,
+    path: &str,
+) -> Result<bool, AllocError> {
+    if path == STANDARD {
+        return Ok(false);
+    }
+    let bytes = match regular_bytes(rt, path) {
+        Ok(Some(bytes)) => bytes,
+        Err(error) if error.kind() == ErrorKind::OutOfMemory => return Err(AllocError),
+        Ok(None) | Err(_) => return Ok(false),
+    };
+    match read_set(rt.alloc(), &bytes) {
+        Ok(vars) => Ok(vars.get(KEEP_STATE).is_some()),
+        Err(SetFault::OutOfMemory) => Err(AllocError),
+        Err(_) => Ok(false),
+    }
+}
+
+/// The bytes of the regular file at this path: `None` if something else is there, as a pipe, which a reader would wait
+/// for, or there are more than [`LIMIT`].
+fn regular_bytes<R: Files + AllocGlobal>(rt: &R, path: &str) -> io::Result<Option<Vec<u8>>> {
+    if !fs::metadata(rt, path)?.is_file() {
+        return Ok(None);
+    }
+    read_file(rt, path, LIMIT)
 }
 
 /// The variables of the emulator's variable file of this name, except BootKeepState.

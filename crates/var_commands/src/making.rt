@@ -2,6 +2,7 @@
 
 use crate::command_line::{AttributeWords, Form, LoadOptionWords, OptionalWords, RequestWords};
 use crate::failure::Failure;
+use crate::file_kind::no_option;
 use crate::input::{name_of, read};
 use crate::output::{lock, print, write};
 use crate::reason::Reason;
@@ -109,19 +110,19 @@ fn frame<R: Files + Input + AllocGlobal>(
         RequestWords::Add { entry, file } => {
             let (entry, option) = (entry_of(alloc, entry)?, read(rt, file)?);
             frame_bytes(alloc, number, FrameWords::Add(entry, &option)).map_err(|fault| of_option(
-                alloc, file, fault,
+                alloc, file, &option, fault,
             ))
         }
         RequestWords::Replace { entry, file } => {
             let (entry, option) = (entry_of(alloc, entry)?, read(rt, file)?);
             frame_bytes(alloc, number, FrameWords::Replace(entry, &option)).map_err(
-                |fault| of_option(alloc, file, fault),
+                |fault| of_option(alloc, file, &option, fault),
             )
         }
         RequestWords::AddFree { file } => {
             let option = read(rt, file)?;
             frame_bytes(alloc, number, FrameWords::AddFree(&option)).map_err(|fault| of_option(
-                alloc, file, fault,
+                alloc, file, &option, fault,
             ))
         }
         RequestWords::Remove { entry } => {
@@ -151,11 +152,14 @@ fn entry_of(alloc: Global, word: &str) -> Result<u16, Failure> {
     entry_of_digits(word).map_err(|fault| Failure::of_word(alloc, fault))
 }
 
-/// What it is to the program that no frame is made of the load option in the file at this path.
-fn of_option(alloc: Global, file: &str, fault: FrameWordsFault) -> Failure {
-    match fault {
-        FrameWordsFault::OutOfMemory => Failure::Memory,
-        fault => Failure::of_fault(alloc, name_of(file), fault),
+/// What it is to the program that no frame is made of the load option in the file at this path, which has these bytes.
+fn of_option(alloc: Global, file: &str, bytes: &[u8], fault: FrameWordsFault) -> Failure {
+    match (fault, no_option(bytes)) {
+        (FrameWordsFault::OutOfMemory, _) => Failure::Memory,
+        (FrameWordsFault::Option { .. }, Some(kind)) => {
+            Failure::refused(alloc, name_of(file), Reason::NoOption(kind))
+        }
+        (fault, _) => Failure::of_fault(alloc, name_of(file), fault),
     }
 }
 

@@ -5,6 +5,8 @@ ghost use Rattle.var_commands.specs.Failure.{status_of, ending_status};
 
 use crate::command_line::{Action, Form, read_words};
 use crate::failure::Failure;
+use crate::file_place::has_keep_state;
+use crate::folder::KEEP_STATE;
 use crate::input::{STANDARD, name_of};
 use crate::making::{explain, make_frame, make_option};
 use crate::output::{lock, print, write};
@@ -96,13 +98,30 @@ fn words<R: Env + AllocGlobal>(rt: &R) -> Result<Vec<String>, Failure> {
 
 /// What it is to the program that `clap` finds words wrong: its message, with the usage.
 fn wrong_words(alloc: Global, error: &clap::Error) -> Failure {
-    match format!(in alloc; "{error}") {
-        Ok(text) => {
-            let message = text.trim_end();
-            Failure::of_word(alloc, message.strip_prefix("error: ").unwrap_or(message))
-        }
+    match message_of(alloc, error) {
+        Ok(message) => Failure::Words(message),
         Err(AllocError) => Failure::Memory,
     }
+}
+
+/// The message of `clap`, with the usage, for a line that begins with the program's name.
+fn message_of(alloc: Global, error: &clap::Error) -> Result<String, AllocError> {
+    let text = format!(in alloc; "{error}")?;
+    let message = text.trim_end();
+    without_controls(alloc, message.strip_prefix("error: ").unwrap_or(message))
+}
+
+/// The lines of a message that repeats words, in which each control character but the line feeds is shown by an escape.
+fn without_controls(alloc: Global, message: &str) -> Result<String, AllocError> {
+    let mut shown = String::new(alloc);
+    for character in message.chars() {
+        if character.is_control() && character != '\n' {
+            write!(shown, "{}", character.escape_default())?;
+        } else {
+            shown.push(character)?;
+        }
+    }
+    Ok(shown)
 }
 
 /// Does what is asked for.
@@ -130,7 +149,8 @@ fn act<R: Files<File: OutputFile> + Input + Print + Eprint + AllocGlobal>(
     Ok(Ending::Done)
 }
 
-/// Makes a set file of the variables of a place. It is locked before the place is read, which may be the same file.
+/// Makes a set file of the variables of a place. It is locked before the place is read, which may be the same file. A set
+/// file with BootKeepState is replaced only by one that has it too.
 fn make_set<R: Files<File: OutputFile> + Input + Print + Eprint + AllocGlobal>(
     rt: &R,
     place: &str,
@@ -142,7 +162,11 @@ fn make_set<R: Files<File: OutputFile> + Input + Print + Eprint + AllocGlobal>(
     if boot_only {
         keep_boot_variables(rt.alloc(), &mut vars)?;
     }
-    write(rt, output?, &write_set(rt.alloc(), &vars)?)
+    let output = output?;
+    if vars.get(KEEP_STATE).is_none() && has_keep_state(rt, out)? {
+        return Err(Failure::refused(rt.alloc(), out, Reason::LosesKeepState));
+    }
+    write(rt, output, &write_set(rt.alloc(), &vars)?)
 }
 
 /// Takes out all variables but Boot####, BootOrder and BootNext.

@@ -1,6 +1,6 @@
 //! Why an input is refused, in words for a person.
 
-use crate::file_kind::OtherKind;
+use crate::file_kind::{NoOption, OtherKind};
 use thiserror::Error;
 use uefi_vars::SetFault;
 use var_stores::StoreFault;
@@ -14,6 +14,13 @@ pub(crate) enum Reason {
     /// A file is no place of variables.
     #[error("{0}")]
     NoPlace(OtherKind),
+    /// A file is no load option, and looks like something else.
+    #[error("{0}")]
+    NoOption(NoOption),
+    /// A set file has BootKeepState, and is to be replaced by one without it.
+    #[error("it has a BootKeepState, which the new set wouldn't have, so requests already done would be done again: \
+        name another file, or take it away first")]
+    LosesKeepState,
     /// A variable file is given where a set file has to be.
     #[error("it is an emulator's variable file: make a set of it by `bootvars read`")]
     VariableFile,

@@ -7,7 +7,7 @@ use crate::file_place::{changed_set, changed_variable_file, file_vars, no_place,
 use crate::folder::{Folder, KEEP_STATE, read_folder};
 use crate::folder_change::make_change;
 use crate::input::{STANDARD, name_of, read};
-use crate::note::note;
+use crate::note::{note, shown};
 use crate::output::{Output, lock, print, write};
 use crate::place::is_folder;
 use crate::reason::Reason;
@@ -188,7 +188,7 @@ fn change_failure(
     let before = names(alloc, before)?;
     let after = names(alloc, after)?;
     Ok(Failure::Change {
-        place: String::from_str(alloc, place)?,
+        place: shown(alloc, place)?,
         variable: String::from_str(alloc, change.name)?,
         error,
         made: format!(in alloc; "changed before it: {before}; not changed after it: {after}")?,
