@@ -1,0 +1,164 @@
+-- What BootOrder and BootNext name between the moves of an update.
+use Rattle.std.proofs.Common.{◌≡◌, ◌≢◌, ◌⊎◌, ◌<◌, ◌^◌, map, inl, inr, ⊎_elim, ℕ, ◌&&◌, Bool, true, false, cond, List, [], ◌∷◌, take, length, Option, None, is_some, Contains, refl, sym, ap, subst, ◌∙◌, arith}
+use Rattle.std.specs.List.{AllByRecursion, IsDistinct}
+use Rattle.std.specs.FinMap.{get}
+use Rattle.std.specs.Cmp.{Equal-is}
+use Rattle.std.proofs.lemmas.Bool.{true≢false}
+use Rattle.uefi_vars.specs.Name.{entry_text, order_text, next_text}
+use Rattle.uefi_vars.specs.Vars.{Variables}
+use Rattle.uefi_vars.specs.NameChanges.{after_each}
+use Rattle.var_stores.specs.BootChange.{ChangeParts, same_name, new_data, changes_from, is_boot_name, IsNeeded, order_in, DanglesInOrder, DanglesAsNext}
+use Rattle.boot_requests.specs.State.{keep_text}
+use Rattle.boot_journal.specs.Changes.{made, IsFront}
+use Rattle.boot_journal.specs.Store.{Store, IsIdle, seen, with_state}
+use Rattle.boot_journal.specs.Moves.{settled}
+use Rattle.boot_journal.specs.Events.{Event, Settles, Undoes, Updates, Fails, Starts, Firmware, world, happens, all_happen, without_next, IsUpdateTo, AreSettlings, AreSettlingsOrStarts, failing}
+use Rattle.boot_journal.proofs.Single.{one_name, over, get-each}
+use Rattle.boot_journal.proofs.Boot.{get-without_next}
+use Rattle.boot_journal.proofs.Between.{IsOf, Keeps, apart, own_onwards, own_backwards, settlings_keep, updating_keeps, settled_same, starts_keep}
+use Rattle.boot_journal.proofs.Making.{get-state}
+use Rattle.boot_journal.proofs.Updates.{tells_there}
+
+-- ---- fronts
+
+module _ (needed : (from to : Variables) → AllByRecursion (IsNeeded from to) (changes_from from to)) (no_keep : is_boot_name keep_text ≡ false)
+    (distinct : (from to : Variables) → IsDistinct same_name (map (λ (c : ChangeParts). c.name) (changes_from from to))) where
+  begun_keeps : (boot : List ℕ) (s : Store) (to : Variables) (k undone : ℕ) → IsIdle s →
+      Keeps (changes_from (seen s) to) boot (IsFront (changes_from (seen s) to) s.variables) (failing boot to k undone (settled boot s))
+  begun_keeps boot s to k undone none =
+      let cs = changes_from (seen s) to in
+      subst (λ (t : Store). Keeps cs boot (IsFront cs s.variables) (failing boot to k undone t)) (sym (settled_same cs s.variables (apart cs (distinct (seen s) to)) (tells_there needed no_keep s to) boot s none))
+      (updating_keeps cs s.variables (apart cs (distinct (seen s) to)) (tells_there needed no_keep s to) boot s.journal.state (get to keep_text) s k undone
+      (record { variables = (0, refl); journal = subst (IsOf cs boot) (sym none) tt }))
+
+  update_keeps : (boot : List ℕ) (s : Store) (to : Variables) (update : Event) → IsIdle s → IsUpdateTo to update →
+      (Keeps (changes_from (seen s) to) boot (IsFront (changes_from (seen s) to) s.variables) (happens (world boot s) update).store) × ((happens (world boot s) update).boot ≡ boot)
+  update_keeps boot s to (Updates other k) none is =
+      (subst (λ (t : Variables). Keeps (changes_from (seen s) to) boot (IsFront (changes_from (seen s) to) s.variables) (failing boot t k 0 (settled boot s))) (sym is) (begun_keeps boot s to k 0 none), refl)
+  update_keeps boot s to (Fails other k undone) none is =
+      (subst (λ (t : Variables). Keeps (changes_from (seen s) to) boot (IsFront (changes_from (seen s) to) s.variables) (failing boot t k undone (settled boot s))) (sym is) (begun_keeps boot s to k undone none), refl)
+  update_keeps boot s to (Settles k) none is = elim is [ ]
+  update_keeps boot s to (Undoes k undone) none is = elim is [ ]
+  update_keeps boot s to (Starts boot' deletes) none is = elim is [ ]
+  update_keeps boot s to (Firmware changes) none is = elim is [ ]
+
+  all_keep : (boot : List ℕ) (s : Store) (to : Variables) (update : Event) (settlings : List Event) → IsIdle s → IsUpdateTo to update → AreSettlings settlings →
+      Keeps (changes_from (seen s) to) boot (IsFront (changes_from (seen s) to) s.variables) (all_happen (world boot s) (update ∷ settlings)).store
+  all_keep boot s to update settlings none is settle =
+      let cs = changes_from (seen s) to in
+      let begun = update_keeps boot s to update none is in
+      let a = apart cs (distinct (seen s) to) in
+      let t = tells_there needed no_keep s to in
+      settlings_keep cs boot boot (IsFront cs s.variables) (own_onwards cs s.variables a t boot) (own_backwards cs s.variables a t boot)
+      (happens (world boot s) update) settlings begun.1 settle begun.0
+
+  pub front_before : (boot : List ℕ) (s : Store) (to : Variables) (update : Event) (settlings : List Event) → IsIdle s → IsUpdateTo to update → AreSettlings settlings →
+      IsFront (changes_from (seen s) to) s.variables (all_happen (world boot s) (update ∷ settlings)).store.variables
+  front_before boot s to update settlings none is settle = (all_keep boot s to update settlings none is settle).variables
+
+  pub front_after : (boot next_boot : List ℕ) (deletes : Bool) (s : Store) (to : Variables) (update : Event) (settlings later : List Event) →
+      IsIdle s → IsUpdateTo to update → AreSettlings settlings → same_name next_boot boot ≡ false → AreSettlingsOrStarts boot later →
+      (front : Variables) × (gone : Bool) × IsFront (changes_from (seen s) to) s.variables front
+      × ((all_happen (all_happen (world boot s) (update ∷ settlings)) (Starts next_boot deletes ∷ later)).store.variables ≡ without_next gone front)
+  front_after boot next_boot deletes s to update settlings later none is settle other after =
+      let cs = changes_from (seen s) to in
+      let before = all_happen (world boot s) (update ∷ settlings) in
+      let keeps = all_keep boot s to update settlings none is settle in
+      (starts_keep cs s.variables (apart cs (distinct (seen s) to)) (tells_there needed no_keep s to) boot (happens before (Starts next_boot deletes)) later other after
+      (record { variables = (before.store.variables, deletes, keeps.variables, refl); journal = keeps.journal })).variables
+
+-- ---- what is named
+
+-- two maps agree on what is named and on whether it is there
+record Agree (number : ℕ) (v w : Variables) : Type 0 where
+  order : get v order_text ≡ get w order_text
+  entry : get v (entry_text number) ≡ get w (entry_text number)
+
+order_over : (number : ℕ) (v w : Variables) → Agree number v w → DanglesInOrder v number → DanglesInOrder w number
+order_over number v w agree dangles = (
+  subst (λ (x : Option (List ℕ)). Contains (order_in x) number) agree.order dangles.0,
+  sym agree.entry ∙ dangles.1,
+)
+
+next_over : (number : ℕ) (v w : Variables) → Agree number v w → get v next_text ≡ get w next_text → DanglesAsNext v number → DanglesAsNext w number
+next_over number v w agree same dangles = (dangles.0, sym same ∙ dangles.1, dangles.2, sym agree.entry ∙ dangles.3)
+
+either_order : (number : ℕ) (v w to : Variables) → Agree number v w → DanglesInOrder v number ⊎ DanglesInOrder to number → DanglesInOrder w number ⊎ DanglesInOrder to number
+either_order number v w to agree either = ⊎_elim (λ before. inl (order_over number v w agree before)) (λ after. inr after) either
+
+either_next : (number : ℕ) (v w to : Variables) → Agree number v w → get v next_text ≡ get w next_text → DanglesAsNext v number ⊎ DanglesAsNext to number → DanglesAsNext w number ⊎ DanglesAsNext to number
+either_next number v w to agree same either = ⊎_elim (λ before. inl (next_over number v w agree same before)) (λ after. inr after) either
+
+module _ (len : (number : ℕ) → length (entry_text number) ≡ 8) (no_next : (number : ℕ) → entry_text number ≢ next_text) where
+  differs_from : (q name : List ℕ) → (name ≡ q → ⊥) → same_name name q ≡ false
+  differs_from q name other = by (same_name name q) refl
+    where
+      by : (b : Bool) → same_name name q ≡ b → b ≡ false
+      by true is = absurd (other (one_name name q ((Equal-is _).0 is)))
+      by false is = refl
+
+  entry_not_keep : (number : ℕ) → same_name (entry_text number) keep_text ≡ false
+  entry_not_keep number = differs_from keep_text (entry_text number) (λ e. thirteen (sym (ap length e) ∙ len number))
+    where
+      thirteen : ◌≡◌ {A = ℕ} 13 8 → ⊥
+      thirteen e = omega (arith, e)
+
+  entry_not_next : (number : ℕ) → same_name (entry_text number) next_text ≡ false
+  entry_not_next number = differs_from next_text (entry_text number) (no_next number)
+
+  -- ---- without BootNext
+
+  with_false : (d : Bool) (x : Option (List ℕ)) → cond (d && false) None x ≡ x
+  with_false true x = refl
+  with_false false x = refl
+
+  at_other : (gone : Bool) (m : Variables) (q : List ℕ) → same_name q next_text ≡ false → get (without_next gone m) q ≡ get m q
+  at_other gone m q other = get-without_next gone m q ∙ ap (λ b. cond (gone && b) None (get m q)) other ∙ with_false gone (get m q)
+
+  without_agrees : (gone : Bool) (m : Variables) (number : ℕ) → Agree number (without_next gone m) m
+  without_agrees gone m number = record { order = at_other gone m order_text refl; entry = at_other gone m (entry_text number) (entry_not_next number) }
+
+  -- ---- with another BootKeepState
+
+  state_apart : (state : Option (List ℕ)) (cs : List ChangeParts) (m : Variables) (q : List ℕ) → same_name q keep_text ≡ false → get (made cs m) q ≡ get (made cs (with_state state m)) q
+  state_apart state cs m q other =
+      get-each (new_data cs) m q
+      ∙ ap (over (new_data cs) q) (sym (get-state state m q ∙ ap (λ b. cond b state (get m q)) other))
+      ∙ sym (get-each (new_data cs) (with_state state m) q)
+
+  made_agrees : (state : Option (List ℕ)) (cs : List ChangeParts) (m : Variables) (number : ℕ) → Agree number (made cs m) (made cs (with_state state m))
+  made_agrees state cs m number = record {
+    order = state_apart state cs m order_text refl;
+    entry = state_apart state cs m (entry_text number) (entry_not_keep number);
+  }
+
+  back_agrees : (state : Option (List ℕ)) (m : Variables) (number : ℕ) → Agree number (with_state state m) m
+  back_agrees state m number = record { order = sym (made_agrees state [] m number).order; entry = sym (made_agrees state [] m number).entry }
+
+  -- ---- the laws
+
+  pub order_law :
+      ((from to : Variables) (made number : ℕ) → number < 2 ^ 16 → DanglesInOrder (after_each from (new_data (take made (changes_from from to)))) number → DanglesInOrder from number ⊎ DanglesInOrder to number)
+      → (s : Store) (to front : Variables) (gone : Bool) (number : ℕ) → number < 2 ^ 16 → IsFront (changes_from (seen s) to) s.variables front → DanglesInOrder (without_next gone front) number →
+      DanglesInOrder s.variables number ⊎ DanglesInOrder to number
+  order_law law s to front gone number bound is dangles =
+      let cs = take is.0 (changes_from (seen s) to) in
+      let at_front = order_over number (without_next gone front) front (without_agrees gone front number) dangles in
+      let at_made = subst (λ (m : Variables). DanglesInOrder m number) is.1 at_front in
+      let at_seen = order_over number (made cs s.variables) (made cs (seen s)) (made_agrees s.journal.state cs s.variables number) at_made in
+      either_order number (seen s) s.variables to (back_agrees s.journal.state s.variables number) (law (seen s) to is.0 number bound at_seen)
+
+  next_kept : (gone : Bool) (m : Variables) (number : ℕ) → DanglesAsNext (without_next gone m) number → DanglesAsNext m number
+  next_kept true m number dangles = absurd (true≢false (ap is_some (sym dangles.1 ∙ get-without_next true m next_text)))
+  next_kept false m number dangles = dangles
+
+  pub next_law :
+      ((from to : Variables) (made number : ℕ) → number < 2 ^ 16 → DanglesAsNext (after_each from (new_data (take made (changes_from from to)))) number → DanglesAsNext from number ⊎ DanglesAsNext to number)
+      → (s : Store) (to front : Variables) (gone : Bool) (number : ℕ) → number < 2 ^ 16 → IsFront (changes_from (seen s) to) s.variables front → DanglesAsNext (without_next gone front) number →
+      DanglesAsNext s.variables number ⊎ DanglesAsNext to number
+  next_law law s to front gone number bound is dangles =
+      let cs = take is.0 (changes_from (seen s) to) in
+      let at_front = next_kept gone front number dangles in
+      let at_made = subst (λ (m : Variables). DanglesAsNext m number) is.1 at_front in
+      let at_seen = next_over number (made cs s.variables) (made cs (seen s)) (made_agrees s.journal.state cs s.variables number) (state_apart s.journal.state cs s.variables next_text refl) at_made in
+      either_next number (seen s) s.variables to (back_agrees s.journal.state s.variables number) (sym (state_apart s.journal.state [] s.variables next_text refl)) (law (seen s) to is.0 number bound at_seen)

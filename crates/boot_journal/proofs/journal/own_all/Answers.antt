@@ -1,0 +1,8 @@
+use Rattle.std.proofs.Common.{arith}
+use Rattle.var_stores.specs.BootChange.{change_parts}
+use Rattle.boot_journal.specs.Values.{IsBootChange}
+use Rattle.boot_journal.proofs.Valid.{each_at}
+use Rattle.boot_journal.proofs.journal.own_all.Goals as goal
+
+pub new-requires : goal.new-requires
+new-requires c = each_at IsBootChange change_parts c.args.changes.now c.loop-change.change-index _ c.requires (omega (arith, c.loop-change-test.true))

@@ -1,0 +1,6 @@
+use Rattle.std.proofs.Common.{◌≡◌, map, take}
+use Rattle.var_stores.specs.BootChange.{change_parts}
+use Rattle.boot_journal.proofs.journal.own_all.Given as goal
+
+abbrev pub invariant-loop-change : goal.invariant-loop-change
+invariant-loop-change l = l.owned.items ≡ map change_parts (take l.change-index l.changes)

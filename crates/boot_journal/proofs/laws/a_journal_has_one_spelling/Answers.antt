@@ -1,0 +1,5 @@
+use Rattle.boot_journal.proofs.JournalFiles.{one_spelling}
+use Rattle.boot_journal.proofs.laws.a_journal_has_one_spelling.Goals as goal
+
+pub returns : goal.returns
+returns c = one_spelling

@@ -1,0 +1,5 @@
+use Rattle.boot_journal.proofs.JournalFiles.{either}
+use Rattle.boot_journal.proofs.laws.bytes_spell_a_journal_or_have_a_fault.Goals as goal
+
+pub returns : goal.returns
+returns c = either

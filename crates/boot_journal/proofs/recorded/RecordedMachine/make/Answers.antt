@@ -1,0 +1,130 @@
+use Rattle.std.proofs.Common.{◌≡◌, ◌+◌, inl, inr, List, [], ◌∷◌, ◌++◌, ap, ◌∙◌}
+use Rattle.var_stores.specs.BootChange.{ChangeParts}
+use Rattle.boot_journal.specs.declared.recorded.Move.{Move}
+use Rattle.boot_journal.specs.declared.recorded.Move.TheVariants.{Made, Refused}
+use Rattle.boot_journal.specs.Recorded.{refusals_in}
+use Rattle.boot_journal.specs.RecordedValue.{store_of}
+use Rattle.boot_journal.specs.Store.{Store, with_made, IsEither}
+use Rattle.boot_journal.proofs.Moments.{then}
+use Rattle.boot_journal.proofs.Records.{Step, step_moments, step_now, step_is, no_refusal, one_refusal, count_made, count_refused}
+use Rattle.boot_journal.proofs.recorded.RecordedMachine.make.Goals as goal
+
+pub returns-in-Ok-clause-cause : goal.returns-in-Ok-clause-cause
+returns-in-Ok-clause-cause g c =
+    no_refusal _ _ (count_made c.reserve.new.self.moves.items c.keep_change.new.self.moves.items c.in_ok-copy.copy c.keep_change.ensures.moves ∙ ap refusals_in c.reserve.ensures.moves)
+
+pub returns-in-Ok-clause-recorded : goal.returns-in-Ok-clause-recorded
+returns-in-Ok-clause-recorded g c =
+    let s = c.args.self.now in
+    let now = store_of s.now in
+    let first = store_of s.first in
+    let k = c.keep_change.new.self in
+    let x = c.in_ok-copy.copy in
+    let step : Step first now (store_of k.first) (store_of k.now) s.moves.items k.moves.items (Made x) = record {
+      is = λ i. record { variables = s.vars_are i; journal = s.journal_is i };
+      same = ap store_of (c.keep_change.ensures.first ∙ c.reserve.ensures.first);
+      pushed = c.keep_change.ensures.moves ∙ ap (λ (l : List Move). l ++ Made x ∷ []) c.reserve.ensures.moves;
+      goes = c.keep_change.ensures.store ∙ ap (λ (t : Store). with_made (x ∷ []) t) c.reserve.ensures.now;
+    } in
+    let there : store_of k.now ≡ with_made (c.args.change.now ∷ []) now = step.goes ∙ ap (λ (x : ChangeParts). with_made (x ∷ []) now) c.in_ok-copy.ensures in
+    inl (step_now first now (store_of k.first) (store_of k.now) s.moves.items k.moves.items (Made x) step)
+
+pub returns-in-Ok-clause-moments : goal.returns-in-Ok-clause-moments
+returns-in-Ok-clause-moments g c =
+    let s = c.args.self.now in
+    let now = store_of s.now in
+    let first = store_of s.first in
+    let k = c.keep_change.new.self in
+    let x = c.in_ok-copy.copy in
+    let step : Step first now (store_of k.first) (store_of k.now) s.moves.items k.moves.items (Made x) = record {
+      is = λ i. record { variables = s.vars_are i; journal = s.journal_is i };
+      same = ap store_of (c.keep_change.ensures.first ∙ c.reserve.ensures.first);
+      pushed = c.keep_change.ensures.moves ∙ ap (λ (l : List Move). l ++ Made x ∷ []) c.reserve.ensures.moves;
+      goes = c.keep_change.ensures.store ∙ ap (λ (t : Store). with_made (x ∷ []) t) c.reserve.ensures.now;
+    } in
+    let there : store_of k.now ≡ with_made (c.args.change.now ∷ []) now = step.goes ∙ ap (λ (x : ChangeParts). with_made (x ∷ []) now) c.in_ok-copy.ensures in
+    step_moments (IsEither now (with_made (c.args.change.now ∷ []) now)) first now (store_of k.first) (store_of k.now) s.moves.items k.moves.items (Made x) step (inr there)
+
+pub returns-then-has_made-clause-cause : goal.returns-then-has_made-clause-cause
+returns-then-has_made-clause-cause g c =
+    one_refusal _ _ c.in-Err.error (count_refused c.keep_change-then-has_made.new.self.moves.items c.keep_refusal.new.self.moves.items c.keep_refusal.ensures.moves
+    ∙ ap (λ n. 1 + n) (count_made c.reserve.new.self.moves.items c.keep_change-then-has_made.new.self.moves.items c.in_ok-copy.copy c.keep_change-then-has_made.ensures.moves ∙ ap refusals_in c.reserve.ensures.moves))
+
+pub returns-then-has_made-clause-moments : goal.returns-then-has_made-clause-moments
+returns-then-has_made-clause-moments g c =
+    let s = c.args.self.now in
+    let now = store_of s.now in
+    let first = store_of s.first in
+    let k = c.keep_change-then-has_made.new.self in
+    let x = c.in_ok-copy.copy in
+    let step : Step first now (store_of k.first) (store_of k.now) s.moves.items k.moves.items (Made x) = record {
+      is = λ i. record { variables = s.vars_are i; journal = s.journal_is i };
+      same = ap store_of (c.keep_change-then-has_made.ensures.first ∙ c.reserve.ensures.first);
+      pushed = c.keep_change-then-has_made.ensures.moves ∙ ap (λ (l : List Move). l ++ Made x ∷ []) c.reserve.ensures.moves;
+      goes = c.keep_change-then-has_made.ensures.store ∙ ap (λ (t : Store). with_made (x ∷ []) t) c.reserve.ensures.now;
+    } in
+    let there : store_of k.now ≡ with_made (c.args.change.now ∷ []) now = step.goes ∙ ap (λ (x : ChangeParts). with_made (x ∷ []) now) c.in_ok-copy.ensures in
+    let r = c.keep_refusal.new.self in
+    let step2 : Step (store_of k.first) (store_of k.now) (store_of r.first) (store_of r.now) k.moves.items r.moves.items Refused = record {
+      is = step_is first now (store_of k.first) (store_of k.now) s.moves.items k.moves.items (Made x) step;
+      same = ap store_of c.keep_refusal.ensures.first;
+      pushed = c.keep_refusal.ensures.moves;
+      goes = c.keep_refusal.ensures.store;
+    } in
+    then (IsEither now (with_made (c.args.change.now ∷ []) now)) _ _ _
+    (step_moments (IsEither now (with_made (c.args.change.now ∷ []) now)) first now (store_of k.first) (store_of k.now) s.moves.items k.moves.items (Made x) step (inr there))
+    (step_moments (IsEither now (with_made (c.args.change.now ∷ []) now)) (store_of k.first) (store_of k.now) (store_of r.first) (store_of r.now) k.moves.items r.moves.items Refused step2 (inr (step2.goes ∙ there)))
+
+pub returns-else-has_made-clause-cause : goal.returns-else-has_made-clause-cause
+returns-else-has_made-clause-cause g c =
+    one_refusal _ _ c.in-Err.error (count_refused c.reserve.new.self.moves.items c.keep_refusal-else-has_made.new.self.moves.items c.keep_refusal-else-has_made.ensures.moves
+    ∙ ap (λ n. 1 + n) (ap refusals_in c.reserve.ensures.moves))
+
+pub returns-else-has_made-clause-moments : goal.returns-else-has_made-clause-moments
+returns-else-has_made-clause-moments g c =
+    let s = c.args.self.now in
+    let now = store_of s.now in
+    let r = c.keep_refusal-else-has_made.new.self in
+    let step : Step (store_of s.first) now (store_of r.first) (store_of r.now) s.moves.items r.moves.items Refused = record {
+      is = λ i. record { variables = s.vars_are i; journal = s.journal_is i };
+      same = ap store_of (c.keep_refusal-else-has_made.ensures.first ∙ c.reserve.ensures.first);
+      pushed = c.keep_refusal-else-has_made.ensures.moves ∙ ap (λ (l : List Move). l ++ Refused ∷ []) c.reserve.ensures.moves;
+      goes = c.keep_refusal-else-has_made.ensures.store ∙ c.reserve.ensures.now;
+    } in
+    step_moments (IsEither now (with_made (c.args.change.now ∷ []) now)) (store_of s.first) now (store_of r.first) (store_of r.now) s.moves.items r.moves.items Refused step (inl step.goes)
+
+pub returns-then-has_made-clause-recorded : goal.returns-then-has_made-clause-recorded
+returns-then-has_made-clause-recorded g c =
+    let s = c.args.self.now in
+    let now = store_of s.now in
+    let first = store_of s.first in
+    let k = c.keep_change-then-has_made.new.self in
+    let x = c.in_ok-copy.copy in
+    let step : Step first now (store_of k.first) (store_of k.now) s.moves.items k.moves.items (Made x) = record {
+      is = λ i. record { variables = s.vars_are i; journal = s.journal_is i };
+      same = ap store_of (c.keep_change-then-has_made.ensures.first ∙ c.reserve.ensures.first);
+      pushed = c.keep_change-then-has_made.ensures.moves ∙ ap (λ (l : List Move). l ++ Made x ∷ []) c.reserve.ensures.moves;
+      goes = c.keep_change-then-has_made.ensures.store ∙ ap (λ (t : Store). with_made (x ∷ []) t) c.reserve.ensures.now;
+    } in
+    let there : store_of k.now ≡ with_made (c.args.change.now ∷ []) now = step.goes ∙ ap (λ (x : ChangeParts). with_made (x ∷ []) now) c.in_ok-copy.ensures in
+    let r = c.keep_refusal.new.self in
+    let step2 : Step (store_of k.first) (store_of k.now) (store_of r.first) (store_of r.now) k.moves.items r.moves.items Refused = record {
+      is = step_is first now (store_of k.first) (store_of k.now) s.moves.items k.moves.items (Made x) step;
+      same = ap store_of c.keep_refusal.ensures.first;
+      pushed = c.keep_refusal.ensures.moves;
+      goes = c.keep_refusal.ensures.store;
+    } in
+    inl (step_now (store_of k.first) (store_of k.now) (store_of r.first) (store_of r.now) k.moves.items r.moves.items Refused step2)
+
+pub returns-else-has_made-clause-recorded : goal.returns-else-has_made-clause-recorded
+returns-else-has_made-clause-recorded g c =
+    let s = c.args.self.now in
+    let now = store_of s.now in
+    let r = c.keep_refusal-else-has_made.new.self in
+    let step : Step (store_of s.first) now (store_of r.first) (store_of r.now) s.moves.items r.moves.items Refused = record {
+      is = λ i. record { variables = s.vars_are i; journal = s.journal_is i };
+      same = ap store_of (c.keep_refusal-else-has_made.ensures.first ∙ c.reserve.ensures.first);
+      pushed = c.keep_refusal-else-has_made.ensures.moves ∙ ap (λ (l : List Move). l ++ Refused ∷ []) c.reserve.ensures.moves;
+      goes = c.keep_refusal-else-has_made.ensures.store ∙ c.reserve.ensures.now;
+    } in
+    inl (step_now (store_of s.first) now (store_of r.first) (store_of r.now) s.moves.items r.moves.items Refused step)

@@ -1,0 +1,53 @@
+-- Updates by requests: what a keeper makes of events, and the run of all updates that happened.
+use Rattle.std.specs.Prelude.{◌≡◌, ◌⊎◌, ℕ, false, List, [], ◌∷◌, Option, None}
+use Rattle.std.specs.List.{AllByRecursion}
+use Rattle.uefi_vars.specs.NameChanges.{IsChange}
+use Rattle.var_stores.specs.BootChange.{same_name, is_boot_name}
+use Rattle.boot_requests.specs.declared.event.Event.{Event}
+use Rattle.boot_requests.specs.declared.reply.Reply.{Reply}
+use Rattle.uefi_vars.specs.Vars.{Variables}
+use Rattle.boot_requests.specs.Keeper.{AreRead}
+use Rattle.boot_requests.specs.Run.{run_followed_by, state_at}
+use Rattle.boot_requests.specs.Reply.{AreAnswers}
+use Rattle.boot_requests.specs.Seen.{Seen, Restart, AreSeen}
+use Rattle.boot_requests.specs.State.{State, IsImage, keep_text}
+use Rattle.boot_requests.specs.StoredState.{OpensAs}
+use Rattle.boot_journal.specs.Turns.{Turn, Brings, Boots, Meddles, after_turns}
+
+-- a keeper that opens the one leads to the other by these events
+abbrev pub LeadsTo : Variables → List Seen → Variables → Type 0
+LeadsTo from seen to = (m : State) → OpensAs from m → IsImage (state_at m (run_followed_by [] seen)) to
+
+-- an update by events that were read
+pub record IsUpdateBy (from : Variables) (seen : List Seen) (to : Variables) : Type 0 where
+  pub read : AreRead (run_followed_by [] seen)
+  pub leads : LeadsTo from seen to
+
+-- the events are run so, with these replies
+abbrev pub IsAnswered : List Event → Variables → Variables → List Reply → Type 0
+IsAnswered events from to replies =
+    (seen : List Seen) × AreSeen events seen × IsUpdateBy from seen to × ((m : State) → OpensAs from m → AreAnswers m [] seen replies)
+
+-- a change of a variable that neither requests nor boots change
+pub record IsOfAnother (change : List ℕ × Option (List ℕ)) : Type 0 where
+  pub boot : is_boot_name change.0 ≡ false
+  pub keep : same_name change.0 keep_text ≡ false
+  pub valid : IsChange change
+
+-- The run of the updates among these turns, of which the newest is the first, with a restart between two of them. Firmware
+-- did nothing to the boot manager's variables but start the machine and delete BootNext.
+abbrev pub IsRunOf : Variables → List Turn → List Seen → Type 0
+IsRunOf start [] run = run ≡ []
+IsRunOf start (Brings to ∷ before) run =
+    (earlier : List Seen) × (seen : List Seen) × IsRunOf start before earlier
+    × IsUpdateBy (after_turns start before) seen to × (run ≡ run_followed_by (Restart ∷ earlier) seen)
+IsRunOf start (Boots deletes ∷ before) run = IsRunOf start before run
+IsRunOf start (Meddles changes ∷ before) run = AllByRecursion IsOfAnother changes × IsRunOf start before run
+
+-- the entries, the order, the next number and the outcomes that are kept are the same, and BootNext is, or is gone
+pub record AgreesButForNext (m n : State) : Type 0 where
+  pub entries : m.entries ≡ n.entries
+  pub order : m.order ≡ n.order
+  pub next_number : m.next_number ≡ n.next_number
+  pub kept : m.kept ≡ n.kept
+  pub next : (m.boot_next ≡ None) ⊎ (m.boot_next ≡ n.boot_next)

@@ -1,0 +1,156 @@
+//! The laws of the definitions. Each is a function that does nothing, and whose contract is the law.
+
+ghost use Rattle.std.specs.Prelude.{◌≡◌, ◌⊎◌, ℕ, ◌^◌, ◌<◌, Bool, false, List, [], ◌∷◌, Option, None, take, ◌↔◌, IsTrue};
+ghost use Rattle.std.specs.List.{AllByRecursion};
+ghost use Rattle.std.specs.FinMap as map;
+ghost use Rattle.uefi_path.specs.Row.{IsByte};
+ghost use Rattle.uefi_vars.specs.Name.{next_text};
+ghost use Rattle.uefi_vars.specs.Vars.{Variables};
+ghost use Rattle.uefi_vars.specs.NameChanges.{after_each};
+ghost use Rattle.var_stores.specs.BootChange.{ChangeParts, same_name, changes_from, DanglesInOrder, DanglesAsNext};
+ghost use Rattle.boot_requests.specs.Run.{state_at};
+ghost use Rattle.boot_requests.specs.Seen.{Seen};
+ghost use Rattle.boot_requests.specs.State.{State};
+ghost use Rattle.boot_requests.specs.StoredState.{OpensAs};
+ghost use Rattle.boot_journal.specs.Changes.{made, IsFront, LeaveAlone};
+ghost use Rattle.boot_journal.specs.Events.{Event, Starts, World, world, all_happen, without_next, IsUpdateTo, AreSettlings, AreSettlingsOrStarts};
+ghost use Rattle.boot_journal.specs.Journal.{BeganUnderAnother, JournalParts};
+ghost use Rattle.boot_journal.specs.Moves.{cut_undoing};
+ghost use Rattle.boot_journal.specs.Store.{Store, IsIdle, seen, stands_for};
+ghost use Rattle.boot_journal.specs.Turns.{after_turns, happened, StartsAreNew};
+ghost use Rattle.boot_journal.specs.Requests.{IsRunOf, AgreesButForNext};
+ghost use Rattle.boot_journal.specs.declared.fault.JournalFault.{JournalFault};
+ghost use Rattle.boot_journal.specs.JournalValue.{IsJournal};
+ghost use Rattle.boot_journal.specs.Bytes.{SpellsJournal};
+ghost use Rattle.boot_journal.specs.Fault.{IsJournalFault};
+
+use crate::fault::JournalFault;
+use boot_requests::laws as request_laws;
+use uefi_vars::laws as vars_laws;
+use var_stores::laws as store_laws;
+
+/// All or nothing. Over every list of updates and settlings that are cut off after any number of moves, of updates that
+/// fail and whose taking back is cut off, of starts and of what firmware does by itself: a machine stands for the turns that
+/// happened, each as a whole, in order. An update has happened once its journal is there, and one that fails, also in a
+/// later settling, hasn't once its changes are begun to be taken back. The premise is that nothing is to be done at first,
+/// and that each start has an identity that none before it had.
+pub fn updates_are_whole_or_do_not_happen()
+    ensures { (w : World) (events : List Event) → IsIdle w.store → StartsAreNew (w.boot ∷ []) events →
+        stands_for (all_happen w events).boot (all_happen w events).store
+        ≡ after_turns (stands_for w.boot w.store) (happened w events) }
+{
+    store_laws::each_change_is_needed();
+    store_laws::entry_names_are_those_of_numbers();
+    vars_laws::order_and_next_are_no_entries();
+}
+
+/// At most once. If what is to be done began under another identity, no settling sets BootNext, wherever it is cut off and
+/// whether it fails or not: it is as it was or isn't there.
+pub fn no_settling_after_a_start_sets_boot_next()
+    ensures { (boot : List ℕ) (s : Store) (moves back : ℕ) → BeganUnderAnother boot s.journal.pending →
+        (map.get (cut_undoing boot moves back s).variables next_text ≡ None)
+        ⊎ (map.get (cut_undoing boot moves back s).variables next_text ≡ map.get s.variables next_text) }
+{}
+
+/// After each move of an update, of its taking back and of each settling before the next start, the variables are those
+/// after some of its changes, from the first one on. After starts they are that too, or without BootNext.
+pub fn variables_are_those_after_some_changes()
+    ensures before_a_start { (boot : List ℕ) (s : Store) (to : Variables) (update : Event) (settlings : List Event) →
+        IsIdle s → IsUpdateTo to update → AreSettlings settlings →
+        IsFront (changes_from (seen s) to) s.variables (all_happen (world boot s) (update ∷ settlings)).store.variables }
+    ensures after_a_start { (boot next_boot : List ℕ) (deletes : Bool) (s : Store) (to : Variables) (update : Event) (settlings later : List Event) →
+        IsIdle s → IsUpdateTo to update → AreSettlings settlings → same_name next_boot boot ≡ false → AreSettlingsOrStarts boot later →
+        (front : Variables) × (gone : Bool) × IsFront (changes_from (seen s) to) s.variables front
+        × ((all_happen (all_happen (world boot s) (update ∷ settlings)) (Starts next_boot deletes ∷ later)).store.variables ≡ without_next gone front) }
+{
+    store_laws::each_change_is_needed();
+    store_laws::each_change_is_of_another_variable();
+    store_laws::entry_names_are_those_of_numbers();
+    vars_laws::order_and_next_are_no_entries();
+}
+
+/// Nothing dangles. Where the variables are those after some changes of an update, from the first one on, with BootNext or
+/// without, a missing entry that BootOrder or BootNext names was missing and named before the update, or is so after it.
+pub fn nothing_dangles_in_between()
+    ensures order { (s : Store) (to front : Variables) (gone : Bool) (number : ℕ) → number < 2 ^ 16 →
+        IsFront (changes_from (seen s) to) s.variables front → DanglesInOrder (without_next gone front) number →
+        DanglesInOrder s.variables number ⊎ DanglesInOrder to number }
+    ensures next { (s : Store) (to front : Variables) (gone : Bool) (number : ℕ) → number < 2 ^ 16 →
+        IsFront (changes_from (seen s) to) s.variables front → DanglesAsNext (without_next gone front) number →
+        DanglesAsNext s.variables number ⊎ DanglesAsNext to number }
+{
+    store_laws::nothing_dangles_in_between();
+    vars_laws::order_and_next_are_no_entries();
+}
+
+/// Firmware's own. What firmware did to variables that no change is of stays, and changes that are made again after
+/// firmware's are those made over firmware's alone.
+pub fn firmware_keeps_its_own()
+    ensures others { (changes : List ChangeParts) (vars : Variables) (name : List ℕ) → LeaveAlone name changes →
+        map.get (made changes vars) name ≡ map.get vars name }
+    ensures over { (changes : List ChangeParts) (firmware : List (List ℕ × Option (List ℕ))) (vars : Variables) (count : ℕ) →
+        made changes (after_each (made (take count changes) vars) firmware) ≡ made changes (after_each vars firmware) }
+{}
+
+/// Exactly once. If the updates that happened are by requests, and firmware did nothing to the boot manager's variables but
+/// start the machine and delete BootNext, then the machine stands for variables that open as a state with the entries, the
+/// order, the next number and the outcomes of the run of all their events, with a restart between two updates: each
+/// accepted request is applied once, in the order of the numbers. BootNext is that of the run, or is gone.
+pub fn each_request_is_applied_once()
+    ensures { (w : World) (events : List Event) (start : State) (run : List Seen) → IsIdle w.store → StartsAreNew (w.boot ∷ []) events →
+        OpensAs (stands_for w.boot w.store) start → IsRunOf (stands_for w.boot w.store) (happened w events) run →
+        (now : State) × OpensAs (stands_for (all_happen w events).boot (all_happen w events).store) now
+        × AgreesButForNext now (state_at start run) }
+{
+    store_laws::each_change_is_needed();
+    store_laws::all_changes_lead_to_the_other_set();
+    store_laws::entry_names_are_those_of_numbers();
+    vars_laws::order_and_next_are_no_entries();
+    request_laws::a_run_leads_to_a_state();
+    request_laws::each_plain_state_has_a_turn();
+    request_laws::a_turn_goes_on_with_the_run();
+    request_laws::a_start_stands_for_no_events();
+    request_laws::an_image_is_migrated_to_itself();
+}
+
+/// A journal has a spelling, of bytes.
+pub fn each_journal_is_spelled()
+    ensures { (journal : JournalParts) → IsJournal journal →
+        (bytes : List ℕ) × SpellsJournal bytes journal × AllByRecursion IsByte bytes }
+{
+    vars_laws::boot_names_are_names();
+}
+
+/// A journal has at most one spelling.
+pub fn a_journal_has_one_spelling()
+    ensures { (journal : JournalParts) (a b : List ℕ) → SpellsJournal a journal → SpellsJournal b journal → a ≡ b }
+{}
+
+/// Bytes spell at most one journal.
+pub fn bytes_spell_one_journal()
+    ensures { (bytes : List ℕ) (a b : JournalParts) → SpellsJournal bytes a → SpellsJournal bytes b → a ≡ b }
+{}
+
+/// Bytes spell a journal, or have a first fault.
+pub fn bytes_spell_a_journal_or_have_a_fault()
+    ensures { (bytes : List ℕ) → AllByRecursion IsByte bytes →
+        ((journal : JournalParts) × SpellsJournal bytes journal)
+        ⊎ ((fault : JournalFault) × IsJournalFault bytes fault) }
+{}
+
+/// Bytes that have a first fault spell no journal.
+pub fn a_fault_leaves_no_journal()
+    ensures { (bytes : List ℕ) (fault : JournalFault) (journal : JournalParts) →
+        IsJournalFault bytes fault → SpellsJournal bytes journal → ⊥ }
+{}
+
+/// Bytes have at most one first fault.
+pub fn bytes_have_one_journal_fault()
+    ensures { (bytes : List ℕ) (f g : JournalFault) →
+        IsJournalFault bytes f → IsJournalFault bytes g → f ≡ g }
+{}
+
+/// `==` on the faults of a journal tells whether they are equal.
+pub fn journal_faults_compare_as_values()
+    ensures { (a b : JournalFault) → IsTrue (⟦<JournalFault as PartialEq>⟧.eq a b) ↔ (a ≡ b) }
+{}

@@ -1,0 +1,35 @@
+//! Updates of a machine's boot variables that are whole whatever is cut off when (UEFI specification, version 2.10,
+//! chapter 3).
+//!
+//! Firmware stores one variable at a time, and power may fail between two of them. So a [`Machine`] has a [`Journal`] beside
+//! its variables: [`update`] first writes there what it is about to change, and [`settle`] does what a journal is left with,
+//! or takes it back if the machine refuses a move. [`command`] settles, runs something over the variables, such as
+//! [`Requests`], and updates. [`Recorded`] makes a machine of a [`Device`]. [`read_journal`] reads a journal from the bytes of
+//! its file, all of them, and [`write_journal`] gives its one spelling.
+#![tactic(auto)]
+
+mod boot_id;
+mod change;
+mod commanding;
+mod fault;
+mod journal;
+pub mod laws;
+mod machine;
+mod reader;
+mod recorded;
+mod requests;
+mod updating;
+mod work;
+mod writer;
+
+pub use boot_id::BootId;
+pub use change::Change;
+pub use commanding::{Run, command};
+pub use fault::JournalFault;
+pub use journal::Journal;
+pub use machine::{CallError, CommandError, Machine, UpdateError};
+pub use reader::read_journal;
+pub use recorded::{Device, Recorded};
+pub use requests::Requests;
+pub use updating::{settle, update};
+pub use writer::write_journal;

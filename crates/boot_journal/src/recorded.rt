@@ -1,0 +1,255 @@
+//! Machines over devices, with a record of what was done.
+
+ghost use Rattle.std.specs.Prelude.{◌≡◌, [], IfOk, OnOk, ◌∷◌, ◌++◌, ◌+◌, ◌<◌, ◌≤◌};
+ghost use Rattle.std.specs.Coded.{codes};
+ghost use Rattle.std.specs.FinMap.{code as map_code};
+ghost use Rattle.std.specs.Option.{option_map};
+ghost use Rattle.std.specs.Vec.{vec_len, vec_capacity};
+ghost use Rattle.uefi_vars.specs.NameChanges.{with_data};
+ghost use Rattle.boot_journal.specs.Changes.{made};
+ghost use Rattle.boot_journal.specs.Recorded.{done_to, past, refusals_in};
+ghost use Rattle.boot_journal.specs.Store.{with_made, with_journal, seen};
+ghost use Rattle.boot_journal.specs.RecordedValue.{store_of};
+ghost use Rattle.boot_journal.specs.declared.recorded.Move.TheVariants as Move;
+
+use crate::change::Change;
+use crate::journal::{Journal, KEEP_STATE};
+use crate::machine::{CallError, Machine};
+use std::alloc::{AllocError, Global};
+use uefi_vars::Vars;
+
+/// What a machine's variables and its journal are kept in, such as a folder of the system. What it does isn't proved. It is
+/// trusted that each call does the whole of what it is asked to, or nothing, and tells which; that a call for what is there
+/// already succeeds; and that nobody else changes the boot manager's variables meanwhile.
+pub trait Device: Drop {
+    /// Why it refuses something.
+    type Refusal: Drop;
+
+    /// Sets the variable to its data after the change, or takes it out.
+    fn make(&mut self, change: &Change) -> Result<(), CallError<Self::Refusal>>;
+
+    /// Whether the variable has its data after the change, although `make` failed.
+    fn has_made(&mut self, change: &Change) -> bool;
+
+    /// Replaces the journal.
+    fn replace_journal(&mut self, journal: &Journal) -> Result<(), CallError<Self::Refusal>>;
+
+    /// Whether the journal is this one, although `replace_journal` failed.
+    fn has_replaced(&mut self, journal: &Journal) -> bool;
+}
+
+/// What was done to a machine.
+#[derive(Debug, Drop)]
+pub(crate) enum Move {
+    /// A change was made.
+    Made(Change),
+    /// The journal was replaced by this one.
+    Replaced(Journal),
+    /// A call failed, and nothing was done.
+    Refused,
+}
+
+/// What is kept of a machine.
+#[derive(Debug, Drop)]
+pub(crate) struct Kept {
+    /// The variables of its firmware.
+    pub(crate) vars: Vars,
+    /// Its journal.
+    pub(crate) journal: Journal,
+}
+
+/// A machine over a device. It keeps what the device has, and a record of what was done to it. That it calls the device for
+/// each of these is read in its source, and no contract says it.
+#[derive(Drop)]
+pub struct Recorded<D: Device> {
+    device: D,
+    alloc: Global,
+    first: Kept,
+    moves: Vec<Move>,
+    now: Kept,
+
+    ghost vars_are: { now.vars ≡ (done_to (store_of first) moves.items).variables } by { Prim.hlevel (codes, map_code) },
+    ghost journal_is: { now.journal ≡ (done_to (store_of first) moves.items).journal },
+}
+
+impl<D: Device> Recorded<D> {
+    /// The machine over this device, which has these variables and this journal. A BootKeepState among the variables doesn't
+    /// count: the journal has it. This fails only if memory is refused.
+    pub fn new(
+        alloc: Global,
+        device: D,
+        vars: Vars,
+        journal: Journal,
+    ) -> Result<Recorded<D>, AllocError>
+        ensures { IfOk result (λ machine. (store_of machine.now ≡ record { variables = vars; journal = journal }) × (machine.moves.items ≡ [])) }
+    {
+        let first = Kept {
+            vars: vars.copy(alloc)?,
+            journal: journal.copy(alloc)?,
+        };
+        Ok(Recorded {
+            device,
+            alloc,
+            first,
+            moves: Vec::new(alloc),
+            now: Kept { vars, journal },
+        })
+    }
+
+    /// The device.
+    pub fn device(&self) -> &D {
+        &self.device
+    }
+
+    /// Keeps that the change was made, which leads to these variables.
+    fn keep_change(&mut self, change: Change, vars: Vars)
+        requires room { vec_len self.old.moves < vec_capacity self.old.moves }
+        requires leads { vars ≡ made (change ∷ []) self.old.now.vars }
+        ensures store { store_of self.new.now ≡ with_made (change ∷ []) (store_of self.old.now) }
+        ensures first { self.new.first ≡ self.old.first }
+        ensures moves { self.new.moves.items ≡ self.old.moves.items ++ Move.Made change ∷ [] }
+        ensures len { vec_len self.new.moves ≡ vec_len self.old.moves + 1 }
+        ensures capacity { vec_capacity self.new.moves ≡ vec_capacity self.old.moves }
+    {
+        self.now.vars = vars;
+        self.moves.push_reserved(Move::Made(change));
+    }
+
+    /// Keeps that the journal was replaced by this one.
+    fn keep_journal(&mut self, kept: Journal, journal: Journal)
+        requires room { vec_len self.old.moves < vec_capacity self.old.moves }
+        requires same { kept ≡ journal }
+        ensures store { store_of self.new.now ≡ with_journal journal (store_of self.old.now) }
+        ensures first { self.new.first ≡ self.old.first }
+        ensures moves { self.new.moves.items ≡ self.old.moves.items ++ Move.Replaced journal ∷ [] }
+        ensures len { vec_len self.new.moves ≡ vec_len self.old.moves + 1 }
+        ensures capacity { vec_capacity self.new.moves ≡ vec_capacity self.old.moves }
+    {
+        self.now.journal = journal;
+        self.moves.push_reserved(Move::Replaced(kept));
+    }
+
+    /// Keeps that a call failed.
+    fn keep_refusal(&mut self)
+        requires room { vec_len self.old.moves < vec_capacity self.old.moves }
+        ensures store { store_of self.new.now ≡ store_of self.old.now }
+        ensures first { self.new.first ≡ self.old.first }
+        ensures moves { self.new.moves.items ≡ self.old.moves.items ++ Move.Refused ∷ [] }
+    {
+        self.moves.push_reserved(Move::Refused);
+    }
+}
+
+impl<D: Device> Recorded<D> {
+    /// Makes room in the record for what a call may do. This fails only if memory is refused.
+    fn reserve(&mut self) -> Result<(), AllocError>
+        ensures room { OnOk result (vec_len self.new.moves + 2 ≤ vec_capacity self.new.moves) }
+        ensures now { store_of self.new.now ≡ store_of self.old.now }
+        ensures first { self.new.first ≡ self.old.first }
+        ensures moves { self.new.moves.items ≡ self.old.moves.items }
+    {
+        self.moves.reserve(2)
+    }
+}
+
+impl<D: Device> Machine for Recorded<D> {
+    ghost use Rattle.boot_journal.specs.Recorded.{past, refusals_in};
+    ghost use Rattle.boot_journal.specs.RecordedValue.{store_of};
+
+    type Refusal = D::Refusal;
+
+    ghost store = { λ machine. store_of machine.now };
+
+    ghost history = { λ machine. past (store_of machine.first) machine.moves.items };
+
+    ghost refusals = { λ machine. refusals_in machine.moves.items };
+
+    fn read_vars(&self, alloc: Global) -> Result<Vars, AllocError> {
+        read_seen(alloc, &self.now)
+    }
+
+    fn read_journal(&self, alloc: Global) -> Result<Journal, AllocError> {
+        self.now.journal.copy(alloc)
+    }
+
+    fn make(&mut self, change: &Change) -> Result<(), CallError<D::Refusal>> {
+        let vars = changed(self.alloc, &self.now.vars, change)?;
+        let copy = change.copy(self.alloc)?;
+        self.reserve()?;
+        match self.device.make(change) {
+            Ok(()) => {
+                self.keep_change(copy, vars);
+                Ok(())
+            }
+            Err(error) => {
+                if self.device.has_made(change) {
+                    self.keep_change(copy, vars);
+                    self.keep_refusal();
+                    Err(error)
+                } else {
+                    self.keep_refusal();
+                    Err(error)
+                }
+            }
+        }
+    }
+
+    fn replace_journal(&mut self, journal: &Journal) -> Result<(), CallError<D::Refusal>> {
+        let kept = journal.copy(self.alloc)?;
+        let copy = journal.copy(self.alloc)?;
+        self.reserve()?;
+        match self.device.replace_journal(journal) {
+            Ok(()) => {
+                self.keep_journal(kept, copy);
+                Ok(())
+            }
+            Err(error) => {
+                if self.device.has_replaced(journal) {
+                    self.keep_journal(kept, copy);
+                    self.keep_refusal();
+                    Err(error)
+                } else {
+                    self.keep_refusal();
+                    Err(error)
+                }
+            }
+        }
+    }
+}
+
+/// What is read of a machine: its variables with BootKeepState. This fails only if memory is refused.
+fn read_seen(alloc: Global, kept: &Kept) -> Result<Vars, AllocError>
+    ensures { IfOk result (λ vars. vars ≡ seen (store_of kept.now)) }
+{
+    with_value(alloc, &kept.vars, KEEP_STATE, kept.journal.state())
+}
+
+/// The variables after the change. This fails only if memory is refused.
+fn changed(alloc: Global, vars: &Vars, change: &Change) -> Result<Vars, AllocError>
+    ensures { IfOk result (λ after. after ≡ made (change.now ∷ []) vars.now) }
+{
+    with_value(alloc, vars, change.name(), change.after())
+}
+
+/// The variables with this data under the name, or without the name. This fails only if memory is refused, since the set
+/// can hold it.
+fn with_value(
+    alloc: Global,
+    vars: &Vars,
+    name: &str,
+    value: Option<&[u8]>,
+) -> Result<Vars, AllocError>
+    ensures { IfOk result (λ after. after ≡ with_data vars.now name.now (option_map (λ b. b.now) value.entry)) }
+{
+    let mut vars = vars.copy(alloc)?;
+    match value {
+        Some(value) => match vars.put(name, value) {
+            Ok(()) => Ok(vars),
+            Err(_) => Err(AllocError),
+        },
+        None => {
+            vars.remove(name);
+            Ok(vars)
+        }
+    }
+}
