@@ -1,5 +1,5 @@
 -- Updates, whole or cut off, whether they fail or not.
-use Rattle.std.proofs.Common.{◌≡◌, ◌<◌, ◌^◌, ◌↔◌, inl, inr, ⊎_elim, ℕ, zero, suc, ◌||◌, Bool, true, false, cond, List, [], ◌∷◌, take, length, Option, refl, sym, ap, subst, ◌∙◌, arith}
+use Rattle.std.proofs.Common.{◌≡◌, ◌<◌, ◌^◌, ◌↔◌, inl, inr, ⊎_elim, ℕ, zero, suc, ◌||◌, Bool, true, false, cond, List, [], ◌∷◌, take, length, Option, refl, sym, ap, subst, ◌∙◌, arith, if◌then◌else◌, ◌⊎◌}
 use Rattle.std.specs.List.{AllByRecursion}
 use Rattle.std.specs.FinMap.{get}
 use Rattle.std.specs.Cmp.{Equal-is}
@@ -11,10 +11,10 @@ use Rattle.boot_requests.specs.State.{keep_text}
 use Rattle.boot_journal.specs.Changes.{made, taken_back, TellWhatIsThere}
 use Rattle.boot_journal.specs.Journal.{JournalParts, idle, begun, due, due_by, turned, is_making}
 use Rattle.boot_journal.specs.Store.{Store, with_made, with_journal, with_state, seen, stands_for, falls_back_to, brought, journal_to, updated, IsIdle, IsBeforeOrAfter}
-use Rattle.boot_journal.specs.Moves.{cut_carrying, cut_carrying_by, IsCarrying, IsUpdating}
+use Rattle.boot_journal.specs.Moves.{cut_making, cut_carrying, cut_carrying_by, IsCarrying, IsUpdating}
 use Rattle.boot_journal.specs.Events.{updating, failing}
 use Rattle.boot_journal.specs.declared.work.Work.{Work}
-use Rattle.boot_journal.specs.Working.{IsWork, IsUndertaking, IsGivenUp}
+use Rattle.boot_journal.specs.Working.{IsWork, IsGoingOn, IsTakenBack, IsUndertaking, IsGivenUp}
 use Rattle.boot_journal.proofs.Single.{one_name}
 use Rattle.boot_journal.proofs.Making.{making_is, idle_stands, carrying_after, own_due, carrying_variables, back_again, get-state, state_of_seen, state_over}
 
@@ -53,6 +53,19 @@ carrying_undertakes work back s c at = (at.0, 0, at.1)
 
 pub taking_undertakes : (work back : Work) (s mid c : Store) → IsCarrying work.journal work.due.items work.last s mid → IsCarrying back.journal back.due.items back.last mid c → IsUndertaking work back s c
 taking_undertakes work back s mid c at taking = (at.0, taking.0, taking.1 ∙ ap (cut_carrying_by back.journal back.due.items back.last taking.0) at.1)
+
+-- what goes on after the journal was replaced
+pub going_undertakes : (work back : Work) (s mid c : Store) → is_making work.journal.pending ≡ true → mid ≡ with_journal work.journal s → IsGoingOn work back mid c → IsUndertaking work back s c
+going_undertakes work back s mid c making begun at = (
+  suc at.0,
+  at.1,
+  at.2 ∙ ap (λ b. if b then cut_carrying_by back.journal back.due.items back.last at.1 (cut_making at.0 work.due.items work.last mid) else cut_making at.0 work.due.items work.last mid) making
+      ∙ ap (λ (t : Store). cut_carrying_by back.journal back.due.items back.last at.1 (cut_making at.0 work.due.items work.last t)) begun,
+)
+
+pub taken_gives_up : (work back : Work) (s mid c : Store) → mid ≡ with_journal work.journal s → IsTakenBack work back mid c → (c ≡ s) ⊎ IsGivenUp work back s c
+taken_gives_up work back s mid c begun at =
+    inr (suc at.1, at.2 ∙ ap (λ (t : Store). with_journal back.last (with_made back.due.items (cut_making at.1 work.due.items work.last t))) begun)
 
 module _ (needed : (from to : Variables) → AllByRecursion (IsNeeded from to) (changes_from from to)) (no_keep : is_boot_name keep_text ≡ false) where
   pub not_keep : (name : List ℕ) → is_boot_name name ≡ true → same_name name keep_text ≡ false

@@ -1,5 +1,5 @@
 -- Why a call fails.
-use Rattle.std.specs.Prelude.{◌≡◌, ℕ, ◌<◌, ◌≤◌, Result, Err}
+use Rattle.std.specs.Prelude.{◌≡◌, ℕ, ◌+◌, ◌<◌, ◌≤◌, Result, Err, Option, Some, None}
 use Rattle.boot_journal.specs.declared.machine.CallError.{CallError}
 use Rattle.boot_journal.specs.declared.machine.CallError.TheVariants.{OutOfMemory, Refused}
 use Rattle.boot_journal.specs.declared.machine.UpdateError.{UpdateError}
@@ -14,24 +14,33 @@ pub record HasCause {T E : Type 0} (before now : ℕ) (result : Result T (CallEr
 pub record HasUpdateCause {T E : Type 0} (before now : ℕ) (result : Result T (UpdateError E)) : Type 0 where
   pub later : before ≤ now
   pub taken_back : (refusal : E) → result ≡ Err (update.TakenBack (Refused refusal)) → before < now
-  pub unsettled : (refusal : E) → result ≡ Err (update.Unsettled (Refused refusal)) → before < now
+  pub unsettled : (refusal : E) (second : Option (CallError E)) → result ≡ Err (update.Unsettled (Refused refusal) second) → before < now
+  pub both : (refusal second : E) → result ≡ Err (update.Unsettled (Refused refusal) (Some (Refused second))) → 1 + before < now
 
 -- what an error says
 abbrev pub IfNothingDone : {E : Type 0} → UpdateError E → Type 0 → Type 0
 IfNothingDone update.OutOfMemory Is = Is
 IfNothingDone (update.TakenBack _) Is = Unit {0}
-IfNothingDone (update.Unsettled _) Is = Unit {0}
+IfNothingDone (update.Unsettled _ _) Is = Unit {0}
 
 abbrev pub IfTakenBack : {E : Type 0} → UpdateError E → Type 0 → Type 0
 IfTakenBack update.OutOfMemory Is = Unit {0}
 IfTakenBack (update.TakenBack _) Is = Is
-IfTakenBack (update.Unsettled _) Is = Unit {0}
+IfTakenBack (update.Unsettled _ _) Is = Unit {0}
+
+-- it wasn't tried to take anything back
+abbrev pub IfUntried : {E : Type 0} → UpdateError E → Type 0 → Type 0
+IfUntried update.OutOfMemory Is = Unit {0}
+IfUntried (update.TakenBack _) Is = Unit {0}
+IfUntried (update.Unsettled _ None) Is = Is
+IfUntried (update.Unsettled _ (Some _)) Is = Unit {0}
 
 -- the error tells this cause
 abbrev pub IsCausedBy : {E : Type 0} → CallError E → UpdateError E → Type 0
 IsCausedBy cause update.OutOfMemory = ⊥
 IsCausedBy cause (update.TakenBack told) = told ≡ cause
-IsCausedBy cause (update.Unsettled told) = told ≡ cause
+IsCausedBy cause (update.Unsettled told None) = ⊥
+IsCausedBy cause (update.Unsettled told (Some second)) = told ≡ cause
 
 -- why a call was refused
 abbrev pub IfRefused : {E : Type 0} → CallError E → (E → Type 0) → Type 0

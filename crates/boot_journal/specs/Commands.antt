@@ -1,6 +1,7 @@
 -- Commands: a settling, a run, and an update.
-use Rattle.std.specs.Prelude.{◌≡◌, ◌⊎◌, ℕ, ◌<◌, ◌≤◌, List, Result, Err}
+use Rattle.std.specs.Prelude.{◌≡◌, ◌⊎◌, Option, ℕ, ◌<◌, ◌≤◌, List, Result, Err}
 use Rattle.uefi_vars.specs.Vars.{Variables}
+use Rattle.boot_journal.specs.declared.machine.CallError.{CallError}
 use Rattle.boot_journal.specs.declared.machine.CallError.TheVariants.{Refused}
 use Rattle.boot_journal.specs.declared.machine.UpdateError.TheVariants.{OutOfMemory, TakenBack, Unsettled}
 use Rattle.boot_journal.specs.declared.machine.CommandError.{CommandError}
@@ -22,12 +23,12 @@ IsCommandMoment Leads boot s c =
 abbrev pub IfUnchanged : {E F : Type 0} → CommandError E F → Type 0 → Type 0
 IfUnchanged (command.Settling OutOfMemory) Is = Is
 IfUnchanged (command.Settling (TakenBack _)) Is = Unit {0}
-IfUnchanged (command.Settling (Unsettled _)) Is = Unit {0}
+IfUnchanged (command.Settling (Unsettled _ _)) Is = Unit {0}
 IfUnchanged command.OutOfMemory Is = Is
 IfUnchanged (command.Run _) Is = Is
 IfUnchanged (command.Updating OutOfMemory) Is = Is
 IfUnchanged (command.Updating (TakenBack _)) Is = Is
-IfUnchanged (command.Updating (Unsettled _)) Is = Unit {0}
+IfUnchanged (command.Updating (Unsettled _ _)) Is = Unit {0}
 
 -- the run refused the variables, for this fault
 abbrev pub IfRunRefused : {E F : Type 0} → CommandError E F → (F → Type 0) → Type 0
@@ -40,6 +41,6 @@ IfRunRefused (command.Updating _) Is = Unit {0}
 pub record HasCommandCause {T E F : Type 0} (before now : ℕ) (result : Result T (CommandError E F)) : Type 0 where
   pub later : before ≤ now
   pub settling_taken_back : (refusal : E) → result ≡ Err (command.Settling (TakenBack (Refused refusal))) → before < now
-  pub settling_unsettled : (refusal : E) → result ≡ Err (command.Settling (Unsettled (Refused refusal))) → before < now
+  pub settling_unsettled : (refusal : E) (second : Option (CallError E)) → result ≡ Err (command.Settling (Unsettled (Refused refusal) second)) → before < now
   pub updating_taken_back : (refusal : E) → result ≡ Err (command.Updating (TakenBack (Refused refusal))) → before < now
-  pub updating_unsettled : (refusal : E) → result ≡ Err (command.Updating (Unsettled (Refused refusal))) → before < now
+  pub updating_unsettled : (refusal : E) (second : Option (CallError E)) → result ≡ Err (command.Updating (Unsettled (Refused refusal) second)) → before < now

@@ -1,6 +1,6 @@
 //! Machines, as updates see them.
 
-ghost use Rattle.std.specs.Prelude.{◌≡◌, [], ◌∷◌, ℕ, List, IfOk, OnOk};
+ghost use Rattle.std.specs.Prelude.{◌≡◌, ◌↔◌, IsTrue, None, [], ◌∷◌, ℕ, List, IfOk, OnOk};
 ghost use Rattle.boot_journal.specs.Cause.{HasCause};
 ghost use Rattle.boot_journal.specs.Moments.{Leaves, IsRecorded};
 ghost use Rattle.boot_journal.specs.Store.{Store, with_made, with_journal, seen, IsEither};
@@ -26,9 +26,10 @@ pub enum UpdateError<E> {
     OutOfMemory,
     /// A move was refused, of the journal or of a variable, and the update is taken back: it hasn't happened.
     TakenBack(CallError<E>),
-    /// A move was refused, and then one of taking the update back. The journal keeps what is to be done, and the next
+    /// A move was refused, for the first reason, and then a move of taking the update back, for the second. Without a second
+    /// reason it was a settling that was taking an update back already. The journal keeps what is to be done, and the next
     /// settling goes on with it: the update may still happen, so don't take it for one that failed.
-    Unsettled(CallError<E>),
+    Unsettled(CallError<E>, Option<CallError<E>>),
 }
 
 impl<E> From<AllocError> for UpdateError<E> {
@@ -100,6 +101,10 @@ pub trait Machine {
     /// The journal. This fails only if memory is refused.
     fn read_journal(&self, alloc: Global) -> Result<Journal, AllocError>
         ensures { IfOk result (λ journal. journal ≡ (store self.now).journal) };
+
+    /// Whether the journal has nothing that is still to be done.
+    fn is_idle(&self) -> bool
+        ensures { IsTrue result ↔ ((store self.now).journal.pending ≡ None) };
 
     /// Makes the change of one variable.
     fn make(&mut self, change: &Change) -> Result<(), CallError<Self::Refusal>>

@@ -172,6 +172,10 @@ impl<D: Device> Machine for Recorded<D> {
         self.now.journal.copy(alloc)
     }
 
+    fn is_idle(&self) -> bool {
+        self.now.journal.is_idle()
+    }
+
     fn make(&mut self, change: &Change) -> Result<(), CallError<D::Refusal>> {
         let vars = changed(self.alloc, &self.now.vars, change)?;
         let copy = change.copy(self.alloc)?;

@@ -1,8 +1,11 @@
 //! Updates, and what settles them.
 
-ghost use Rattle.std.specs.Prelude.{◌≡◌, ◌≤◌, IfErr, OnOk, OnErr};
+ghost use Rattle.std.specs.Prelude.{◌≡◌, ◌⊎◌, ◌<◌, ◌≤◌, true, false, Some, IfErr, OnOk, OnErr};
 ghost use Rattle.boot_journal.specs.Working.{IsGoingOn, IsTakenBack, IsUndertaking, IsGivenUp};
-ghost use Rattle.boot_journal.specs.Cause.{HasCause, HasUpdateCause, IsCausedBy, IfNothingDone, IfTakenBack};
+ghost use Rattle.boot_journal.specs.Cause.{HasCause, HasUpdateCause, IsCausedBy, IfNothingDone, IfTakenBack, IfUntried};
+ghost use Rattle.boot_journal.specs.declared.machine.CallError.TheVariants as CallError;
+ghost use Rattle.boot_journal.specs.declared.machine.UpdateError.TheVariants as UpdateError;
+ghost use Rattle.boot_journal.specs.Journal.{is_making};
 ghost use Rattle.boot_journal.specs.Moments.{Leaves};
 ghost use Rattle.boot_journal.specs.Moves.{IsMaking, IsCarrying, IsSettling, IsUpdating, settled};
 ghost use Rattle.boot_journal.specs.Store.{with_made, with_journal, IsIdle, IsFrontStore, IsBeforeOrAfter, IsSettledOrTakenBack, updated, stands_for, falls_back_to};
@@ -65,6 +68,8 @@ fn take_back<M: Machine>(
 ) -> UpdateError<M::Refusal>
     ensures later { M.refusals machine.old ≤ M.refusals machine.new }
     ensures cause { IsCausedBy cause result }
+    ensures second { (refusal : M.Refusal) → result ≡ UpdateError.Unsettled cause (Some (CallError.Refused refusal)) →
+        M.refusals machine.old < M.refusals machine.new }
     ensures done { IfTakenBack result (M.store machine.new
         ≡ with_journal back.now.last (with_made back.now.due.items (M.store machine.old))) }
     ensures amid { IsCarrying back.now.journal back.now.due.items back.now.last (M.store machine.old) (M.store machine.new) }
@@ -73,7 +78,7 @@ fn take_back<M: Machine>(
 {
     match carry_out(machine, back) {
         Ok(()) => UpdateError::TakenBack(cause),
-        Err(_) => UpdateError::Unsettled(cause),
+        Err(second) => UpdateError::Unsettled(cause, Some(second)),
     }
 }
 
@@ -89,6 +94,7 @@ fn go_on<M: Machine>(
     ensures something { IfErr result (λ error. IfNothingDone error ⊥) }
     ensures taken_back { IfErr result (λ error. IfTakenBack error
         (IsTakenBack work.now back.now (M.store machine.old) (M.store machine.new))) }
+    ensures tried { IfErr result (λ error. IfUntried error (is_making work.now.journal.pending ≡ false)) }
     ensures left { IsGoingOn work.now back.now (M.store machine.old) (M.store machine.new) }
     ensures moments { Leaves (IsGoingOn work.now back.now (M.store machine.old)) (M.history machine.old) (M.history machine.new) }
 {
@@ -98,7 +104,7 @@ fn go_on<M: Machine>(
             if work.journal.is_making() {
                 Err(take_back(machine, back, cause))
             } else {
-                Err(UpdateError::Unsettled(cause))
+                Err(UpdateError::Unsettled(cause, None))
             }
         }
     }
@@ -124,6 +130,7 @@ pub fn settle<M: Machine>(
     ensures nothing { IfErr result (λ error. IfNothingDone error (M.store machine.new ≡ M.store machine.old)) }
     ensures taken_back { IfErr result (λ error. IfTakenBack error
         (IsIdle (M.store machine.new) × (stands_for boot.now (M.store machine.new) ≡ falls_back_to boot.now (M.store machine.old)))) }
+    ensures tried { IfErr result (λ error. IfUntried error (is_making (M.store machine.old).journal.pending ≡ false)) }
     // Whatever is cut off when, the machine stands for what it stood for, or for what that falls back to.
     ensures any_moment { Leaves (IsSettledOrTakenBack boot.now (M.store machine.old)) (M.history machine.old) (M.history machine.new) }
     // What is there then, and after each move.
@@ -139,24 +146,33 @@ pub fn settle<M: Machine>(
     go_on(machine, &work, &back)
 }
 
-/// Carries a journal out, or takes it back if the machine refuses a move.
+/// Carries a journal of changes that are made out, or takes it back if the machine refuses a move. If the journal itself is
+/// refused, there is nothing to take back.
 fn undertake<M: Machine>(
     machine: &mut M,
     work: &Work,
     back: &Work,
 ) -> Result<(), UpdateError<M::Refusal>>
+    requires { is_making work.now.journal.pending ≡ true }
     ensures cause { HasUpdateCause (M.refusals machine.old) (M.refusals machine.new) result }
     ensures done { OnOk result (M.store machine.new
         ≡ with_journal work.now.last (with_made work.now.due.items (M.store machine.old))) }
     ensures something { IfErr result (λ error. IfNothingDone error ⊥) }
-    ensures taken_back { IfErr result (λ error. IfTakenBack error
-        (IsGivenUp work.now back.now (M.store machine.old) (M.store machine.new))) }
+    ensures taken_back { IfErr result (λ error. IfTakenBack error ((M.store machine.new ≡ M.store machine.old)
+        ⊎ IsGivenUp work.now back.now (M.store machine.old) (M.store machine.new))) }
+    ensures tried { IfErr result (λ error. IfUntried error ⊥) }
     ensures left { IsUndertaking work.now back.now (M.store machine.old) (M.store machine.new) }
     ensures moments { Leaves (IsUndertaking work.now back.now (M.store machine.old)) (M.history machine.old) (M.history machine.new) }
 {
-    match carry_out(machine, work) {
-        Ok(()) => Ok(()),
-        Err(cause) => Err(take_back(machine, back, cause)),
+    match machine.replace_journal(&work.journal) {
+        Ok(()) => go_on(machine, work, back),
+        Err(cause) => {
+            if machine.is_idle() {
+                Err(UpdateError::TakenBack(cause))
+            } else {
+                Err(take_back(machine, back, cause))
+            }
+        }
     }
 }
 
@@ -181,6 +197,7 @@ pub fn update<M: Machine>(
     ensures done { OnOk result (M.store machine.new ≡ updated (M.store machine.old) to.now) }
     ensures nothing { IfErr result (λ error. IfNothingDone error (M.store machine.new ≡ M.store machine.old)) }
     ensures taken_back { IfErr result (λ error. IfTakenBack error (M.store machine.new ≡ M.store machine.old)) }
+    ensures tried { IfErr result (λ error. IfUntried error ⊥) }
     // Whatever is cut off when, the machine stands for what was before, or for what the update leads to.
     ensures any_moment { Leaves (IsBeforeOrAfter boot.now to.now (M.store machine.old)) (M.history machine.old) (M.history machine.new) }
     // What is there then, and after each move.

@@ -1,7 +1,7 @@
-use Rattle.std.proofs.Common.{refl, ◌≡◌, subst, ap, ◌∙◌}
+use Rattle.std.proofs.Common.{refl, ◌≡◌, ◌⊎◌, ⊎_elim, subst, ap, ◌∙◌}
 use Rattle.boot_journal.specs.Journal.{JournalParts, turned}
 use Rattle.boot_journal.specs.Store.{journal_to}
-use Rattle.boot_journal.specs.Working.{IsWork}
+use Rattle.boot_journal.specs.Working.{IsWork, IsGivenUp}
 use Rattle.boot_journal.proofs.Errors.{something_done, taken_back_then, done_then}
 use Rattle.boot_journal.proofs.Moments.{weaker}
 use Rattle.boot_journal.proofs.Updates.{AreWorkTo, journal_is, keep_is_none, undertaking_is_updating, updating_either, given_up_same, undertaken_is}
@@ -30,7 +30,9 @@ returns-clause-taken_back g c =
       backward = subst (λ (j : JournalParts). IsWork c.args.boot.now j c.in_ok-back.back) (c.in_ok-turned.ensures ∙ ap turned J) c.in_ok-back.ensures;
     } in
     let no_keep = keep_is_none c.entry_names_are_those_of_numbers.ensures c.order_and_next_are_no_entries.ensures.len in
-    taken_back_then _ _ _ (given_up_same c.each_change_is_needed.ensures no_keep c.args.boot.now c.args.to.now s _ c.in_ok-work.work c.in_ok-back.back c.requires are) c.undertake.ensures.taken_back
+    let c' = g.M.Machine.store c.undertake.new.machine in
+    taken_back_then ((c' ≡ s) ⊎ IsGivenUp c.in_ok-work.work c.in_ok-back.back s c') (c' ≡ s) _
+    (λ either. ⊎_elim (λ same. same) (given_up_same c.each_change_is_needed.ensures no_keep c.args.boot.now c.args.to.now s c' c.in_ok-work.work c.in_ok-back.back c.requires are) either) c.undertake.ensures.taken_back
 
 pub returns-clause-moves : goal.returns-clause-moves
 returns-clause-moves g c =
