@@ -1,7 +1,7 @@
 //! Locks on files that are to be replaced.
 
 use crate::output::OutputFault;
-use std::fs::{self, File, Metadata, OpenFile, OpenOptions};
+use std::fs::{self, File, Metadata, OpenFile, OpenOptions, TryLockError};
 use std::io::{self, ErrorKind};
 use std::os::unix::fs::{MetadataExt, fchown};
 use std::path::{Path, PathBuf};
@@ -18,6 +18,9 @@ pub trait OutputFile: OpenFile {
     /// Waits as long as another open file has a lock on what is open here, and takes it. It ends when this is closed.
     fn lock(&self) -> io::Result<()>;
 
+    /// Takes the lock unless another open file has it, and tells whether it was taken.
+    fn try_lock(&self) -> io::Result<bool>;
+
     /// Gives the file to this user and this group; `None` leaves it as it is.
     fn chown(&self, uid: Option<u32>, gid: Option<u32>) -> io::Result<()>;
 }
@@ -25,6 +28,14 @@ pub trait OutputFile: OpenFile {
 impl OutputFile for File {
     fn lock(&self) -> io::Result<()> {
         File::lock(self)
+    }
+
+    fn try_lock(&self) -> io::Result<bool> {
+        match File::try_lock(self) {
+            Ok(()) => Ok(true),
+            Err(TryLockError::WouldBlock) => Ok(false),
+            Err(TryLockError::Error(error)) => Err(error),
+        }
     }
 
     fn chown(&self, uid: Option<u32>, gid: Option<u32>) -> io::Result<()> {

@@ -103,6 +103,27 @@ pub fn try_write_file<R: Files<File: OutputFile> + AllocGlobal>(
     write_at(rt, lock.path.as_path(), &lock.found, bytes)
 }
 
+/// Replaces the file at this path as [`try_write_file`] does, or makes it, without a lock: the caller keeps others from it
+/// by other means, as by the lock of its folder, which it has already. A link isn't followed.
+///
+/// # Errors
+///
+/// That of the step that failed, [`ErrorKind::AlreadyExists`] if something else than a regular file is there, or
+/// [`ErrorKind::ResourceBusy`] if the path or the name of the new file no longer leads to what it led to.
+pub fn replace_file<R: Files<File: OutputFile> + AllocGlobal>(
+    rt: &R,
+    path: &str,
+    bytes: &[u8],
+) -> io::Result<()> {
+    let path = Path::new(path);
+    match fs::symlink_metadata(rt, path) {
+        Ok(old) if old.is_file() => place(rt, path, Some(&old), bytes),
+        Ok(_) => Err(io::Error::from(ErrorKind::AlreadyExists)),
+        Err(error) if error.kind() == ErrorKind::NotFound => place(rt, path, None, bytes),
+        Err(error) => Err(error),
+    }
+}
+
 /// Makes these bytes what is at the path, which leads to what was found.
 fn write_at<R: Files<File: OutputFile> + AllocGlobal>(
     rt: &R,

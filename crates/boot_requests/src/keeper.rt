@@ -23,6 +23,7 @@ use crate::fault::FrameFault;
 use crate::gap::{apply, apply_followers};
 use crate::laws;
 use crate::mark::Mark;
+use crate::outcome::Outcome;
 use crate::reader::read_frame;
 use crate::reply::Reply;
 use crate::request::Request;
@@ -93,6 +94,14 @@ impl Keeper {
         ensures valid { IsPlain self.now }
     {
         self.window.len(self.mark.next_number())
+    }
+
+    /// What came of the request of this number: `None` if it wasn't applied yet, or so long ago that its outcome isn't kept
+    /// any more.
+    pub fn outcome(&self, number: u32) -> Option<Outcome>
+        ensures { result ≡ kept_outcome self.now.state number }
+    {
+        self.mark.outcome(number)
     }
 
     /// The keeper after this event, and the answer to it. This keeper stays as it was, so it can still be used if the

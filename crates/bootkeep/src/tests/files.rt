@@ -94,6 +94,10 @@ impl OutputFile for FakeFile<'_> {
         }
     }
 
+    fn try_lock(&self) -> io::Result<bool> {
+        Err(io::Error::from(io::ErrorKind::Unsupported))
+    }
+
     fn chown(&self, _uid: Option<u32>, _gid: Option<u32>) -> io::Result<()> {
         Err(io::Error::from(io::ErrorKind::Unsupported))
     }

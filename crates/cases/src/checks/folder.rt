@@ -151,6 +151,11 @@ impl OutputFile for Opened<'_> {
         self.folder.step()
     }
 
+    fn try_lock(&self) -> io::Result<bool> {
+        self.folder.step()?;
+        Ok(true)
+    }
+
     fn chown(&self, _uid: Option<u32>, _gid: Option<u32>) -> io::Result<()> {
         self.folder.step()
     }
