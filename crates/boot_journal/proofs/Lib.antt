@@ -5,10 +5,12 @@ pub mod Parts
 pub mod Making
 pub mod Settling
 pub mod Updates
+pub mod Unchanged
 pub mod Whole
 pub mod Firmware
 pub mod Dangling
 pub mod Applied
+pub mod Followers
 pub mod Running
 pub mod Records
 pub mod Commands

@@ -1,10 +1,12 @@
 -- What may happen to a machine, one after the other.
 use Rattle.std.specs.Prelude.{◌≡◌, ℕ, Bool, false, List, [], ◌∷◌, Option, if◌then◌else◌}
+use Rattle.std.specs.List.{AllByRecursion}
 use Rattle.std.specs.FinMap.{remove}
 use Rattle.uefi_vars.specs.Name.{next_text}
 use Rattle.uefi_vars.specs.Vars.{Variables}
 use Rattle.uefi_vars.specs.NameChanges.{after_each}
 use Rattle.var_stores.specs.BootChange.{same_name}
+use Rattle.boot_journal.specs.Journal.{PendingParts, BeganUnderAnother}
 use Rattle.boot_journal.specs.Store.{Store, journal_to}
 use Rattle.boot_journal.specs.Moves.{cut_carrying, cut_settling, cut_undoing, cut_failing, settled}
 
@@ -77,3 +79,17 @@ AreSettlingsOrStarts began (Settles moves ∷ events) = AreSettlingsOrStarts beg
 AreSettlingsOrStarts began (Undoes moves back ∷ events) = AreSettlingsOrStarts began events
 AreSettlingsOrStarts began (Starts boot deletes ∷ events) = (same_name boot began ≡ false) × AreSettlingsOrStarts began events
 AreSettlingsOrStarts began (_ ∷ events) = ⊥
+
+-- the changes are of variables other than BootNext
+abbrev pub LeaveNext : List (List ℕ × Option (List ℕ)) → Type 0
+LeaveNext changes = AllByRecursion (λ change. same_name next_text change.0 ≡ false) changes
+
+-- the events are no updates: settlings, starts under other identities than that under which what is to be done began, and
+-- what firmware does to variables other than BootNext
+abbrev pub AreNoUpdates : Option PendingParts → List Event → Type 0
+AreNoUpdates pending [] = Unit {0}
+AreNoUpdates pending (Settles moves ∷ events) = AreNoUpdates pending events
+AreNoUpdates pending (Undoes moves back ∷ events) = AreNoUpdates pending events
+AreNoUpdates pending (Starts boot deletes ∷ events) = BeganUnderAnother boot pending × AreNoUpdates pending events
+AreNoUpdates pending (Firmware changes ∷ events) = LeaveNext changes × AreNoUpdates pending events
+AreNoUpdates pending (_ ∷ events) = ⊥

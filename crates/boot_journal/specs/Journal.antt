@@ -54,6 +54,16 @@ changes_of None = []
 changes_of (Some (Makes former changes began)) = changes
 changes_of (Some (TakesBack changes began)) = changes
 
+-- the identity under which what is to be done began, or that nothing is to be done
+abbrev pub began_under : Option PendingParts → Option (List ℕ)
+began_under None = None
+began_under (Some (Makes former changes began)) = Some began
+began_under (Some (TakesBack changes began)) = Some began
+
+-- no change is to be made or taken back, and BootKeepState is the same whichever of the two is done
+abbrev pub ChangesNothing : JournalParts → Type 0
+ChangesNothing journal = (changes_of journal.pending ≡ []) × ((turned journal).state ≡ journal.state)
+
 -- What is to be done, if anything, began under another identity.
 abbrev pub BeganUnderAnother : List ℕ → Option PendingParts → Type 0
 BeganUnderAnother boot None = Unit {0}

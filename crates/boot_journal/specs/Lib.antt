@@ -9,7 +9,9 @@ pub mod Values
 pub mod JournalValue
 pub mod Cause
 pub mod Working
+pub mod Followers
 pub mod Requests
+pub mod Answering
 pub mod Commands
 pub mod Recorded
 pub mod RecordedValue

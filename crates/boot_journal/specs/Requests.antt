@@ -1,5 +1,5 @@
 -- Updates by requests: what a keeper makes of events, and the run of all updates that happened.
-use Rattle.std.specs.Prelude.{◌≡◌, ◌⊎◌, ℕ, false, List, [], ◌∷◌, Option, None}
+use Rattle.std.specs.Prelude.{◌≡◌, ◌⊎◌, ℕ, false, List, [], ◌∷◌, map, Option, None}
 use Rattle.std.specs.List.{AllByRecursion}
 use Rattle.uefi_vars.specs.NameChanges.{IsChange}
 use Rattle.var_stores.specs.BootChange.{same_name, is_boot_name}
@@ -12,6 +12,8 @@ use Rattle.boot_requests.specs.Reply.{AreAnswers}
 use Rattle.boot_requests.specs.Seen.{Seen, Restart, AreSeen}
 use Rattle.boot_requests.specs.State.{State, IsImage, keep_text}
 use Rattle.boot_requests.specs.StoredState.{OpensAs}
+use Rattle.boot_journal.specs.declared.requests.Answer.{Answer}
+use Rattle.boot_journal.specs.Followers.{TellFollowers}
 use Rattle.boot_journal.specs.Turns.{Turn, Brings, Boots, Meddles, after_turns}
 
 -- a keeper that opens the one leads to the other by these events
@@ -23,10 +25,14 @@ pub record IsUpdateBy (from : Variables) (seen : List Seen) (to : Variables) : T
   pub read : AreRead (run_followed_by [] seen)
   pub leads : LeadsTo from seen to
 
--- the events are run so, with these replies
-abbrev pub IsAnswered : List Event → Variables → Variables → List Reply → Type 0
-IsAnswered events from to replies =
-    (seen : List Seen) × AreSeen events seen × IsUpdateBy from seen to × ((m : State) → OpensAs from m → AreAnswers m [] seen replies)
+abbrev pub replies_of : List Answer → List Reply
+replies_of answers = map (λ answer. answer.reply) answers
+
+-- the events are run so, with these answers: their replies are those of the run, and they tell their followers
+abbrev pub IsAnswered : List Event → Variables → Variables → List Answer → Type 0
+IsAnswered events from to answers =
+    (seen : List Seen) × AreSeen events seen × IsUpdateBy from seen to
+    × ((m : State) → OpensAs from m → AreAnswers m [] seen (replies_of answers) × TellFollowers m [] seen answers)
 
 -- a change of a variable that neither requests nor boots change
 pub record IsOfAnother (change : List ℕ × Option (List ℕ)) : Type 0 where

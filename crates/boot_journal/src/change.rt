@@ -1,6 +1,6 @@
 //! Changes of single variables that outlive a cut.
 
-ghost use Rattle.std.specs.Prelude.{◌≡◌, IfOk};
+ghost use Rattle.std.specs.Prelude.{◌≡◌, ◌↔◌, IsTrue, IfOk};
 ghost use Rattle.std.specs.Option.{option_map};
 ghost use Rattle.var_stores.specs.BootChange.{change_parts, same_name};
 ghost use Rattle.boot_journal.specs.Changes.{undone, spent};
@@ -128,6 +128,13 @@ pub(crate) fn is_same(name: &str, other: &str) -> bool
     ensures { result ≡ same_name name.now other.now }
 {
     name == other
+}
+
+/// Whether the two have the same bytes, or neither is there.
+pub(crate) fn is_same_data(value: Option<&[u8]>, other: Option<&[u8]>) -> bool
+    ensures { IsTrue result ↔ (option_map (λ b. b.now) value.entry ≡ option_map (λ b. b.now) other.entry) }
+{
+    value == other
 }
 
 /// The bytes, copied. This fails only if memory is refused.

@@ -8,12 +8,12 @@ ghost use Rattle.uefi_vars.specs.Vars.{IsData, IsVars};
 ghost use Rattle.var_stores.specs.BootChange.{change_parts, changes_from};
 ghost use Rattle.boot_requests.specs.State.{keep_text};
 ghost use Rattle.boot_journal.specs.Changes.{taken_back, spent};
-ghost use Rattle.boot_journal.specs.Journal.{JournalParts, idle, begun, due, turned, is_making};
+ghost use Rattle.boot_journal.specs.Journal.{JournalParts, idle, begun, due, turned, is_making, began_under, ChangesNothing};
 ghost use Rattle.boot_journal.specs.JournalValue.{IsJournal, pending_of, state_turned, pending_turned, in_order, IsAlike};
 ghost use Rattle.boot_journal.specs.Values.{bytes_of, IsBootChange};
 
 use crate::boot_id::BootId;
-use crate::change::{Change, copied, is_same};
+use crate::change::{Change, copied, is_same, is_same_data};
 use std::alloc::{AllocError, Global};
 use std::marker::Model;
 use uefi_vars::Vars;
@@ -112,6 +112,16 @@ impl Journal {
         self.pending.is_none()
     }
 
+    /// The identity of the machine's start under which what is still to be done was begun: `None` if nothing is to be done.
+    pub fn began_under(&self) -> Option<&BootId>
+        ensures { option_map (λ boot. boot.now) result ≡ began_under self.now.pending }
+    {
+        match &self.pending {
+            Some(pending) => Some(&pending.boot),
+            None => None,
+        }
+    }
+
     /// Whether changes are being made, and not taken back.
     pub(crate) fn is_making(&self) -> bool
         ensures { result ≡ is_making self.now.pending }
@@ -122,9 +132,25 @@ impl Journal {
         }
     }
 
-    /// The changes that are to be made under this identity. If they were begun under another, the machine was started in
-    /// between, and none of them sets BootNext. This fails only if memory is refused.
-    pub(crate) fn due(&self, alloc: Global, boot: &BootId) -> Result<Vec<Change>, AllocError>
+    /// Whether no change is to be made or taken back, and BootKeepState is the same whichever of the two is done.
+    pub(crate) fn changes_nothing(&self) -> bool
+        ensures { IsTrue result ↔ ChangesNothing self.now }
+    {
+        match &self.pending {
+            Some(pending) => {
+                pending.changes.is_empty()
+                    && is_same_data(pending.state_after(&self.state), self.state.as_deref())
+            }
+            None => true,
+        }
+    }
+
+    /// The changes that a settling makes under this identity of the machine's start, in the order in which it makes them:
+    /// those that are still to be made or, if they are being taken back, what takes them back, the last of them first. If
+    /// they were begun under another identity than this, the machine was started in between, and a change of BootNext takes
+    /// it out. There is no change if nothing is to be done. Under [`Journal::began_under`] the changes are those that were
+    /// begun. This fails only if memory is refused.
+    pub fn due(&self, alloc: Global, boot: &BootId) -> Result<Vec<Change>, AllocError>
         ensures { IfOk result (λ changes. changes.items ≡ due boot.now self.now.pending) }
     {
         match &self.pending {

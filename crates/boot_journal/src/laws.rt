@@ -10,10 +10,10 @@ ghost use Rattle.uefi_vars.specs.NameChanges.{after_each};
 ghost use Rattle.var_stores.specs.BootChange.{ChangeParts, same_name, changes_from, DanglesInOrder, DanglesAsNext};
 ghost use Rattle.boot_requests.specs.Run.{state_at};
 ghost use Rattle.boot_requests.specs.Seen.{Seen};
-ghost use Rattle.boot_requests.specs.State.{State};
+ghost use Rattle.boot_requests.specs.State.{State, keep_text};
 ghost use Rattle.boot_requests.specs.StoredState.{OpensAs};
 ghost use Rattle.boot_journal.specs.Changes.{made, IsFront, LeaveAlone};
-ghost use Rattle.boot_journal.specs.Events.{Event, Starts, World, world, all_happen, without_next, IsUpdateTo, AreSettlings, AreSettlingsOrStarts};
+ghost use Rattle.boot_journal.specs.Events.{Event, Starts, World, world, all_happen, without_next, IsUpdateTo, AreSettlings, AreSettlingsOrStarts, AreNoUpdates};
 ghost use Rattle.boot_journal.specs.Journal.{BeganUnderAnother, JournalParts};
 ghost use Rattle.boot_journal.specs.Moves.{cut_undoing};
 ghost use Rattle.boot_journal.specs.Store.{Store, IsIdle, seen, stands_for};
@@ -25,6 +25,7 @@ ghost use Rattle.boot_journal.specs.Bytes.{SpellsJournal};
 ghost use Rattle.boot_journal.specs.Fault.{IsJournalFault};
 
 use crate::fault::JournalFault;
+use crate::journal::KEEP_STATE;
 use boot_requests::laws as request_laws;
 use uefi_vars::laws as vars_laws;
 use var_stores::laws as store_laws;
@@ -50,6 +51,16 @@ pub fn no_settling_after_a_start_sets_boot_next()
     ensures { (boot : List ℕ) (s : Store) (moves back : ℕ) → BeganUnderAnother boot s.journal.pending →
         (map.get (cut_undoing boot moves back s).variables next_text ≡ None)
         ⊎ (map.get (cut_undoing boot moves back s).variables next_text ≡ map.get s.variables next_text) }
+{}
+
+/// At most once, over lists. If what is to be done began under another identity, then over every list of settlings that are
+/// cut off or fail after any number of moves, of starts under other identities than that, and of what firmware does to
+/// variables other than BootNext, BootNext is at the end as it was at the beginning, or isn't there.
+pub fn no_settlings_after_a_start_set_boot_next()
+    ensures { (w : World) (events : List Event) → BeganUnderAnother w.boot w.store.journal.pending →
+        AreNoUpdates w.store.journal.pending events →
+        (map.get (all_happen w events).store.variables next_text ≡ None)
+        ⊎ (map.get (all_happen w events).store.variables next_text ≡ map.get w.store.variables next_text) }
 {}
 
 /// After each move of an update, of its taking back and of each settling before the next start, the variables are those
@@ -112,6 +123,11 @@ pub fn each_request_is_applied_once()
     request_laws::a_start_stands_for_no_events();
     request_laws::an_image_is_migrated_to_itself();
 }
+
+/// The public constant is the name that the definitions state.
+pub fn constants_are_those_of_the_definitions()
+    ensures { KEEP_STATE.now ≡ keep_text }
+{}
 
 /// A journal has a spelling, of bytes.
 pub fn each_journal_is_spelled()

@@ -178,8 +178,8 @@ fn undertake<M: Machine>(
 
 /// Makes the boot manager's variables of a settled machine, and its BootKeepState, those of a set, as a whole: a cut at any
 /// moment leaves a machine that settles to what was before or to what is after. If the machine is started before it is
-/// settled, BootNext is gone where the update changes it. Variables of other names are left alone. The identity is that of
-/// the machine's start.
+/// settled, BootNext is gone where the update changes it. Variables of other names are left alone. If they are those
+/// already, nothing is moved. The identity is that of the machine's start.
 ///
 /// # Errors
 ///
@@ -198,6 +198,8 @@ pub fn update<M: Machine>(
     ensures nothing { IfErr result (λ error. IfNothingDone error (M.store machine.new ≡ M.store machine.old)) }
     ensures taken_back { IfErr result (λ error. IfTakenBack error (M.store machine.new ≡ M.store machine.old)) }
     ensures tried { IfErr result (λ error. IfUntried error ⊥) }
+    // What leads to what is there already takes no move.
+    ensures unmoved { updated (M.store machine.old) to.now ≡ M.store machine.old → M.history machine.new ≡ M.history machine.old }
     // Whatever is cut off when, the machine stands for what was before, or for what the update leads to.
     ensures any_moment { Leaves (IsBeforeOrAfter boot.now to.now (M.store machine.old)) (M.history machine.old) (M.history machine.new) }
     // What is there then, and after each move.
@@ -205,10 +207,14 @@ pub fn update<M: Machine>(
     ensures moves { Leaves (IsUpdating boot.now to.now (M.store machine.old)) (M.history machine.old) (M.history machine.new) }
 {
     store_laws::each_change_is_needed();
+    store_laws::each_change_is_of_another_variable();
     store_laws::entry_names_are_those_of_numbers();
     vars_laws::order_and_next_are_no_entries();
     let from = machine.read_vars(alloc)?;
     let journal = Journal::begin(alloc, &from, to, boot)?;
+    if journal.changes_nothing() {
+        return Ok(());
+    }
     let back = Work::new(alloc, journal.turned(alloc)?, boot)?;
     let work = Work::new(alloc, journal, boot)?;
     undertake(machine, &work, &back)

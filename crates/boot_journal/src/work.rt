@@ -9,8 +9,7 @@ use crate::change::Change;
 use crate::journal::Journal;
 use std::alloc::{AllocError, Global};
 
-/// All that it takes to carry a journal out. It is made before the first move, so that no move is left undone because
-/// memory for it was refused.
+/// All that it takes to carry a journal out, made before the first move.
 #[derive(Drop)]
 pub(crate) struct Work {
     /// The journal.

@@ -1,11 +1,28 @@
-use Rattle.std.proofs.Common.{refl, ◌≡◌, ◌⊎◌, ⊎_elim, subst, ap, ◌∙◌}
+use Rattle.std.proofs.Common.{refl, sym, ◌≡◌, ◌⊎◌, ⊎_elim, subst, ap, ◌∙◌}
+use Rattle.std.proofs.lemmas.Bool.{true≢false}
 use Rattle.boot_journal.specs.Journal.{JournalParts, turned}
 use Rattle.boot_journal.specs.Store.{journal_to}
 use Rattle.boot_journal.specs.Working.{IsWork, IsGivenUp}
 use Rattle.boot_journal.proofs.Errors.{something_done, taken_back_then, done_then}
 use Rattle.boot_journal.proofs.Moments.{weaker}
+use Rattle.boot_journal.proofs.Unchanged.{unchanged, nothing_changes}
 use Rattle.boot_journal.proofs.Updates.{AreWorkTo, journal_is, keep_is_none, undertaking_is_updating, updating_either, given_up_same, undertaken_is}
 use Rattle.boot_journal.proofs.updating.update.Goals as goal
+
+pub returns-then-changes_nothing-clause-done : goal.returns-then-changes_nothing-clause-done
+returns-then-changes_nothing-clause-done g c =
+    let s = g.M.Machine.store c.args.machine.now in
+    let J : c.in_ok-journal.journal ≡ journal_to c.args.boot.now s c.args.to.now = journal_is c.args.boot.now c.args.to.now s c.in_ok-from.from c.in_ok-journal.journal c.in_ok-from.ensures c.in_ok-journal.ensures in
+    unchanged c.args.boot.now c.args.to.now s c.in_ok-journal.journal c.requires J (c.changes_nothing.ensures.0 c.if-changes_nothing.true)
+
+pub returns-clause-unmoved : goal.returns-clause-unmoved
+returns-clause-unmoved g c =
+    let s = g.M.Machine.store c.args.machine.now in
+    let J : c.in_ok-journal.journal ≡ journal_to c.args.boot.now s c.args.to.now = journal_is c.args.boot.now c.args.to.now s c.in_ok-from.from c.in_ok-journal.journal c.in_ok-from.ensures c.in_ok-journal.ensures in
+    let no_keep = keep_is_none c.entry_names_are_those_of_numbers.ensures c.order_and_next_are_no_entries.ensures.len in
+    λ same.
+    let nothing = nothing_changes c.each_change_is_needed.ensures no_keep c.each_change_is_of_another_variable.ensures c.args.boot.now c.args.to.now s c.in_ok-journal.journal J same in
+    absurd (true≢false (sym (c.changes_nothing.ensures.1 nothing) ∙ c.if-changes_nothing.false))
 
 pub returns-clause-done : goal.returns-clause-done
 returns-clause-done g c =
@@ -58,6 +75,12 @@ returns-clause-any_moment g c =
 
 pub returns-in_err-turned-clause-left : goal.returns-in_err-turned-clause-left
 returns-in_err-turned-clause-left g c = (0, 0, refl)
+
+pub returns-then-changes_nothing-clause-left : goal.returns-then-changes_nothing-clause-left
+returns-then-changes_nothing-clause-left g c = (0, 0, refl)
+
+pub returns-in_err-work-clause-left : goal.returns-in_err-work-clause-left
+returns-in_err-work-clause-left g c = (0, 0, refl)
 
 pub returns-in_err-back-clause-left : goal.returns-in_err-back-clause-left
 returns-in_err-back-clause-left g c = (0, 0, refl)
