@@ -2,6 +2,7 @@
 
 use crate::content::{EntryDigits, NumberList, Summary, digits_of, option_place};
 use crate::json::json_line;
+use crate::place::{Place, script_places};
 use crate::reason::{bytes_reason, frame_reason};
 use crate::shown_option::{AttributeWords, ShownOption};
 use boot_commands::{ScriptFault, read_script};
@@ -70,15 +71,6 @@ struct Step {
     /// What it asks for.
     #[serde(flatten)]
     asks: Asks,
-}
-
-/// Where a step or a fault is: by the line of a script, or the offset in a stream.
-#[derive(Clone, Copy, Drop, Serialize)]
-struct Place {
-    /// Counted from 1.
-    line: Option<usize>,
-    /// In bytes from the first one.
-    offset: Option<usize>,
 }
 
 /// What a step asks for. The cases without members have braces, since serde flattens no unit variant.
@@ -284,17 +276,9 @@ fn split_before_line(text: &[u8], number: usize) -> (&[u8], &[u8]) {
 /// The steps of a script: its events, each of which is that of the next line that isn't empty.
 fn steps_of(alloc: Global, text: &[u8], events: &[Event]) -> Result<Vec<Step>, AllocError> {
     let mut steps = Vec::with_capacity(alloc, events.len())?;
-    let mut rest = events;
-    for (index, line) in text.split(|byte| *byte == b'\n').enumerate() {
-        if line.is_empty() {
-            continue;
-        }
-        let Some((event, others)) = rest.split_first() else {
-            break;
-        };
-        rest = others;
+    for (place, event) in script_places(alloc, text)?.iter().zip(events) {
         steps.push(Step {
-            place: Place::in_line(index.saturating_add(1)),
+            place: *place,
             asks: Asks::of_event(alloc, event)?,
         })?;
     }
@@ -329,24 +313,6 @@ fn stream_reason(fault: &ScriptFault) -> &'static str {
     match fault {
         ScriptFault::Stream(fault) => frame_reason(&FrameFault::from(*fault)),
         _ => "bytes are left after the last whole frame: one was cut, or something was added",
-    }
-}
-
-impl Place {
-    /// The line of this number, counted from 1.
-    fn in_line(number: usize) -> Place {
-        Place {
-            line: Some(number),
-            offset: None,
-        }
-    }
-
-    /// This offset, in bytes.
-    fn at_offset(offset: usize) -> Place {
-        Place {
-            line: None,
-            offset: Some(offset),
-        }
     }
 }
 
@@ -454,16 +420,6 @@ impl fmt::Display for Form {
             Form::Script => "script",
             Form::Stream => "stream",
         })
-    }
-}
-
-impl fmt::Display for Place {
-    fn fmt<W: fmt::Write>(&self, f: &mut fmt::Formatter<W>) -> fmt::Result {
-        match (self.line, self.offset) {
-            (Some(line), _) => write!(f, "line {line}"),
-            (None, Some(offset)) => write!(f, "offset {offset}"),
-            (None, None) => Ok(()),
-        }
     }
 }
 

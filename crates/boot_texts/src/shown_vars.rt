@@ -44,11 +44,11 @@ struct ShownEntry<'a> {
 
 /// What a boot would try.
 #[derive(Drop, Serialize)]
-struct ShownPlan {
+pub(crate) struct ShownPlan {
     /// The entry of BootNext, if it is a load option.
-    next: Option<EntryDigits>,
+    pub(crate) next: Option<EntryDigits>,
     /// The normal entries of BootOrder.
-    normal: Vec<EntryDigits>,
+    pub(crate) normal: Vec<EntryDigits>,
 }
 
 /// A variable that can't be read, and why.

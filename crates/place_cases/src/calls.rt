@@ -1,6 +1,6 @@
 //! The calls that cases name.
 
-use crate::{changes, commands, texts};
+use crate::{changes, commands, texts, updates};
 use anyhow::Result;
 use case_files::Calls;
 use case_files::input::{bytes, member, text_of};
@@ -17,6 +17,7 @@ impl Calls for PlaceCalls {
             "boot_changes" => changes::between(alloc, case),
             "bootvars" => commands::answer(alloc, case),
             "read_store" => changes::read(alloc, case),
+            "update_cuts" => updates::answer(alloc, case),
             "store_vars" => changes::variables(alloc, &bytes(alloc, case, "input")?),
             "write_boot_vars" => changes::write(alloc, case),
             _ => texts::answer(alloc, call, case),
@@ -24,9 +25,12 @@ impl Calls for PlaceCalls {
     }
 
     fn wanted(&self, alloc: Global, case: &Value) -> Result<String> {
-        match case.get("words") {
-            Some(_) => commands::wanted(alloc, case),
-            None => text_of(alloc, member(case, "answer")?),
+        if case.get("words").is_some() {
+            commands::wanted(alloc, case)
+        } else if case.get("updates").is_some() {
+            updates::wanted(alloc, case)
+        } else {
+            text_of(alloc, member(case, "answer")?)
         }
     }
 }

@@ -1,5 +1,6 @@
 //! A runtime for whole command lines: words, files, and streams that are kept.
 
+use crate::failing::Calls;
 use anyhow::Result;
 use boot_commands::OutputFile;
 use std::alloc::{Allocator, Global};
@@ -16,6 +17,7 @@ pub struct Console<'a, F> {
     alloc: Global,
     words: &'a [String],
     files: F,
+    calls: &'a Calls,
     stdin: &'a [u8],
     stdout: RefCell<Vec<u8>>,
     stderr: RefCell<Vec<u8>>,
@@ -32,10 +34,10 @@ pub struct Run {
     pub stderr: Vec<u8>,
 }
 
-/// Runs the program `bootvars` with these words after its name.
+/// Runs the program `bootvars` with these words after its name. What it prints counts among these calls.
 pub fn run_words<F: Files<File: OutputFile> + Drop>(
     alloc: Global,
-    files: F,
+    (files, calls): (F, &Calls),
     words: &[String],
     stdin: &[u8],
 ) -> Result<Run> {
@@ -43,6 +45,7 @@ pub fn run_words<F: Files<File: OutputFile> + Drop>(
         alloc,
         words,
         files,
+        calls,
         stdin,
         stdout: RefCell::new(Vec::new(alloc)),
         stderr: RefCell::new(Vec::new(alloc)),
@@ -52,6 +55,7 @@ pub fn run_words<F: Files<File: OutputFile> + Drop>(
         alloc: _,
         words: _,
         files: _,
+        calls: _,
         stdin: _,
         stdout,
         stderr,
@@ -73,16 +77,21 @@ impl<F> Alloc for Console<'_, F> {
 
 impl<F> Print for Console<'_, F> {
     fn print<D: Display + Drop>(&self, value: D) -> io::Result<()> {
-        write!(self.stdout.try_borrow_mut()?, "{value}")
+        self.calls.begin_print()?;
+        let printed = write!(self.stdout.try_borrow_mut()?, "{value}");
+        self.calls.end(printed)
     }
 
     fn println<D: Display + Drop>(&self, value: D) -> io::Result<()> {
-        writeln!(self.stdout.try_borrow_mut()?, "{value}")
+        self.calls.begin_print()?;
+        let printed = writeln!(self.stdout.try_borrow_mut()?, "{value}");
+        self.calls.end(printed)
     }
 
     fn write_all(&self, bytes: &[u8]) -> io::Result<()> {
+        self.calls.begin_print()?;
         self.stdout.try_borrow_mut()?.extend_from_slice(bytes)?;
-        Ok(())
+        self.calls.end(Ok(()))
     }
 }
 

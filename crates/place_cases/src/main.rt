@@ -10,10 +10,17 @@ mod changes;
 mod checks;
 mod commands;
 mod console;
+mod cuts;
+mod disk;
 mod every_unit;
+mod failing;
 mod real_files;
+mod recovery;
+mod second_cuts;
 mod texts;
 mod tree;
+mod turns;
+mod updates;
 
 use crate::calls::PlaceCalls;
 use anyhow::{Context, Result};

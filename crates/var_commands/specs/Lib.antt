@@ -1,3 +1,1 @@
-pub mod Failure
-pub mod FileKind
-pub mod Folder
+pub mod Ending

@@ -1,6 +1,7 @@
 //! The words of the command line.
 
 use boot_texts::Flags;
+use boot_updates::{Job, UpdateWords};
 use clap::{Arg, ArgAction, ArgGroup, ArgMatches, Command, Error};
 use std::alloc::{AllocError, Global};
 
@@ -18,6 +19,15 @@ A file that is named `-` is standard input, or standard output after --out.
 
 Example:
   bootvars show /sys/firmware/efi/efivars";
+
+/// What the help of `update` says.
+const UPDATE: &str = "\
+Runs the requests of a script over the boot variables of a machine, and changes the machine by what they lead to, as a \
+whole: if power fails in between, the next update goes on with it. Prints the replies. FOLDER keeps which requests were \
+applied, so each takes effect exactly once, however often it comes.
+
+The status is 0 if each request was applied or had been before, 6 if one of them wasn't or couldn't be carried out, 1 if \
+the script is refused, 7 if another update is at work, and another one if the machine can't be read or changed.";
 
 /// What the words of the command line ask for.
 #[derive(Debug, Drop)]
@@ -49,6 +59,8 @@ pub enum Action<'a> {
     },
     /// To make the boot variables of a place those of a set.
     Write(WriteWords<'a>),
+    /// To run requests over the boot variables of a place.
+    Update(UpdateWords<'a>),
     /// To make a load option.
     LoadOption(LoadOptionWords<'a>),
     /// To make the frame of a request.
@@ -190,6 +202,7 @@ fn command<'a>(alloc: Global) -> Result<Command<'a>, AllocError> {
         .subcommand(show_command(alloc)?)?
         .subcommand(diff_command(alloc)?)?
         .subcommand(write_command(alloc)?)?
+        .subcommand(update_command(alloc)?)?
         .subcommand(option_command(alloc)?)?
         .subcommand(frame_command(alloc)?)?
         .subcommand(explain_command(alloc)?)
@@ -248,6 +261,56 @@ fn write_command<'a>(alloc: Global) -> Result<Command<'a>, AllocError> {
         .arg(value(alloc, "PLACE", "The place that is written"))?
         .arg(dry_run)?
         .arg(empty)
+}
+
+fn update_command<'a>(alloc: Global) -> Result<Command<'a>, AllocError> {
+    let state = option(
+        alloc,
+        "state",
+        "FOLDER",
+        "The folder that keeps which requests were applied, and what is left to do",
+    )
+    .required(true);
+    let boot_id = option(
+        alloc,
+        "boot-id",
+        "ID",
+        "The identity of the machine's start; needed for a variable file",
+    );
+    Command::new(alloc, "update")
+        .about("Runs requests over a machine's boot variables, each exactly once")
+        .long_about(UPDATE)
+        .after_help(
+            "Example:\n  bootvars update --state /var/lib/bootkeep /sys/firmware/efi/efivars script",
+        )
+        .arg(value(
+            alloc,
+            "PLACE",
+            "The folder or the variable file of the machine",
+        ))?
+        .arg(script_value(alloc)?)?
+        .arg(state)?
+        .arg(flag(alloc, "stream", "SCRIPT is a stream of frames").requires_arg("SCRIPT")?)?
+        .arg(flag(alloc, "json", "Prints JSON").requires_arg("SCRIPT")?)?
+        .arg(flag(alloc, "next", "Prints the number of the next request").conflicts_with(
+            "settle",
+        )?)?
+        .arg(flag(
+            alloc,
+            "settle",
+            "Does what an update that was cut off has left to do",
+        ))?
+        .arg(boot_id)
+}
+
+/// The script of `update`, in whose place is a flag that needs none.
+fn script_value<'a>(alloc: Global) -> Result<Arg<'a>, AllocError> {
+    Arg::new(alloc, "SCRIPT")
+        .help("The script of requests")
+        .required_unless_present("next")?
+        .required_unless_present("settle")?
+        .conflicts_with("next")?
+        .conflicts_with("settle")
 }
 
 fn option_command<'a>(alloc: Global) -> Result<Command<'a>, AllocError> {
@@ -486,11 +549,31 @@ fn simple_action_of<'a>(name: &str, matches: &ArgMatches<'a>) -> Option<Action<'
             dry_run: matches.get_flag("dry-run"),
             empty: matches.get_flag("empty"),
         })),
+        "update" => Some(Action::Update(UpdateWords {
+            state: matches.get_str("state")?,
+            place: matches.get_str("PLACE")?,
+            boot_id: matches.get_str("boot-id"),
+            job: job_of(matches)?,
+        })),
         "explain" => Some(Action::Explain {
             file: matches.get_str("FILE")?,
             form: form_of(matches),
         }),
         _ => None,
+    }
+}
+
+fn job_of<'a>(matches: &ArgMatches<'a>) -> Option<Job<'a>> {
+    if matches.get_flag("next") {
+        Some(Job::Next)
+    } else if matches.get_flag("settle") {
+        Some(Job::Settle)
+    } else {
+        Some(Job::Run {
+            script: matches.get_str("SCRIPT")?,
+            is_stream: matches.get_flag("stream"),
+            json: matches.get_flag("json"),
+        })
     }
 }
 

@@ -1,11 +1,6 @@
 //! The commands `option`, `frame` and `explain`, which make load options and requests, and show requests.
 
 use crate::command_line::{AttributeWords, Form, LoadOptionWords, OptionalWords, RequestWords};
-use crate::failure::Failure;
-use crate::file_kind::no_option;
-use crate::input::{name_of, read};
-use crate::output::{lock, print, write};
-use crate::reason::Reason;
 use boot_commands::OutputFile;
 use boot_texts::{
     FrameWords, FrameWordsFault, OptionWords, OptionWordsFault, attribute_bits, attributes_of_text,
@@ -15,6 +10,7 @@ use boot_texts::{
 use hex::FromHexError;
 use std::alloc::Global;
 use std::rt::Files;
+use var_places::{Failure, Reason, lock, name_of, no_option, print, read, write};
 
 /// Makes a file with the load option of these words.
 ///

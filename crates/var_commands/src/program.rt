@@ -1,25 +1,23 @@
 //! A run of the program, over any runtime.
 
 ghost use Rattle.std.specs.Prelude.{◌≡◌, MatchResult};
-ghost use Rattle.var_commands.specs.Failure.{status_of, ending_status};
+ghost use Rattle.var_commands.specs.Ending.{ending_status};
+ghost use Rattle.var_places.specs.Failure.{status_of};
 
 use crate::command_line::{Action, Form, read_words};
-use crate::failure::Failure;
-use crate::file_place::has_keep_state;
-use crate::folder::KEEP_STATE;
-use crate::input::{STANDARD, name_of};
 use crate::making::{explain, make_frame, make_option};
-use crate::output::{lock, print, write};
-use crate::place::read_place;
-use crate::reason::Reason;
 use crate::write::write_place;
 use boot_commands::OutputFile;
 use boot_texts::{diff_json, diff_report, vars_json, vars_report};
+use boot_updates::{Ended, update};
 use clap::error::ErrorKind;
 use std::alloc::{AllocError, Global};
 use std::rt::{Env, Files};
 use std::{env, io};
 use uefi_vars::{BOOT_NEXT, BOOT_ORDER, Changes, Vars, entry_number, write_set};
+use var_places::{
+    Failure, KEEP_STATE, Reason, STANDARD, has_keep_state, lock, name_of, print, read_place, write,
+};
 use var_stores::boot_changes;
 
 /// How the program ends if it did what it was asked to.
@@ -29,23 +27,29 @@ pub(crate) enum Ending {
     Done,
     /// It was asked how two places differ, and they do.
     Differs,
+    /// It ran requests, and not all of them were applied and carried out.
+    NotAll,
 }
 
 impl Ending {
-    /// The status that the program ends with: 1 if two places differ, otherwise 0.
+    /// The status that the program ends with: 1 if two places differ, 6 if not all requests were applied and carried out,
+    /// otherwise 0.
     fn status(self) -> u8
         ensures { result ≡ ending_status self }
     {
         match self {
             Ending::Done => 0,
             Ending::Differs => 1,
+            Ending::NotAll => 6,
         }
     }
 }
 
 /// Does what the words of the command line ask for, and returns the status to end with: 0, or 1 if two places were
-/// compared and differ, or 2 if the words are wrong, 3 if a file can't be read or written, 4 if memory was refused, and 5
-/// if an input is refused. From 2 on, a message is on standard error.
+/// compared and differ, 6 if requests were run and not all of them were applied and carried out; or, with a message on
+/// standard error, 1 if requests aren't run, 2 if the words are wrong, 3 if a file or a variable can't be read or changed, 4
+/// if memory was refused, 5 if an input is refused, 7 if another update is at work, and 8 if an update was neither made nor
+/// taken back.
 pub fn run<R: Env + Files<File: OutputFile> + Input + Print + Eprint + AllocGlobal>(rt: &R) -> u8 {
     tell(rt, answer(rt))
 }
@@ -138,6 +142,12 @@ fn act<R: Files<File: OutputFile> + Input + Print + Eprint + AllocGlobal>(
         Action::Show { place, form } => show(rt, place, form)?,
         Action::Diff { from, to, form } => return diff(rt, from, to, form),
         Action::Write(words) => write_place(rt, &words)?,
+        Action::Update(words) => {
+            return Ok(match update(rt, &words)? {
+                Ended::AllDone => Ending::Done,
+                Ended::NotAll => Ending::NotAll,
+            });
+        }
         Action::LoadOption(words) => make_option(rt, &words)?,
         Action::Frame {
             number,

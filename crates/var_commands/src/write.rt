@@ -1,16 +1,6 @@
 //! The command `write`, which makes the boot variables of a place those of a set.
 
 use crate::command_line::WriteWords;
-use crate::failure::Failure;
-use crate::file_kind::{FileKind, file_kind};
-use crate::file_place::{changed_set, changed_variable_file, file_vars, no_place, set_vars};
-use crate::folder::{Folder, KEEP_STATE, read_folder};
-use crate::folder_change::make_change;
-use crate::input::{STANDARD, name_of, read};
-use crate::note::{note, shown};
-use crate::output::{Output, lock, print, write};
-use crate::place::is_folder;
-use crate::reason::Reason;
 use boot_commands::OutputFile;
 use boot_texts::change_report;
 use std::alloc::{AllocError, Global};
@@ -18,6 +8,11 @@ use std::rt::Files;
 use std::{fs, io};
 use uefi_option::{OptionFault, check_option};
 use uefi_vars::{BOOT_NEXT, BOOT_ORDER, Vars, entry_number};
+use var_places::{
+    Failure, FileKind, Folder, KEEP_STATE, Output, Reason, STANDARD, changed_set,
+    changed_variable_file, file_kind, file_vars, is_folder, lock, make_change, name_of, no_place,
+    note, print, read, read_folder, set_vars, shown, write,
+};
 use var_stores::{BootChange, boot_changes};
 
 /// Makes the boot variables of a place those of a set, and prints each change; or prints them alone, for a dry run.

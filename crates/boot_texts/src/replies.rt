@@ -1,0 +1,186 @@
+//! Replies to requests, as `bootvars update` prints them in JSON.
+
+use crate::content::EntryDigits;
+use crate::json::json_line;
+use crate::place::Place;
+use crate::shown_vars::ShownPlan;
+use boot_requests::{Event, FrameFault, Outcome, Reply, read_frame};
+use serde::Serialize;
+use std::alloc::{AllocError, Global};
+use uefi_vars::BootPlan;
+
+/// A reply as it is shown: the fields of its JSON.
+#[derive(Drop, Serialize)]
+struct ShownReply {
+    /// Where the event is.
+    #[serde(flatten)]
+    place: Place,
+    /// The number of the request, if the event is one.
+    request: Option<u32>,
+    /// What the reply is.
+    reply: &'static str,
+    /// What came of the request, if it is told.
+    outcome: Option<&'static str>,
+    /// The entry under which an AddFree stored its option, if it is told.
+    entry: Option<EntryDigits>,
+    /// The next number, if it is told.
+    next: Option<u32>,
+    /// What had waited and was applied right after the request, in the order of the numbers.
+    followers: Vec<Follower>,
+    /// Why what was delivered is no frame.
+    fault: Option<String>,
+    /// How many options the plan has that is prepared.
+    options: Option<usize>,
+    /// The plan that is handed out.
+    plan: Option<ShownPlan>,
+}
+
+/// A request that had waited and was applied right after another one.
+#[derive(Drop, Serialize)]
+struct Follower {
+    /// Its number.
+    request: u32,
+    /// What came of it.
+    outcome: &'static str,
+    /// The entry under which an AddFree stored its option.
+    entry: Option<EntryDigits>,
+}
+
+/// Shows the reply to the event at this place as JSON, an object on one line that ends with a line feed. The followers are
+/// the outcomes of the requests that had waited and were applied right after the event's own, of which the last is the one
+/// below the next number. docs/formats.md has each member.
+///
+/// # Errors
+///
+/// [`AllocError`] if memory was refused.
+pub fn reply_json(
+    alloc: Global,
+    place: Place,
+    event: &Event,
+    reply: &Reply,
+    followers: &[Outcome],
+) -> Result<String, AllocError> {
+    let mut shown = ShownReply::new(alloc, place, event, reply)?;
+    if let Some(next) = shown.next {
+        shown.followers = shown_followers(alloc, next, followers)?;
+    }
+    json_line(alloc, &shown)
+}
+
+impl ShownReply {
+    /// What is shown of the reply, but for what was applied with the request.
+    fn new(
+        alloc: Global,
+        place: Place,
+        event: &Event,
+        reply: &Reply,
+    ) -> Result<ShownReply, AllocError> {
+        Ok(ShownReply {
+            place,
+            request: number_of(alloc, event)?,
+            reply: name_of(reply),
+            outcome: outcome_of(reply).map(|outcome| outcome.code.name()),
+            entry: outcome_of(reply).and_then(entry_of),
+            next: next_of(reply),
+            followers: Vec::new(alloc),
+            fault: match reply {
+                Reply::Malformed(fault) => Some(fault.words(alloc)?),
+                _ => None,
+            },
+            options: match reply {
+                Reply::Prepared(count) => Some(*count),
+                _ => None,
+            },
+            plan: match reply {
+                Reply::Plan(plan) => Some(shown_plan(alloc, plan)?),
+                _ => None,
+            },
+        })
+    }
+}
+
+/// The number of the request that is delivered, if one is.
+fn number_of(alloc: Global, event: &Event) -> Result<Option<u32>, AllocError> {
+    let Event::Deliver(bytes) = event else {
+        return Ok(None);
+    };
+    match read_frame(alloc, bytes.bytes()) {
+        Ok((number, _request)) => Ok(Some(number)),
+        Err(FrameFault::OutOfMemory) => Err(AllocError),
+        Err(_) => Ok(None),
+    }
+}
+
+/// What the reply is.
+fn name_of(reply: &Reply) -> &'static str {
+    match reply {
+        Reply::Malformed(_) => "malformed",
+        Reply::Repeat(_) => "repeat",
+        Reply::Old => "old",
+        Reply::Ahead(_) => "ahead",
+        Reply::Conflict => "conflict",
+        Reply::Waiting(_) => "waiting",
+        Reply::Applied(_, _) => "applied",
+        Reply::Prepared(_) => "prepared",
+        Reply::AlreadyPrepared => "already-prepared",
+        Reply::Plan(_) => "plan",
+        Reply::NothingPrepared => "nothing-prepared",
+        Reply::Restarted(_) => "restarted",
+    }
+}
+
+/// The outcome that the reply tells.
+fn outcome_of(reply: &Reply) -> Option<Outcome> {
+    match reply {
+        Reply::Repeat(outcome) | Reply::Applied(outcome, _) => Some(*outcome),
+        _ => None,
+    }
+}
+
+/// The entry that the outcome tells.
+fn entry_of(outcome: Outcome) -> Option<EntryDigits> {
+    outcome.entry.map(EntryDigits)
+}
+
+/// The next number that the reply tells.
+fn next_of(reply: &Reply) -> Option<u32> {
+    match reply {
+        Reply::Ahead(next)
+        | Reply::Waiting(next)
+        | Reply::Applied(_, next)
+        | Reply::Restarted(next) => Some(*next),
+        _ => None,
+    }
+}
+
+/// What is shown of requests with these outcomes, whose numbers are those right below the next one.
+fn shown_followers(
+    alloc: Global,
+    next: u32,
+    outcomes: &[Outcome],
+) -> Result<Vec<Follower>, AllocError> {
+    let len = u32::try_from(outcomes.len()).unwrap_or(u32::MAX);
+    let mut request = next.saturating_sub(len);
+    let mut shown = Vec::with_capacity(alloc, outcomes.len())?;
+    for outcome in outcomes {
+        shown.push(Follower {
+            request,
+            outcome: outcome.code.name(),
+            entry: entry_of(*outcome),
+        })?;
+        request = request.saturating_add(1);
+    }
+    Ok(shown)
+}
+
+/// What is shown of a plan.
+fn shown_plan(alloc: Global, plan: &BootPlan) -> Result<ShownPlan, AllocError> {
+    let mut normal = Vec::with_capacity(alloc, plan.normal().len())?;
+    for choice in plan.normal() {
+        normal.push(EntryDigits(choice.number))?;
+    }
+    Ok(ShownPlan {
+        next: plan.next().map(|choice| EntryDigits(choice.number)),
+        normal,
+    })
+}

@@ -1,0 +1,99 @@
+//! What keeps an update from being made, in words.
+
+use crate::updates::UpdateWords;
+use boot_commands::ScriptFault;
+use boot_journal::{CallError, CommandError, UpdateError};
+use boot_requests::OpenFault;
+use std::alloc::{AllocError, Global};
+use std::fmt::{self, Display};
+use var_places::Failure;
+
+/// Why a move was refused.
+#[derive(Clone, Copy)]
+struct Cause<'a>(&'a CallError<Failure>);
+
+impl Display for Cause<'_> {
+    fn fmt<W: fmt::Write>(&self, f: &mut fmt::Formatter<W>) -> fmt::Result {
+        match self.0 {
+            CallError::OutOfMemory => f.write_str("out of memory"),
+            CallError::Refused(failure) => write!(f, "{failure}"),
+        }
+    }
+}
+
+/// What it is to the program that a command failed.
+pub(crate) fn of_command(
+    alloc: Global,
+    words: &UpdateWords<'_>,
+    error: CommandError<Failure, OpenFault>,
+) -> Failure {
+    match error {
+        CommandError::OutOfMemory => Failure::Memory,
+        CommandError::Run(fault) => match ScriptFault::Open(fault).words(alloc) {
+            Ok(text) => Failure::of_run(alloc, words.place, text.as_str()),
+            Err(AllocError) => Failure::Memory,
+        },
+        CommandError::Settling(error) => of_settling(alloc, words, error),
+        CommandError::Updating(error) => of_update(alloc, words, error),
+    }
+}
+
+/// What it is to the program that what was left of an earlier update couldn't be made.
+pub(crate) fn of_settling(
+    alloc: Global,
+    words: &UpdateWords<'_>,
+    error: UpdateError<Failure>,
+) -> Failure {
+    match error {
+        UpdateError::OutOfMemory => Failure::Memory,
+        UpdateError::TakenBack(cause) => Failure::taken_back(
+            alloc,
+            format_args!(
+                "{}; so an earlier update is taken back, and nothing else is done",
+                Cause(&cause),
+            ),
+        ),
+        UpdateError::Unsettled(cause, second) => unsettled(alloc, words, &cause, second.as_ref()),
+    }
+}
+
+/// What it is to the program that an update couldn't be made.
+fn of_update(alloc: Global, words: &UpdateWords<'_>, error: UpdateError<Failure>) -> Failure {
+    match error {
+        UpdateError::OutOfMemory => Failure::Memory,
+        UpdateError::TakenBack(cause) => Failure::taken_back(
+            alloc,
+            format_args!(
+                "{}; so the update is taken back, and the machine is as before it",
+                Cause(&cause),
+            ),
+        ),
+        UpdateError::Unsettled(cause, second) => unsettled(alloc, words, &cause, second.as_ref()),
+    }
+}
+
+/// What it is to the program that an update was neither made nor taken back.
+fn unsettled(
+    alloc: Global,
+    words: &UpdateWords<'_>,
+    cause: &CallError<Failure>,
+    second: Option<&CallError<Failure>>,
+) -> Failure {
+    let state = words.state;
+    let cause = Cause(cause);
+    match second {
+        Some(second) => Failure::unsettled(
+            alloc,
+            format_args!(
+                "{cause}; and then, taking the update back: {}; {state} has what is left to do, and the next update begins with it",
+                Cause(second),
+            ),
+        ),
+        None => Failure::unsettled(
+            alloc,
+            format_args!(
+                "{cause}; {state} has what is left to do to take an update back, and the next update begins with it",
+            ),
+        ),
+    }
+}

@@ -1,0 +1,51 @@
+//! Scripts and streams of requests.
+
+use boot_commands::{ScriptFault, read_script, read_stream};
+use boot_requests::Event;
+use boot_texts::{Place, script_places, stream_places};
+use std::alloc::Global;
+use std::rt::Files;
+use var_places::{Failure, name_of, read};
+
+/// The events of a script or a stream.
+#[derive(Drop)]
+pub(crate) struct Script {
+    /// The events, in their order.
+    pub(crate) events: Vec<Event>,
+    /// The place of each of them.
+    pub(crate) places: Vec<Place>,
+}
+
+/// The events of the script at this path, or of the stream, read to its end.
+///
+/// # Errors
+///
+/// [`Failure::Read`] if it can't be read, [`Failure::Refused`] if it is too long, [`Failure::Run`] if it is no script or
+/// no stream, and [`Failure::Memory`] if memory was refused.
+pub(crate) fn read_events<R: Files + Input + AllocGlobal>(
+    rt: &R,
+    path: &str,
+    is_stream: bool,
+) -> Result<Script, Failure> {
+    let alloc = rt.alloc();
+    let bytes = read(rt, path)?;
+    let of_fault = |fault| of_script(alloc, path, fault);
+    if is_stream {
+        let events = read_stream(alloc, &bytes).map_err(of_fault)?;
+        let places = stream_places(alloc, &events)?;
+        Ok(Script { events, places })
+    } else {
+        let events = read_script(alloc, &bytes).map_err(of_fault)?;
+        let places = script_places(alloc, &bytes)?;
+        Ok(Script { events, places })
+    }
+}
+
+/// What it is to the program that the script at this path has this fault.
+fn of_script(alloc: Global, path: &str, fault: ScriptFault) -> Failure {
+    match fault.words(alloc) {
+        Ok(_) if matches!(fault, ScriptFault::OutOfMemory) => Failure::Memory,
+        Ok(words) => Failure::of_run(alloc, name_of(path), words.as_str()),
+        Err(_) => Failure::Memory,
+    }
+}

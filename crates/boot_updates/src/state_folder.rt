@@ -1,0 +1,98 @@
+//! The folder that has the journal of a machine.
+
+use boot_commands::{LIMIT, OutputFile, replace_file};
+use boot_journal::{Journal, JournalFault, read_journal};
+use std::alloc::{AllocError, Global};
+use std::fs::{File, OpenFile};
+use std::io::{self, ErrorKind};
+use std::path::{Path, PathBuf};
+use std::rt::Files;
+use var_places::{Failure, Reason, read_file, shown};
+
+/// The name of the journal's file.
+const JOURNAL: &str = "journal";
+
+/// A folder with a journal, of which the lock is held. It ends when this is dropped.
+#[derive(Drop)]
+pub(crate) struct StateFolder<F> {
+    /// The path of the journal.
+    journal: PathBuf,
+    /// The folder, which is open and locked.
+    _lock: F,
+}
+
+/// Locks the folder at this path, so that no other update has its journal.
+///
+/// # Errors
+///
+/// [`Failure::Read`] if it can't be opened or locked, [`Failure::Refused`] if it is no folder, [`Failure::Busy`] if another
+/// update has the lock, and [`Failure::Memory`] if memory was refused.
+pub(crate) fn lock_folder<R: Files<File: OutputFile> + AllocGlobal>(
+    rt: &R,
+    path: &str,
+) -> Result<StateFolder<R::File>, Failure> {
+    let alloc = rt.alloc();
+    match try_lock_folder(rt, path) {
+        Ok(Some(lock)) => Ok(StateFolder {
+            journal: Path::new(path).join(alloc, JOURNAL)?,
+            _lock: lock,
+        }),
+        Ok(None) => Err(Failure::Busy(shown(alloc, path)?)),
+        Err(error) if error.kind() == ErrorKind::NotADirectory => {
+            Err(Failure::refused(alloc, path, Reason::NoFolder))
+        }
+        Err(error) => Err(Failure::of_read(alloc, path, error)),
+    }
+}
+
+/// The folder at this path, open and locked: `None` if somebody else has the lock.
+fn try_lock_folder<R: Files<File: OutputFile>>(rt: &R, path: &str) -> io::Result<Option<R::File>> {
+    let folder = File::open(rt, path)?;
+    if !folder.metadata()?.is_dir() {
+        return Err(io::Error::from(ErrorKind::NotADirectory));
+    }
+    Ok(if folder.try_lock()? {
+        Some(folder)
+    } else {
+        None
+    })
+}
+
+impl<F> StateFolder<F> {
+    /// The path of the journal.
+    pub(crate) fn journal(&self) -> &str {
+        self.journal.as_path().as_str()
+    }
+}
+
+/// The journal at this path: a new one if there is none.
+///
+/// # Errors
+///
+/// [`Failure::Read`] if it can't be read, [`Failure::Refused`] if it is damaged, and [`Failure::Memory`] if memory was
+/// refused.
+pub(crate) fn stored_journal<R: Files + AllocGlobal>(
+    rt: &R,
+    path: &str,
+) -> Result<Journal, Failure> {
+    let alloc = rt.alloc();
+    match read_file(rt, path, LIMIT) {
+        Ok(Some(bytes)) => journal_of(alloc, path, &bytes),
+        Ok(None) => Err(Failure::refused(alloc, path, Reason::TooMuch(LIMIT))),
+        Err(error) if error.kind() == ErrorKind::NotFound => Ok(Journal::new()),
+        Err(error) => Err(Failure::of_read(alloc, path, error)),
+    }
+}
+
+/// The journal of these bytes of the file at this path.
+fn journal_of(alloc: Global, path: &str, bytes: &[u8]) -> Result<Journal, Failure> {
+    match read_journal(alloc, bytes) {
+        Ok(journal) => Ok(journal),
+        Err(JournalFault::OutOfMemory) => Err(Failure::Memory),
+        Err(fault) => Err(Failure::refused(
+            alloc,
+            path,
+            Reason::DamagedJournal(fault.words(alloc)?),
+        )),
+    }
+}

@@ -1,0 +1,10 @@
+-- The statuses that the program ends with if it did what it was asked to.
+use Rattle.std.specs.Prelude.{ℕ}
+use Rattle.var_commands.specs.declared.program.Ending.{Ending}
+use Rattle.var_commands.specs.declared.program.Ending.TheVariants as ending
+
+-- 1 if two places differ, and 6 if not all requests were applied and carried out
+abbrev pub ending_status : Ending → ℕ
+ending_status ending.Done = 0
+ending_status ending.Differs = 1
+ending_status ending.NotAll = 6

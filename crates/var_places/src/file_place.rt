@@ -1,0 +1,183 @@
+//! Variables of files: of a set file, and of an emulator's variable file.
+
+use crate::failure::Failure;
+use crate::file_kinds::{FileKind, file_kind, other_kind};
+use crate::folder::{KEEP_STATE, LeftOut};
+use crate::input::{STANDARD, read_file};
+use crate::notes::note;
+use crate::reason::Reason;
+use boot_commands::LIMIT;
+use std::alloc::{AllocError, Global};
+use std::fs;
+use std::io::{self, ErrorKind};
+use std::rt::Files;
+use uefi_option::description_text;
+use uefi_path::read_units;
+use uefi_vars::{Changes, DATA_MAX, PutFault, SetFault, Vars, read_set, write_set};
+use var_stores::{
+    BootChange, Record, StoreFault, WriteFault, left_out, read_store, store_vars, write_boot_vars,
+};
+
+/// The variables of the file of this name, which has these bytes. Tells on standard error what is left out.
+///
+/// # Errors
+///
+/// [`Failure::Refused`] if it is neither a set file nor an emulator's variable file, or is damaged, and
+/// [`Failure::Memory`] if memory was refused.
+pub fn file_vars<R: Eprint + AllocGlobal>(
+    rt: &R,
+    name: &str,
+    bytes: &[u8],
+) -> Result<Vars, Failure> {
+    match file_kind(bytes) {
+        FileKind::Set => set_vars(rt.alloc(), name, bytes),
+        FileKind::VariableFile => variable_file_vars(rt, name, bytes),
+        FileKind::Other => Err(no_place(rt.alloc(), name, bytes)),
+    }
+}
+
+/// What it is to the program that a file with these bytes is no place of variables.
+pub fn no_place(alloc: Global, name: &str, bytes: &[u8]) -> Failure {
+    Failure::refused(alloc, name, Reason::NoPlace(other_kind(bytes)))
+}
+
+/// The variables of the set file of this name.
+///
+/// # Errors
+///
+/// [`Failure::Refused`] if it is damaged, and [`Failure::Memory`] if memory was refused.
+pub fn set_vars(alloc: Global, name: &str, bytes: &[u8]) -> Result<Vars, Failure> {
+    read_set(alloc, bytes).map_err(|fault| match Reason::of_set(fault) {
+        Some(reason) => Failure::refused(alloc, name, reason),
+        None => Failure::Memory,
+    })
+}
+
+/// Whether a set file with BootKeepState is at this path. What can't be read, or is no set, has none, and nor has standard
+/// output, whose path is `-`.
+///
+/// # Errors
+///
+/// [`AllocError`] if memory was refused.
+pub fn has_keep_state<R: Files + AllocGlobal>(rt: &R, path: &str) -> Result<bool, AllocError> {
+    if path == STANDARD {
+        return Ok(false);
+    }
+    let bytes = match regular_bytes(rt, path) {
+        Ok(Some(bytes)) => bytes,
+        Err(error) if error.kind() == ErrorKind::OutOfMemory => return Err(AllocError),
+        Ok(None) | Err(_) => return Ok(false),
+    };
+    match read_set(rt.alloc(), &bytes) {
+        Ok(vars) => Ok(vars.get(KEEP_STATE).is_some()),
+        Err(SetFault::OutOfMemory) => Err(AllocError),
+        Err(_) => Ok(false),
+    }
+}
+
+/// The bytes of the regular file at this path: `None` if something else is there, as a pipe, which a reader would wait
+/// for, or there are more than [`LIMIT`].
+fn regular_bytes<R: Files + AllocGlobal>(rt: &R, path: &str) -> io::Result<Option<Vec<u8>>> {
+    if !fs::metadata(rt, path)?.is_file() {
+        return Ok(None);
+    }
+    read_file(rt, path, LIMIT)
+}
+
+/// The variables of the emulator's variable file of this name, except BootKeepState.
+fn variable_file_vars<R: Eprint + AllocGlobal>(
+    rt: &R,
+    name: &str,
+    bytes: &[u8],
+) -> Result<Vars, Failure> {
+    let alloc = rt.alloc();
+    let store = read_store(alloc, bytes).map_err(|fault| of_store(alloc, name, fault))?;
+    for record in &left_out(alloc, &store)? {
+        let variable = record_name(alloc, record)?;
+        let why = why_left_out(record);
+        note(rt, name, format_args!("{variable} is left out: {why}"));
+    }
+    let mut vars = store_vars(alloc, &store)?;
+    if vars.remove(KEEP_STATE) {
+        let why = LeftOut::KeepState;
+        note(rt, name, format_args!("{KEEP_STATE} is left out: {why}"));
+    }
+    Ok(vars)
+}
+
+/// What it is to the program that the variable file of this name has this fault.
+pub fn of_store(alloc: Global, name: &str, fault: StoreFault) -> Failure {
+    match Reason::of_store(fault) {
+        Some(reason) => Failure::refused(alloc, name, reason),
+        None => Failure::Memory,
+    }
+}
+
+/// The name of a record's variable, as [`description_text`] shows its units, without the zero unit at its end.
+fn record_name(alloc: Global, record: &Record<'_>) -> Result<String, AllocError> {
+    let units = read_units(alloc, record.name)?;
+    let units = units.as_slice();
+    description_text(alloc, units.strip_suffix(&[0]).unwrap_or(units))
+}
+
+/// Why no set can hold the record's variable.
+fn why_left_out(record: &Record<'_>) -> LeftOut {
+    if record.value.is_empty() {
+        LeftOut::NoValue
+    } else if record.value.len() > DATA_MAX {
+        LeftOut::LongValue
+    } else {
+        LeftOut::Name
+    }
+}
+
+/// The bytes of the set file that has these variables with these changes made.
+///
+/// # Errors
+///
+/// [`Failure::Memory`] if memory was refused.
+pub fn changed_set(
+    alloc: Global,
+    vars: &Vars,
+    changes: &[BootChange<'_>],
+) -> Result<Vec<u8>, Failure> {
+    let mut vars = vars.copy(alloc)?;
+    vars.make(gathered(alloc, changes)?)?;
+    Ok(write_set(alloc, &vars)?)
+}
+
+/// The changes, gathered to be made at once.
+fn gathered(alloc: Global, changes: &[BootChange<'_>]) -> Result<Changes, Failure> {
+    let mut gathered = Changes::new(alloc);
+    for change in changes {
+        match change.after {
+            Some(data) => gathered.put(change.name, data).map_err(of_put)?,
+            None => gathered.remove(change.name)?,
+        }
+    }
+    Ok(gathered)
+}
+
+/// What it is to the program that a variable of a set isn't put into another set. The other set can hold it too, so only
+/// memory was refused.
+fn of_put(_fault: PutFault) -> Failure {
+    Failure::Memory
+}
+
+/// The bytes of the emulator's variable file of this name, which has these bytes, with the boot variables of a set.
+///
+/// # Errors
+///
+/// [`Failure::Refused`] if it is damaged, or has no room, and [`Failure::Memory`] if memory was refused.
+pub fn changed_variable_file(
+    alloc: Global,
+    name: &str,
+    bytes: &[u8],
+    to: &Vars,
+) -> Result<Vec<u8>, Failure> {
+    write_boot_vars(alloc, bytes, to).map_err(|fault| match fault {
+        WriteFault::Store(fault) => of_store(alloc, name, fault),
+        WriteFault::Full => Failure::refused(alloc, name, Reason::Full),
+        WriteFault::OutOfMemory => Failure::Memory,
+    })
+}

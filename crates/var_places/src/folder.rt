@@ -1,0 +1,184 @@
+//! Folders in which Linux shows variables, each as a file: its name, a hyphen and its vendor's GUID are the file's name,
+//! and the file has four bytes of attributes and then the value.
+
+ghost use Rattle.std.specs.Prelude.{IfSome};
+ghost use Rattle.var_places.specs.Folder.{IsFileName};
+
+use crate::failure::Failure;
+use crate::input::read_file;
+use crate::notes::note;
+use crate::reason::Reason;
+use std::alloc::{AllocError, Global};
+use std::collections::BTreeMap;
+use std::fs;
+use std::io::ErrorKind;
+use std::path::{Path, PathBuf};
+use std::rt::Files;
+use thiserror::Error;
+use uefi_path::Guid;
+use uefi_text::{GuidText, read_guid};
+use uefi_vars::{DATA_MAX, PutFault, Vars};
+
+/// 8be4df61-93ca-11d2-aa0d-00e098032b8c, EFI_GLOBAL_VARIABLE, the vendor of the variables of the standard (UEFI 2.10,
+/// 3.3).
+const GLOBAL_VENDOR: Guid = Guid([
+    0x61, 0xDF, 0xE4, 0x8B, 0xCA, 0x93, 0xD2, 0x11, 0xAA, 0x0D, 0x00, 0xE0, 0x98, 0x03, 0x2B, 0x8C,
+]);
+
+/// How many bytes a GUID and the hyphen before it have in a file's name.
+const VENDOR_LEN: usize = 37;
+
+/// How many bytes of attributes a file has before the value.
+pub(crate) const ATTRIBUTES_LEN: usize = 4;
+
+/// The variable in which `bootkeep run` keeps which requests were applied. Firmware refuses it.
+pub const KEEP_STATE: &str = "BootKeepState";
+
+/// The variables that a folder shows.
+#[derive(Drop)]
+pub struct Folder {
+    /// The variables of the standard's vendor, except BootKeepState.
+    pub vars: Vars,
+    /// The name of the file of each of them, by the variable's name.
+    files: BTreeMap<String, String>,
+}
+
+/// Why a variable isn't read.
+#[derive(Clone, Copy, Debug, Error)]
+pub enum LeftOut {
+    /// A set can't hold its name.
+    #[error("its name isn't one to 64 characters of ASCII that print")]
+    Name,
+    /// It has no value.
+    #[error("it has no value")]
+    NoValue,
+    /// Its value is too long for a set.
+    #[error("its value has more than 1048576 bytes")]
+    LongValue,
+    /// It is BootKeepState.
+    #[error("it belongs into a set file, and firmware refuses it")]
+    KeepState,
+}
+
+/// The variables that the folder at this path shows. Tells on standard error what is left out.
+///
+/// # Errors
+///
+/// [`Failure::Read`] if the folder or the file of one of its variables can't be read, [`Failure::Refused`] if it has no
+/// boot variable or a variable twice, and [`Failure::Memory`] if memory was refused.
+pub fn read_folder<R: Files + Eprint + AllocGlobal>(rt: &R, path: &str) -> Result<Folder, Failure> {
+    let mut folder = Folder {
+        vars: Vars::new(rt.alloc()),
+        files: BTreeMap::new(rt.alloc()),
+    };
+    for file in &file_names(rt, path)? {
+        if let Some(name) = variable_name(file) {
+            add_variable(rt, path, &mut folder, name, file)?;
+        }
+    }
+    if !folder.vars.iter().any(|(name, _)| name.starts_with("Boot")) {
+        return Err(Failure::refused(rt.alloc(), path, Reason::NoBootVariables));
+    }
+    Ok(folder)
+}
+
+/// The names of the files in the folder, in the order of their bytes.
+fn file_names<R: Files + Eprint + AllocGlobal>(rt: &R, path: &str) -> Result<Vec<String>, Failure> {
+    let alloc = rt.alloc();
+    let of_read = |error| Failure::of_read(alloc, path, error);
+    let mut names = Vec::new(alloc);
+    for entry in fs::read_dir(&(rt, alloc), path).map_err(of_read)? {
+        match entry {
+            Ok(entry) => names.push(String::from_str(alloc, entry.file_name())?)?,
+            Err(error) if error.kind() == ErrorKind::InvalidFilename => {
+                note(rt, path, "a file is left out: its name isn't UTF-8");
+            }
+            Err(error) => return Err(of_read(error)),
+        }
+    }
+    names.sort()?;
+    Ok(names)
+}
+
+/// The name of the variable that a file of this name shows, if it is one of the standard's vendor.
+fn variable_name(file: &str) -> Option<&str>
+    ensures { IfSome result (λ name. IsFileName file.now name.now) }
+{
+    let (name, rest) = file.split_at_checked(file.len().checked_sub(VENDOR_LEN)?)?;
+    let (hyphen, vendor) = rest.split_at_checked(1)?;
+    if hyphen == "-" && read_guid(vendor)? == GLOBAL_VENDOR {
+        Some(name)
+    } else {
+        None
+    }
+}
+
+/// Adds the variable of this name that a file shows, or tells on standard error that it is left out.
+fn add_variable<R: Files + Eprint + AllocGlobal>(
+    rt: &R,
+    path: &str,
+    folder: &mut Folder,
+    name: &str,
+    file: &str,
+) -> Result<(), Failure> {
+    let alloc = rt.alloc();
+    if let Some(first) = folder.files.get(name) {
+        let (first, second) = (first.clone()?, String::from_str(alloc, file)?);
+        return Err(Failure::refused(alloc, path, Reason::Twice { first, second }));
+    }
+    let whole = Path::new(path).join(alloc, file)?;
+    let whole = whole.as_path().as_str();
+    match read_file(rt, whole, ATTRIBUTES_LEN + DATA_MAX) {
+        Ok(bytes) => match keep(folder, name, bytes.as_deref())? {
+            None => {
+                let name = String::from_str(alloc, name)?;
+                folder.files.insert(name, String::from_str(alloc, file)?)?;
+            }
+            Some(why) => note(rt, path, format_args!("{file:?} is left out: {why}")),
+        },
+        Err(error) => return Err(Failure::of_read(alloc, whole, error)),
+    }
+    Ok(())
+}
+
+/// Stores the value of a file under this name, or says why that can't be.
+fn keep(
+    folder: &mut Folder,
+    name: &str,
+    bytes: Option<&[u8]>,
+) -> Result<Option<LeftOut>, AllocError> {
+    if name == KEEP_STATE {
+        return Ok(Some(LeftOut::KeepState));
+    }
+    let Some(bytes) = bytes else {
+        return Ok(Some(LeftOut::LongValue));
+    };
+    let value = bytes.get(ATTRIBUTES_LEN..).unwrap_or(&[]);
+    match folder.vars.put(name, value) {
+        Ok(()) => Ok(None),
+        Err(PutFault::BadName) => Ok(Some(LeftOut::Name)),
+        Err(PutFault::EmptyData) => Ok(Some(LeftOut::NoValue)),
+        Err(PutFault::DataTooLong) => Ok(Some(LeftOut::LongValue)),
+        Err(PutFault::OutOfMemory) => Err(AllocError),
+    }
+}
+
+impl Folder {
+    /// The path of the file of the variable of this name in the folder at this path: the file that shows it, or the one
+    /// that is to.
+    pub(crate) fn path_of(
+        &self,
+        alloc: Global,
+        path: &str,
+        name: &str,
+    ) -> Result<PathBuf, AllocError> {
+        let path = Path::new(path);
+        match self.files.get(name) {
+            Some(file) => path.join(alloc, file.as_str()),
+            None => {
+                let file = format!(in alloc; "{name}-{}", GuidText(&GLOBAL_VENDOR))?;
+                path.join(alloc, file.as_str())
+            }
+        }
+    }
+}

@@ -1,0 +1,160 @@
+//! Changes of the variables that a folder shows.
+
+ghost use Rattle.std.specs.Prelude.{◌≡◌, ◌++◌, ◌↔◌, IsTrue, IfOk, OnOk};
+ghost use Rattle.std.specs.Io.KnownBytes.{Appends};
+ghost use Rattle.var_places.specs.Folder.{ShowsValue, stored_attributes};
+
+use crate::folder::{ATTRIBUTES_LEN, Folder};
+use crate::input::read_file;
+use std::alloc::{AllocError, Global};
+use std::fs::{self, OpenFile, OpenOptions};
+use std::io::{self, ErrorKind, Write};
+use std::path::Path;
+use std::rt::Files;
+use uefi_vars::DATA_MAX;
+use var_stores::BootChange;
+
+/// The attributes of Boot####, BootOrder and BootNext, little-endian: they are kept without power, and can be read while
+/// firmware starts a system and after it (UEFI 2.10, 3.3 and 8.2).
+const ATTRIBUTES: [u8; 4] = [7, 0, 0, 0];
+
+/// Makes one change in the folder at this path, which shows these variables: by one write of the attributes and the
+/// value, as efivarfs wants it, to a file that isn't cut before, or by removing the file.
+///
+/// # Errors
+///
+/// The system's, if the file can't be opened, written or removed, and that memory was refused. The variable is as it was
+/// then, and a file that was to be made is gone.
+pub fn make_change<R: Files + AllocGlobal>(
+    rt: &R,
+    folder: &Folder,
+    path: &str,
+    change: &BootChange<'_>,
+) -> io::Result<()> {
+    let file = folder.path_of(rt.alloc(), path, change.name)?;
+    match change.after {
+        Some(value) => store(rt, file.as_path(), value, change.before.is_none()),
+        None => fs::remove_file(rt, file.as_path()),
+    }
+}
+
+/// Sets the variable of this name to this value, or takes it out if the value is `None`, whatever is there. Nothing is
+/// written if it is so already. The folder is what was read of this path, and the name has no slash.
+///
+/// # Errors
+///
+/// The system's, if the file can't be opened, read, written or removed, and that memory was refused. The variable is as it
+/// was then, and a file that was to be made is gone.
+pub fn set_variable<R: Files + AllocGlobal>(
+    rt: &R,
+    folder: &Folder,
+    path: &str,
+    name: &str,
+    value: Option<&[u8]>,
+) -> io::Result<()> {
+    let file = folder.path_of(rt.alloc(), path, name)?;
+    let found = find(rt, file.as_path())?;
+    if found.has(value) {
+        return Ok(());
+    }
+    match value {
+        Some(value) => store(rt, file.as_path(), value, matches!(found, Found::Nothing)),
+        None => fs::remove_file(rt, file.as_path()),
+    }
+}
+
+/// Whether the variable of this name has this value, or isn't there if the value is `None`. A variable with more than
+/// [`DATA_MAX`] bytes has another value, whichever is asked for. The folder is what was read of this path, and the name has
+/// no slash.
+///
+/// # Errors
+///
+/// The system's, if the file is there and can't be opened or read, and that memory was refused.
+pub fn has_value<R: Files + AllocGlobal>(
+    rt: &R,
+    folder: &Folder,
+    path: &str,
+    name: &str,
+    value: Option<&[u8]>,
+) -> io::Result<bool> {
+    let file = folder.path_of(rt.alloc(), path, name)?;
+    Ok(find(rt, file.as_path())?.has(value))
+}
+
+/// What is at the path of a variable's file.
+#[derive(Drop)]
+enum Found {
+    /// No file.
+    Nothing,
+    /// A file with these bytes.
+    Bytes(Vec<u8>),
+    /// A file with more bytes than a value of a set can have.
+    TooMuch,
+}
+
+impl Found {
+    /// Whether the variable has this value, or isn't there if the value is `None`.
+    fn has(&self, value: Option<&[u8]>) -> bool {
+        match (self, value) {
+            (Found::Nothing, None) => true,
+            (Found::Bytes(bytes), Some(value)) => shows_value(bytes, value),
+            _ => false,
+        }
+    }
+}
+
+/// Looks at the path of a variable's file.
+fn find<R: Files + AllocGlobal>(rt: &R, path: Path<'_>) -> io::Result<Found> {
+    match read_file(rt, path.as_str(), ATTRIBUTES_LEN + DATA_MAX) {
+        Ok(Some(bytes)) => Ok(Found::Bytes(bytes)),
+        Ok(None) => Ok(Found::TooMuch),
+        Err(error) if error.kind() == ErrorKind::NotFound => Ok(Found::Nothing),
+        Err(error) => Err(error),
+    }
+}
+
+/// Whether a file with these bytes shows this value.
+fn shows_value(bytes: &[u8], value: &[u8]) -> bool
+    ensures { IsTrue result ↔ ShowsValue bytes.now value.now }
+{
+    bytes.len() >= ATTRIBUTES_LEN && &bytes[ATTRIBUTES_LEN..] == value
+}
+
+/// Stores the value in the file at this path, which is made if the variable is new.
+fn store<R: Files + AllocGlobal>(
+    rt: &R,
+    path: Path<'_>,
+    value: &[u8],
+    is_new: bool,
+) -> io::Result<()> {
+    let bytes = file_bytes(rt.alloc(), value)?;
+    let mut how = OpenOptions::new();
+    let mut file = how.write(true).create(is_new).open(rt, path)?;
+    let written = write_once(&mut file, &bytes);
+    if written.is_err() && is_new && file.metadata()?.len() == 0 {
+        fs::remove_file(rt, path)?;
+    }
+    written
+}
+
+/// The bytes of the file that shows this value.
+fn file_bytes(alloc: Global, value: &[u8]) -> Result<Vec<u8>, AllocError>
+    ensures { IfOk result (λ bytes. bytes.items ≡ stored_attributes ++ value.now) }
+{
+    let mut bytes = Vec::from_slice(alloc, &ATTRIBUTES)?;
+    bytes.extend_from_slice(value)?;
+    Ok(bytes)
+}
+
+/// Writes all of the bytes at once.
+fn write_once<F: Write + OpenFile>(file: &mut F, bytes: &[u8]) -> io::Result<()> {
+    if file.write(bytes)? < bytes.len() {
+        return Err(io::Error::from(ErrorKind::WriteZero));
+    }
+    // In a folder that isn't efivarfs, the file may have had more bytes.
+    let len = bytes.len() as u64;
+    if file.metadata()?.len() > len {
+        file.set_len(len)?;
+    }
+    Ok(())
+}

@@ -1,0 +1,33 @@
+//! The places where a machine's variables are: a set file, a folder as Linux shows variables, and an emulator's variable
+//! file (UEFI specification, version 2.10, chapters 3 and 8).
+//!
+//! [`read_place`] reads the variables of whatever is at a path, [`file_kind`] tells files apart by their bytes, and
+//! [`read_folder`] and [`file_vars`] read folders and files. A folder is changed one variable at a time, by
+//! [`make_change`] and [`set_variable`]. A file is replaced as a whole: [`changed_set`] and [`changed_variable_file`] give
+//! its bytes, [`lock()`] locks it and [`write()`] replaces it. What goes wrong is a [`Failure`], which has a message and the
+//! status of a program that ends with it.
+#![tactic(auto)]
+
+mod failure;
+mod file_kinds;
+mod file_place;
+mod folder;
+mod folder_change;
+mod input;
+mod notes;
+mod output;
+mod place;
+mod reason;
+
+pub use failure::Failure;
+pub use file_kinds::{FileKind, NoOption, OtherKind, file_kind, no_option, other_kind};
+pub use file_place::{
+    changed_set, changed_variable_file, file_vars, has_keep_state, no_place, of_store, set_vars,
+};
+pub use folder::{Folder, KEEP_STATE, LeftOut, read_folder};
+pub use folder_change::{has_value, make_change, set_variable};
+pub use input::{STANDARD, name_of, read, read_file};
+pub use notes::{note, shown};
+pub use output::{Output, lock, print, write};
+pub use place::{is_folder, read_place};
+pub use reason::Reason;

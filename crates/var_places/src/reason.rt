@@ -1,0 +1,142 @@
+//! Why an input is refused, in words for a person.
+
+use crate::file_kinds::{NoOption, OtherKind};
+use thiserror::Error;
+use uefi_vars::SetFault;
+use var_stores::StoreFault;
+
+/// Why a file, a place or a word is refused. Its `Display` goes on from what that is called.
+#[derive(Debug, Drop, Error)]
+pub enum Reason {
+    /// A file has more bytes than the program reads.
+    #[error("it has more than {0} bytes")]
+    TooMuch(usize),
+    /// A file is no place of variables.
+    #[error("{0}")]
+    NoPlace(OtherKind),
+    /// A file is no load option, and looks like something else.
+    #[error("{0}")]
+    NoOption(NoOption),
+    /// A set file has BootKeepState, and is to be replaced by one without it.
+    #[error("it has a BootKeepState, which the new set wouldn't have, so requests already done would be done again: \
+        name another file, or take it away first")]
+    LosesKeepState,
+    /// A variable file is given where a set file has to be.
+    #[error("it is an emulator's variable file: make a set of it by `bootvars read`")]
+    VariableFile,
+    /// A set file is given as the place of a machine.
+    #[error("it is a set file, and no machine's: `bootkeep run` runs requests over it")]
+    SetPlace,
+    /// A file is given where a folder has to be.
+    #[error("it is no folder")]
+    NoFolder,
+    /// A journal has a fault, in words.
+    #[error("the journal is damaged: {0}")]
+    DamagedJournal(String),
+    /// A folder is given where a set file has to be.
+    #[error("it is a folder: make a set of it by `bootvars read`")]
+    Folder,
+    /// A set file ends in a record, which begins at this offset.
+    #[error("the set is cut: it ends in the record at byte {0}")]
+    SetCut(usize),
+    /// A record of a set file, at this offset, has no name of a variable.
+    #[error("the set is damaged: the record at byte {0} has a name that no variable has")]
+    SetName(usize),
+    /// A record of a set file, at this offset, has no data, or too much.
+    #[error("the set is damaged: the record at byte {0} has no data, or more than 1048576 bytes")]
+    SetData(usize),
+    /// A record of a set file, at this offset, isn't in its place.
+    #[error("the set is damaged: the name of the record at byte {0} isn't above the one before")]
+    SetOrder(usize),
+    /// A file doesn't begin with a volume of variables.
+    #[error("it doesn't begin with a firmware volume of variables")]
+    NoVolume,
+    /// The header of a volume is damaged, or the file ends in the volume.
+    #[error("the header of its firmware volume is damaged, or the file is cut")]
+    VolumeHeader,
+    /// A volume has no store of variables.
+    #[error("its firmware volume has no store of variables")]
+    NoStore,
+    /// A store is of the older kind.
+    #[error("its variables have no times: this older kind isn't read")]
+    Unauthenticated,
+    /// A store isn't formatted, or is damaged.
+    #[error("its store of variables isn't formatted, or is damaged")]
+    DamagedStore,
+    /// A record of a store, at this offset, ends after the store.
+    #[error("its store of variables is damaged: the record at byte {0} ends after the store")]
+    RecordCut(usize),
+    /// A store has no room for what is to be written.
+    #[error("its store of variables has no room for the changes, and nothing is changed")]
+    Full,
+    /// A folder has no boot variable.
+    #[error("no boot variables are in it: is efivarfs mounted there?")]
+    NoBootVariables,
+    /// Two files of a folder show one variable.
+    #[error("{first:?} and {second:?} are the same variable: take one of them away")]
+    Twice {
+        /// The name of the one file.
+        first: String,
+        /// The name of the other.
+        second: String,
+    },
+    /// A set has no entry.
+    #[error("no entry is in it, so all entries would be taken out: give --empty if that is meant")]
+    NoEntry,
+    /// What is to be replaced is no regular file.
+    #[error("it is neither a folder nor a regular file, and can't be written")]
+    Irregular,
+    /// Standard input is to be written.
+    #[error("it can't be written: name a folder or a file")]
+    Standard,
+    /// Standard input is to be read twice.
+    #[error("it can be read only once: name a file for the other place")]
+    StandardTwice,
+    /// An entry is to be stored that firmware refuses.
+    #[error("{name} isn't a load option ({fault}), and firmware refuses it; nothing is changed")]
+    EntryRefused {
+        /// The name of the entry.
+        name: String,
+        /// The words of the option's fault.
+        fault: String,
+    },
+    /// A BootOrder is to be stored that firmware refuses.
+    #[error("BootOrder isn't two bytes for each entry, and firmware refuses it; nothing is changed")]
+    OrderRefused,
+    /// A BootNext is to be stored that firmware refuses.
+    #[error("BootNext isn't the two bytes of one entry, and firmware refuses it; nothing is changed")]
+    NextRefused,
+    /// A script or a stream has a fault, which was shown.
+    #[error("it has a fault, which is shown")]
+    Faulty,
+    /// A fault that another library tells in words.
+    #[error("{0}")]
+    Fault(String),
+}
+
+impl Reason {
+    /// Why a set file is refused: `None` if only memory was.
+    pub(crate) fn of_set(fault: SetFault) -> Option<Reason> {
+        match fault {
+            SetFault::BadMagic(_) => Some(Reason::NoPlace(OtherKind::Unknown)),
+            SetFault::Truncated(place) => Some(Reason::SetCut(place)),
+            SetFault::BadName(place) => Some(Reason::SetName(place)),
+            SetFault::BadData(place) => Some(Reason::SetData(place)),
+            SetFault::NotRising(place) => Some(Reason::SetOrder(place)),
+            SetFault::OutOfMemory => None,
+        }
+    }
+
+    /// Why a variable file is refused: `None` if only memory was.
+    pub(crate) fn of_store(fault: StoreFault) -> Option<Reason> {
+        match fault {
+            StoreFault::NoVolume => Some(Reason::NoVolume),
+            StoreFault::BadHeader => Some(Reason::VolumeHeader),
+            StoreFault::NoStore => Some(Reason::NoStore),
+            StoreFault::Unauthenticated => Some(Reason::Unauthenticated),
+            StoreFault::BadStore => Some(Reason::DamagedStore),
+            StoreFault::CutRecord(place) => Some(Reason::RecordCut(place)),
+            StoreFault::OutOfMemory => None,
+        }
+    }
+}
