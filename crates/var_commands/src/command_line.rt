@@ -290,8 +290,8 @@ fn update_command<'a>(alloc: Global) -> Result<Command<'a>, AllocError> {
         ))?
         .arg(script_value(alloc)?)?
         .arg(state)?
-        .arg(flag(alloc, "stream", "SCRIPT is a stream of frames").requires_arg("SCRIPT")?)?
-        .arg(flag(alloc, "json", "Prints JSON").requires_arg("SCRIPT")?)?
+        .arg(script_flag(alloc, "stream", "SCRIPT is a stream of frames")?)?
+        .arg(script_flag(alloc, "json", "Prints JSON")?)?
         .arg(flag(alloc, "next", "Prints the number of the next request").conflicts_with(
             "settle",
         )?)?
@@ -309,6 +309,15 @@ fn script_value<'a>(alloc: Global) -> Result<Arg<'a>, AllocError> {
         .help("The script of requests")
         .required_unless_present("next")?
         .required_unless_present("settle")?
+        .conflicts_with("next")?
+        .conflicts_with("settle")
+}
+
+/// A flag of `update` that goes with a script alone. The conflicts have to be named here, since `clap` no longer asks for
+/// the script where a flag excludes it.
+fn script_flag<'a>(alloc: Global, name: &'a str, help: &'a str) -> Result<Arg<'a>, AllocError> {
+    flag(alloc, name, help)
+        .requires_arg("SCRIPT")?
         .conflicts_with("next")?
         .conflicts_with("settle")
 }
