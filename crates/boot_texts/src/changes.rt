@@ -177,7 +177,7 @@ fn append_parts(
         );
         writeln!(report, "  attributes {before} -> {after}")?;
     }
-    append_paths(&before.paths, &after.paths, report)?;
+    append_paths(before, after, report)?;
     if before.optional != after.optional {
         let before = OptionalData(before.optional.as_ref());
         let after = OptionalData(after.optional.as_ref());
@@ -186,20 +186,34 @@ fn append_parts(
     Ok(())
 }
 
-/// Appends an indented line for each place of a list of paths in which two lists differ.
+/// Appends an indented line for each place of the lists of paths in which two options differ.
 fn append_paths(
-    before: &[String],
-    after: &[String],
+    before: &ShownOption,
+    after: &ShownOption,
     report: &mut String,
 ) -> Result<(), AllocError> {
-    for place in 0..before.len().max(after.len()) {
-        let (old, new) = (before.get(place), after.get(place));
-        if old != new {
+    for place in 0..before.paths.len().max(after.paths.len()) {
+        if before.paths.get(place) != after.paths.get(place) {
+            let (old, new) = texts_apart(before, after, place);
             let number = place.saturating_add(1);
             writeln!(report, "  path {number} {} -> {}", OrNone(old), OrNone(new))?;
         }
     }
     Ok(())
+}
+
+/// The texts that tell apart the paths at a place in which two options differ, where an option may have none: those
+/// for a person, or the exact ones if only bytes differ that the former don't show.
+fn texts_apart<'a>(
+    before: &'a ShownOption,
+    after: &'a ShownOption,
+    place: usize,
+) -> (Option<&'a String>, Option<&'a String>) {
+    let (old, new) = (before.named_paths.get(place), after.named_paths.get(place));
+    if old != new {
+        return (old, new);
+    }
+    (before.paths.get(place), after.paths.get(place))
 }
 
 /// A text, or `none` if there is none.

@@ -157,7 +157,7 @@ pub(crate) struct Summary<'a>(pub(crate) &'a ShownOption);
 impl fmt::Display for Summary<'_> {
     fn fmt<W: fmt::Write>(&self, f: &mut fmt::Formatter<W>) -> fmt::Result {
         write!(f, "{}", Quoted(&self.0.description))?;
-        match self.0.paths.first() {
+        match self.0.named_paths.first() {
             Some(path) => write!(f, " {path}"),
             None => Ok(()),
         }

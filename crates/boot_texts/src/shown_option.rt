@@ -3,6 +3,7 @@
 use serde::Serialize;
 use std::alloc::{AllocError, Global};
 use std::fmt;
+use uefi_names::named_text;
 use uefi_option::{
     ACTIVE, CATEGORY, CATEGORY_APP, CATEGORY_BOOT, FORCE_RECONNECT, HIDDEN, LoadOption, category,
     description_text, is_active, is_normal,
@@ -24,8 +25,10 @@ pub(crate) struct ShownOption {
     category: String,
     /// Whether the boot manager tries the option by itself.
     pub(crate) normal: bool,
-    /// The text of each path.
+    /// The text of each path from which it can be had again, as [`path_text`] has it.
     pub(crate) paths: Vec<String>,
+    /// The text of each path for a person, as [`named_text`] has it.
+    pub(crate) named_paths: Vec<String>,
     /// The optional data in hexadecimal digits, if there are some.
     pub(crate) optional: Option<String>,
     /// The optional data as text, if they are one.
@@ -41,8 +44,10 @@ impl ShownOption {
     pub(crate) fn new(alloc: Global, option: &LoadOption) -> Result<ShownOption, AllocError> {
         let attributes = option.attributes();
         let mut paths = Vec::with_capacity(alloc, option.paths().len())?;
+        let mut named_paths = Vec::with_capacity(alloc, option.paths().len())?;
         for path in option.paths() {
             paths.push(path_text(alloc, path)?)?;
+            named_paths.push(named_text(alloc, path)?)?;
         }
         Ok(ShownOption {
             description: description_text(alloc, option.description())?,
@@ -53,6 +58,7 @@ impl ShownOption {
             category: format!(in alloc; "{}", Category(attributes))?,
             normal: is_normal(attributes),
             paths,
+            named_paths,
             optional: optional_digits(alloc, option.optional())?,
             optional_text: printed_text(alloc, option.optional())?,
         })

@@ -195,8 +195,8 @@ pub fn vars_report(alloc: Global, vars: &Vars) -> Result<String, AllocError> {
 }
 
 /// Shows variables as JSON, an object on one line that ends with a line feed: what [`vars_report`] shows.
-/// docs/formats.md has each member. Every description and all data are shown so that they can be had again from the
-/// text, which is ASCII.
+/// docs/formats.md has each member. Every description, every path and all data are shown so that they can be had again
+/// from the text, which is ASCII.
 ///
 /// # Errors
 ///
@@ -221,7 +221,7 @@ fn append_entry(entry: &ShownEntry<'_>, report: &mut String) -> Result<(), Alloc
 /// Appends the indented lines of an option.
 fn append_option(option: &ShownOption, report: &mut String) -> Result<(), AllocError> {
     writeln!(report, "  attributes {}", AttributeWords(option.attributes))?;
-    for path in &option.paths {
+    for path in &option.named_paths {
         writeln!(report, "  path {path}")?;
     }
     if let Some(digits) = &option.optional {

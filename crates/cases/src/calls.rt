@@ -1,6 +1,6 @@
 //! The calls that cases name.
 
-use crate::{frames, options, paths, plans, reports, runs, sets, streams, texts};
+use crate::{frames, names, options, paths, plans, reports, runs, sets, streams, texts};
 use anyhow::{Result, bail};
 use case_files::Calls;
 use case_files::input::{bytes_of, ends_of, text_of};
@@ -134,6 +134,7 @@ fn of_bytes(alloc: Global, call: &str, bytes: &[u8]) -> Result<String> {
         "to_node" => paths::nodes_in_words(alloc, bytes),
         "read_units" => paths::units(alloc, bytes),
         "path_text" => texts::print(alloc, bytes),
+        "named_text" => names::print(alloc, bytes),
         "guid_text" => texts::print_guid(alloc, bytes),
         "read_option" => options::read(alloc, bytes),
         "check_option" => options::view(alloc, bytes),

@@ -8,6 +8,7 @@ mod paths;
 mod readers;
 mod requests;
 mod sets;
+mod tables;
 
 use anyhow::Result;
 use case_files::Findings;
@@ -17,6 +18,7 @@ use std::alloc::Global;
 pub fn report(alloc: Global) -> Result<String> {
     let mut findings = Findings::new(alloc);
     paths::check(alloc, &mut findings)?;
+    tables::check(alloc, &mut findings)?;
     options::check(alloc, &mut findings)?;
     sets::check(alloc, &mut findings)?;
     requests::check(alloc, &mut findings)?;

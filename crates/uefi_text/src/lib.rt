@@ -3,7 +3,8 @@
 //!
 //! [`path_text`] prints a path and [`read_text`] reads one back, exactly: what is read is what the
 //! grammar says, and a refusal says where. [`guid_text`] and [`read_guid`] do the same for GUIDs
-//! alone. [`PathText`] and [`GuidText`] are the printed texts as values that `{}` writes.
+//! alone. [`PathText`] and [`GuidText`] are the printed texts as values that `{}` writes, and [`NodeText`], [`HidText`],
+//! [`NumberText`], [`DigitsText`] and [`AddressText`] those of their parts.
 #![tactic(auto)]
 
 mod argument;
@@ -19,5 +20,7 @@ mod segment;
 
 pub use fault::TextFault;
 pub use guid::{GuidText, guid_text, read_guid};
+pub use print_node::{Hid as HidText, NodeText};
+pub use print_parts::{Address as AddressText, Digits as DigitsText, Number as NumberText};
 pub use print_path::{PathText, path_text};
 pub use reader::read_text;

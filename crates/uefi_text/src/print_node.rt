@@ -36,10 +36,10 @@ pub(crate) const URI_LOW: u8 = 0x21;
 /// The lowest unit of a path name that is printed as it is.
 pub(crate) const NAME_LOW: u8 = 0x20;
 
-/// A node that is written by `{}`: in the form of its type if it has one, otherwise as a `Path` of its type, its
-/// sub-type and its data.
+/// A node that is written by `{}`, as [`path_text`](crate::path_text) has it: in the form of its type if it has one,
+/// otherwise as a `Path` of its type, its sub-type and its data.
 #[derive(Clone, Copy, Debug)]
-pub(crate) struct NodeText<'a>(pub(crate) &'a Node);
+pub struct NodeText<'a>(pub &'a Node);
 
 impl fmt::Display for NodeText<'_> {
     ghost use Rattle.std.specs.Prelude.{Some};
@@ -132,9 +132,10 @@ fn acpi<W: fmt::Write>(f: &mut fmt::Formatter<W>, hid: u32, uid: u32) -> fmt::Re
     }
 }
 
-/// A hardware identifier that isn't a root's.
+/// A hardware identifier (UEFI 2.10, 10.3.3) that is written by `{}`: `PNP` and four upper-case digits if its low half is
+/// that of such an identifier, otherwise all its eight digits.
 #[derive(Clone, Copy, Debug)]
-struct Hid(u32);
+pub struct Hid(pub u32);
 
 impl fmt::Display for Hid {
     ghost use Rattle.std.specs.Prelude.{Some};

@@ -19,9 +19,9 @@ const PREFIX_LEN: usize = 2;
 /// The most bytes of a number's text: the prefix and sixteen digits.
 const NUMBER_LEN: usize = 18;
 
-/// A number: `0x` and lower-case hexadecimal digits without leading zeros.
+/// A number that is written by `{}`: `0x` and lower-case hexadecimal digits without leading zeros.
 #[derive(Clone, Copy, Debug)]
-pub(crate) struct Number(pub(crate) u64);
+pub struct Number(pub u64);
 
 impl fmt::Display for Number {
     ghost use Rattle.std.specs.Prelude.{Some};
@@ -72,9 +72,9 @@ fn digit_of(value: u8) -> u8
     }
 }
 
-/// Bytes, each as two lower-case hexadecimal digits.
+/// Bytes that are written by `{}`: each as two lower-case hexadecimal digits.
 #[derive(Clone, Copy, Debug)]
-pub(crate) struct Digits<'a>(pub(crate) &'a [u8]);
+pub struct Digits<'a>(pub &'a [u8]);
 
 impl fmt::Display for Digits<'_> {
     ghost use Rattle.std.specs.Prelude.{Some};
@@ -109,9 +109,9 @@ fn digits_of<'b>(bytes: &[u8], buffer: &'b mut [u8; CHUNK_DIGITS]) -> Result<&'b
     }
 }
 
-/// An address: its bytes in decimal, joined by dots.
+/// An address of four bytes that is written by `{}`: its bytes in decimal, joined by dots.
 #[derive(Clone, Copy, Debug)]
-pub(crate) struct Address<'a>(pub(crate) &'a [u8; 4]);
+pub struct Address<'a>(pub &'a [u8; 4]);
 
 impl fmt::Display for Address<'_> {
     ghost use Rattle.std.specs.Prelude.{Some};

@@ -1,0 +1,3 @@
+-- what the proofs of functions use
+mod Texts
+mod Left

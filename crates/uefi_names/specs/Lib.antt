@@ -1,0 +1,4 @@
+-- what public contracts cite
+pub mod Table
+pub mod Shown
+pub mod Named

@@ -1,0 +1,13 @@
+//! Device paths as text for a person, with each node of the UEFI specification, version 2.10 (chapter 10.3), by its
+//! name and its fields.
+#![tactic(auto)]
+
+mod named;
+mod rows;
+mod shown;
+mod table;
+mod views;
+
+pub use named::{NamedPath, named_text};
+pub use table::{DataLen, Field, Form, Item, NodeRow, NodeTable, Numeral, REST, Show, When, Word};
+pub use views::named_nodes_text;
