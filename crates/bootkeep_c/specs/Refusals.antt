@@ -1,0 +1,122 @@
+-- The numbers of faults, and what a call tells of one. Out of memory is no refusal: it has a status of its own.
+use Rattle.std.specs.Prelude.{◌≡◌, ◌⊎◌, ℕ}
+use Rattle.uefi_path.specs.declared.fault.PathFault.{PathFault}
+use Rattle.uefi_path.specs.declared.fault.PathFault.TheVariants as path
+use Rattle.uefi_text.specs.declared.fault.TextFault.{TextFault}
+use Rattle.uefi_text.specs.declared.fault.TextFault.TheVariants as text
+use Rattle.uefi_option.specs.declared.fault.OptionFault.{OptionFault}
+use Rattle.uefi_option.specs.declared.fault.OptionFault.TheVariants as option
+use Rattle.uefi_vars.specs.declared.fault.SetFault.{SetFault}
+use Rattle.uefi_vars.specs.declared.fault.SetFault.TheVariants as set
+use Rattle.uefi_vars.specs.declared.fault.VarFault.{VarFault}
+use Rattle.uefi_vars.specs.declared.fault.VarFault.TheVariants as var
+use Rattle.uefi_vars.specs.declared.fault.PutFault.{PutFault}
+use Rattle.uefi_vars.specs.declared.fault.PutFault.TheVariants as put
+use Rattle.boot_requests.specs.declared.fault.OpenFault.{OpenFault}
+use Rattle.boot_requests.specs.declared.fault.OpenFault.TheVariants as opening
+use Rattle.boot_requests.specs.declared.fault.FeedFault.{FeedFault}
+use Rattle.boot_requests.specs.declared.fault.FeedFault.TheVariants as feeding
+use Rattle.bootkeep_c.specs.declared.refusal.Refusal.{Refusal}
+use Rattle.bootkeep_c.specs.declared.failure.Failure.{Failure}
+use Rattle.bootkeep_c.specs.declared.failure.Failure.TheVariants as failure
+use Rattle.bootkeep_c.specs.Status.{refused, no_memory}
+
+-- what stands for no fault within, and for no place
+abbrev pub no_kind : ℕ
+no_kind = 0
+
+abbrev pub no_place : ℕ
+no_place = 0xFFFF_FFFF_FFFF_FFFF
+
+abbrev pub refusal : ℕ → ℕ → ℕ → ℕ → Refusal
+refusal kind inner_kind place inner_place =
+    record { kind = kind; inner_kind = inner_kind; place = place; inner_place = inner_place }
+
+-- a refusal of this number that has no place, and one at a place
+abbrev pub bare : ℕ → Failure
+bare kind = failure.Refused (refusal kind no_kind no_place no_place)
+
+abbrev pub at_place : ℕ → ℕ → Failure
+at_place kind place = failure.Refused (refusal kind no_kind place no_place)
+
+-- ---- the numbers
+
+abbrev pub path_failure : PathFault → Failure
+path_failure (path.NoEnd place) = at_place 0x0101 place
+path_failure (path.ShortHeader place) = at_place 0x0102 place
+path_failure (path.BadLength place) = at_place 0x0103 place
+path_failure (path.PastEnd place) = at_place 0x0104 place
+path_failure (path.BadEnd place) = at_place 0x0105 place
+path_failure path.OutOfMemory = failure.Memory
+
+abbrev pub text_failure : TextFault → Failure
+text_failure (text.BadSegment place) = at_place 0x0201 place
+text_failure (text.BadNumber place) = at_place 0x0202 place
+text_failure (text.OutOfRange place) = at_place 0x0203 place
+text_failure (text.BadEnd place) = at_place 0x0204 place
+text_failure text.OutOfMemory = failure.Memory
+
+-- bytes that aren't UTF-8 from this place on
+abbrev pub not_utf8 : ℕ → Failure
+not_utf8 place = at_place 0x0205 place
+
+-- the fault of a path within a load option, whose list has these bytes at this place
+abbrev pub list_failure : ℕ → Failure → Failure
+list_failure place (failure.Refused inner) = failure.Refused (refusal 0x0305 inner.kind place inner.place)
+list_failure place failure.Memory = failure.Memory
+
+abbrev pub option_failure : OptionFault → Failure
+option_failure option.Short = bare 0x0301
+option_failure option.NoTerminator = bare 0x0302
+option_failure option.ListPastEnd = bare 0x0303
+option_failure option.EmptyList = bare 0x0304
+option_failure (option.Path place fault) = list_failure place (path_failure fault)
+option_failure option.ZeroUnit = bare 0x0306
+option_failure option.ListTooLong = bare 0x0307
+option_failure option.OutOfMemory = failure.Memory
+
+abbrev pub set_failure : SetFault → Failure
+set_failure (set.BadMagic place) = at_place 0x0401 place
+set_failure (set.Truncated place) = at_place 0x0402 place
+set_failure (set.BadName place) = at_place 0x0403 place
+set_failure (set.BadData place) = at_place 0x0404 place
+set_failure (set.NotRising place) = at_place 0x0405 place
+set_failure set.OutOfMemory = failure.Memory
+
+abbrev pub vars_failure : VarFault → Failure
+vars_failure var.BadOrder = bare 0x0501
+vars_failure var.BadNext = bare 0x0502
+vars_failure var.OutOfMemory = failure.Memory
+
+abbrev pub open_failure : OpenFault → Failure
+open_failure opening.BadOrder = bare 0x0501
+open_failure opening.BadNext = bare 0x0502
+open_failure opening.BadState = bare 0x0503
+open_failure opening.OutOfMemory = failure.Memory
+
+abbrev pub put_failure : PutFault → Failure
+put_failure put.BadName = bare 0x0601
+put_failure put.EmptyData = bare 0x0602
+put_failure put.DataTooLong = bare 0x0603
+put_failure put.OutOfMemory = failure.Memory
+
+abbrev pub feed_failure : FeedFault → Failure
+feed_failure feeding.BadMagic = bare 0x0701
+feed_failure feeding.BadVersion = bare 0x0702
+feed_failure feeding.TooLong = bare 0x0703
+feed_failure feeding.OutOfMemory = failure.Memory
+
+-- a stream that ends in this many bytes of a frame
+abbrev pub rest_failure : ℕ → Failure
+rest_failure count = at_place 0x0704 count
+
+-- ---- what a call tells
+
+-- the status of a call that fails so, and what is in the caller's refusal before and after
+abbrev pub Tells : Failure → ℕ → Refusal → Refusal → Type 0
+Tells (failure.Refused told) status old new = (status ≡ refused) × (new ≡ told)
+Tells failure.Memory status old new = (status ≡ no_memory) × (new ≡ old)
+
+-- the same, unless memory was refused before the failure was found
+abbrev pub TellsUnless : Failure → ℕ → Refusal → Refusal → Type 0
+TellsUnless failed status old new = Tells failed status old new ⊎ Tells failure.Memory status old new

@@ -1,0 +1,208 @@
+//! Faults to what a call answers of them.
+
+ghost use Rattle.std.specs.Prelude.{◌≡◌};
+ghost use Rattle.bootkeep_c.specs.declared.failure.Failure.TheVariants as failure;
+ghost use Rattle.bootkeep_c.specs.Refusals.{at_place, bare, path_failure, text_failure, list_failure, option_failure, set_failure, vars_failure, open_failure, put_failure, feed_failure, Tells};
+
+use crate::refusal::{
+    NO_KIND, NO_PLACE, OPTION_EMPTY_LIST, OPTION_LIST_PAST_END, OPTION_LIST_TOO_LONG,
+    OPTION_NO_TERMINATOR, OPTION_PATH, OPTION_SHORT, OPTION_ZERO_UNIT, PATH_BAD_END,
+    PATH_BAD_LENGTH, PATH_NO_END, PATH_PAST_END, PATH_SHORT_HEADER, PUT_BAD_NAME,
+    PUT_DATA_TOO_LONG, PUT_EMPTY_DATA, Refusal, SET_BAD_DATA, SET_BAD_MAGIC, SET_BAD_NAME,
+    SET_NOT_RISING, SET_TRUNCATED, STREAM_BAD_MAGIC, STREAM_BAD_VERSION, STREAM_TOO_LONG,
+    TEXT_BAD_END, TEXT_BAD_NUMBER, TEXT_BAD_SEGMENT, TEXT_OUT_OF_RANGE, VARS_BAD_NEXT,
+    VARS_BAD_ORDER, VARS_BAD_STATE,
+};
+use crate::status::{NO_MEMORY, REFUSED};
+use boot_requests::{FeedFault, OpenFault};
+use std::alloc::{AllocError, AllocFailed};
+use uefi_option::OptionFault;
+use uefi_path::PathFault;
+use uefi_text::TextFault;
+use uefi_vars::{PutFault, SetFault, VarFault};
+
+/// Why a call has no answer.
+#[derive(Clone, Copy, Debug)]
+pub enum Failure {
+    /// What was handed in is refused for this.
+    Refused(Refusal),
+    /// Memory was refused.
+    Memory,
+}
+
+impl Failure {
+    /// A refusal of this number that has no place.
+    pub(crate) fn bare(kind: u32) -> Failure
+        ensures { result ≡ bare kind }
+    {
+        Failure::at(kind, NO_PLACE)
+    }
+
+    /// A refusal of this number at a place.
+    pub(crate) fn at(kind: u32, place: usize) -> Failure
+        ensures { result ≡ at_place kind place }
+    {
+        Failure::Refused(Refusal {
+            kind,
+            inner_kind: NO_KIND,
+            place,
+            inner_place: NO_PLACE,
+        })
+    }
+
+    /// The refusal of a load option whose list has, at this place, bytes that fail so.
+    fn in_list(self, place: usize) -> Failure
+        ensures { result ≡ list_failure place self }
+    {
+        match self {
+            Failure::Refused(inner) => Failure::Refused(Refusal {
+                kind: OPTION_PATH,
+                inner_kind: inner.kind,
+                place,
+                inner_place: inner.place,
+            }),
+            Failure::Memory => Failure::Memory,
+        }
+    }
+
+    /// Tells the caller: the status, and at a refusal why.
+    pub(crate) fn tell(self, refusal: &mut Refusal) -> u32
+        ensures { Tells self result refusal.old refusal.new }
+    {
+        match self {
+            Failure::Refused(told) => {
+                *refusal = told;
+                REFUSED
+            }
+            Failure::Memory => NO_MEMORY,
+        }
+    }
+}
+
+impl From<AllocError> for Failure {
+    ghost from_gives = { λ _ made. made ≡ failure.Memory };
+
+    fn from(_refusal: AllocError) -> Failure {
+        Failure::Memory
+    }
+}
+
+impl<T: Drop> From<AllocFailed<T>> for Failure {
+    ghost from_gives = { λ _ made. made ≡ failure.Memory };
+
+    fn from(_refusal: AllocFailed<T>) -> Failure {
+        Failure::Memory
+    }
+}
+
+impl From<PathFault> for Failure {
+    ghost from_gives = { λ fault made. made ≡ path_failure fault };
+
+    fn from(fault: PathFault) -> Failure {
+        match fault {
+            PathFault::NoEnd(place) => Failure::at(PATH_NO_END, place),
+            PathFault::ShortHeader(place) => Failure::at(PATH_SHORT_HEADER, place),
+            PathFault::BadLength(place) => Failure::at(PATH_BAD_LENGTH, place),
+            PathFault::PastEnd(place) => Failure::at(PATH_PAST_END, place),
+            PathFault::BadEnd(place) => Failure::at(PATH_BAD_END, place),
+            PathFault::OutOfMemory => Failure::Memory,
+        }
+    }
+}
+
+impl From<TextFault> for Failure {
+    ghost from_gives = { λ fault made. made ≡ text_failure fault };
+
+    fn from(fault: TextFault) -> Failure {
+        match fault {
+            TextFault::BadSegment(place) => Failure::at(TEXT_BAD_SEGMENT, place),
+            TextFault::BadNumber(place) => Failure::at(TEXT_BAD_NUMBER, place),
+            TextFault::OutOfRange(place) => Failure::at(TEXT_OUT_OF_RANGE, place),
+            TextFault::BadEnd(place) => Failure::at(TEXT_BAD_END, place),
+            TextFault::OutOfMemory => Failure::Memory,
+        }
+    }
+}
+
+impl From<OptionFault> for Failure {
+    ghost from_gives = { λ fault made. made ≡ option_failure fault };
+
+    fn from(fault: OptionFault) -> Failure {
+        match fault {
+            OptionFault::Short => Failure::bare(OPTION_SHORT),
+            OptionFault::NoTerminator => Failure::bare(OPTION_NO_TERMINATOR),
+            OptionFault::ListPastEnd => Failure::bare(OPTION_LIST_PAST_END),
+            OptionFault::EmptyList => Failure::bare(OPTION_EMPTY_LIST),
+            OptionFault::Path(place, inner) => Failure::from(inner).in_list(place),
+            OptionFault::ZeroUnit => Failure::bare(OPTION_ZERO_UNIT),
+            OptionFault::ListTooLong => Failure::bare(OPTION_LIST_TOO_LONG),
+            OptionFault::OutOfMemory => Failure::Memory,
+        }
+    }
+}
+
+impl From<SetFault> for Failure {
+    ghost from_gives = { λ fault made. made ≡ set_failure fault };
+
+    fn from(fault: SetFault) -> Failure {
+        match fault {
+            SetFault::BadMagic(place) => Failure::at(SET_BAD_MAGIC, place),
+            SetFault::Truncated(place) => Failure::at(SET_TRUNCATED, place),
+            SetFault::BadName(place) => Failure::at(SET_BAD_NAME, place),
+            SetFault::BadData(place) => Failure::at(SET_BAD_DATA, place),
+            SetFault::NotRising(place) => Failure::at(SET_NOT_RISING, place),
+            SetFault::OutOfMemory => Failure::Memory,
+        }
+    }
+}
+
+impl From<VarFault> for Failure {
+    ghost from_gives = { λ fault made. made ≡ vars_failure fault };
+
+    fn from(fault: VarFault) -> Failure {
+        match fault {
+            VarFault::BadOrder => Failure::bare(VARS_BAD_ORDER),
+            VarFault::BadNext => Failure::bare(VARS_BAD_NEXT),
+            VarFault::OutOfMemory => Failure::Memory,
+        }
+    }
+}
+
+impl From<OpenFault> for Failure {
+    ghost from_gives = { λ fault made. made ≡ open_failure fault };
+
+    fn from(fault: OpenFault) -> Failure {
+        match fault {
+            OpenFault::BadOrder => Failure::bare(VARS_BAD_ORDER),
+            OpenFault::BadNext => Failure::bare(VARS_BAD_NEXT),
+            OpenFault::BadState => Failure::bare(VARS_BAD_STATE),
+            OpenFault::OutOfMemory => Failure::Memory,
+        }
+    }
+}
+
+impl From<PutFault> for Failure {
+    ghost from_gives = { λ fault made. made ≡ put_failure fault };
+
+    fn from(fault: PutFault) -> Failure {
+        match fault {
+            PutFault::BadName => Failure::bare(PUT_BAD_NAME),
+            PutFault::EmptyData => Failure::bare(PUT_EMPTY_DATA),
+            PutFault::DataTooLong => Failure::bare(PUT_DATA_TOO_LONG),
+            PutFault::OutOfMemory => Failure::Memory,
+        }
+    }
+}
+
+impl From<FeedFault> for Failure {
+    ghost from_gives = { λ fault made. made ≡ feed_failure fault };
+
+    fn from(fault: FeedFault) -> Failure {
+        match fault {
+            FeedFault::BadMagic => Failure::bare(STREAM_BAD_MAGIC),
+            FeedFault::BadVersion => Failure::bare(STREAM_BAD_VERSION),
+            FeedFault::TooLong => Failure::bare(STREAM_TOO_LONG),
+            FeedFault::OutOfMemory => Failure::Memory,
+        }
+    }
+}

@@ -1,0 +1,96 @@
+//! Device paths: their bytes to text.
+
+ghost use Rattle.std.specs.Prelude.{◌≡◌, ◌≢◌, ◌⊎◌, ℕ, List, IfOk, IfErr, Ok, Err};
+ghost use Rattle.std.specs.String.{string_bytes};
+ghost use Rattle.uefi_path.specs.declared.node.Node.{Node};
+ghost use Rattle.uefi_path.specs.declared.fault.PathFault.{PathFault};
+ghost use Rattle.uefi_path.specs.Path.{IsPathFront};
+ghost use Rattle.uefi_path.specs.Fault.{IsFirstFault};
+ghost use Rattle.uefi_text.specs.Printed.{canonical};
+ghost use Rattle.bootkeep_c.specs.Status.{done, refused, no_room, IsReadStatus, IsGiveStatus};
+ghost use Rattle.bootkeep_c.specs.Refusals.{path_failure, Tells, TellsUnless};
+ghost use Rattle.bootkeep_c.specs.Buffer.{IsInFront, GivesUnless};
+
+use crate::buffer::give;
+use crate::failure::Failure;
+use crate::refusal::Refusal;
+use crate::status::DONE;
+use std::alloc::Global;
+use uefi_path::{check_path, read_path};
+use uefi_text::path_text;
+
+/// The text of the device path at the start of the bytes (UEFI 2.10, 10.3 and 10.6), and how many bytes it takes.
+#[unsafe(no_mangle)]
+pub extern "C" fn bootkeep_path_text(
+    alloc: Global,
+    bytes: &[u8],
+    out: &mut [u8],
+    len: &mut usize,
+    taken: &mut usize,
+    refusal: &mut Refusal,
+) -> u32
+    // Of what is spelled, the text is given, and the bytes are counted.
+    ensures text { (path : List (List Node)) (n : ℕ) → IsPathFront bytes.now path n →
+        GivesUnless result (canonical path) out.old out.new len.old len.new × (result ≡ done → taken.new ≡ n) }
+    // The first fault is told.
+    ensures fault { (fault : PathFault) → IsFirstFault bytes.now fault →
+        TellsUnless (path_failure fault) result refusal.old refusal.new }
+    // What is given is the text of what is spelled, and what is told is the first fault.
+    ensures found { result ≡ done → (path : List (List Node))
+        × IsPathFront bytes.now path taken.new × IsInFront (canonical path) out.old out.new len.new }
+    ensures told { result ≡ refused → (fault : PathFault)
+        × IsFirstFault bytes.now fault × Tells (path_failure fault) result refusal.old refusal.new }
+    ensures status { IsGiveStatus result }
+    // What isn't told stays as it was.
+    ensures untouched { result ≢ done → (out.new ≡ out.old) × (taken.new ≡ taken.old) }
+    ensures len { result ≡ done ⊎ (result ≡ no_room ⊎ (len.new ≡ len.old)) }
+    ensures refusal { result ≢ refused → refusal.new ≡ refusal.old }
+{
+    match printed(alloc, bytes) {
+        Ok((text, count)) => {
+            let status = give(text.as_bytes(), out, len);
+            if status == DONE {
+                *taken = count;
+            }
+            status
+        }
+        Err(failure) => failure.tell(refusal),
+    }
+}
+
+/// The text of the path at the start of the bytes, and how many bytes it takes.
+fn printed(alloc: Global, bytes: &[u8]) -> Result<(String, usize), Failure>
+    ensures found { IfOk result (λ printed. (path : List (List Node))
+        × IsPathFront bytes.now path printed.1 × (string_bytes printed.0 ≡ canonical path)) }
+    ensures fault { IfErr result (λ failed. failed ≢ Failure.Memory →
+        (fault : PathFault) × IsFirstFault bytes.now fault × (failed ≡ path_failure fault)) }
+{
+    let (path, count) = read_path(alloc, bytes)?;
+    let text = path_text(alloc, &path)?;
+    Ok((text, count))
+}
+
+/// How many bytes the device path at the start of the bytes takes (UEFI 2.10, 10.3). This takes no memory.
+#[unsafe(no_mangle)]
+pub extern "C" fn bootkeep_path_check(bytes: &[u8], taken: &mut usize, refusal: &mut Refusal) -> u32
+    // Of what is spelled, the bytes are counted.
+    ensures count { (path : List (List Node)) (n : ℕ) → IsPathFront bytes.now path n →
+        (result ≡ done) × (taken.new ≡ n) }
+    // The first fault is told.
+    ensures fault { (fault : PathFault) → IsFirstFault bytes.now fault →
+        Tells (path_failure fault) result refusal.old refusal.new }
+    ensures found { result ≡ done → (path : List (List Node)) × IsPathFront bytes.now path taken.new }
+    ensures told { result ≡ refused → (fault : PathFault)
+        × IsFirstFault bytes.now fault × Tells (path_failure fault) result refusal.old refusal.new }
+    ensures status { IsReadStatus result }
+    ensures untouched { result ≢ done → taken.new ≡ taken.old }
+    ensures refusal { result ≢ refused → refusal.new ≡ refusal.old }
+{
+    match check_path(bytes) {
+        Ok(count) => {
+            *taken = count;
+            DONE
+        }
+        Err(fault) => Failure::from(fault).tell(refusal),
+    }
+}

@@ -1,0 +1,81 @@
+/*
+ * Shows what a boot would try with the variables of a set file, and the description of each entry.
+ *
+ *     plan SET
+ */
+#include "files.h"
+
+#include <bootkeep.h>
+#include <inttypes.h>
+#include <stdio.h>
+#include <stdlib.h>
+
+/* How much room the answers have. A plan has at most 65,536 numbers, and a variable at most 1,048,576 bytes. */
+enum { NUMBERS = 65536, DATA = 1048576, TEXT = 4 * DATA };
+
+static uint16_t numbers[NUMBERS];
+static uint8_t data[DATA], text[TEXT];
+
+/* Says why a call has no answer. */
+static int tell(const char *call, uint32_t status, const struct bootkeep_refusal *refusal)
+{
+    fprintf(stderr, "plan: %s: status %" PRIu32, call, status);
+    if (status == BOOTKEEP_REFUSED) {
+        fprintf(stderr, ", refusal 0x%04" PRIx32, refusal->kind);
+        if (refusal->place != BOOTKEEP_NO_PLACE)
+            fprintf(stderr, " at %zu", refusal->place);
+    }
+    fputc('\n', stderr);
+    return 1;
+}
+
+/* Shows the description of an entry that is in a plan, so that it is there and is a load option. */
+static int show_entry(const uint8_t *set, size_t set_len, unsigned number, const char *when)
+{
+    struct bootkeep_refusal refusal;
+    char name[sizeof "Boot0000"];
+    size_t data_len, text_len;
+    uint32_t status;
+
+    snprintf(name, sizeof name, "Boot%04X", number);
+    status = bootkeep_set_get(set, set_len, (const uint8_t *)name, sizeof name - 1, data, DATA, &data_len, &refusal);
+    if (status != BOOTKEEP_DONE)
+        return tell("bootkeep_set_get", status, &refusal);
+    status = bootkeep_option_description(data, data_len, text, TEXT, &text_len, &refusal);
+    if (status != BOOTKEEP_DONE)
+        return tell("bootkeep_option_description", status, &refusal);
+    printf("%s %s %.*s\n", name, when, (int)text_len, (const char *)text);
+    return 0;
+}
+
+static int show_plan(const uint8_t *set, size_t set_len)
+{
+    struct bootkeep_refusal refusal;
+    uint32_t next, status;
+    size_t count;
+    int failed = 0;
+
+    status = bootkeep_set_plan(set, set_len, numbers, NUMBERS, &count, &next, &refusal);
+    if (status != BOOTKEEP_DONE)
+        return tell("bootkeep_set_plan", status, &refusal);
+    if (next != BOOTKEEP_NO_ENTRY)
+        failed = show_entry(set, set_len, next, "next");
+    for (size_t at = 0; at < count && !failed; at++)
+        failed = show_entry(set, set_len, numbers[at], "normal");
+    return failed;
+}
+
+int main(int count, char **words)
+{
+    size_t set_len;
+    uint8_t *set = count == 2 ? read_whole(words[1], &set_len) : NULL;
+    int status;
+
+    if (set == NULL) {
+        fputs("plan: the word is missing that names a set file, or it can't be read\n", stderr);
+        return 1;
+    }
+    status = show_plan(set, set_len);
+    free(set);
+    return status;
+}

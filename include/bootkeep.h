@@ -1,0 +1,441 @@
+/*
+ * bootkeep.h - device paths, load options, sets of boot variables, and numbered requests over them
+ *
+ * NAME
+ *
+ *     libbootkeep - the calls of Bootkeep for C
+ *
+ * SYNOPSIS
+ *
+ *     #include <bootkeep.h>
+ *
+ *     cc program.c $(pkg-config --cflags --libs bootkeep)
+ *
+ * DESCRIPTION
+ *
+ * Bytes go in and bytes come out. The calls are those of Bootkeep's proved libraries: each returns for every input,
+ * accepts exactly what the formats say, and tells the first fault of anything else by number. The formats, to the
+ * byte, are in docs/formats.md, and what the calls mean is in docs/library.md.
+ *
+ * Each call answers a status, BOOTKEEP_DONE if all went well. Everything else that it tells goes to places of the
+ * caller, so there is never anything to free: a program closes the keepers that it opened, and that is all.
+ *
+ * BUFFERS
+ *
+ * An answer of bytes goes to the caller's buffer: `out`, which has room for `cap` of them, and `*len`.
+ *
+ *     BOOTKEEP_DONE      the answer is the first `*len` bytes of `out`; the others are as they were
+ *     BOOTKEEP_NO_ROOM   the answer has `*len` bytes, more than `cap`; nothing has happened, and `out` is as it was.
+ *                        The same call with room for `*len` bytes will do
+ *
+ * At any other status `out` and `*len` are as they were. No answer has a zero byte at its end unless its format says
+ * so: texts are `*len` bytes and not strings of C. A first call with a `cap` of 0 asks how long the answer is; its `out`
+ * must not be NULL either.
+ *
+ * What else a call tells, as `*taken`, is written at BOOTKEEP_DONE alone.
+ *
+ * REFUSALS
+ *
+ * At BOOTKEEP_REFUSED, and only then, `*refusal` says why: `kind` is one of the numbers below, `place` is where, in
+ * bytes from the first one of what was handed in unless the number says otherwise, and `inner_kind` and `inner_place`
+ * are those of the fault within, if the number says that there is one. BOOTKEEP_NO_KIND and BOOTKEEP_NO_PLACE stand
+ * for none.
+ *
+ * A number is never given out again, and its meaning never changes. A later version may add numbers, so a program
+ * has to do with a number that it doesn't know.
+ *
+ * WHAT STAYS ON THE CALLER'S SIDE
+ *
+ * The promises of docs/promises.md are proved of the calls as they are written, on these conditions, which no proof
+ * can see:
+ *
+ *   - Each pointer is to what its type says, as many of them as the number behind it says, and none is NULL, not even
+ *     one to no bytes at all. No length is above PTRDIFF_MAX.
+ *   - What a call may write, an `out`, a `*len` and every other pointer without `const`, overlaps nothing else that
+ *     the same call was handed, and nobody else reads or writes it until the call returns. Nobody writes what is
+ *     handed in behind `const` until then.
+ *   - A `struct bootkeep_keeper` is zeroed before its first use, and is never written, copied or moved by value
+ *     after that: it has one owner. `at` is nobody's but the library's.
+ *   - The program's malloc, realloc and free are one allocator, whose blocks have the usual alignment. What malloc
+ *     refuses is answered by BOOTKEEP_NO_MEMORY.
+ *   - No call is made from a signal's handler, or in the child of a fork of a process with several threads before it
+ *     has called exec.
+ *   - The declarations here are those of the library that is linked: bootkeep_version() == BOOTKEEP_VERSION or more.
+ *
+ * THREADS
+ *
+ * Calls without a keeper may be made by any thread at any time. A keeper is used by the thread that opened it alone,
+ * up to the call that closes it: a runtime that moves its tasks from one thread to another has to hold them there
+ * meanwhile, as Go does by runtime.LockOSThread. Keepers of several threads have nothing to do with each other.
+ */
+
+#ifndef BOOTKEEP_H
+#define BOOTKEEP_H
+
+#include <stddef.h>
+#include <stdint.h>
+
+#ifdef __cplusplus
+extern "C" {
+#endif
+
+/* ---- Version ---------------------------------------------------------------------------------------------------- */
+
+/* The version of the interface that this file declares. Each version has all that earlier ones have. */
+#define BOOTKEEP_VERSION 1
+
+/* The version of the interface that the library has. */
+uint32_t bootkeep_version(void);
+
+/* ---- Statuses --------------------------------------------------------------------------------------------------- */
+
+/* The call did what it says. */
+#define BOOTKEEP_DONE 0
+/* What was handed in isn't what it has to be: `*refusal` says why. */
+#define BOOTKEEP_REFUSED 1
+/* A buffer is too short: `*len` says how much room the answer needs. Nothing has happened. */
+#define BOOTKEEP_NO_ROOM 2
+/* There is no variable of this name. */
+#define BOOTKEEP_ABSENT 3
+/* Memory was refused. Nothing has happened. This may come in the place of any other status but BOOTKEEP_CLOSED. */
+#define BOOTKEEP_NO_MEMORY 4
+/* The keeper isn't open. */
+#define BOOTKEEP_CLOSED 5
+
+/* ---- Refusals --------------------------------------------------------------------------------------------------- */
+
+struct bootkeep_refusal {
+    /* Why: one of the numbers below. */
+    uint32_t kind;
+    /* The number of the fault within, or BOOTKEEP_NO_KIND. */
+    uint32_t inner_kind;
+    /* Where, or BOOTKEEP_NO_PLACE. */
+    size_t place;
+    /* Where the fault within is, or BOOTKEEP_NO_PLACE. It counts from `place`. */
+    size_t inner_place;
+};
+
+#define BOOTKEEP_NO_KIND 0
+#define BOOTKEEP_NO_PLACE SIZE_MAX
+
+/*
+ * Of the bytes of a device path. The place is that of the node with the fault.
+ */
+
+/* No byte remains where a node must be. */
+#define BOOTKEEP_PATH_NO_END 0x0101
+/* One to three bytes remain, fewer than the header of a node has. */
+#define BOOTKEEP_PATH_SHORT_HEADER 0x0102
+/* The node states a length below 4, that of its header alone. */
+#define BOOTKEEP_PATH_BAD_LENGTH 0x0103
+/* The node states more bytes than remain. */
+#define BOOTKEEP_PATH_PAST_END 0x0104
+/* The node has type 0x7F and isn't an end node. */
+#define BOOTKEEP_PATH_BAD_END 0x0105
+
+/*
+ * Of the text of a device path. The place is in the text.
+ */
+
+/* What is at this place isn't a segment. */
+#define BOOTKEEP_TEXT_BAD_SEGMENT 0x0201
+/* The argument at this place must be a number and isn't a number's text. */
+#define BOOTKEEP_TEXT_BAD_NUMBER 0x0202
+/* The argument at this place is out of its range. */
+#define BOOTKEEP_TEXT_OUT_OF_RANGE 0x0203
+/* The segment at this place is a `Path` of type 0x7F, that of the end nodes. */
+#define BOOTKEEP_TEXT_BAD_END 0x0204
+/* The text isn't UTF-8 from this place on. This comes before any other fault of a text. */
+#define BOOTKEEP_TEXT_NOT_UTF8 0x0205
+
+/*
+ * Of a load option. Only BOOTKEEP_OPTION_PATH has a place, and a fault within.
+ */
+
+/* There are fewer bytes than the six of the attributes and of the length of the list. */
+#define BOOTKEEP_OPTION_SHORT 0x0301
+/* No zero unit closes the description. */
+#define BOOTKEEP_OPTION_NO_TERMINATOR 0x0302
+/* The list of paths has fewer bytes than the option states. */
+#define BOOTKEEP_OPTION_LIST_PAST_END 0x0303
+/* The list of paths has no byte. */
+#define BOOTKEEP_OPTION_EMPTY_LIST 0x0304
+/* The bytes of the list from this place of the option on don't begin with a path: `inner_kind` is that path's fault. */
+#define BOOTKEEP_OPTION_PATH 0x0305
+/* These two are of parts of which an option is to be made. No call of this version makes one. */
+#define BOOTKEEP_OPTION_ZERO_UNIT 0x0306
+#define BOOTKEEP_OPTION_LIST_TOO_LONG 0x0307
+
+/*
+ * Of a set file. The place is that of the record with the fault.
+ */
+
+/* The file doesn't begin with the four bytes `BVS1`. */
+#define BOOTKEEP_SET_BAD_MAGIC 0x0401
+/* The file ends within the record. */
+#define BOOTKEEP_SET_TRUNCATED 0x0402
+/* The name isn't one to 64 characters from 0x21 to 0x7E. */
+#define BOOTKEEP_SET_BAD_NAME 0x0403
+/* The data is to have no byte, or more than 1,048,576. */
+#define BOOTKEEP_SET_BAD_DATA 0x0404
+/* The name isn't above that of the record before, by bytes. */
+#define BOOTKEEP_SET_NOT_RISING 0x0405
+
+/*
+ * Of variables that say what is to be booted. None has a place.
+ */
+
+/* The bytes of BootOrder are odd in number, or more than two for each of 65,536 entries. */
+#define BOOTKEEP_VARS_BAD_ORDER 0x0501
+/* BootNext has another number of bytes than two. */
+#define BOOTKEEP_VARS_BAD_NEXT 0x0502
+/* The bytes of BootKeepState aren't ones that a keeper stores. Only keepers and runs look at it. */
+#define BOOTKEEP_VARS_BAD_STATE 0x0503
+
+/*
+ * Of a variable that is to be put into a set. None has a place.
+ */
+
+/* The name isn't one to 64 characters from 0x21 to 0x7E. */
+#define BOOTKEEP_PUT_BAD_NAME 0x0601
+/* There is no data. A variable without data is deleted, and never stored. */
+#define BOOTKEEP_PUT_EMPTY_DATA 0x0602
+/* The data has more than 1,048,576 bytes. */
+#define BOOTKEEP_PUT_DATA_TOO_LONG 0x0603
+
+/*
+ * Of a stream of frames, which can't be cut. Only BOOTKEEP_STREAM_REST has a place.
+ */
+
+/* A header doesn't begin with 0x42 0x51. */
+#define BOOTKEEP_STREAM_BAD_MAGIC 0x0701
+/* The version of a header is neither 1 nor 2. */
+#define BOOTKEEP_STREAM_BAD_VERSION 0x0702
+/* A payload is to have more bytes than a frame can have. */
+#define BOOTKEEP_STREAM_TOO_LONG 0x0703
+/* The last frame isn't whole. The place is how many bytes of it are there. */
+#define BOOTKEEP_STREAM_REST 0x0704
+
+/*
+ * The numbers from 0x0801 to 0x08ff are kept for frames. Today what is wrong with a frame is no refusal: its reply says
+ * so in a line, as `malformed BadKind`.
+ */
+
+/* ---- Device paths ----------------------------------------------------------------------------------------------- */
+
+/*
+ * The text of the device path at the start of the bytes (UEFI 2.10, 10.3 and 10.6), in the one spelling that is
+ * printed, and in `*taken` how many bytes the path takes. What comes after its end is left.
+ *
+ *     BOOTKEEP_DONE, BOOTKEEP_NO_ROOM, BOOTKEEP_NO_MEMORY
+ *     BOOTKEEP_REFUSED   a number of paths
+ */
+uint32_t bootkeep_path_text(const uint8_t *bytes, size_t bytes_len, uint8_t *out, size_t cap, size_t *len,
+                            size_t *taken, struct bootkeep_refusal *refusal);
+
+/*
+ * In `*taken` how many bytes the device path at the start of the bytes takes. This takes no memory.
+ *
+ *     BOOTKEEP_DONE
+ *     BOOTKEEP_REFUSED   a number of paths
+ */
+uint32_t bootkeep_path_check(const uint8_t *bytes, size_t bytes_len, size_t *taken, struct bootkeep_refusal *refusal);
+
+/*
+ * The bytes of the device path that the text stands for. The text of each path stands for that path, and other
+ * spellings besides: docs/formats.md has the grammar.
+ *
+ *     BOOTKEEP_DONE, BOOTKEEP_NO_ROOM, BOOTKEEP_NO_MEMORY
+ *     BOOTKEEP_REFUSED   a number of texts
+ */
+uint32_t bootkeep_text_path(const uint8_t *text, size_t text_len, uint8_t *out, size_t cap, size_t *len,
+                            struct bootkeep_refusal *refusal);
+
+/* ---- Load options ----------------------------------------------------------------------------------------------- */
+
+/* Bits of the attributes (UEFI 2.10, 3.1.3), and the values of those of BOOTKEEP_OPTION_CATEGORY. */
+#define BOOTKEEP_OPTION_ACTIVE 0x00000001
+#define BOOTKEEP_OPTION_FORCE_RECONNECT 0x00000002
+#define BOOTKEEP_OPTION_HIDDEN 0x00000008
+#define BOOTKEEP_OPTION_CATEGORY 0x00001f00
+#define BOOTKEEP_OPTION_CATEGORY_BOOT 0x00000000
+#define BOOTKEEP_OPTION_CATEGORY_APP 0x00000100
+
+/* Where the parts of a load option are in its bytes: for each part its offset, and how many bytes it has. */
+struct bootkeep_option_parts {
+    /* All 32 bits as they are stored. */
+    uint32_t attributes;
+    /* 0. It is written, so that no byte of the struct is left open. */
+    uint32_t reserved;
+    /* The description, two bytes for each unit, little-endian, without the zero unit that closes it. */
+    size_t description;
+    size_t description_len;
+    /* The list of device paths, one after the other: bootkeep_path_check tells how long the first one is. */
+    size_t list;
+    size_t list_len;
+    /* The optional data, up to the end of the option. */
+    size_t optional;
+    size_t optional_len;
+};
+
+/*
+ * The parts of the load option that the bytes are, all of them, in `*parts`. This takes no memory.
+ *
+ *     BOOTKEEP_DONE
+ *     BOOTKEEP_REFUSED   a number of load options
+ */
+uint32_t bootkeep_option_parts(const uint8_t *bytes, size_t bytes_len, struct bootkeep_option_parts *parts,
+                               struct bootkeep_refusal *refusal);
+
+/*
+ * The description of the load option that the bytes are, as one line of ASCII: units that don't print are shown by
+ * their numbers, as docs/formats.md says.
+ *
+ *     BOOTKEEP_DONE, BOOTKEEP_NO_ROOM, BOOTKEEP_NO_MEMORY
+ *     BOOTKEEP_REFUSED   a number of load options
+ */
+uint32_t bootkeep_option_description(const uint8_t *bytes, size_t bytes_len, uint8_t *out, size_t cap, size_t *len,
+                                     struct bootkeep_refusal *refusal);
+
+/* ---- Sets of variables ------------------------------------------------------------------------------------------ */
+
+/*
+ * A set is the bytes of a set file, all of them. Each call reads the whole set, and one that changes it gives another
+ * one: a program that makes many changes lets a keeper or a run make them.
+ */
+
+/* No entry has this number. */
+#define BOOTKEEP_NO_ENTRY 0x00010000
+
+/*
+ * What a boot would try (UEFI 2.10, 3.3): in `*next` the number of BootNext's entry, or BOOTKEEP_NO_ENTRY, and in
+ * `numbers` those of the normal entries of BootOrder, in its order. `cap` and `*len` count numbers here, and not bytes.
+ *
+ *     BOOTKEEP_DONE, BOOTKEEP_NO_ROOM, BOOTKEEP_NO_MEMORY
+ *     BOOTKEEP_REFUSED   a number of sets, BOOTKEEP_VARS_BAD_ORDER or BOOTKEEP_VARS_BAD_NEXT
+ */
+uint32_t bootkeep_set_plan(const uint8_t *set, size_t set_len, uint16_t *numbers, size_t cap, size_t *len,
+                           uint32_t *next, struct bootkeep_refusal *refusal);
+
+/*
+ * The data of the variable of this name.
+ *
+ *     BOOTKEEP_DONE, BOOTKEEP_NO_ROOM, BOOTKEEP_NO_MEMORY
+ *     BOOTKEEP_ABSENT    the set has no such variable, be the name one of a variable or not
+ *     BOOTKEEP_REFUSED   a number of sets
+ */
+uint32_t bootkeep_set_get(const uint8_t *set, size_t set_len, const uint8_t *name, size_t name_len, uint8_t *out,
+                          size_t cap, size_t *len, struct bootkeep_refusal *refusal);
+
+/*
+ * The set with this data for the variable of this name, in the place of what it had, if it had any. `out` must not be
+ * `set`.
+ *
+ *     BOOTKEEP_DONE, BOOTKEEP_NO_ROOM, BOOTKEEP_NO_MEMORY
+ *     BOOTKEEP_REFUSED   a number of sets, or a number of what is put
+ */
+uint32_t bootkeep_set_put(const uint8_t *set, size_t set_len, const uint8_t *name, size_t name_len,
+                          const uint8_t *data, size_t data_len, uint8_t *out, size_t cap, size_t *len,
+                          struct bootkeep_refusal *refusal);
+
+/*
+ * The set without the variable of this name.
+ *
+ *     BOOTKEEP_DONE, BOOTKEEP_NO_ROOM, BOOTKEEP_NO_MEMORY
+ *     BOOTKEEP_ABSENT    the set has no such variable
+ *     BOOTKEEP_REFUSED   a number of sets
+ */
+uint32_t bootkeep_set_remove(const uint8_t *set, size_t set_len, const uint8_t *name, size_t name_len, uint8_t *out,
+                             size_t cap, size_t *len, struct bootkeep_refusal *refusal);
+
+/* ---- Runs ------------------------------------------------------------------------------------------------------- */
+
+/*
+ * Delivers each frame of a stream to a keeper of the set, in order, and gives the set after them, and a line for each
+ * reply, ended by a line feed, as `bootkeep run --stream` prints it. The stream is frames one after the other, to its
+ * end: whether each is a request is told by its reply. Two buffers are filled, both or none: at BOOTKEEP_NO_ROOM
+ * `*set_len_out` and `*lines_len` say what the two need.
+ *
+ *     BOOTKEEP_DONE, BOOTKEEP_NO_ROOM, BOOTKEEP_NO_MEMORY
+ *     BOOTKEEP_REFUSED   a number of sets; otherwise a number of streams; otherwise one of variables
+ */
+uint32_t bootkeep_run(const uint8_t *set, size_t set_len, const uint8_t *stream, size_t stream_len, uint8_t *set_out,
+                      size_t set_cap, size_t *set_len_out, uint8_t *lines, size_t lines_cap, size_t *lines_len,
+                      struct bootkeep_refusal *refusal);
+
+/* ---- Keepers ---------------------------------------------------------------------------------------------------- */
+
+/*
+ * What keeps the boot entries of a machine: its variables, the number of the request that is to be applied next, what
+ * came of the last ones, the requests that wait, and the plan that is prepared. docs/requests.md has what becomes of
+ * each event. A keeper holds memory until it is closed, and writes nothing anywhere: whoever has to survive a loss of
+ * power stores bootkeep_keeper_set after each event and before it goes on.
+ *
+ *     struct bootkeep_keeper keeper = {0};
+ *
+ * or `{}` in C++.
+ */
+struct bootkeep_keeper {
+    /* 0 if the keeper is closed. Read it, if you like. */
+    uint32_t is_open;
+    /* The library's. */
+    void *at;
+};
+
+/*
+ * Opens a keeper of the variables of a set. One that is open already keeps that set from then on, and what it held is
+ * given up; at any status but BOOTKEEP_DONE it stays as it was.
+ *
+ *     BOOTKEEP_DONE, BOOTKEEP_NO_MEMORY
+ *     BOOTKEEP_REFUSED   a number of sets; otherwise one of variables
+ */
+uint32_t bootkeep_keeper_open(struct bootkeep_keeper *keeper, const uint8_t *set, size_t set_len,
+                              struct bootkeep_refusal *refusal);
+
+/*
+ * Each of these four is an event, and its answer is the line of its reply, without a line feed. At any status but
+ * BOOTKEEP_DONE the event has not happened, and the same call may be made again.
+ *
+ *     BOOTKEEP_DONE, BOOTKEEP_NO_ROOM, BOOTKEEP_NO_MEMORY, BOOTKEEP_CLOSED
+ */
+
+/* These bytes are delivered, which may be a frame: `applied`, `waiting`, `repeat`, `malformed` and others. */
+uint32_t bootkeep_keeper_deliver(struct bootkeep_keeper *keeper, const uint8_t *frame, size_t frame_len, uint8_t *out,
+                                 size_t cap, size_t *len);
+
+/* A boot is prepared: its plan is made, and BootNext is deleted. `prepared` or `already prepared`. */
+uint32_t bootkeep_keeper_prepare(struct bootkeep_keeper *keeper, uint8_t *out, size_t cap, size_t *len);
+
+/* The plan that is prepared is handed out, once. `plan` or `nothing prepared`. */
+uint32_t bootkeep_keeper_hand(struct bootkeep_keeper *keeper, uint8_t *out, size_t cap, size_t *len);
+
+/* The keeper starts again, without what waits and what is prepared. `restarted`. */
+uint32_t bootkeep_keeper_restart(struct bootkeep_keeper *keeper, uint8_t *out, size_t cap, size_t *len);
+
+/*
+ * The variables of the machine as they are to be stored: the bytes of a set file.
+ *
+ *     BOOTKEEP_DONE, BOOTKEEP_NO_ROOM, BOOTKEEP_NO_MEMORY, BOOTKEEP_CLOSED
+ */
+uint32_t bootkeep_keeper_set(struct bootkeep_keeper *keeper, uint8_t *out, size_t cap, size_t *len);
+
+/*
+ * In `*number` the number of the request that is to be applied next. This takes no memory.
+ *
+ *     BOOTKEEP_DONE, BOOTKEEP_CLOSED
+ */
+uint32_t bootkeep_keeper_next_number(struct bootkeep_keeper *keeper, uint32_t *number);
+
+/*
+ * Gives up what the keeper holds. It is closed then, and may be opened again; to close one that is closed is no
+ * fault.
+ *
+ *     BOOTKEEP_DONE, BOOTKEEP_CLOSED
+ */
+uint32_t bootkeep_keeper_close(struct bootkeep_keeper *keeper);
+
+#ifdef __cplusplus
+}
+#endif
+
+#endif
