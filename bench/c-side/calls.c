@@ -1,0 +1,430 @@
+/*
+ * Makes the calls that the lines of standard input ask for, and says on a line each what they answer.
+ *
+ * A line is the name of a call without `bootkeep_`, and what it is handed, in hexadecimal digits, or `-` for no bytes.
+ * `keeper` is handed a set and then events: `d` and the digits of a frame, `p`, `h` or `r`. It tells of a closed keeper,
+ * of one that is opened, refused no bytes in the place of its set, and opened again, of each event, and of the set and
+ * the next number in the end. An answer is `done` with what was given, `refused` with its four numbers, or `status` and
+ * its number.
+ *
+ * Each call is made with no room, with one too little, with each of its requests for memory refused in turn, with as
+ * much room as is needed, and with room to spare, and what has to stay as it was is compared, also behind the buffers.
+ * What differs is told on standard error, and the status is then 1. The program is linked with `--wrap=malloc
+ * --wrap=realloc`. Under valgrind it also shows what is read past the end of what is handed in.
+ */
+#include <bootkeep.h>
+#include <inttypes.h>
+#include <stdbool.h>
+#include <stdio.h>
+#include <stdlib.h>
+#include <string.h>
+
+enum { WORDS = 70000, SPARE = 16, GUARD = 16, MARK = 0xA5 };
+
+/* What no call tells as a length or a number. */
+static const size_t UNTOLD = UINT32_MAX - 1;
+
+void *__real_malloc(size_t len);
+void *__real_realloc(void *block, size_t len);
+void *__wrap_malloc(size_t len);
+void *__wrap_realloc(void *block, size_t len);
+
+/* The number of the request that is to be refused, counted down; 0 if none is. */
+static unsigned long refuse_at;
+static bool was_refused;
+static int differ;
+static const char *now;
+
+static bool refuse(void)
+{
+    if (refuse_at == 0 || --refuse_at > 0)
+        return false;
+    was_refused = true;
+    return true;
+}
+
+void *__wrap_malloc(size_t len)
+{
+    return refuse() ? NULL : __real_malloc(len);
+}
+
+void *__wrap_realloc(void *block, size_t len)
+{
+    return refuse() ? NULL : __real_realloc(block, len);
+}
+
+struct bytes {
+    uint8_t *at;
+    size_t len;
+};
+
+/* What a call is handed, and what it tells. */
+struct call {
+    const char *name;
+    struct bytes given[3];
+    struct {
+        uint8_t *out[2];
+        size_t cap[2], len[2];
+        uint64_t extra;
+    } told;
+    struct bootkeep_option_parts parts;
+    struct bootkeep_refusal refusal;
+    struct bootkeep_keeper *keeper;
+};
+
+static void complain(const char *what)
+{
+    fprintf(stderr, "%.60s: %s\n", now == NULL ? "-" : now, what);
+    differ = 1;
+}
+
+static void *make(size_t len)
+{
+    void *made = __real_malloc(len > 0 ? len : 1);
+    if (made == NULL)
+        abort();
+    return made;
+}
+
+#define GIVEN(which) call->given[which].at, call->given[which].len
+#define OUT(which) call->told.out[which], call->told.cap[which], &call->told.len[which]
+
+static bool is(const struct call *call, const char *name)
+{
+    return !strcmp(call->name, name);
+}
+
+/* Makes a call on a set. */
+static uint32_t once_set(struct call *call)
+{
+    uint32_t number = (uint32_t)call->told.extra, status = UINT32_MAX;
+
+    if (is(call, "set_plan"))
+        status = bootkeep_set_plan(GIVEN(0), (uint16_t *)(void *)call->told.out[0], call->told.cap[0],
+                                   &call->told.len[0], &number, &call->refusal);
+    else if (is(call, "set_get"))
+        status = bootkeep_set_get(GIVEN(0), GIVEN(1), OUT(0), &call->refusal);
+    else if (is(call, "set_put"))
+        status = bootkeep_set_put(GIVEN(0), GIVEN(1), GIVEN(2), OUT(0), &call->refusal);
+    else if (is(call, "set_remove"))
+        status = bootkeep_set_remove(GIVEN(0), GIVEN(1), OUT(0), &call->refusal);
+    else
+        complain("no such call");
+    call->told.extra = number;
+    return status;
+}
+
+/* Makes a call of a keeper. */
+static uint32_t once_keeper(struct call *call)
+{
+    uint32_t number = (uint32_t)call->told.extra, status = UINT32_MAX;
+
+    if (is(call, "keeper_open"))
+        status = bootkeep_keeper_open(call->keeper, GIVEN(0), &call->refusal);
+    else if (is(call, "keeper_deliver"))
+        status = bootkeep_keeper_deliver(call->keeper, GIVEN(0), OUT(0));
+    else if (is(call, "keeper_prepare"))
+        status = bootkeep_keeper_prepare(call->keeper, OUT(0));
+    else if (is(call, "keeper_hand"))
+        status = bootkeep_keeper_hand(call->keeper, OUT(0));
+    else if (is(call, "keeper_restart"))
+        status = bootkeep_keeper_restart(call->keeper, OUT(0));
+    else if (is(call, "keeper_set"))
+        status = bootkeep_keeper_set(call->keeper, OUT(0));
+    else if (is(call, "keeper_next_number"))
+        status = bootkeep_keeper_next_number(call->keeper, &number);
+    else
+        complain("no such call");
+    call->told.extra = number;
+    return status;
+}
+
+/* Makes any other call. */
+static uint32_t once_other(struct call *call)
+{
+    size_t taken = (size_t)call->told.extra;
+    uint32_t status = UINT32_MAX;
+
+    if (is(call, "path_text"))
+        status = bootkeep_path_text(GIVEN(0), OUT(0), &taken, &call->refusal);
+    else if (is(call, "path_check"))
+        status = bootkeep_path_check(GIVEN(0), &taken, &call->refusal);
+    else if (is(call, "text_path"))
+        status = bootkeep_text_path(GIVEN(0), OUT(0), &call->refusal);
+    else if (is(call, "option_parts"))
+        status = bootkeep_option_parts(GIVEN(0), &call->parts, &call->refusal);
+    else if (is(call, "option_description"))
+        status = bootkeep_option_description(GIVEN(0), OUT(0), &call->refusal);
+    else if (is(call, "run"))
+        status = bootkeep_run(GIVEN(0), GIVEN(1), OUT(0), OUT(1), &call->refusal);
+    else
+        complain("no such call");
+    call->told.extra = taken;
+    return status;
+}
+
+/* Makes the call once. */
+static uint32_t once(struct call *call)
+{
+    if (!strncmp(call->name, "set_", 4))
+        return once_set(call);
+    return strncmp(call->name, "keeper_", 7) ? once_other(call) : once_keeper(call);
+}
+
+/* How many bytes an element of the first buffer has. */
+static size_t unit(const struct call *call)
+{
+    return is(call, "set_plan") ? sizeof(uint16_t) : 1;
+}
+
+/* Compares what has to stay as it was after a call with this status. */
+static void compare_rest(const struct call *call, uint32_t status, const struct call *before, const size_t sizes[2])
+{
+    if (status != BOOTKEEP_REFUSED && memcmp(&before->refusal, &call->refusal, sizeof call->refusal) != 0)
+        complain("the refusal is written");
+    if (status != BOOTKEEP_DONE && memcmp(&before->parts, &call->parts, sizeof call->parts) != 0)
+        complain("the parts are written");
+    if (status != BOOTKEEP_DONE && call->told.extra != UNTOLD)
+        complain("a number is written");
+    for (int at = 0; at < 2; at++) {
+        bool given = status == BOOTKEEP_DONE && call->told.len[at] != UNTOLD;
+        if (given && call->told.len[at] > call->told.cap[at])
+            complain("more is given than there is room for");
+        for (size_t from = given ? call->told.len[at] * (at ? 1 : unit(call)) : 0; from < sizes[at] + GUARD; from++)
+            if (call->told.out[at][from] != MARK)
+                complain("a buffer is written where no answer is");
+        if (status != BOOTKEEP_DONE && status != BOOTKEEP_NO_ROOM && call->told.len[at] != UNTOLD)
+            complain("a length is written");
+    }
+}
+
+/* Makes the call with this room in the two buffers, and compares what has to stay as it was. The buffers stay with the
+ * caller. */
+static uint32_t with_room(struct call *call, size_t first, size_t second)
+{
+    size_t sizes[2] = {first * unit(call), second};
+    struct call before;
+    uint32_t status;
+
+    memset(&call->refusal, MARK, sizeof call->refusal);
+    memset(&call->parts, MARK, sizeof call->parts);
+    call->told.extra = UNTOLD;
+    for (int at = 0; at < 2; at++) {
+        call->told.out[at] = make(sizes[at] + GUARD);
+        memset(call->told.out[at], MARK, sizes[at] + GUARD);
+        call->told.cap[at] = at ? second : first;
+        call->told.len[at] = UNTOLD;
+    }
+    before = *call;
+    status = once(call);
+    compare_rest(call, status, &before, sizes);
+    return status;
+}
+
+static void drop_buffers(struct call *call)
+{
+    free(call->told.out[0]);
+    free(call->told.out[1]);
+}
+
+/* Complains of lengths that aren't those that a call without room told. */
+static void compare_lengths(const struct call *call, const size_t need[2])
+{
+    for (int at = 0; at < 2; at++)
+        if (call->told.len[at] != UNTOLD && call->told.len[at] != need[at])
+            complain("another length is told than at first");
+}
+
+/* Makes the call with too little room in one buffer, and with just enough. */
+static void try_room(struct call *call, const size_t need[2])
+{
+    for (int at = 0; at < 2; at++) {
+        if (need[at] == 0)
+            continue;
+        if (with_room(call, need[0] - (at == 0), need[1] - (at == 1)) != BOOTKEEP_NO_ROOM)
+            complain("there is room for one too few");
+        compare_lengths(call, need);
+        drop_buffers(call);
+    }
+}
+
+/* Makes the call with room for what it needs and this much more, first with each request for memory refused. */
+static uint32_t try_memory(struct call *call, const size_t need[2], size_t more)
+{
+    uint32_t status;
+
+    for (unsigned long at = 1;; at++) {
+        refuse_at = at;
+        was_refused = false;
+        status = with_room(call, need[0] + more, need[1] + more);
+        refuse_at = 0;
+        compare_lengths(call, need);
+        if (!was_refused)
+            return status;
+        if (status != BOOTKEEP_NO_MEMORY)
+            complain("a request for memory was refused, and the call doesn't say so");
+        drop_buffers(call);
+    }
+}
+
+/* Whether the call changes nothing but what it tells, so that it can be made again after it is done. */
+static bool can_repeat(const struct call *call)
+{
+    return call->keeper == NULL || is(call, "keeper_set");
+}
+
+/* Makes the call with no room, too little, just enough and enough, and with each request for memory refused. */
+static uint32_t try_call(struct call *call)
+{
+    uint32_t status = with_room(call, 0, 0);
+    size_t need[2] = {0, 0};
+
+    if (status == BOOTKEEP_DONE)
+        return status;
+    for (int at = 0; at < 2; at++)
+        need[at] = status == BOOTKEEP_NO_ROOM && call->told.len[at] != UNTOLD ? call->told.len[at] : 0;
+    drop_buffers(call);
+    try_room(call, need);
+    if (can_repeat(call)) {
+        if (with_room(call, need[0], need[1]) == BOOTKEEP_NO_ROOM)
+            complain("there is no room for as much as is needed");
+        compare_lengths(call, need);
+        drop_buffers(call);
+        return try_memory(call, need, SPARE);
+    }
+    return try_memory(call, need, 0);
+}
+
+static void print_bytes(const uint8_t *bytes, size_t len)
+{
+    putchar(' ');
+    if (len == 0)
+        putchar('-');
+    for (size_t at = 0; at < len; at++)
+        printf("%02x", bytes[at]);
+}
+
+/* Says what the call answered, and gives up its buffers. */
+static void say(struct call *call, uint32_t status)
+{
+    if (status == BOOTKEEP_REFUSED)
+        printf("refused %" PRIu32 " %" PRIu32 " %zu %zu", call->refusal.kind, call->refusal.inner_kind,
+               call->refusal.place, call->refusal.inner_place);
+    else if (status == BOOTKEEP_DONE) {
+        fputs("done", stdout);
+        if (is(call, "option_parts") && call->parts.reserved != 0)
+            complain("what is reserved isn't 0");
+        if (is(call, "option_parts"))
+            printf(" %" PRIu32 " %zu %zu %zu %zu %zu %zu", call->parts.attributes, call->parts.description,
+                   call->parts.description_len, call->parts.list, call->parts.list_len, call->parts.optional,
+                   call->parts.optional_len);
+        for (int at = 0; at < 2; at++)
+            if (call->told.out[at] != NULL && call->told.len[at] != UNTOLD)
+                print_bytes(call->told.out[at], call->told.len[at] * (at ? 1 : unit(call)));
+        if (call->told.extra != UNTOLD)
+            printf(" %" PRIu64, call->told.extra);
+    } else
+        printf("status %" PRIu32, status);
+    putchar('\n');
+    drop_buffers(call);
+}
+
+static unsigned digit(char character)
+{
+    return (unsigned)(character <= '9' ? character - '0' : character - 'a' + 10);
+}
+
+static struct bytes bytes_of(const char *digits)
+{
+    struct bytes bytes;
+
+    bytes.len = strcmp(digits, "-") ? strlen(digits) / 2 : 0;
+    bytes.at = make(bytes.len);
+    for (size_t at = 0; at < bytes.len; at++)
+        bytes.at[at] = (uint8_t)(digit(digits[2 * at]) << 4 | digit(digits[2 * at + 1]));
+    return bytes;
+}
+
+/* Makes one call of a keeper, and says what it answers. At any answer but done it is open or closed as before. */
+static uint32_t keeper_call(struct bootkeep_keeper *keeper, const char *name, const char *digits)
+{
+    static const size_t nothing[2] = {0, 0};
+    struct call call = {.name = name, .keeper = keeper};
+    uint32_t status, was_open = keeper->is_open;
+
+    call.given[0] = bytes_of(digits);
+    status = is(&call, "keeper_open") ? try_memory(&call, nothing, SPARE) : try_call(&call);
+    if (keeper->is_open != (status == BOOTKEEP_DONE ? 1 : was_open))
+        complain("the keeper is open or closed, and shouldn't be");
+    say(&call, status);
+    free(call.given[0].at);
+    return status;
+}
+
+/* Closes a keeper. */
+static void close_keeper(struct bootkeep_keeper *keeper, uint32_t wanted)
+{
+    if (bootkeep_keeper_close(keeper) != wanted || keeper->is_open)
+        complain("closing says something else, or the keeper is open after it");
+}
+
+/* Opens a keeper, takes the events, says the set and the next number, and closes it twice. */
+static void keep(char **words, size_t count)
+{
+    struct bootkeep_keeper keeper = {0};
+
+    keeper_call(&keeper, "keeper_set", "-");
+    if (keeper_call(&keeper, "keeper_open", words[1]) == BOOTKEEP_DONE) {
+        keeper_call(&keeper, "keeper_open", "-");
+        keeper_call(&keeper, "keeper_open", words[1]);
+        for (size_t at = 2; at < count; at++) {
+            const char *name = words[at][0] == 'd'   ? "keeper_deliver"
+                               : words[at][0] == 'p' ? "keeper_prepare"
+                               : words[at][0] == 'h' ? "keeper_hand"
+                                                     : "keeper_restart";
+            keeper_call(&keeper, name, words[at][0] == 'd' ? words[at] + 1 : "-");
+        }
+        keeper_call(&keeper, "keeper_set", "-");
+        keeper_call(&keeper, "keeper_next_number", "-");
+        close_keeper(&keeper, BOOTKEEP_DONE);
+    }
+    close_keeper(&keeper, BOOTKEEP_CLOSED);
+}
+
+static void take_line(char *line)
+{
+    static char *words[WORDS];
+    struct call call = {0};
+    size_t count = 0;
+    uint32_t status;
+
+    for (char *word = strtok(line, " \n"); word != NULL && count < WORDS; word = strtok(NULL, " \n"))
+        words[count++] = word;
+    if (count == 0)
+        return;
+    now = words[0];
+    if (!strcmp(words[0], "keeper")) {
+        keep(words, count);
+        return;
+    }
+    call.name = words[0];
+    for (size_t at = 0; at < 3; at++)
+        call.given[at] = bytes_of(at + 1 < count ? words[at + 1] : "-");
+    status = try_call(&call);
+    say(&call, status);
+    for (size_t at = 0; at < 3; at++)
+        free(call.given[at].at);
+}
+
+int main(void)
+{
+    char *line = NULL;
+    size_t room = 0;
+
+    if (bootkeep_version() != BOOTKEEP_VERSION)
+        complain("the library has another version than the header");
+    while (getline(&line, &room, stdin) > 0)
+        take_line(line);
+    free(line);
+    return differ;
+}

@@ -1,0 +1,310 @@
+"""Compares the calls for C with the command: `compare.py [--cases N] [--seed N] ROOT COMMAND DRIVER..`.
+
+Values are taken from the examples and damaged at random: paths, texts, options, sets, streams, and runs of many events.
+DRIVER makes the calls that its lines ask for (calls.c), and COMMAND is `bootkeep`. The last line is `N calls, M differ`,
+and the status is 1 if some do.
+"""
+
+from __future__ import annotations
+
+import argparse
+import random
+import re
+import subprocess
+import sys
+import tempfile
+from pathlib import Path
+
+FAMILIES = {
+    "path": ["PATH"],
+    "text": ["TEXT"],
+    "option": ["OPTION"],
+    "set": ["SET", "VARS"],
+    "run": ["SET", "STREAM", "VARS"],
+}
+
+NO_PLACE = 2**64 - 1
+ABSENT, CLOSED = 3, 5
+
+
+def snake(word: str) -> str:
+    return re.sub(r"(?<!^)(?=[A-Z])", "_", word).upper()
+
+
+class Side:
+    """The command, and what its words are as numbers."""
+
+    def __init__(self, root: Path, command: str, work: Path) -> None:
+        self.command, self.work = command, work
+        header = (root / "include/bootkeep.h").read_text()
+        found = re.findall(r"^#define BOOTKEEP_(\w+) (0x[0-9a-f]+)$", header, re.M)
+        self.kinds = {name: int(number, 16) for name, number in found}
+
+    def ask(self, *words: str) -> tuple[int, str, str]:
+        done = subprocess.run([self.command, *words], capture_output=True, text=True, check=False)
+        return done.returncode, done.stdout, done.stderr
+
+    def file(self, name: str, data: bytes) -> str:
+        path = self.work / name
+        path.write_bytes(data)
+        return str(path)
+
+    def kind(self, family: str, word: str) -> int:
+        for prefix in FAMILIES[family]:
+            if f"{prefix}_{snake(word)}" in self.kinds:
+                return self.kinds[f"{prefix}_{snake(word)}"]
+        raise KeyError(word)
+
+    def refusal(self, family: str, told: str) -> str:
+        """The driver's line of what the command refuses."""
+        words = told.rpartition("refused: ")[2].split()
+        if words[0] in ("Stream", "Open"):
+            words = words[1:]
+            if told.rpartition("refused: ")[2].startswith("Open"):
+                return f"refused {self.kinds['VARS_' + snake(words[0])]} 0 {NO_PLACE} {NO_PLACE}"
+            return f"refused {self.kinds['STREAM_' + snake(words[0])]} 0 {NO_PLACE} {NO_PLACE}"
+        if family == "option" and words[0] == "Path":
+            return f"refused {self.kinds['OPTION_PATH']} {self.kind('path', words[2])} {words[1]} {words[3]}"
+        if words[0] == "Rest":
+            return f"refused {self.kinds['STREAM_REST']} 0 {words[1]} {NO_PLACE}"
+        place = words[1] if len(words) > 1 else NO_PLACE
+        return f"refused {self.kind(family, words[0])} 0 {place} {NO_PLACE}"
+
+
+def digits(data: bytes) -> str:
+    return data.hex() or "-"
+
+
+def damage(chance: random.Random, data: bytes) -> bytes:
+    """The bytes with some changed, cut off, put in or doubled."""
+    held = bytearray(data)
+    for _ in range(chance.choice([0, 1, 1, 1, 2, 4])):
+        at = chance.randrange(len(held) + 1)
+        how = chance.randrange(5)
+        if how == 0 and at < len(held):
+            held[at] = chance.choice([0, 1, 4, 0x7F, 0xFF, chance.randrange(256)])
+        elif how == 1:
+            del held[at:]
+        elif how == 2:
+            held[at:at] = chance.randbytes(chance.choice([1, 2, 4]))
+        elif how == 3:
+            del held[at : at + chance.choice([1, 2, 4])]
+        elif at < len(held):
+            held[at] ^= 1 << chance.randrange(8)
+    return bytes(held)
+
+
+def variables_of(data: bytes) -> list[tuple[str, bytes]]:
+    """The variables of a set file that is one."""
+    found, at = [], 4
+    while at < len(data):
+        count = data[at]
+        name = data[at + 1 : at + 1 + count].decode()
+        at += 1 + count
+        size = int.from_bytes(data[at : at + 4], "little")
+        found.append((name, data[at + 4 : at + 4 + size]))
+        at += 4 + size
+    return found
+
+
+def set_of(variables: list[tuple[str, bytes]]) -> bytes:
+    """The set file of these variables."""
+    records = (
+        bytes([len(name)]) + name.encode() + len(data).to_bytes(4, "little") + data
+        for name, data in sorted(variables, key=lambda variable: variable[0].encode())
+    )
+    return b"BVS1" + b"".join(records)
+
+
+def places_of(option: bytes) -> tuple[int, ...]:
+    """Where the description, the list and the optional data of a load option are that is one, each with its length."""
+    end = 6
+    while option[end : end + 2] != b"\0\0":
+        end += 2
+    length = int.from_bytes(option[4:6], "little")
+    optional = end + 2 + length
+    return 6, end - 6, end + 2, length, optional, len(option) - optional
+
+
+def paths_of(option: bytes) -> bytes:
+    """The list of paths of a load option that is one."""
+    _, _, start, length, _, _ = places_of(option)
+    return option[start : start + length]
+
+
+def frames_of(stream: bytes) -> list[bytes]:
+    frames, at = [], 0
+    while at < len(stream):
+        end = at + 12 + int.from_bytes(stream[at + 8 : at + 12], "little")
+        frames.append(stream[at:end])
+        at = end
+    return frames
+
+
+class Cases:
+    """Makes cases: the line for the driver, and what the command says."""
+
+    def __init__(self, root: Path, side: Side, chance: random.Random) -> None:
+        self.side, self.chance = side, chance
+        self.set = (root / "examples/set").read_bytes()
+        self.frames = frames_of((root / "examples/stream").read_bytes())
+        stored = variables_of(self.set)
+        self.options = [data for name, data in stored if re.fullmatch("Boot[0-9A-F]{4}", name) and len(data) > 8]
+        self.paths = [paths_of(data) for data in self.options if self.is_option(data)]
+        self.texts = [self.text(path) for path in self.paths]
+
+    def is_option(self, data: bytes) -> bool:
+        return self.side.ask("option", self.side.file("option", data))[0] == 0
+
+    def text(self, path: bytes) -> str:
+        return self.side.ask("path", path.hex())[1].partition("text ")[2].strip()
+
+    def path_case(self) -> tuple[str, list[str]]:
+        data = damage(self.chance, self.chance.choice(self.paths))
+        status, out, told = self.side.ask("path", data.hex())
+        lines = f"path_text {digits(data)}\npath_check {digits(data)}"
+        if status:
+            return lines, [self.side.refusal("path", told)] * 2
+        taken = len(data) - int(re.search(r"^rest (\d+)$", out, re.M)[1])
+        text = out.partition("text ")[2].rstrip("\n").encode()
+        return lines, [f"done {digits(text)} {taken}", f"done {taken}"]
+
+    def text_case(self) -> tuple[str, list[str]]:
+        held = damage(self.chance, self.chance.choice(self.texts).encode()).replace(b"\0", b"0")
+        line = f"text_path {digits(held)}"
+        try:
+            text = held.decode()
+        except UnicodeDecodeError as error:
+            return line, [f"refused {self.side.kinds['TEXT_NOT_UTF8']} 0 {error.start} {NO_PLACE}"]
+        status, out, told = self.side.ask("text", text)
+        if status:
+            return line, [self.side.refusal("text", told)]
+        return line, [f"done {out.strip() or '-'}"]
+
+    def option_case(self) -> tuple[str, list[str]]:
+        data = damage(self.chance, self.chance.choice(self.options))
+        status, out, told = self.side.ask("option", self.side.file("option", data))
+        lines = f"option_description {digits(data)}\noption_parts {digits(data)}"
+        if status:
+            return lines, [self.side.refusal("option", told)] * 2
+        described = re.search(r"^description (.*)$", out, re.M)[1]
+        attributes = int(re.search(r"^attributes (\w+)$", out, re.M)[1], 16)
+        places = " ".join(map(str, places_of(data)))
+        return lines, [f"done {digits(described.encode())}", f"done {attributes} {places}"]
+
+    def plan_case(self) -> tuple[str, list[str]]:
+        data = damage(self.chance, self.set)
+        status, out, told = self.side.ask("show", self.side.file("set", data))
+        line = f"set_plan {digits(data)}"
+        if status:
+            return line, [self.side.refusal("set", told)]
+        first, normal = re.search(r"^plan next (\S+) normal (.*)$", out, re.M).groups()
+        numbers = b"" if normal == "-" else b"".join(int(word, 16).to_bytes(2, "little") for word in normal.split())
+        return line, [f"done {digits(numbers)} {0x10000 if first == '-' else int(first, 16)}"]
+
+    def name(self) -> bytes:
+        """A name of the set, or one that it hasn't, or what is no name."""
+        kept = [name.encode() for name, _ in variables_of(self.set)]
+        others = [b"Boot0009", b"A", b"~" * 64, b"", b"~" * 65, b"Boot 0000", b"Boot\xff", "Böot".encode()]
+        return self.chance.choice(kept + others)
+
+    def change_case(self) -> tuple[str, list[str]]:
+        data, name = damage(self.chance, self.set), self.name()
+        value = self.chance.randbytes(self.chance.choice([0, 1, 2, 300] * 4 + [1_048_576, 1_048_577]))
+        given = f"{digits(data)} {digits(name)}"
+        lines = f"set_get {given}\nset_put {given} {digits(value)}\nset_remove {given}"
+        told = self.side.ask("show", self.side.file("set", data))[2]
+        if told and "BadOrder" not in told and "BadNext" not in told:
+            return lines, [self.side.refusal("set", told)] * 3
+        variables = {held.encode(): kept for held, kept in variables_of(data)}
+        return lines, [self.got(variables, name), self.put(variables, name, value), self.removed(variables, name)]
+
+    def got(self, variables: dict[bytes, bytes], name: bytes) -> str:
+        return f"done {digits(variables[name])}" if name in variables else f"status {ABSENT}"
+
+    def removed(self, variables: dict[bytes, bytes], name: bytes) -> str:
+        left = [(held.decode(), data) for held, data in variables.items() if held != name]
+        return f"done {digits(set_of(left))}" if name in variables else f"status {ABSENT}"
+
+    def put(self, variables: dict[bytes, bytes], name: bytes, value: bytes) -> str:
+        if not re.fullmatch(rb"[!-~]{1,64}", name):
+            return self.refused("PUT_BAD_NAME")
+        if not 1 <= len(value) <= 1_048_576:
+            return self.refused("PUT_DATA_TOO_LONG" if value else "PUT_EMPTY_DATA")
+        return f"done {digits(set_of([(held.decode(), data) for held, data in {**variables, name: value}.items()]))}"
+
+    def refused(self, kind: str) -> str:
+        return f"refused {self.side.kinds[kind]} 0 {NO_PLACE} {NO_PLACE}"
+
+    def stream(self, count: int) -> list[bytes]:
+        """Frames with other numbers, some of them damaged."""
+        frames = []
+        for number in range(count):
+            frame = bytearray(self.chance.choice(self.frames))
+            frame[4:8] = max(0, number + self.chance.choice([0, 0, 0, 0, 1, -1, 3, 80])).to_bytes(4, "little")
+            if self.chance.randrange(8) == 0:
+                frame[12:] = damage(self.chance, bytes(frame[12:]))
+                frame[8:12] = (len(frame) - 12).to_bytes(4, "little")
+            frames.append(bytes(frame))
+        return frames
+
+    def run_case(self) -> tuple[str, list[str]]:
+        stream = b"".join(self.stream(self.chance.randrange(12)))
+        if self.chance.randrange(3) == 0:
+            stream = damage(self.chance, stream)
+        out = self.side.work / "after"
+        status, lines, told = self.side.ask(
+            "run", "--stream", self.side.file("set", self.set), self.side.file("stream", stream), "--out", str(out)
+        )
+        line = f"run {digits(self.set)} {digits(stream)}"
+        if status:
+            return line, [self.side.refusal("run", told)]
+        return line, [f"done {digits(out.read_bytes())} {digits(lines.encode())}"]
+
+    def keeper_case(self) -> tuple[str, list[str]]:
+        frames = self.stream(self.chance.choice([5, 40, 200]))
+        events = [self.chance.choice([f"d{frame.hex()}"] * 8 + ["p", "h", "r"]) for frame in frames]
+        words = {"p": "prepare", "h": "hand", "r": "restart"}
+        script = "".join(f"{words.get(event) or 'deliver ' + event[1:]}\n" for event in events)
+        out = self.side.work / "after"
+        status, lines, told = self.side.ask(
+            "run", self.side.file("set", self.set), self.side.file("script", script.encode()), "--out", str(out)
+        )
+        assert status == 0, told
+        answers = [f"done {digits(line.encode())}" for line in lines.splitlines()]
+        line = f"keeper {digits(self.set)} {' '.join(events)}"
+        numbers = re.findall(r"^(?:applied|waiting) .*?(\d+)$", lines, re.M)
+        opened = [f"status {CLOSED}", "done", f"refused {self.side.kinds['SET_BAD_MAGIC']} 0 0 {NO_PLACE}", "done"]
+        return line, [*opened, *answers, f"done {digits(out.read_bytes())}", f"done {numbers[-1] if numbers else 0}"]
+
+
+def main() -> int:
+    words = argparse.ArgumentParser()
+    words.add_argument("root", type=Path)
+    words.add_argument("command")
+    words.add_argument("driver", nargs=argparse.REMAINDER)
+    words.add_argument("--cases", type=int, default=100)
+    words.add_argument("--seed", type=int, default=1)
+    given = words.parse_args()
+    with tempfile.TemporaryDirectory() as work:
+        cases = Cases(given.root, Side(given.root, given.command, Path(work)), random.Random(given.seed))
+        makers = [
+            cases.path_case, cases.text_case, cases.option_case, cases.plan_case, cases.change_case, cases.run_case,
+            cases.keeper_case,
+        ]
+        made = [maker() for _ in range(given.cases) for maker in makers]
+    asked = "".join(f"{line}\n" for line, _ in made)
+    done = subprocess.run(given.driver, input=asked, capture_output=True, text=True, check=False)
+    answers, wanted = done.stdout.splitlines(), [answer for _, lines in made for answer in lines]
+    differ = sum(a != b for a, b in zip(answers, wanted)) + abs(len(answers) - len(wanted)) + (done.returncode != 0)
+    for number, (answer, want) in enumerate(zip(answers, wanted)):
+        if answer != want:
+            print(f"answer {number} of seed {given.seed} is {answer[:200]}\nand the command's {want[:200]}")
+    if done.stderr:
+        print(done.stderr[:2000])
+    print(f"{len(wanted)} calls, {differ} differ")
+    return differ > 0
+
+
+if __name__ == "__main__":
+    sys.exit(main())
