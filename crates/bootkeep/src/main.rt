@@ -17,8 +17,6 @@
 mod command_line;
 mod failure;
 mod program;
-#[cfg(test)]
-mod tests;
 
 use std::process::ExitCode;
 

@@ -1,0 +1,180 @@
+"""Command lines of the programs, each run in a folder of its own with the files that its case states."""
+
+from __future__ import annotations
+
+import os
+import stat
+import tempfile
+from pathlib import Path
+from typing import Dict, List, Set
+
+from asking import Answer, NoAnswer, Surroundings, ask, shown
+from case_files import Case, Stated, bytes_of, text_of
+
+SECONDS = 120
+"""After how many seconds a command line has no answer."""
+
+Entries = Dict[str, str]
+"""What is at the paths below a folder, in words."""
+
+
+def runs_in_a_folder(case: Case) -> bool:
+    """Whether a case needs no more than a folder: no file elsewhere, and none that is refused or locked by somebody."""
+    members = case.members
+    if any(name in members for name in ("in_memory", "refused", "locked")):
+        return False
+    paths = [*members.get("files", {}), *members.get("after", {}), *members.get("unchecked", [])]
+    return not any(path.startswith("/") for path in paths)
+
+
+def differences(program: Path, case: Case) -> List[str]:
+    """Runs a case, and tells what isn't as it states: nothing if it passes."""
+    with tempfile.TemporaryDirectory(prefix="bootkeep-case-") as folder:
+        home = Path(folder, "home")
+        home.mkdir()
+        wanted = _Wanted(case)
+        wanted.make(home)
+        try:
+            if "first" in case.members:
+                first = _run(program, case, "first", home)
+                if first.status != 0:
+                    return [f"the first run ends with status {first.status}"]
+            answer = _run(program, case, "words", home)
+        except NoAnswer as why:
+            return [str(why)]
+        return _unlike(case.members, answer) + wanted.unlike(home)
+
+
+def _run(program: Path, case: Case, words: str, home: Path) -> Answer:
+    """What the program answers to words of a case.
+
+    Raises NoAnswer if it doesn't end by itself."""
+    members = case.members
+    around = Surroundings(
+        folder=home,
+        stdin=bytes_of(members.get("stdin", "")),
+        full=members.get("full", []),
+        memory=members.get("memory"),
+    )
+    given = [os.fsencode(case.call), *(_word_of(word) for word in members[words])]
+    return ask(program, given, SECONDS, around)
+
+
+def _word_of(stated: Stated) -> bytes:
+    """A word: a text, or bytes that are none."""
+    if isinstance(stated, dict) and "hex" in stated:
+        return bytes_of(stated["hex"])
+    return text_of(stated).encode()
+
+
+def _unlike(members: Dict[str, Stated], answer: Answer) -> List[str]:
+    """What isn't wanted of an answer."""
+    unlike = []
+    wanted_status = members.get("status", 0)
+    if answer.status != wanted_status:
+        unlike.append(f"status {answer.status}, wanted {wanted_status}")
+    if "bytes" in members:
+        stdout, wanted_stdout = answer.stdout.hex(), text_of(members["bytes"])
+    else:
+        stdout, wanted_stdout = _text(answer.stdout), text_of(members.get("stdout", ""))
+    stderr, wanted_stderr = _text(answer.stderr), text_of(members.get("stderr", ""))
+    for name, found, wanted in [
+        ("stdout", stdout, wanted_stdout),
+        ("stderr", stderr, wanted_stderr),
+    ]:
+        if found != wanted:
+            unlike.append(f"{name} {shown(found)}, wanted {shown(wanted)}")
+    return unlike
+
+
+def _text(printed: bytes) -> str:
+    return printed.decode(errors="replace")
+
+
+class _Wanted:
+    """The files of a case, before and after it."""
+
+    def __init__(self, case: Case) -> None:
+        members = case.members
+        self.files = {path: bytes_of(it) for path, it in members.get("files", {}).items()}
+        self.links: Dict[str, str] = members.get("links", {})
+        self.modes = {path: int(it, 8) for path, it in members.get("modes", {}).items()}
+        self.after: Dict[str, Stated] = members.get("after", {})
+        self.unchecked: List[str] = members.get("unchecked", [])
+
+    def make(self, home: Path) -> None:
+        """Makes the files, the links and the folders."""
+        for path, content in self.files.items():
+            file = home / path
+            if path.endswith("/"):
+                file.mkdir(parents=True, exist_ok=True)
+            else:
+                file.parent.mkdir(parents=True, exist_ok=True)
+                file.write_bytes(content)
+        for path, target in self.links.items():
+            os.symlink(target, home / path)
+        for path, mode in self.modes.items():
+            (home / path).chmod(mode)
+
+    def unlike(self, home: Path) -> List[str]:
+        """What isn't so after it."""
+        found, wanted = self._found(home), self._due()
+        for path in self.unchecked:
+            found.pop(path, None)
+            wanted.pop(path, None)
+        unlike = [
+            f"{path}: {shown(found.get(path, 'nothing'))}, wanted {shown(wanted.get(path, 'nothing'))}"
+            for path in sorted({*found, *wanted})
+            if found.get(path) != wanted.get(path)
+        ]
+        return unlike + self._unlike_folders(home)
+
+    def _found(self, home: Path) -> Entries:
+        """The files and the links that are there."""
+        found = {}
+        for path in _below(home):
+            status = (home / path).lstat()
+            if stat.S_ISLNK(status.st_mode):
+                found[path] = f"a link to {os.readlink(home / path)}"
+            elif not stat.S_ISDIR(status.st_mode):
+                found[path] = _in_words((home / path).read_bytes())
+                if path in self.modes:
+                    found[path] += f", {stat.S_IMODE(status.st_mode):o}"
+        return found
+
+    def _due(self) -> Entries:
+        """The files and the links that have to be there after it."""
+        files = {path: it for path, it in self.files.items() if not path.endswith("/")}
+        for path, stated in self.after.items():
+            if stated is None:
+                del files[path]
+            else:
+                files[path] = bytes_of(stated)
+        due = {path: _in_words(content) for path, content in files.items()}
+        for path, mode in self.modes.items():
+            due[path] += f", {mode:o}"
+        due.update({path: f"a link to {target}" for path, target in self.links.items()})
+        return due
+
+    def _unlike_folders(self, home: Path) -> List[str]:
+        """Which folders are gone, of those that are stated, and which are there without being stated."""
+        stated = {path.rstrip("/") for path in self.files if path.endswith("/")}
+        known = set(stated)
+        for path in [*self.files, *self.after, *self.links]:
+            known.update(str(folder) for folder in Path(path).parents)
+        found = {path for path in _below(home) if (home / path).is_dir() and not (home / path).is_symlink()}
+        return [f"{path}: no folder" for path in sorted(stated - found)] + [
+            f"{path}: a new folder" for path in sorted(found - known)
+        ]
+
+
+def _below(home: Path) -> Set[str]:
+    """The paths of all that is below a folder."""
+    below = set()
+    for folder, folders, files in os.walk(home):
+        below.update(os.path.relpath(os.path.join(folder, name), home) for name in folders + files)
+    return below
+
+
+def _in_words(content: bytes) -> str:
+    return f"{len(content)} bytes {content.hex()}"

@@ -1,0 +1,268 @@
+"""Runs the cases: those of calls in the program case_runner, those of command lines in the programs themselves."""
+
+from __future__ import annotations
+
+import difflib
+import os
+import re
+import shutil
+from concurrent.futures import ThreadPoolExecutor, as_completed
+from functools import partial
+from pathlib import Path
+from typing import Callable, Dict, Iterator, List, NamedTuple, Sequence
+
+from asking import NoAnswer, ask, shown
+from case_files import Case, read_cases
+from command_lines import differences, runs_in_a_folder
+
+TESTS = Path(__file__).resolve().parent
+ROOT = TESTS.parent
+CASES = TESTS / "cases"
+EXPECTED = TESTS / "expected"
+
+CRATE = "case_runner"
+"""The program that runs cases of calls. Its sources are in the folder `program`."""
+
+LIBRARIES = (
+    "uefi_path uefi_text uefi_names uefi_option uefi_vars var_stores boot_requests boot_commands "
+    "boot_texts var_commands serde_json hex anyhow"
+)
+"""What it stands on."""
+
+WAITS = ["cases"]
+"""The words before the path of a file at which it opens the file."""
+
+WRONG = "wrong_"
+"""How the name of a file begins whose cases all have to differ."""
+
+PAGE, TABLE = ROOT / "docs" / "formats.md", CASES / "node_table.md"
+"""The page that has the table of nodes, and the table."""
+
+SHARE = 24
+"""How many cases a process has at least where several share a file."""
+
+SECONDS = 900
+"""After how many seconds case_runner has no answer."""
+
+
+class Programs(NamedTuple):
+    """What runs the cases."""
+
+    case_runner: Path
+    commands: Dict[str, List[Path]]
+    """The executables of `bootkeep` and of `bootvars`, by these names. Each of them has to answer all command lines."""
+
+
+class Tally(NamedTuple):
+    """How many cases and checks passed, and how many didn't."""
+
+    passed: int
+    failed: int
+
+
+class Outcome(NamedTuple):
+    """What came of some cases or checks."""
+
+    passed: int
+    failed: int
+    lines: List[str]
+    """What is told of those that failed."""
+
+
+class Job(NamedTuple):
+    """Some cases or checks, which are run one after the other."""
+
+    subject: str
+    """The name of their file, or of the checks."""
+    run: Callable[[], Outcome]
+
+
+def make_tree(tree: Path, root: Path = ROOT) -> Path:
+    """Makes a folder in which the crate of case_runner stands beside those that it stands on."""
+    left_out = shutil.ignore_patterns("out", "must-fail")
+    shutil.copytree(root / "crates", tree / "crates", ignore=left_out)
+    shutil.copy(root / "HANDLES", tree)
+    lines = (root / "crates.txt").read_text(encoding="utf-8")
+    (tree / "crates.txt").write_text(f"{lines}{CRATE}: {LIBRARIES}\n", encoding="utf-8")
+    program = root / "tests" / "program"
+    for source in program.rglob("*.rattle"):
+        copy = tree / "crates" / CRATE / "src" / source.relative_to(program).with_suffix(".rt")
+        copy.parent.mkdir(parents=True, exist_ok=True)
+        shutil.copy(source, copy)
+    return tree
+
+
+def run(programs: Programs, quick: bool, names: Sequence[str] = ()) -> Tally:
+    """Runs all cases and checks, but for those that take long if it is to be quick, or those of the files that are named
+    alone. Tells what came of each file."""
+    wanted = [Path(name).name for name in names]
+    jobs = [job for job in all_jobs(programs, quick) if not wanted or job.subject in wanted]
+    unknown = set(wanted) - {job.subject for job in jobs}
+    for subject in sorted(unknown):
+        print(f"{subject}: there are no such cases")
+    passed, failed = run_jobs(jobs)
+    return Tally(passed, failed + len(unknown))
+
+
+def run_jobs(jobs: Sequence[Job]) -> Tally:
+    """Runs jobs side by side, and tells what came of each subject as soon as all of it is done."""
+    outcomes: Dict[str, List[Outcome]] = {}
+    left: Dict[str, int] = {}
+    for job in jobs:
+        left[job.subject] = left.get(job.subject, 0) + 1
+    with ThreadPoolExecutor(processors()) as pool:
+        running = {pool.submit(job.run): job.subject for job in jobs}
+        for future in as_completed(running):
+            subject = running[future]
+            outcomes.setdefault(subject, []).append(future.result())
+            left[subject] -= 1
+            if left[subject] == 0:
+                tell(subject, outcomes[subject])
+    every = [outcome for some in outcomes.values() for outcome in some]
+    return Tally(sum(it.passed for it in every), sum(it.failed for it in every))
+
+
+def tell(subject: str, outcomes: List[Outcome]) -> None:
+    """Tells what came of a subject."""
+    passed, failed = sum(it.passed for it in outcomes), sum(it.failed for it in outcomes)
+    lines = [f"    {line}\n" for outcome in outcomes for line in outcome.lines]
+    print(f"{subject}: {passed} passed, {failed} failed\n{''.join(lines)}", end="", flush=True)
+
+
+def processors() -> int:
+    """How many processes run at once."""
+    return len(os.sched_getaffinity(0))
+
+
+def all_jobs(programs: Programs, quick: bool) -> List[Job]:
+    """All there is to run, what takes long first, unless it is to be quick."""
+    program = programs.case_runner
+    long_jobs, jobs = [text_job(program, ["slow-checks"], "slow-checks.txt")], []
+    for file in sorted(CASES.glob("*.json")):
+        cases = read_cases(file)
+        slow = [case for case in cases if case.is_slow]
+        others = [case for case in cases if not case.is_slow]
+        if file.name.startswith(WRONG):
+            jobs += wrong_jobs(programs, file, cases)
+        else:
+            long_jobs += jobs_of_calls(program, "slow-cases", file, slow, len(slow))
+            long_jobs += jobs_of_command_lines(programs, file, slow)
+            shares = min(processors(), len(others) // SHARE + 1)
+            jobs += jobs_of_calls(program, "cases", file, others, shares)
+            jobs += jobs_of_command_lines(programs, file, others)
+    jobs.append(text_job(program, ["checks"], "checks.txt"))
+    jobs.append(text_job(program, ["node-table", str(TABLE)], "node-table.txt"))
+    jobs.append(text_job(program, ["examples"], "examples.txt"))
+    jobs.append(Job(PAGE.name, page_has_table))
+    return ([] if quick else long_jobs) + jobs
+
+
+def jobs_of_calls(
+    program: Path, verb: str, file: Path, cases: List[Case], shares: int
+) -> Iterator[Job]:
+    """The cases of a file that case_runner runs with this verb, shared by so many processes."""
+    if not is_of_command_lines(cases):
+        for number in range(1, shares + 1):
+            words = [verb, str(file), f"{number}/{shares}"]
+            due = len(cases[number - 1 :: shares])
+            yield Job(file.name, partial(run_share, program, words, due))
+
+
+def is_of_command_lines(cases: List[Case]) -> bool:
+    """Whether only programs answer the cases of a file, since no library has the command lines of `bootkeep`."""
+    return any(case.call == "bootkeep" for case in cases)
+
+
+def jobs_of_command_lines(programs: Programs, file: Path, cases: List[Case]) -> Iterator[Job]:
+    """The cases of a file that each executable of a program runs."""
+    for case in cases:
+        if case.call in programs.commands and runs_in_a_folder(case):
+            for program in programs.commands[case.call]:
+                yield Job(file.name, partial(run_command_line, program, case))
+
+
+def wrong_jobs(programs: Programs, file: Path, cases: List[Case]) -> Iterator[Job]:
+    """The cases of a file in which each states something wrong: all that is told of them is known."""
+    expected = EXPECTED / f"{file.stem}.txt"
+    if is_of_command_lines(cases):
+        for name, executables in programs.commands.items():
+            some = [case for case in cases if case.call == name]
+            for program in executables:
+                yield Job(file.name, partial(run_wrong, program, some, expected))
+    else:
+        yield Job(
+            file.name,
+            partial(run_text, programs.case_runner, ["cases", str(file)], expected, len(cases)),
+        )
+
+
+def text_job(program: Path, words: List[str], expected: str) -> Job:
+    """Something that case_runner prints, which is known: its checks, if it tells how many they are, and otherwise one
+    check."""
+    text = (EXPECTED / expected).read_text(encoding="utf-8")
+    counted = re.match(r"(\d+) checks, 0 fail\n", text)
+    due = int(counted[1]) if counted else 1
+    return Job(words[0], partial(run_text, program, words, EXPECTED / expected, due))
+
+
+def run_share(program: Path, words: List[str], due: int) -> Outcome:
+    """Runs a share of so many cases of a file, and finds which differ."""
+    share = f"{words[0]} {words[2]}"
+    try:
+        printed = printed_by(program, words)
+    except NoAnswer as why:
+        return Outcome(0, due, [f"{share}: {why}"])
+    head, *lines = printed.rstrip("\n").split("\n")
+    if head != f"{Path(words[1]).name} {due} cases, {len(lines)} differ":
+        return Outcome(0, due, [f"{share}: {due} cases are due, and it printed {shown(printed)}"])
+    return Outcome(due - len(lines), len(lines), [line.strip() for line in lines])
+
+
+def run_text(program: Path, words: List[str], expected: Path, due: int) -> Outcome:
+    """Runs so many cases or checks of which all that is printed is known."""
+    try:
+        printed = printed_by(program, words)
+    except NoAnswer as why:
+        return Outcome(0, due, [str(why)])
+    return compared(printed.splitlines(), expected.read_text(encoding="utf-8").splitlines(), due)
+
+
+def compared(found: List[str], wanted: List[str], due: int) -> Outcome:
+    """What came of so many cases or checks of which these lines were told, and others are wanted."""
+    unlike = [line for line in difflib.ndiff(wanted, found) if line[0] in "-+"]
+    failed = min(due, max(sum(line[0] == sign for line in unlike) for sign in "-+"))
+    return Outcome(due - failed, failed, unlike)
+
+
+def printed_by(program: Path, words: List[str]) -> str:
+    """What case_runner prints.
+
+    Raises NoAnswer if it doesn't end well."""
+    answer = ask(program, [CRATE.encode(), *(word.encode() for word in words)], SECONDS)
+    if answer.status != 0 or answer.stderr:
+        complaint = shown(answer.stderr.decode(errors="replace"))
+        raise NoAnswer(f"status {answer.status}, {complaint}")
+    return answer.stdout.decode(errors="replace")
+
+
+def run_command_line(program: Path, case: Case) -> Outcome:
+    """Runs a command line, and finds what isn't as its case states."""
+    lines = differences(program, case)
+    named = [f"{case.name} by {program}: {line}" for line in lines]
+    return Outcome(0, 1, named) if named else Outcome(1, 0, [])
+
+
+def run_wrong(program: Path, cases: List[Case], expected: Path) -> Outcome:
+    """Runs command lines whose cases all state something wrong, of which it is known what is found."""
+    found = [f"{case.name}: {line}" for case in cases for line in differences(program, case)]
+    wanted = expected.read_text(encoding="utf-8").splitlines()
+    calls = {case.call for case in cases}
+    return compared(found, [it for it in wanted if it.split(" ")[0] in calls], len(cases))
+
+
+def page_has_table() -> Outcome:
+    """Whether the page has the table of nodes that case_runner compares with the library's rows."""
+    page, table = PAGE.read_text(encoding="utf-8"), TABLE.read_text(encoding="utf-8")
+    if "\n\n{}\n\n".format(table.rstrip("\n")) in page:
+        return Outcome(1, 0, [])
+    return Outcome(0, 1, [f"it has another table of nodes than {TABLE.name}"])
