@@ -9,7 +9,7 @@ import subprocess
 import tempfile
 from contextlib import ExitStack
 from pathlib import Path
-from typing import Dict, List, NamedTuple, Optional, Sequence
+from typing import Any, Dict, List, NamedTuple, Optional, Sequence, Tuple
 
 FULL = "/dev/full"
 """What takes no byte."""
@@ -31,7 +31,7 @@ class NoAnswer(Exception):
 
 
 class Surroundings(NamedTuple):
-    """What a program finds when it runs."""
+    """What a program finds when it runs. It finds no environment."""
 
     folder: Optional[Path] = None
     """The folder that it runs in, if that matters."""
@@ -39,45 +39,37 @@ class Surroundings(NamedTuple):
     full: Sequence[str] = ()
     """Which of `stdout` and `stderr` take no byte."""
     memory: Optional[int] = None
-    """How many MiB of memory it has, if that is limited."""
+    """How many MiB it has at most, if that is limited."""
+
+
+ANYWHERE = Surroundings()
 
 
 def ask(
-    program: Path, words: Sequence[bytes], seconds: float, around: Surroundings = Surroundings()
+    program: Path, words: Sequence[bytes], seconds: float, around: Surroundings = ANYWHERE
 ) -> Answer:
     """What a program answers to words, the first of which is its name.
 
     Raises NoAnswer if it doesn't end by itself within so many seconds."""
     with ExitStack() as closing:
-        environment: Dict[str, str] = {}
-        executable, command = program, list(words)
-        if around.memory is not None:
-            if _is_sanitized(program):
-                logs = closing.enter_context(tempfile.TemporaryDirectory(prefix="bootkeep-asan-"))
-                environment["ASAN_OPTIONS"] = _sanitizer_options(around.memory, logs)
-            else:
-                limited = f'ulimit -v {around.memory * 1024} && exec "$0" "$@"'
-                executable = Path("/bin/sh")
-                command = [b"sh", b"-c", limited.encode(), os.fsencode(program), *words[1:]]
-        streams = {
-            name: closing.enter_context(open(FULL, "wb")) if name in around.full else subprocess.PIPE
-            for name in ("stdout", "stderr")
-        }
+        settings: Dict[str, Any] = {"executable": program, "args": words, "env": {}}
+        if around.memory is not None and _is_sanitized(program):
+            logs = closing.enter_context(tempfile.TemporaryDirectory(prefix="bootkeep-asan-"))
+            settings["env"] = {"ASAN_OPTIONS": _sanitizer_options(around.memory, logs)}
+        elif around.memory is not None:
+            settings["executable"], settings["args"] = _limited(program, words, around.memory)
+        for stream in ("stdout", "stderr"):
+            settings[stream] = subprocess.PIPE
+            if stream in around.full:
+                settings[stream] = closing.enter_context(open(FULL, "wb"))
         try:
             done = subprocess.run(
-                command,
-                executable=executable,
-                input=around.stdin,
-                cwd=around.folder,
-                env=environment,
-                timeout=seconds,
-                check=False,
-                **streams,
+                input=around.stdin, cwd=around.folder, timeout=seconds, check=False, **settings
             )
         except subprocess.TimeoutExpired:
             raise NoAnswer(f"no answer within {seconds:g} seconds") from None
         except OSError as error:
-            raise NoAnswer(f"{program} doesn't start: {error.strerror}") from None
+            raise NoAnswer(f"it doesn't start: {error.strerror}") from None
     if done.returncode < 0:
         raise NoAnswer(f"killed by {_signal_name(-done.returncode)}")
     return Answer(done.returncode, done.stdout or b"", done.stderr or b"")
@@ -90,13 +82,20 @@ def shown(text: str) -> str:
 
 @functools.lru_cache(maxsize=None)
 def _is_sanitized(program: Path) -> bool:
-    """Whether the program was compiled with AddressSanitizer, which needs much more address space than it gives."""
+    """Whether the program was compiled with AddressSanitizer, which needs much address space."""
     return b"AddressSanitizer" in program.read_bytes()
 
 
 def _sanitizer_options(mebibytes: int, logs: str) -> str:
-    """The options with which AddressSanitizer refuses larger allocations, and complains of them elsewhere."""
-    return f"max_allocation_size_mb={mebibytes}:allocator_may_return_null=1:log_path={logs}/asan"
+    """With these AddressSanitizer refuses larger allocations, and complains of them elsewhere."""
+    limit = f"max_allocation_size_mb={mebibytes}:allocator_may_return_null=1"
+    return f"{limit}:log_path={logs}/asan"
+
+
+def _limited(program: Path, words: Sequence[bytes], mebibytes: int) -> Tuple[str, List[bytes]]:
+    """A shell that runs the program with little address space, and its words."""
+    script = f'ulimit -v {mebibytes * 1024} && exec "$0" "$@"'
+    return "/bin/sh", [b"sh", b"-c", script.encode(), os.fsencode(program), *words[1:]]
 
 
 def _signal_name(number: int) -> str:

@@ -1,4 +1,4 @@
-"""Command lines of the programs, each run in a folder of its own with the files that its case states."""
+"""Command lines of the programs, each run in a new folder with the files that its case states."""
 
 from __future__ import annotations
 
@@ -6,20 +6,19 @@ import os
 import stat
 import tempfile
 from pathlib import Path
-from typing import Dict, List, Set
+from typing import Dict, List, Optional, Set
 
 from asking import Answer, NoAnswer, Surroundings, ask, shown
 from case_files import Case, Stated, bytes_of, text_of
 
-SECONDS = 120
+SECONDS = 300
 """After how many seconds a command line has no answer."""
-
-Entries = Dict[str, str]
-"""What is at the paths below a folder, in words."""
 
 
 def runs_in_a_folder(case: Case) -> bool:
-    """Whether a case needs no more than a folder: no file elsewhere, and none that is refused or locked by somebody."""
+    """Whether a case needs a folder and no more.
+
+    Others have files elsewhere, or some that are refused or locked."""
     members = case.members
     if any(name in members for name in ("in_memory", "refused", "locked")):
         return False
@@ -32,8 +31,8 @@ def differences(program: Path, case: Case) -> List[str]:
     with tempfile.TemporaryDirectory(prefix="bootkeep-case-") as folder:
         home = Path(folder, "home")
         home.mkdir()
-        wanted = _Wanted(case)
-        wanted.make(home)
+        contents = Contents(case)
+        contents.make(home)
         try:
             if "first" in case.members:
                 first = _run(program, case, "first", home)
@@ -42,11 +41,11 @@ def differences(program: Path, case: Case) -> List[str]:
             answer = _run(program, case, "words", home)
         except NoAnswer as why:
             return [str(why)]
-        return _unlike(case.members, answer) + wanted.unlike(home)
+        return _unlike(case.members, answer) + contents.unlike(home)
 
 
 def _run(program: Path, case: Case, words: str, home: Path) -> Answer:
-    """What the program answers to words of a case.
+    """What the program answers to those words of a case that this member has.
 
     Raises NoAnswer if it doesn't end by itself."""
     members = case.members
@@ -56,7 +55,7 @@ def _run(program: Path, case: Case, words: str, home: Path) -> Answer:
         full=members.get("full", []),
         memory=members.get("memory"),
     )
-    given = [os.fsencode(case.call), *(_word_of(word) for word in members[words])]
+    given = [case.call.encode(), *(_word_of(word) for word in members[words])]
     return ask(program, given, SECONDS, around)
 
 
@@ -78,10 +77,10 @@ def _unlike(members: Dict[str, Stated], answer: Answer) -> List[str]:
     else:
         stdout, wanted_stdout = _text(answer.stdout), text_of(members.get("stdout", ""))
     stderr, wanted_stderr = _text(answer.stderr), text_of(members.get("stderr", ""))
-    for name, found, wanted in [
+    for name, found, wanted in (
         ("stdout", stdout, wanted_stdout),
         ("stderr", stderr, wanted_stderr),
-    ]:
+    ):
         if found != wanted:
             unlike.append(f"{name} {shown(found)}, wanted {shown(wanted)}")
     return unlike
@@ -91,90 +90,87 @@ def _text(printed: bytes) -> str:
     return printed.decode(errors="replace")
 
 
-class _Wanted:
-    """The files of a case, before and after it."""
+class Contents:
+    """What is in the folder of a case, before it and after it."""
 
     def __init__(self, case: Case) -> None:
         members = case.members
-        self.files = {path: bytes_of(it) for path, it in members.get("files", {}).items()}
+        stated = members.get("files", {})
+        self.files = {path: bytes_of(it) for path, it in stated.items() if path[-1] != "/"}
+        self.folders = {path.rstrip("/") for path in stated if path[-1] == "/"}
         self.links: Dict[str, str] = members.get("links", {})
         self.modes = {path: int(it, 8) for path, it in members.get("modes", {}).items()}
         self.after: Dict[str, Stated] = members.get("after", {})
         self.unchecked: List[str] = members.get("unchecked", [])
 
     def make(self, home: Path) -> None:
-        """Makes the files, the links and the folders."""
+        """Makes the files, the folders and the links."""
+        for path in self.folders:
+            (home / path).mkdir(parents=True)
         for path, content in self.files.items():
-            file = home / path
-            if path.endswith("/"):
-                file.mkdir(parents=True, exist_ok=True)
-            else:
-                file.parent.mkdir(parents=True, exist_ok=True)
-                file.write_bytes(content)
+            (home / path).parent.mkdir(parents=True, exist_ok=True)
+            (home / path).write_bytes(content)
         for path, target in self.links.items():
-            os.symlink(target, home / path)
+            (home / path).symlink_to(target)
         for path, mode in self.modes.items():
             (home / path).chmod(mode)
 
     def unlike(self, home: Path) -> List[str]:
         """What isn't so after it."""
-        found, wanted = self._found(home), self._due()
+        found, due = self._found(home), self._due()
         for path in self.unchecked:
             found.pop(path, None)
-            wanted.pop(path, None)
-        unlike = [
-            f"{path}: {shown(found.get(path, 'nothing'))}, wanted {shown(wanted.get(path, 'nothing'))}"
-            for path in sorted({*found, *wanted})
-            if found.get(path) != wanted.get(path)
-        ]
+            due.pop(path, None)
+        unlike = []
+        for path in sorted({*found, *due}):
+            one, other = found.get(path, "nothing"), due.get(path, "nothing")
+            if one != other:
+                unlike.append(f"{path}: {shown(one)}, wanted {shown(other)}")
         return unlike + self._unlike_folders(home)
 
-    def _found(self, home: Path) -> Entries:
-        """The files and the links that are there."""
+    def _found(self, home: Path) -> Dict[str, str]:
+        """The files and the links that are there, by their paths, in words."""
         found = {}
         for path in _below(home):
             status = (home / path).lstat()
             if stat.S_ISLNK(status.st_mode):
                 found[path] = f"a link to {os.readlink(home / path)}"
             elif not stat.S_ISDIR(status.st_mode):
-                found[path] = _in_words((home / path).read_bytes())
-                if path in self.modes:
-                    found[path] += f", {stat.S_IMODE(status.st_mode):o}"
+                mode = stat.S_IMODE(status.st_mode) if path in self.modes else None
+                found[path] = _in_words((home / path).read_bytes(), mode)
         return found
 
-    def _due(self) -> Entries:
-        """The files and the links that have to be there after it."""
-        files = {path: it for path, it in self.files.items() if not path.endswith("/")}
+    def _due(self) -> Dict[str, str]:
+        """Those that have to be there after it."""
+        files = dict(self.files)
         for path, stated in self.after.items():
             if stated is None:
                 del files[path]
             else:
                 files[path] = bytes_of(stated)
-        due = {path: _in_words(content) for path, content in files.items()}
-        for path, mode in self.modes.items():
-            due[path] += f", {mode:o}"
+        due = {path: _in_words(it, self.modes.get(path)) for path, it in files.items()}
         due.update({path: f"a link to {target}" for path, target in self.links.items()})
         return due
 
     def _unlike_folders(self, home: Path) -> List[str]:
-        """Which folders are gone, of those that are stated, and which are there without being stated."""
-        stated = {path.rstrip("/") for path in self.files if path.endswith("/")}
-        known = set(stated)
-        for path in [*self.files, *self.after, *self.links]:
+        """Which of the folders are gone, and which are there without a reason."""
+        known = set(self.folders)
+        for path in [*self.files, *self.folders, *self.after, *self.links]:
             known.update(str(folder) for folder in Path(path).parents)
-        found = {path for path in _below(home) if (home / path).is_dir() and not (home / path).is_symlink()}
-        return [f"{path}: no folder" for path in sorted(stated - found)] + [
-            f"{path}: a new folder" for path in sorted(found - known)
-        ]
+        found = {path for path in _below(home) if stat.S_ISDIR((home / path).lstat().st_mode)}
+        gone = [f"{path}: no folder" for path in sorted(self.folders - found)]
+        return gone + [f"{path}: a new folder" for path in sorted(found - known)]
 
 
 def _below(home: Path) -> Set[str]:
     """The paths of all that is below a folder."""
     below = set()
     for folder, folders, files in os.walk(home):
-        below.update(os.path.relpath(os.path.join(folder, name), home) for name in folders + files)
+        below.update(os.path.relpath(os.path.join(folder, it), home) for it in folders + files)
     return below
 
 
-def _in_words(content: bytes) -> str:
-    return f"{len(content)} bytes {content.hex()}"
+def _in_words(content: bytes, mode: Optional[int]) -> str:
+    """What a file has, and its rights, if they matter."""
+    rights = "" if mode is None else f", rights {mode:o}"
+    return f"{len(content)} bytes{rights}: {content.hex()}"

@@ -1,4 +1,5 @@
-"""Runs the cases: those of calls in the program case_runner, those of command lines in the programs themselves."""
+"""Runs the cases: those of calls by the program case_runner, those of command lines by the programs
+themselves."""
 
 from __future__ import annotations
 
@@ -21,7 +22,7 @@ CASES = TESTS / "cases"
 EXPECTED = TESTS / "expected"
 
 CRATE = "case_runner"
-"""The program that runs cases of calls. Its sources are in the folder `program`."""
+"""The program that makes calls. Its sources are in the folder `program`."""
 
 LIBRARIES = (
     "uefi_path uefi_text uefi_names uefi_option uefi_vars var_stores boot_requests boot_commands "
@@ -33,7 +34,7 @@ WAITS = ["cases"]
 """The words before the path of a file at which it opens the file."""
 
 WRONG = "wrong_"
-"""How the name of a file begins whose cases all have to differ."""
+"""How the name of a file begins whose cases all state something wrong."""
 
 PAGE, TABLE = ROOT / "docs" / "formats.md", CASES / "node_table.md"
 """The page that has the table of nodes, and the table."""
@@ -41,8 +42,8 @@ PAGE, TABLE = ROOT / "docs" / "formats.md", CASES / "node_table.md"
 SHARE = 24
 """How many cases a process has at least where several share a file."""
 
-SECONDS = 900
-"""After how many seconds case_runner has no answer."""
+SECONDS, SLOW_SECONDS = 600, 3600
+"""After how many seconds case_runner has no answer, and after how many if that takes long."""
 
 
 class Programs(NamedTuple):
@@ -50,7 +51,7 @@ class Programs(NamedTuple):
 
     case_runner: Path
     commands: Dict[str, List[Path]]
-    """The executables of `bootkeep` and of `bootvars`, by these names. Each of them has to answer all command lines."""
+    """The executables of `bootkeep` and of `bootvars`. Each has to answer all command lines."""
 
 
 class Tally(NamedTuple):
@@ -78,7 +79,7 @@ class Job(NamedTuple):
 
 
 def make_tree(tree: Path, root: Path = ROOT) -> Path:
-    """Makes a folder in which the crate of case_runner stands beside those that it stands on."""
+    """Makes a folder in which the crate of case_runner stands beside all others."""
     left_out = shutil.ignore_patterns("out", "must-fail")
     shutil.copytree(root / "crates", tree / "crates", ignore=left_out)
     shutil.copy(root / "HANDLES", tree)
@@ -93,8 +94,9 @@ def make_tree(tree: Path, root: Path = ROOT) -> Path:
 
 
 def run(programs: Programs, quick: bool, names: Sequence[str] = ()) -> Tally:
-    """Runs all cases and checks, but for those that take long if it is to be quick, or those of the files that are named
-    alone. Tells what came of each file."""
+    """Runs all cases and checks, or those of the files that are named, and tells what came of each.
+
+    If it is to be quick, those that take long are left out."""
     wanted = [Path(name).name for name in names]
     jobs = [job for job in all_jobs(programs, quick) if not wanted or job.subject in wanted]
     unknown = set(wanted) - {job.subject for job in jobs}
@@ -105,19 +107,23 @@ def run(programs: Programs, quick: bool, names: Sequence[str] = ()) -> Tally:
 
 
 def run_jobs(jobs: Sequence[Job]) -> Tally:
-    """Runs jobs side by side, and tells what came of each subject as soon as all of it is done."""
+    """Runs jobs side by side, and tells what came of a subject as soon as all of it is done."""
     outcomes: Dict[str, List[Outcome]] = {}
     left: Dict[str, int] = {}
     for job in jobs:
         left[job.subject] = left.get(job.subject, 0) + 1
     with ThreadPoolExecutor(processors()) as pool:
         running = {pool.submit(job.run): job.subject for job in jobs}
-        for future in as_completed(running):
-            subject = running[future]
-            outcomes.setdefault(subject, []).append(future.result())
-            left[subject] -= 1
-            if left[subject] == 0:
-                tell(subject, outcomes[subject])
+        try:
+            for future in as_completed(running):
+                subject = running[future]
+                outcomes.setdefault(subject, []).append(future.result())
+                left[subject] -= 1
+                if left[subject] == 0:
+                    tell(subject, outcomes[subject])
+        finally:
+            for future in running:
+                future.cancel()
     every = [outcome for some in outcomes.values() for outcome in some]
     return Tally(sum(it.passed for it in every), sum(it.failed for it in every))
 
@@ -125,8 +131,8 @@ def run_jobs(jobs: Sequence[Job]) -> Tally:
 def tell(subject: str, outcomes: List[Outcome]) -> None:
     """Tells what came of a subject."""
     passed, failed = sum(it.passed for it in outcomes), sum(it.failed for it in outcomes)
-    lines = [f"    {line}\n" for outcome in outcomes for line in outcome.lines]
-    print(f"{subject}: {passed} passed, {failed} failed\n{''.join(lines)}", end="", flush=True)
+    lines = "".join(f"    {line}\n" for outcome in outcomes for line in outcome.lines)
+    print(f"{subject}: {passed} passed, {failed} failed\n{lines}", end="", flush=True)
 
 
 def processors() -> int:
@@ -135,7 +141,7 @@ def processors() -> int:
 
 
 def all_jobs(programs: Programs, quick: bool) -> List[Job]:
-    """All there is to run, what takes long first, unless it is to be quick."""
+    """All there is to run, first what takes long, which is left out if it is to be quick."""
     program = programs.case_runner
     long_jobs, jobs = [text_job(program, ["slow-checks"], "slow-checks.txt")], []
     for file in sorted(CASES.glob("*.json")):
@@ -169,7 +175,7 @@ def jobs_of_calls(
 
 
 def is_of_command_lines(cases: List[Case]) -> bool:
-    """Whether only programs answer the cases of a file, since no library has the command lines of `bootkeep`."""
+    """Whether only programs run the cases of a file: those of `bootkeep` are no library's."""
     return any(case.call == "bootkeep" for case in cases)
 
 
@@ -182,7 +188,7 @@ def jobs_of_command_lines(programs: Programs, file: Path, cases: List[Case]) -> 
 
 
 def wrong_jobs(programs: Programs, file: Path, cases: List[Case]) -> Iterator[Job]:
-    """The cases of a file in which each states something wrong: all that is told of them is known."""
+    """A file whose cases all state something wrong: what is told of them is known."""
     expected = EXPECTED / f"{file.stem}.txt"
     if is_of_command_lines(cases):
         for name, executables in programs.commands.items():
@@ -190,17 +196,15 @@ def wrong_jobs(programs: Programs, file: Path, cases: List[Case]) -> Iterator[Jo
             for program in executables:
                 yield Job(file.name, partial(run_wrong, program, some, expected))
     else:
-        yield Job(
-            file.name,
-            partial(run_text, programs.case_runner, ["cases", str(file)], expected, len(cases)),
-        )
+        words = ["cases", str(file)]
+        run_all = partial(run_text, programs.case_runner, words, expected, len(cases))
+        yield Job(file.name, run_all)
 
 
 def text_job(program: Path, words: List[str], expected: str) -> Job:
-    """Something that case_runner prints, which is known: its checks, if it tells how many they are, and otherwise one
-    check."""
+    """Something of which all that case_runner prints is known: so many checks, or one."""
     text = (EXPECTED / expected).read_text(encoding="utf-8")
-    counted = re.match(r"(\d+) checks, 0 fail\n", text)
+    counted = re.match(r"(\d+) checks, ", text)
     due = int(counted[1]) if counted else 1
     return Job(words[0], partial(run_text, program, words, EXPECTED / expected, due))
 
@@ -219,7 +223,7 @@ def run_share(program: Path, words: List[str], due: int) -> Outcome:
 
 
 def run_text(program: Path, words: List[str], expected: Path, due: int) -> Outcome:
-    """Runs so many cases or checks of which all that is printed is known."""
+    """Runs so many cases or checks, of which all that is printed is known."""
     try:
         printed = printed_by(program, words)
     except NoAnswer as why:
@@ -228,7 +232,7 @@ def run_text(program: Path, words: List[str], expected: Path, due: int) -> Outco
 
 
 def compared(found: List[str], wanted: List[str], due: int) -> Outcome:
-    """What came of so many cases or checks of which these lines were told, and others are wanted."""
+    """What came of so many cases or checks, of which other lines may be wanted than were found."""
     unlike = [line for line in difflib.ndiff(wanted, found) if line[0] in "-+"]
     failed = min(due, max(sum(line[0] == sign for line in unlike) for sign in "-+"))
     return Outcome(due - failed, failed, unlike)
@@ -238,7 +242,8 @@ def printed_by(program: Path, words: List[str]) -> str:
     """What case_runner prints.
 
     Raises NoAnswer if it doesn't end well."""
-    answer = ask(program, [CRATE.encode(), *(word.encode() for word in words)], SECONDS)
+    seconds = SLOW_SECONDS if words[0].startswith("slow-") else SECONDS
+    answer = ask(program, [it.encode() for it in (CRATE, *words)], seconds)
     if answer.status != 0 or answer.stderr:
         complaint = shown(answer.stderr.decode(errors="replace"))
         raise NoAnswer(f"status {answer.status}, {complaint}")
@@ -247,22 +252,21 @@ def printed_by(program: Path, words: List[str]) -> str:
 
 def run_command_line(program: Path, case: Case) -> Outcome:
     """Runs a command line, and finds what isn't as its case states."""
-    lines = differences(program, case)
-    named = [f"{case.name} by {program}: {line}" for line in lines]
-    return Outcome(0, 1, named) if named else Outcome(1, 0, [])
+    lines = [f"{case.name}, {program}: {line}" for line in differences(program, case)]
+    return Outcome(0, 1, lines) if lines else Outcome(1, 0, [])
 
 
 def run_wrong(program: Path, cases: List[Case], expected: Path) -> Outcome:
-    """Runs command lines whose cases all state something wrong, of which it is known what is found."""
+    """Runs command lines that all state something wrong, of which it is known what is found."""
     found = [f"{case.name}: {line}" for case in cases for line in differences(program, case)]
-    wanted = expected.read_text(encoding="utf-8").splitlines()
     calls = {case.call for case in cases}
-    return compared(found, [it for it in wanted if it.split(" ")[0] in calls], len(cases))
+    known = expected.read_text(encoding="utf-8").splitlines()
+    return compared(found, [line for line in known if line.split(" ")[0] in calls], len(cases))
 
 
 def page_has_table() -> Outcome:
-    """Whether the page has the table of nodes that case_runner compares with the library's rows."""
-    page, table = PAGE.read_text(encoding="utf-8"), TABLE.read_text(encoding="utf-8")
-    if "\n\n{}\n\n".format(table.rstrip("\n")) in page:
+    """Whether the page has the table that case_runner compares with the library's rows."""
+    page, table = PAGE.read_text(encoding="utf-8"), TABLE.read_text(encoding="utf-8").rstrip("\n")
+    if f"\n\n{table}\n\n" in page:
         return Outcome(1, 0, [])
     return Outcome(0, 1, [f"it has another table of nodes than {TABLE.name}"])

@@ -55,8 +55,8 @@ class Shares(WithPrograms):
         self.assertEqual(self.outcome(script), (2, 0, []))
 
     def test_one_differs(self) -> None:
-        told = "echo 'some.json 2 cases, 1 differ'; echo '    read_path 1: found \"1\", wanted \"2\"'"
-        self.assertEqual(self.outcome(told), (1, 1, ['read_path 1: found "1", wanted "2"']))
+        told = "echo 'some.json 2 cases, 1 differ'; echo '    read_path 1: found 1, wanted 2'"
+        self.assertEqual(self.outcome(told), (1, 1, ["read_path 1: found 1, wanted 2"]))
 
     def test_rubbish(self) -> None:
         for script in (
@@ -159,7 +159,7 @@ class CommandLines(WithPrograms):
         self.assertEqual(len(self.found("chmod 600 old", **stated)), 1)
 
     def test_surroundings(self) -> None:
-        self.assertEqual(self.found("[[ $0 == bootkeep || $1 == $'\\xff' ]]", words=[{"hex": "ff"}]), [])
+        self.assertEqual(self.found("[[ $1 == $'\\xff' ]]", words=[{"hex": "ff"}]), [])
         self.assertEqual(self.found("echo a 2>/dev/null || exit 5", full=["stdout"], status=5), [])
         self.assertEqual(self.found("[[ $(ulimit -v) == 1048576 ]]", memory=1024), [])
         self.assertEqual(self.found("[[ $(ulimit -v) == unlimited && ! $HOME ]]"), [])
@@ -209,10 +209,10 @@ class Runs(WithPrograms):
         self.assertIn("b: 1 passed, 1 failed\n    one differs\n", printed)
 
     def test_names(self) -> None:
-        programs = runner.Programs(self.program("echo '52 checks, 0 fail'"), {})
+        programs = runner.Programs(self.program("echo '51 checks, 0 fail'"), {})
         with contextlib.redirect_stdout(io.StringIO()):
-            self.assertEqual(runner.run(programs, True, ["checks"]), (52, 0))
-            self.assertEqual(runner.run(programs, True, ["checks", "none.json"]), (52, 1))
+            self.assertEqual(runner.run(programs, True, ["checks"]), (51, 0))
+            self.assertEqual(runner.run(programs, True, ["checks", "none.json"]), (51, 1))
 
     def test_wrong_answers_have_to_be_told(self) -> None:
         expected = self.folder / "expected"
