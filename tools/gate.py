@@ -1,0 +1,122 @@
+"""What `./check` does: the gate and all cases, or the cases alone."""
+
+from __future__ import annotations
+
+import re
+import shutil
+import subprocess
+import sys
+import tempfile
+import unittest
+from concurrent.futures import ThreadPoolExecutor
+from pathlib import Path
+from typing import List, Tuple
+
+import runner
+import trying
+from building import proved
+from repository import ROOT, sources_sum
+
+PROGRAMS = ("bootkeep", "bootvars")
+
+ENDED = re.compile(r"^(\d+) passed, (\d+) failed")
+"""The last line of `rt ci`."""
+
+UNPROVED = "check: the cases alone, over programs that aren't proved"
+
+
+def main(words: List[str]) -> int:
+    """Runs what the words ask for, and says what passed. The answer is a status."""
+    if words and words[0] != "--quick":
+        print("check: takes --quick and names of files, or no word", file=sys.stderr)
+        return 2
+    if shutil.which("rt") is None:
+        print("check: the toolchain's command rt isn't on PATH", file=sys.stderr)
+        return 2
+    try:
+        return quick(words[1:]) if words else whole()
+    except trying.NotTried as why:
+        print(f"check: no case is tried: {why}", file=sys.stderr)
+        return end(0, 1)
+
+
+def quick(names: List[str]) -> int:
+    """The cases alone, all but the slow ones or those of some files, over programs that aren't proved."""
+    print(UNPROVED, flush=True)
+    with tempfile.TemporaryDirectory(prefix="bootkeep-check-") as folder:
+        passed, failed = runner.run(unproved_programs(Path(folder)), True, names)
+    print(UNPROVED)
+    return end(passed, failed)
+
+
+def compiled_runner(folder: Path) -> Path:
+    """What runs the cases of calls, unproved."""
+    tree = runner.make_tree(folder / "tree")
+    return trying.compiled(tree, runner.CRATE, runner.WAITS, folder)
+
+
+def unproved_programs(folder: Path) -> runner.Programs:
+    """What runs the cases, and the two programs, unproved."""
+    with ThreadPoolExecutor() as pool:
+        case_runner = pool.submit(compiled_runner, folder)
+        programs = {it: pool.submit(trying.compiled, ROOT, it, ["show"], folder) for it in PROGRAMS}
+        return runner.Programs(
+            case_runner.result(), {name: [it.result()] for name, it in programs.items()}
+        )
+
+
+def whole() -> int:
+    """The gate, and then all cases over what it proved and built."""
+    sources = {it: sources_sum(it) for it in PROGRAMS}
+    passed, failed = gate()
+    if failed:
+        print("check: the cases aren't tried, since the gate failed", file=sys.stderr)
+        return end(passed, failed)
+    built = {it: ROOT / "crates" / it / "out" / it for it in PROGRAMS}
+    for name, program in built.items():
+        # Of sources that were edited meanwhile nobody knows which were proved.
+        if sources[name] == sources_sum(name):
+            proved(name).keep(program, sources[name])
+    by_both = {it: [built[it], built[it].with_suffix(".by-rattle")] for it in PROGRAMS}
+    with tempfile.TemporaryDirectory(prefix="bootkeep-check-") as folder:
+        case_runner = compiled_runner(Path(folder))
+        told = runner.run(runner.Programs(case_runner, by_both), False, [])
+    tests = script_tests()
+    return end(passed + told[0] + tests[0], failed + told[1] + tests[1])
+
+
+def script_tests() -> Tuple[int, int]:
+    """What the tests of the scripts pass and fail. Those that fail are told."""
+    result = unittest.TextTestRunner(verbosity=0).run(
+        unittest.defaultTestLoader.discover(str(ROOT / "tests"))
+    )
+    failed = len(result.failures) + len(result.errors)
+    return result.testsRun - failed, failed
+
+
+def gate() -> Tuple[int, int]:
+    """What `rt ci` passed and failed. It says so itself."""
+    last = ""
+    with subprocess.Popen(
+        ["rt", "ci"],
+        cwd=ROOT,
+        stdin=subprocess.DEVNULL,
+        stdout=subprocess.PIPE,
+        text=True,
+        errors="replace",
+    ) as ci:
+        assert ci.stdout is not None
+        for line in ci.stdout:
+            print(line, end="", flush=True)
+            last = line
+    ended = ENDED.match(last)
+    if ended is None:
+        return 0, 1
+    passed, failed = int(ended[1]), int(ended[2])
+    return passed, max(failed, int(ci.returncode != 0 and failed == 0))
+
+
+def end(passed: int, failed: int) -> int:
+    """Says what passed, and gives the status."""
+    print(f"{passed} passed, {failed} failed")
+    return 1 if failed else 0

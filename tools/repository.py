@@ -1,0 +1,124 @@
+"""What the repository is made of: its crates, what each stands on, and sums of their sources."""
+
+from __future__ import annotations
+
+import hashlib
+import os
+import shutil
+from dataclasses import dataclass
+from pathlib import Path
+from typing import Dict, List, Optional
+
+ROOT = Path(__file__).resolve().parent.parent
+"""The top of the clone that this file is in."""
+
+PARTS = ("src", "specs", "proofs")
+"""The folders of a crate that a proof reads."""
+
+
+@dataclass(frozen=True)
+class Crate:
+    """A line of crates.txt."""
+
+    name: str
+    is_static: bool
+    """Whether it is a static library, for C."""
+    libraries: List[str]
+    """The libraries that it stands on, those of the toolchain too."""
+
+
+def read_crates(root: Path = ROOT) -> Dict[str, Crate]:
+    """The crates by their names, in the order of crates.txt, in which each comes after those that it stands on."""
+    crates = {}
+    for line in (root / "crates.txt").read_text(encoding="utf-8").splitlines():
+        head, colon, libraries = line.partition("#")[0].partition(":")
+        if colon:
+            name, *kind = head.split()
+            crates[name] = Crate(name, kind == ["staticlib"], libraries.split())
+    return crates
+
+
+def crates_below(name: str, crates: Dict[str, Crate]) -> List[str]:
+    """The repository's crates that a crate stands on, in the order of crates.txt."""
+    found = set()
+    left = [name]
+    while left:
+        for library in crates[left.pop()].libraries:
+            if library in crates and library not in found:
+                found.add(library)
+                left.append(library)
+    return [it for it in crates if it in found]
+
+
+def sources_sum(name: str, root: Path = ROOT) -> str:
+    """A sum of what a crate is made from: its files and those of the crates below it, and what is said of them."""
+    crates = read_crates(root)
+    total = hashlib.sha256((root / "HANDLES").read_bytes())
+    for crate in [*crates_below(name, crates), name]:
+        total.update(repr(crates[crate]).encode())
+        top = f"{root}/crates/{crate}/"
+        for part in PARTS:
+            for folder, folders, names in os.walk(top + part):
+                folders.sort()
+                for file in sorted(names):
+                    path = f"{folder}/{file}"
+                    with open(path, "rb") as it:
+                        content = it.read()
+                    total.update(f"{path[len(top):]} {len(content)}\n".encode())
+                    total.update(content)
+    return total.hexdigest()
+
+
+def toolchain_sum() -> Optional[str]:
+    """A sum of the toolchain on PATH, by its files' names, sizes and times, if there is one.
+
+    To ask it for its version takes longer than most runs of a program."""
+    found = shutil.which("rt")
+    if found is None:
+        return None
+    rt = Path(found).resolve()
+    files = [rt, *sorted(rt.parent.glob("rattle*"))]
+    stats = [(str(file), file.stat().st_size, file.stat().st_mtime_ns) for file in files]
+    return hashlib.sha256(repr(stats).encode()).hexdigest()
+
+
+def identity_of(file: Path) -> str:
+    """What tells whether a file that was built is the one that was built: its size and its time."""
+    status = file.stat()
+    return f"{status.st_size}-{status.st_mtime_ns}"
+
+
+class Product:
+    """What was built of a crate and is kept in out/, with a stamp that says of what it was built."""
+
+    def __init__(self, kind: str, file: str, root: Path = ROOT) -> None:
+        self.path = root / "out" / kind / file
+        self.stamp = self.path.with_name(f"{file}.stamp")
+
+    def is_of(self, sources: str) -> bool:
+        """Whether it was built of sources of this sum, with the toolchain that is found, if one is."""
+        try:
+            made_of, toolchain, product = self.stamp.read_text(encoding="utf-8").split()
+            return (
+                made_of == sources
+                and toolchain == (toolchain_sum() or toolchain)
+                and product == identity_of(self.path)
+            )
+        except (OSError, ValueError):
+            return False
+
+    def keep(self, made: Path, sources: str) -> None:
+        """Keeps what was made of sources of this sum, in the place of an earlier one.
+
+        Raises OSError if there is no place for it."""
+        self.path.parent.mkdir(parents=True, exist_ok=True)
+        beside = self.path.with_name(f"{self.path.name}.{os.getpid()}")
+        try:
+            shutil.copy2(made, beside)
+            stamp = f"{sources}\n{toolchain_sum()}\n{identity_of(beside)}\n"
+            self.stamp.unlink(missing_ok=True)
+            os.replace(beside, self.path)
+            beside.write_text(stamp, encoding="utf-8")
+            os.replace(beside, self.stamp)
+        finally:
+            beside.unlink(missing_ok=True)
