@@ -142,32 +142,49 @@ def processors() -> int:
 
 def all_jobs(programs: Programs, quick: bool) -> List[Job]:
     """All there is to run, first what takes long, which is left out if it is to be quick."""
-    program = programs.case_runner
-    long_jobs, jobs = [text_job(program, ["slow-checks"], "slow-checks.txt")], []
-    for file in sorted(CASES.glob("*.json")):
-        cases = read_cases(file)
-        slow = [case for case in cases if case.is_slow]
+    files = {file: read_cases(file) for file in sorted(CASES.glob("*.json"))}
+    wrong = {file: files.pop(file) for file in list(files) if file.name.startswith(WRONG)}
+    jobs: List[Job] = []
+    for file, cases in files.items():
+        jobs += slow_jobs(programs, quick, file, [case for case in cases if case.is_slow])
+    if quick:
+        jobs.append(left_out("slow-checks", due_of("slow-checks.txt")))
+    else:
+        jobs.append(text_job(programs.case_runner, ["slow-checks"], "slow-checks.txt"))
+    for file, cases in wrong.items():
+        jobs += wrong_jobs(programs, file, cases)
+    for file, cases in files.items():
         others = [case for case in cases if not case.is_slow]
-        if file.name.startswith(WRONG):
-            jobs += wrong_jobs(programs, file, cases)
-        else:
-            long_jobs += jobs_of_calls(program, "slow-cases", file, slow, len(slow))
-            long_jobs += jobs_of_command_lines(programs, file, slow)
-            shares = min(processors(), len(others) // SHARE + 1)
-            jobs += jobs_of_calls(program, "cases", file, others, shares)
-            jobs += jobs_of_command_lines(programs, file, others)
-    jobs.append(text_job(program, ["checks"], "checks.txt"))
-    jobs.append(text_job(program, ["node-table", str(TABLE)], "node-table.txt"))
-    jobs.append(text_job(program, ["examples"], "examples.txt"))
+        shares = min(processors(), len(others) // SHARE + 1)
+        jobs += jobs_of_calls(programs.case_runner, "cases", file, others, shares)
+        jobs += jobs_of_command_lines(programs, file, others)
+    jobs.append(text_job(programs.case_runner, ["checks"], "checks.txt"))
+    jobs.append(text_job(programs.case_runner, ["node-table", str(TABLE)], "node-table.txt"))
+    jobs.append(text_job(programs.case_runner, ["examples"], "examples.txt"))
     jobs.append(Job(PAGE.name, page_has_table))
-    return ([] if quick else long_jobs) + jobs
+    return jobs
+
+
+def slow_jobs(programs: Programs, quick: bool, file: Path, cases: List[Case]) -> Iterator[Job]:
+    """The cases of a file that take long, each alone."""
+    if not quick:
+        verb, program = "slow-cases", programs.case_runner
+        yield from jobs_of_calls(program, verb, file, cases, len(cases))
+        yield from jobs_of_command_lines(programs, file, cases)
+    elif cases:
+        yield left_out(file.name, len(cases))
+
+
+def left_out(subject: str, count: int) -> Job:
+    """Tells that so many cases or checks are left out."""
+    return Job(subject, lambda: Outcome(0, 0, [f"{count} take long, and are left out"]))
 
 
 def jobs_of_calls(
     program: Path, verb: str, file: Path, cases: List[Case], shares: int
 ) -> Iterator[Job]:
     """The cases of a file that case_runner runs with this verb, shared by so many processes."""
-    if not is_of_command_lines(cases):
+    if cases and not is_of_command_lines(cases):
         for number in range(1, shares + 1):
             words = [verb, str(file), f"{number}/{shares}"]
             due = len(cases[number - 1 :: shares])
@@ -202,11 +219,15 @@ def wrong_jobs(programs: Programs, file: Path, cases: List[Case]) -> Iterator[Jo
 
 
 def text_job(program: Path, words: List[str], expected: str) -> Job:
-    """Something of which all that case_runner prints is known: so many checks, or one."""
-    text = (EXPECTED / expected).read_text(encoding="utf-8")
-    counted = re.match(r"(\d+) checks, ", text)
-    due = int(counted[1]) if counted else 1
-    return Job(words[0], partial(run_text, program, words, EXPECTED / expected, due))
+    """Something of which all that case_runner prints is known."""
+    run_all = partial(run_text, program, words, EXPECTED / expected, due_of(expected))
+    return Job(words[0], run_all)
+
+
+def due_of(expected: str) -> int:
+    """How many checks a text that is known counts, or 1."""
+    counted = re.match(r"(\d+) checks, ", (EXPECTED / expected).read_text(encoding="utf-8"))
+    return int(counted[1]) if counted else 1
 
 
 def run_share(program: Path, words: List[str], due: int) -> Outcome:
