@@ -87,8 +87,8 @@ def _is_sanitized(program: Path) -> bool:
 
 
 def _sanitizer_options(mebibytes: int, logs: str) -> str:
-    """With these AddressSanitizer refuses larger allocations, and complains of them elsewhere."""
-    limit = f"max_allocation_size_mb={mebibytes}:allocator_may_return_null=1"
+    """With these AddressSanitizer refuses more than half of that at once, and says so elsewhere."""
+    limit = f"max_allocation_size_mb={mebibytes // 2}:allocator_may_return_null=1"
     return f"{limit}:log_path={logs}/asan"
 
 
