@@ -86,6 +86,9 @@ def prove(verb):
 
 def main(words):
     """Does what the words ask for."""
+    if words == ["version"]:
+        print("a toolchain that proves nothing")
+        return 0
     if words[0] == "try":
         return try_program(words[words.index("--") + 1 :])
     return prove(words[0])

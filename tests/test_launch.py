@@ -142,6 +142,10 @@ class Unproved(Clone):
         called = self.call("bootkeep", "--prove")
         self.assertEqual((called.returncode, called.stdout), (0, ""))
         self.assertIn("3 crates, about ", called.stderr)
+        self.assertIn(
+            "this toolchain is a toolchain that proves nothing, and all is proved with",
+            called.stderr,
+        )
         self.assertEqual(sorted(self.proofs()), ["lib low", "lib other", "run bootkeep"])
         self.assertEqual(self.call("bootkeep", "show").stdout, "proved bootkeep: show\n")
         self.assertEqual(self.call("bootkeep", "show").stderr, "")

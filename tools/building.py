@@ -17,7 +17,16 @@ from pathlib import Path
 from typing import Dict, Iterator, List
 
 from progress import Progress
-from repository import PARTS, ROOT, Product, crates_below, read_crates, sources_sum, toolchain_sum
+from repository import (
+    PARTS,
+    ROOT,
+    Product,
+    crates_below,
+    read_crates,
+    sources_sum,
+    toolchain_note,
+    toolchain_sum,
+)
 
 ROOM_FOR_TWO = 12_000_000_000
 """How many bytes of memory have to be free for libraries to be proved side by side."""
@@ -100,6 +109,9 @@ class _Build:
         below = crates_below(self.name, self.crates)
         lacking = [it for it in below if not self._has_library(it)]
         self.progress = Progress(self.name, [*lacking, self.name], self.crates, say)
+        note = toolchain_note()
+        if note:
+            say(self.name, note)
         say(self.name, f"it is proved first: {self.progress.outlook()}")
         sources = sources_sum(self.name, self.root)
         with self.progress.shown():

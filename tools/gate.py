@@ -15,7 +15,7 @@ from typing import List, Tuple
 import runner
 import trying
 from building import proved
-from repository import ROOT, sources_sum
+from repository import ROOT, sources_sum, toolchain_note
 
 PROGRAMS = ("bootkeep", "bootvars")
 
@@ -67,6 +67,9 @@ def unproved_programs(folder: Path) -> runner.Programs:
 
 def whole() -> int:
     """The gate, and then all cases over what it proved and built."""
+    note = toolchain_note()
+    if note:
+        print(f"check: {note}", file=sys.stderr)
     sources = {it: sources_sum(it) for it in PROGRAMS}
     passed, failed = gate()
     if failed:

@@ -5,12 +5,16 @@ from __future__ import annotations
 import hashlib
 import os
 import shutil
+import subprocess
 from dataclasses import dataclass
 from pathlib import Path
 from typing import Dict, List, Optional
 
 ROOT = Path(__file__).resolve().parent.parent
 """The top of the clone that this file is in."""
+
+LOGIC, TOOLCHAINS = "dac8208d650f15bf", ("rattle-kit-13b", "rattle-kit-13f")
+"""The logic that the repository is proved with, and the toolchains that have it."""
 
 PARTS = ("src", "specs", "proofs")
 """The folders of a crate that a proof reads."""
@@ -80,6 +84,16 @@ def toolchain_sum() -> Optional[str]:
     files = [rt, *sorted(rt.parent.glob("rattle*"))]
     stats = [(str(file), file.stat().st_size, file.stat().st_mtime_ns) for file in files]
     return hashlib.sha256(repr(stats).encode()).hexdigest()
+
+
+def toolchain_note() -> Optional[str]:
+    """What is to be said of the toolchain on PATH, if it has another logic than the repository is proved with."""
+    told = subprocess.run(
+        ["rt", "version"], capture_output=True, text=True, check=False
+    ).stdout.strip()
+    if LOGIC in told.split():
+        return None
+    return f"this toolchain is {told}, and all is proved with the logic {LOGIC} of {' and '.join(TOOLCHAINS)}"
 
 
 def identity_of(file: Path) -> str:
