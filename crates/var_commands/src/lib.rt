@@ -8,9 +8,12 @@
 //! done for each.
 #![tactic(auto)]
 
+mod action;
 mod command_line;
+mod commands;
 mod making;
 mod program;
+mod table;
 mod write;
 
 pub use program::run;

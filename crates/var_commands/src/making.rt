@@ -1,6 +1,6 @@
 //! The commands `option`, `frame` and `explain`, which make load options and requests, and show requests.
 
-use crate::command_line::{AttributeWords, Form, LoadOptionWords, OptionalWords, RequestWords};
+use crate::action::{AttributeWords, Form, LoadOptionWords, OptionalWords, RequestWords};
 use boot_commands::OutputFile;
 use boot_texts::{
     FrameWords, FrameWordsFault, OptionWords, OptionWordsFault, attribute_bits, attributes_of_text,
@@ -31,7 +31,7 @@ pub(crate) fn make_option<R: Files<File: OutputFile> + Input + Print + AllocGlob
         &OptionWords {
             attributes,
             description: words.description,
-            paths: &words.paths,
+            paths: words.paths,
             optional: &optional,
         },
     );
@@ -128,7 +128,7 @@ fn frame<R: Files + Input + AllocGlobal>(
         }
         RequestWords::Order { entries } => {
             let mut numbers = Vec::with_capacity(alloc, entries.len())?;
-            for entry in entries {
+            for entry in *entries {
                 numbers.push(entry_of(alloc, entry)?)?;
             }
             frame_bytes(alloc, number, FrameWords::Order(&numbers)).map_err(|fault| of_words(

@@ -4,7 +4,8 @@ ghost use Rattle.std.specs.Prelude.{◌≡◌, MatchResult};
 ghost use Rattle.var_commands.specs.Ending.{ending_status};
 ghost use Rattle.var_places.specs.Failure.{status_of};
 
-use crate::command_line::{Action, Form, read_words};
+use crate::action::{Action, Form};
+use crate::command_line::{action_of, read_words};
 use crate::making::{explain, make_frame, make_option};
 use crate::write::write_place;
 use boot_commands::OutputFile;
@@ -75,16 +76,28 @@ fn answer<R: Env + Files<File: OutputFile> + Input + Print + Eprint + AllocGloba
     let alloc = rt.alloc();
     let words = words(rt)?;
     match read_words(alloc, words.as_slice()) {
-        Ok(Some(action)) => act(rt, action),
-        Ok(None) => Err(Failure::of_word(alloc, "no command is named")),
-        Err(error) if error.kind() == ErrorKind::OutOfMemory => Err(Failure::Memory),
-        Err(error) if error.use_stderr() => Err(wrong_words(alloc, &error)),
-        // The help or the version.
-        Err(error) => {
-            print(rt, format!(in alloc; "{error}")?.as_bytes())?;
-            Ok(Ending::Done)
-        }
+        Ok(matches) => match action_of(&matches) {
+            Some(action) => act(rt, action),
+            None => Err(Failure::of_word(alloc, "no command is named")),
+        },
+        Err(error) => end_without_action(rt, &error),
     }
+}
+
+/// Prints what `clap` answers in place of matches, if it is the help or the version; if not, no action was asked for.
+fn end_without_action<R: Print + AllocGlobal>(
+    rt: &R,
+    error: &clap::Error,
+) -> Result<Ending, Failure> {
+    let alloc = rt.alloc();
+    if error.kind() == ErrorKind::OutOfMemory {
+        return Err(Failure::Memory);
+    }
+    if error.use_stderr() {
+        return Err(wrong_words(alloc, error));
+    }
+    print(rt, format!(in alloc; "{error}")?.as_bytes())?;
+    Ok(Ending::Done)
 }
 
 /// The words of the command line.

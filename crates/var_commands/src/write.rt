@@ -1,6 +1,6 @@
 //! The command `write`, which makes the boot variables of a place those of a set.
 
-use crate::command_line::WriteWords;
+use crate::action::WriteWords;
 use boot_commands::OutputFile;
 use boot_texts::change_report;
 use std::alloc::{AllocError, Global};

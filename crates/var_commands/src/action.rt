@@ -1,0 +1,154 @@
+//! What the words of the command line ask for.
+
+use boot_texts::Flags;
+use boot_updates::UpdateWords;
+
+/// What the words of the command line ask for.
+#[derive(Clone, Copy)]
+pub enum Action<'a> {
+    /// To make a set file of the variables of a place.
+    Read {
+        /// The place.
+        place: &'a str,
+        /// The path of the set file.
+        out: &'a str,
+        /// Whether the set has Boot####, BootOrder and BootNext alone.
+        boot_only: bool,
+    },
+    /// To show the boot variables of a place.
+    Show {
+        /// The place.
+        place: &'a str,
+        /// How they are shown.
+        form: Form,
+    },
+    /// To show how the boot variables of two places differ.
+    Diff {
+        /// The first place.
+        from: &'a str,
+        /// The second place.
+        to: &'a str,
+        /// How the differences are shown.
+        form: Form,
+    },
+    /// To make the boot variables of a place those of a set.
+    Write(WriteWords<'a>),
+    /// To run requests over the boot variables of a place.
+    Update(UpdateWords<'a>),
+    /// To make a load option.
+    LoadOption(LoadOptionWords<'a>),
+    /// To make the frame of a request.
+    Frame {
+        /// The number of the request, as it is written.
+        number: &'a str,
+        /// What it asks for.
+        request: RequestWords<'a>,
+        /// Whether the frame's bytes are wanted, and not a line of a script.
+        raw: bool,
+    },
+    /// To show what the frames of a script or a stream ask for.
+    Explain {
+        /// The path of the script or the stream.
+        file: &'a str,
+        /// How they are shown.
+        form: Form,
+    },
+}
+
+/// How something is shown.
+#[derive(Clone, Copy)]
+pub enum Form {
+    /// As text for a person.
+    Text,
+    /// As JSON for a program.
+    Json,
+}
+
+/// The words of `write`.
+#[derive(Clone, Copy)]
+pub struct WriteWords<'a> {
+    /// The path of the set file.
+    pub set: &'a str,
+    /// The place that is written.
+    pub place: &'a str,
+    /// Whether the changes are only shown.
+    pub dry_run: bool,
+    /// Whether a set without an entry is written.
+    pub empty: bool,
+}
+
+/// The words of `option`.
+#[derive(Clone, Copy)]
+pub struct LoadOptionWords<'a> {
+    /// The description.
+    pub description: &'a str,
+    /// The text of each path.
+    pub paths: &'a [&'a str],
+    /// The attributes.
+    pub attributes: AttributeWords<'a>,
+    /// The optional data.
+    pub optional: OptionalWords<'a>,
+    /// The path of the file that the load option is written to.
+    pub out: &'a str,
+}
+
+/// What is said of a load option's attributes.
+#[derive(Clone, Copy)]
+pub enum AttributeWords<'a> {
+    /// All of them, as one number.
+    Number(&'a str),
+    /// Each by a flag.
+    Flags(Flags),
+}
+
+/// What is said of a load option's optional data.
+#[derive(Clone, Copy)]
+pub enum OptionalWords<'a> {
+    /// There are none.
+    Nothing,
+    /// Hexadecimal digits.
+    Hex(&'a str),
+    /// The path of a file with them.
+    File(&'a str),
+    /// A text, which is stored in UTF-16.
+    Text(&'a str),
+}
+
+/// What a request is to ask for.
+#[derive(Clone, Copy)]
+pub enum RequestWords<'a> {
+    /// To store a load option as a new entry.
+    Add {
+        /// The entry, as it is written.
+        entry: &'a str,
+        /// The path of the file with the load option.
+        file: &'a str,
+    },
+    /// To store a load option in the place of that of an entry.
+    Replace {
+        /// The entry, as it is written.
+        entry: &'a str,
+        /// The path of the file with the load option.
+        file: &'a str,
+    },
+    /// To store a load option as a new entry under the lowest free number.
+    AddFree {
+        /// The path of the file with the load option.
+        file: &'a str,
+    },
+    /// To take an entry out.
+    Remove {
+        /// The entry, as it is written.
+        entry: &'a str,
+    },
+    /// To set the order in which entries are tried.
+    Order {
+        /// The entries, as they are written: none if the flag for an empty order is given.
+        entries: &'a [&'a str],
+    },
+    /// To set the entry that the next boot tries first.
+    Next {
+        /// The entry, as it is written.
+        entry: &'a str,
+    },
+}

@@ -1,0 +1,467 @@
+//! The commands of the program: their words and their help.
+
+use crate::table::{ArgKind, ArgRow, CommandRow, GroupRow, add_commands, command};
+use clap::{ArgAction, Command};
+use std::alloc::{AllocError, Global};
+
+/// The version that `--version` tells.
+const VERSION: &str = "0.1.0";
+
+/// What the help of the program says of places.
+const PLACES: &str = "\
+A PLACE is where a machine's variables are. Each command tells by itself which it is:
+  a folder         as Linux shows variables: /sys/firmware/efi/efivars
+  a variable file  of an emulator, as edk2 writes it: OVMF_VARS.fd
+  a set file       as `bootvars read` and `bootkeep run` make it
+
+A file that is named `-` is standard input, or standard output after --out.
+
+Example:
+  bootvars show /sys/firmware/efi/efivars";
+
+/// What the help of `update` says.
+const UPDATE: &str = "\
+Runs the requests of a script over the boot variables of a machine, and changes the machine by what they lead to, as a \
+whole: if power fails in between, the next update goes on with it. Prints the replies. FOLDER keeps which requests were \
+applied, so each takes effect exactly once, however often it comes.
+
+The status is 0 if each request was applied or had been before, 6 if one of them wasn't or couldn't be carried out, 1 if \
+the script is refused, 7 if another update is at work, and another one if the machine can't be read or changed.";
+
+/// The program with its commands, in the order in which its help lists them.
+///
+/// # Errors
+///
+/// Memory is refused.
+pub(crate) fn program<'a>(alloc: Global) -> Result<Command<'a>, AllocError> {
+    bare_program(alloc).subcommands(commands(alloc)?)
+}
+
+fn bare_program<'a>(alloc: Global) -> Command<'a> {
+    Command::new(alloc, "bootvars")
+        .version(VERSION)
+        .propagate_version(true)
+        .about("Reads, compares and writes the UEFI boot variables of a machine")
+        .after_help(PLACES)
+        .subcommand_required(true)
+}
+
+/// The commands. They are in several tables, since what a static refers to is proved to be there in a time that grows by the
+/// square of the number of its slices.
+fn commands<'a>(alloc: Global) -> Result<Vec<Command<'a>>, AllocError> {
+    let mut commands = Vec::new(alloc);
+    add_commands(alloc, &mut commands, &PLACE_COMMANDS)?;
+    add_commands(alloc, &mut commands, &UPDATE_COMMANDS)?;
+    add_commands(alloc, &mut commands, &OPTION_COMMANDS)?;
+    add_frame(alloc, &mut commands)?;
+    add_commands(alloc, &mut commands, &EXPLAIN_COMMANDS)?;
+    Ok(commands)
+}
+
+/// Adds the command `frame`, which one of the requests follows.
+fn add_frame<'a>(alloc: Global, commands: &mut Vec<Command<'a>>) -> Result<(), AllocError> {
+    commands.push(frame(alloc)?)?;
+    Ok(())
+}
+
+fn frame<'a>(alloc: Global) -> Result<Command<'a>, AllocError> {
+    let mut requests = Vec::new(alloc);
+    add_commands(alloc, &mut requests, &REQUESTS)?;
+    command(alloc, &FRAME)?
+        .subcommand_required(true)
+        .subcommands(requests)
+}
+
+/// The commands that read, show, compare and write places.
+static PLACE_COMMANDS: [CommandRow; 4] = [
+    CommandRow {
+        name: "read",
+        about: "Makes a set file of a machine's variables",
+        after_help: "Example:\n  bootvars read /sys/firmware/efi/efivars --out set",
+        args: &[
+            PLACE,
+            ArgRow {
+                help: "The set file that is made",
+                kind: ArgKind::Option("SET"),
+                ..OUT
+            },
+            ArgRow {
+                name: "boot-only",
+                help: "Leaves out all but Boot####, BootOrder and BootNext",
+                ..ArgRow::FLAG
+            },
+        ],
+        ..CommandRow::EMPTY
+    },
+    CommandRow {
+        name: "show",
+        about: "Shows the boot entries, their order and what the next boot tries",
+        after_help: "Example:\n  bootvars show OVMF_VARS.fd",
+        args: &[PLACE, JSON],
+        ..CommandRow::EMPTY
+    },
+    CommandRow {
+        name: "diff",
+        about: "Shows how the boot variables of two places differ",
+        long_about: Some(
+            "Shows how the boot variables of two places differ.\n\n\
+            The status is 0 if they are equal, 1 if they differ, and above 1 if it could not be told.",
+        ),
+        after_help: "Example:\n  bootvars diff set /sys/firmware/efi/efivars",
+        args: &[
+            ArgRow {
+                name: "FROM",
+                help: "The place with the variables before",
+                ..ArgRow::VALUE
+            },
+            ArgRow {
+                name: "TO",
+                help: "The place with the variables after",
+                ..ArgRow::VALUE
+            },
+            JSON,
+        ],
+        ..CommandRow::EMPTY
+    },
+    CommandRow {
+        name: "write",
+        about: "Makes the boot variables of a place those of a set",
+        long_about: Some(
+            "Makes Boot####, BootOrder and BootNext of a place those of a set, and prints each change. Every other \
+            variable stays as it is.",
+        ),
+        after_help: "Example:\n  bootvars write --dry-run set /sys/firmware/efi/efivars",
+        args: &[
+            ArgRow {
+                name: "SET",
+                help: "The set file",
+                ..ArgRow::VALUE
+            },
+            ArgRow {
+                help: "The place that is written",
+                ..PLACE
+            },
+            ArgRow {
+                name: "dry-run",
+                help: "Prints the changes and makes none",
+                ..ArgRow::FLAG
+            },
+            ArgRow {
+                name: "empty",
+                help: "Takes a set without any entry, which takes out all entries of the place",
+                ..ArgRow::FLAG
+            },
+        ],
+        ..CommandRow::EMPTY
+    },
+];
+
+/// The command that runs requests.
+static UPDATE_COMMANDS: [CommandRow; 1] = [CommandRow {
+    name: "update",
+    about: "Runs requests over a machine's boot variables, each exactly once",
+    long_about: Some(UPDATE),
+    after_help: "Example:\n  bootvars update --state /var/lib/bootkeep /sys/firmware/efi/efivars script",
+    args: &[
+        ArgRow {
+            help: "The folder or the variable file of the machine",
+            ..PLACE
+        },
+        ArgRow {
+            name: "SCRIPT",
+            help: "The script of requests",
+            is_required: false,
+            required_without: &INSTEAD_OF_SCRIPT,
+            excludes: &INSTEAD_OF_SCRIPT,
+            ..ArgRow::VALUE
+        },
+        ArgRow {
+            name: "state",
+            help: "The folder that keeps which requests were applied, and what is left to do",
+            kind: ArgKind::Option("FOLDER"),
+            is_required: true,
+            ..ArgRow::OPTION
+        },
+        ArgRow {
+            name: "stream",
+            help: "SCRIPT is a stream of frames",
+            ..SCRIPT_FLAG
+        },
+        ArgRow {
+            name: "json",
+            help: "Prints JSON",
+            ..SCRIPT_FLAG
+        },
+        ArgRow {
+            name: "next",
+            help: "Prints the number of the next request",
+            excludes: &["settle"],
+            ..ArgRow::FLAG
+        },
+        ArgRow {
+            name: "settle",
+            help: "Does what an update that was cut off has left to do",
+            ..ArgRow::FLAG
+        },
+        ArgRow {
+            name: "boot-id",
+            help: "The identity of the machine's start; needed for a variable file",
+            kind: ArgKind::Option("ID"),
+            ..ArgRow::OPTION
+        },
+    ],
+    ..CommandRow::EMPTY
+}];
+
+/// The command that makes load options.
+static OPTION_COMMANDS: [CommandRow; 1] = [CommandRow {
+    name: "option",
+    about: "Makes a load option, the value of a variable Boot####",
+    after_help: "Example:\n  bootvars option --description debian \\\n    \
+            --path 'HD(1,GPT,5f2c1a9e-7d64-4b0e-9c3b-1e8f60a2d7c4,0x800,0x64000)/File(\\EFI\\debian\\shimx64.efi)' \\\n    \
+            --out option",
+    args: &[
+        DESCRIPTION,
+        PATH,
+        INACTIVE,
+        HIDDEN,
+        APP,
+        RECONNECT,
+        ATTRIBUTES,
+        OPTIONAL_HEX,
+        OPTIONAL_FILE,
+        OPTIONAL_TEXT,
+        OUT,
+    ],
+    groups: &[OPTIONAL],
+    ..CommandRow::EMPTY
+}];
+
+/// The command that makes the frames of the requests below.
+static FRAME: CommandRow = CommandRow {
+    name: "frame",
+    about: "Makes the frame of a request: a line of a script for `bootkeep run`",
+    after_help: "An ENTRY is one to four hexadecimal digits, as in Boot####.\n\n\
+        Example:\n  bootvars frame 5 order 0001 0000 >> script",
+    args: &[
+        ArgRow {
+            name: "NUMBER",
+            help: "The number of the request, in decimal",
+            ..ArgRow::VALUE
+        },
+        ArgRow {
+            name: "raw",
+            help: "Prints the bytes of the frame, as a stream has them",
+            is_global: true,
+            ..ArgRow::FLAG
+        },
+    ],
+    ..CommandRow::EMPTY
+};
+
+/// The requests that `frame` makes frames of.
+static REQUESTS: [CommandRow; 6] = [
+    CommandRow {
+        name: "add",
+        about: "Stores a load option as a new entry",
+        after_help: "Example:\n  bootvars frame 5 add 0003 option",
+        args: &[ENTRY, FILE],
+        ..CommandRow::EMPTY
+    },
+    CommandRow {
+        name: "replace",
+        about: "Stores a load option in the place of that of an entry",
+        after_help: "Example:\n  bootvars frame 5 replace 0003 option",
+        args: &[ENTRY, FILE],
+        ..CommandRow::EMPTY
+    },
+    CommandRow {
+        name: "add-free",
+        about: "Stores a load option as a new entry under the lowest free number",
+        after_help: "Example:\n  bootvars frame 5 add-free option",
+        args: &[FILE],
+        ..CommandRow::EMPTY
+    },
+    CommandRow {
+        name: "remove",
+        about: "Takes an entry out",
+        after_help: "Example:\n  bootvars frame 5 remove 0003",
+        args: &[ENTRY],
+        ..CommandRow::EMPTY
+    },
+    CommandRow {
+        name: "order",
+        about: "Sets the order in which entries are tried",
+        after_help: "Example:\n  bootvars frame 5 order 0001 0000",
+        args: &[
+            ArgRow {
+                name: "ENTRY",
+                help: "The entries, each as 0003",
+                action: ArgAction::Append,
+                is_required: false,
+                ..ArgRow::VALUE
+            },
+            ArgRow {
+                name: "empty",
+                help: "Sets an order without entries",
+                ..ArgRow::FLAG
+            },
+        ],
+        groups: &[GroupRow {
+            name: "order",
+            args: &["ENTRY", "empty"],
+            is_required: true,
+        }],
+        ..CommandRow::EMPTY
+    },
+    CommandRow {
+        name: "next",
+        about: "Sets the entry that the next boot tries first, once",
+        after_help: "Example:\n  bootvars frame 5 next 0003",
+        args: &[ENTRY],
+        ..CommandRow::EMPTY
+    },
+];
+
+/// The command that shows frames.
+static EXPLAIN_COMMANDS: [CommandRow; 1] = [CommandRow {
+    name: "explain",
+    about: "Shows what the frames of a script or a stream ask for",
+    after_help: "Example:\n  bootvars explain script",
+    args: &[
+        ArgRow {
+            help: "The script or the stream",
+            ..FILE
+        },
+        JSON,
+    ],
+    ..CommandRow::EMPTY
+}];
+
+// The arguments of several commands.
+
+/// The place that a command reads.
+const PLACE: ArgRow = ArgRow {
+    name: "PLACE",
+    help: "The place that is read",
+    ..ArgRow::VALUE
+};
+
+/// An entry.
+const ENTRY: ArgRow = ArgRow {
+    name: "ENTRY",
+    help: "The entry, as 0003",
+    ..ArgRow::VALUE
+};
+
+/// A file with a load option.
+const FILE: ArgRow = ArgRow {
+    name: "FILE",
+    help: "The file with the load option",
+    ..ArgRow::VALUE
+};
+
+/// The file that a command makes.
+const OUT: ArgRow = ArgRow {
+    name: "out",
+    help: "The file that is made",
+    kind: ArgKind::Option("FILE"),
+    is_required: true,
+    ..ArgRow::OPTION
+};
+
+/// The flag for JSON.
+const JSON: ArgRow = ArgRow {
+    name: "json",
+    help: "Prints JSON",
+    ..ArgRow::FLAG
+};
+
+// Those that say a load option.
+
+const DESCRIPTION: ArgRow = ArgRow {
+    name: "description",
+    help: "The name that menus show",
+    is_required: true,
+    ..ArgRow::OPTION
+};
+
+const PATH: ArgRow = ArgRow {
+    name: "path",
+    help: "The device path as text; again for each path of the list",
+    action: ArgAction::Append,
+    is_required: true,
+    ..ArgRow::OPTION
+};
+
+const INACTIVE: ArgRow = ArgRow {
+    name: "inactive",
+    help: "The entry isn't tried",
+    ..ArgRow::FLAG
+};
+
+const HIDDEN: ArgRow = ArgRow {
+    name: "hidden",
+    help: "The firmware's menu doesn't show the entry",
+    ..ArgRow::FLAG
+};
+
+const APP: ArgRow = ArgRow {
+    name: "app",
+    help: "The entry is an application, and not tried by a normal boot",
+    ..ArgRow::FLAG
+};
+
+const RECONNECT: ArgRow = ArgRow {
+    name: "reconnect",
+    help: "Drivers are connected anew after a driver's entry",
+    ..ArgRow::FLAG
+};
+
+const ATTRIBUTES: ArgRow = ArgRow {
+    name: "attributes",
+    help: "All attributes as one number, as 1 or 0x101",
+    kind: ArgKind::Option("N"),
+    excludes: &["inactive", "hidden", "app", "reconnect"],
+    ..ArgRow::OPTION
+};
+
+const OPTIONAL_HEX: ArgRow = ArgRow {
+    name: "optional-hex",
+    help: "The optional data in hexadecimal digits",
+    kind: ArgKind::Option("HEX"),
+    ..ArgRow::OPTION
+};
+
+const OPTIONAL_FILE: ArgRow = ArgRow {
+    name: "optional-file",
+    help: "A file with the optional data",
+    kind: ArgKind::Option("FILE"),
+    ..ArgRow::OPTION
+};
+
+const OPTIONAL_TEXT: ArgRow = ArgRow {
+    name: "optional-text",
+    help: "The optional data as text, stored in UTF-16 without a zero unit, as `efibootmgr -u` does",
+    ..ArgRow::OPTION
+};
+
+/// The forms of the optional data.
+const OPTIONAL: GroupRow = GroupRow {
+    name: "optional",
+    args: &["optional-hex", "optional-file", "optional-text"],
+    is_required: false,
+};
+
+// Those of `update`.
+
+/// The flags that are given in the place of a script.
+const INSTEAD_OF_SCRIPT: [&str; 2] = ["next", "settle"];
+
+/// A flag of `update` that goes with a script alone. The conflicts have to be named here, since `clap` no longer asks for
+/// the script where a flag excludes it.
+const SCRIPT_FLAG: ArgRow = ArgRow {
+    needs: &["SCRIPT"],
+    excludes: &INSTEAD_OF_SCRIPT,
+    ..ArgRow::FLAG
+};
