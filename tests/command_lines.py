@@ -164,7 +164,7 @@ class Contents:
 
 def _below(home: Path) -> Set[str]:
     """The paths of all that is below a folder."""
-    below = set()
+    below: Set[str] = set()
     for folder, folders, files in os.walk(home):
         below.update(os.path.relpath(os.path.join(folder, it), home) for it in folders + files)
     return below
