@@ -37,7 +37,7 @@ const OUT_OPTION: &str = "out";
 const STREAM_OPTION: &str = "stream";
 
 /// What a run reads its events from.
-#[derive(Clone, Copy, Debug, PartialEq, Eq)]
+#[derive(Clone, Copy)]
 pub enum InputFormat {
     /// The lines of a script.
     Script,
@@ -46,7 +46,7 @@ pub enum InputFormat {
 }
 
 /// What the words of the command line ask for.
-#[derive(Clone, Copy, Debug, PartialEq, Eq)]
+#[derive(Clone, Copy)]
 pub enum Action<'a> {
     /// To print how the program is called.
     Help,
@@ -103,55 +103,111 @@ pub fn read_words<'a>(alloc: Global, words: &'a [String]) -> Result<Action<'a>, 
     }
 }
 
+/// A subcommand.
+#[derive(Clone, Copy)]
+struct CommandRow {
+    /// Its word.
+    name: &'static str,
+    /// What follows it.
+    args: &'static [ArgRow],
+}
+
+/// An argument of a subcommand.
+#[derive(Clone, Copy)]
+enum ArgRow {
+    /// A value of this name, which has to be given.
+    Value(&'static str),
+    /// An option of this name, which has to be given, with a value of the second name.
+    Option(&'static str, &'static str),
+    /// An option of this name without a value.
+    Flag(&'static str),
+}
+
+static COMMANDS: [CommandRow; 5] = [
+    CommandRow {
+        name: PATH_COMMAND,
+        args: &[ArgRow::Value(HEX_VALUE)],
+    },
+    CommandRow {
+        name: TEXT_COMMAND,
+        args: &[ArgRow::Value(TEXT_VALUE)],
+    },
+    CommandRow {
+        name: OPTION_COMMAND,
+        args: &[ArgRow::Value(FILE_VALUE)],
+    },
+    CommandRow {
+        name: SHOW_COMMAND,
+        args: &[ArgRow::Value(SET_VALUE)],
+    },
+    CommandRow {
+        name: RUN_COMMAND,
+        args: &[
+            ArgRow::Value(SET_VALUE),
+            ArgRow::Value(SCRIPT_VALUE),
+            ArgRow::Option(OUT_OPTION, FILE_VALUE),
+            ArgRow::Flag(STREAM_OPTION),
+        ],
+    },
+];
+
 fn command<'a>(alloc: Global) -> Result<Command<'a>, AllocError> {
     Command::new(alloc, "bootkeep")
         .subcommand_required(true)
-        .subcommand(subcommand(alloc, PATH_COMMAND, HEX_VALUE)?)?
-        .subcommand(subcommand(alloc, TEXT_COMMAND, TEXT_VALUE)?)?
-        .subcommand(subcommand(alloc, OPTION_COMMAND, FILE_VALUE)?)?
-        .subcommand(subcommand(alloc, SHOW_COMMAND, SET_VALUE)?)?
-        .subcommand(run_subcommand(alloc)?)
+        .subcommands(subcommands(alloc, &COMMANDS)?)
 }
 
-/// The subcommand of this name, which takes one value.
-fn subcommand<'a>(alloc: Global, name: &'a str, value: &'a str) -> Result<Command<'a>, AllocError> {
-    Command::new(alloc, name).arg(Arg::new(alloc, value).required(true))
+fn subcommands<'a>(alloc: Global, rows: &[CommandRow]) -> Result<Vec<Command<'a>>, AllocError> {
+    let mut commands = Vec::new(alloc);
+    for row in rows {
+        commands.push(subcommand(alloc, row)?)?;
+    }
+    Ok(commands)
 }
 
-/// The subcommand that runs a script, which takes two values, an option with one, and a flag.
-fn run_subcommand<'a>(alloc: Global) -> Result<Command<'a>, AllocError> {
-    let file = Arg::new(alloc, FILE_VALUE).long(OUT_OPTION).required(true);
-    let stream = Arg::new(alloc, STREAM_OPTION)
-        .long(STREAM_OPTION)
-        .action(ArgAction::SetTrue);
-    subcommand(alloc, RUN_COMMAND, SET_VALUE)?
-        .arg(Arg::new(alloc, SCRIPT_VALUE).required(true))?
-        .arg(file)?
-        .arg(stream)
+fn subcommand<'a>(alloc: Global, row: &CommandRow) -> Result<Command<'a>, AllocError> {
+    Command::new(alloc, row.name).args(args(alloc, row.args)?)
+}
+
+fn args<'a>(alloc: Global, rows: &[ArgRow]) -> Result<Vec<Arg<'a>>, AllocError> {
+    let mut args = Vec::new(alloc);
+    for row in rows {
+        args.push(arg(alloc, row))?;
+    }
+    Ok(args)
+}
+
+fn arg<'a>(alloc: Global, row: &ArgRow) -> Arg<'a> {
+    match *row {
+        ArgRow::Value(name) => Arg::new(alloc, name).required(true),
+        ArgRow::Option(name, value) => Arg::new(alloc, value).long(name).required(true),
+        ArgRow::Flag(name) => Arg::new(alloc, name).long(name).action(ArgAction::SetTrue),
+    }
 }
 
 fn action_of<'a>(matches: &ArgMatches<'a>) -> Option<Action<'a>> {
-    match matches.subcommand()? {
-        (PATH_COMMAND, matches) => Some(Action::Path {
-            hex: matches.get_str(HEX_VALUE)?,
-        }),
-        (TEXT_COMMAND, matches) => Some(Action::Text {
-            text: matches.get_str(TEXT_VALUE)?,
-        }),
-        (OPTION_COMMAND, matches) => Some(Action::LoadOption {
-            file: matches.get_str(FILE_VALUE)?,
-        }),
-        (SHOW_COMMAND, matches) => Some(Action::Show {
-            set: matches.get_str(SET_VALUE)?,
-        }),
-        (RUN_COMMAND, matches) => Some(Action::Run {
-            format: format_of(matches),
-            set: matches.get_str(SET_VALUE)?,
-            script: matches.get_str(SCRIPT_VALUE)?,
-            file: matches.get_str(FILE_VALUE)?,
-        }),
+    let (name, matches) = matches.subcommand()?;
+    match name {
+        PATH_COMMAND => matches.get_str(HEX_VALUE).map(|hex| Action::Path { hex }),
+        TEXT_COMMAND => matches
+            .get_str(TEXT_VALUE)
+            .map(|text| Action::Text { text }),
+        OPTION_COMMAND => matches
+            .get_str(FILE_VALUE)
+            .map(|file| Action::LoadOption { file }),
+        SHOW_COMMAND => matches.get_str(SET_VALUE).map(|set| Action::Show { set }),
+        RUN_COMMAND => run_of(matches),
         _ => None,
     }
+}
+
+fn run_of<'a>(matches: &ArgMatches<'a>) -> Option<Action<'a>> {
+    Some(Action::Run {
+        format: format_of(matches),
+        set: matches.get_str(SET_VALUE)?,
+        script: matches.get_str(SCRIPT_VALUE)?,
+        file: matches.get_str(FILE_VALUE)?,
+    })
 }
 
 fn format_of(matches: &ArgMatches<'_>) -> InputFormat {
