@@ -97,7 +97,7 @@ class _Build:
         self.log: List[str] = []
         self.running: Dict[str, "subprocess.Popen[str]"] = {}
         self.changed = threading.Condition()
-        self.built: Dict[str, bool] = {}
+        self.lanes: List[threading.Thread] = []
         self.is_stopped = False
 
     def run(self) -> None:
@@ -145,11 +145,11 @@ class _Build:
         why."""
         shutil.rmtree(self.trees, ignore_errors=True)
         self.trees.mkdir()
-        waiting = [threading.Thread(target=self._build_library, args=(it,)) for it in libraries]
-        for thread in waiting:
-            thread.start()
-        for thread in waiting:
-            thread.join()
+        self.lanes = [threading.Thread(target=self._build_library, args=(it,)) for it in libraries]
+        for lane in self.lanes:
+            lane.start()
+        for lane in self.lanes:
+            lane.join()
 
     def _build_library(self, library: str) -> None:
         """Builds a library as soon as those below it are built."""
@@ -229,10 +229,9 @@ class _Build:
             for called in self.running.values():
                 called.terminate()
             self.changed.notify_all()
-        if self.trees.is_dir():
-            for tree in self.trees.iterdir():
-                self._put_back(tree.name)
-            shutil.rmtree(self.trees, ignore_errors=True)
+        for lane in self.lanes:
+            lane.join()
+        shutil.rmtree(self.trees, ignore_errors=True)
 
     def _why(self) -> str:
         """The end of what a failed build said, and where all of it is."""
