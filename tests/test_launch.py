@@ -37,9 +37,9 @@ class Clone(unittest.TestCase):
             (self.root / name).parent.mkdir(exist_ok=True)
             shutil.copy(ROOT / name, self.root / name)
         (self.root / "crates.txt").write_text(
-            "low: thiserror\nother: thiserror\nbootkeep: low other\nbootvars: low\n"
+            "low: thiserror\nother: thiserror\nbootkeep: low other\nbootvars: low\ncalls_c staticlib: low\n"
         )
-        for crate in ("low", "other", "bootkeep", "bootvars"):
+        for crate in ("low", "other", "bootkeep", "bootvars", "calls_c"):
             (self.root / "crates" / crate / "src").mkdir(parents=True)
             (self.root / "crates" / crate / "src" / "lib.rt").write_text("pub fn one() {}\n")
         toolchain = self.folder / "toolchain"
@@ -149,6 +149,25 @@ class Unproved(Clone):
         self.assertEqual(sorted(self.proofs()), ["lib low", "lib other", "run bootkeep"])
         self.assertEqual(self.call("bootkeep", "show").stdout, "proved bootkeep: show\n")
         self.assertEqual(self.call("bootkeep", "show").stderr, "")
+
+    def test_a_static_library(self) -> None:
+        called = self.build("calls_c")
+        self.assertEqual(called.returncode, 0)
+        self.assertEqual(Path(called.stdout.rstrip()).read_text(), "proved calls_c\n")
+        self.assertEqual(self.proofs(), ["lib calls_c"])
+        self.assertEqual(self.build("calls_c").stderr, "")
+        self.assertEqual(self.build("calls_c", "refuse-lib").returncode, 0)
+
+    def build(self, crate: str, modes: str = "") -> "subprocess.CompletedProcess[str]":
+        """Proves and builds a crate, as the script of the library for C does."""
+        return subprocess.run(
+            [sys.executable, self.root / "tools" / "build.py", crate],
+            env=self.environment(modes),
+            capture_output=True,
+            text=True,
+            check=False,
+            timeout=60,
+        )
 
     def test_a_changed_source(self) -> None:
         self.call("bootkeep", "--prove")
