@@ -143,7 +143,7 @@ class _Build:
     def _build_side_by_side(self, libraries: List[str]) -> None:
         """Builds the libraries that have never been built. What doesn't come out is left to the last call, which says
         why."""
-        shutil.rmtree(self.trees, ignore_errors=True)
+        self._clear_trees()
         self.trees.mkdir()
         self.lanes = [threading.Thread(target=self._build_library, args=(it,)) for it in libraries]
         for lane in self.lanes:
@@ -231,7 +231,14 @@ class _Build:
             self.changed.notify_all()
         for lane in self.lanes:
             lane.join()
-        shutil.rmtree(self.trees, ignore_errors=True)
+        self._clear_trees()
+
+    def _clear_trees(self) -> None:
+        """Removes the trees, also those of a build that was killed, and keeps what was done in them."""
+        if self.trees.is_dir():
+            for tree in self.trees.iterdir():
+                self._put_back(tree.name)
+            shutil.rmtree(self.trees, ignore_errors=True)
 
     def _why(self) -> str:
         """The end of what a failed build said, and where all of it is."""
