@@ -35,6 +35,13 @@ IfUntried (update.TakenBack _) Is = Unit {0}
 IfUntried (update.Unsettled _ None) Is = Is
 IfUntried (update.Unsettled _ (Some _)) Is = Unit {0}
 
+-- it was tried to take something back
+abbrev pub IfTried : {E : Type 0} → UpdateError E → Type 0 → Type 0
+IfTried update.OutOfMemory Is = Unit {0}
+IfTried (update.TakenBack _) Is = Is
+IfTried (update.Unsettled _ None) Is = Unit {0}
+IfTried (update.Unsettled _ (Some _)) Is = Is
+
 -- the error tells this cause
 abbrev pub IsCausedBy : {E : Type 0} → CallError E → UpdateError E → Type 0
 IsCausedBy cause update.OutOfMemory = ⊥

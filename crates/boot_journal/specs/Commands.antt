@@ -1,8 +1,9 @@
 -- Commands: a settling, a run, and an update.
-use Rattle.std.specs.Prelude.{◌≡◌, ◌⊎◌, Option, ℕ, ◌<◌, ◌≤◌, List, Result, Err}
+use Rattle.std.specs.Prelude.{◌≡◌, ◌⊎◌, Option, Some, ℕ, ◌+◌, ◌<◌, ◌≤◌, List, Result, Err}
 use Rattle.uefi_vars.specs.Vars.{Variables}
 use Rattle.boot_journal.specs.declared.machine.CallError.{CallError}
 use Rattle.boot_journal.specs.declared.machine.CallError.TheVariants.{Refused}
+use Rattle.boot_journal.specs.declared.machine.UpdateError.{UpdateError}
 use Rattle.boot_journal.specs.declared.machine.UpdateError.TheVariants.{OutOfMemory, TakenBack, Unsettled}
 use Rattle.boot_journal.specs.declared.machine.CommandError.{CommandError}
 use Rattle.boot_journal.specs.declared.machine.CommandError.TheVariants as command
@@ -30,6 +31,20 @@ IfUnchanged (command.Updating OutOfMemory) Is = Is
 IfUnchanged (command.Updating (TakenBack _)) Is = Is
 IfUnchanged (command.Updating (Unsettled _ _)) Is = Unit {0}
 
+-- what the error says of the settling, if that failed
+abbrev pub IfSettlingFailed : {E F : Type 0} → CommandError E F → (UpdateError E → Type 0) → Type 0
+IfSettlingFailed (command.Settling error) Says = Says error
+IfSettlingFailed command.OutOfMemory Says = Unit {0}
+IfSettlingFailed (command.Run _) Says = Unit {0}
+IfSettlingFailed (command.Updating _) Says = Unit {0}
+
+-- what the error says of the update, if that failed
+abbrev pub IfUpdatingFailed : {E F : Type 0} → CommandError E F → (UpdateError E → Type 0) → Type 0
+IfUpdatingFailed (command.Settling _) Says = Unit {0}
+IfUpdatingFailed command.OutOfMemory Says = Unit {0}
+IfUpdatingFailed (command.Run _) Says = Unit {0}
+IfUpdatingFailed (command.Updating error) Says = Says error
+
 -- the run refused the variables, for this fault
 abbrev pub IfRunRefused : {E F : Type 0} → CommandError E F → (F → Type 0) → Type 0
 IfRunRefused (command.Settling _) Is = Unit {0}
@@ -42,5 +57,7 @@ pub record HasCommandCause {T E F : Type 0} (before now : ℕ) (result : Result 
   pub later : before ≤ now
   pub settling_taken_back : (refusal : E) → result ≡ Err (command.Settling (TakenBack (Refused refusal))) → before < now
   pub settling_unsettled : (refusal : E) (second : Option (CallError E)) → result ≡ Err (command.Settling (Unsettled (Refused refusal) second)) → before < now
+  pub settling_both : (refusal second : E) → result ≡ Err (command.Settling (Unsettled (Refused refusal) (Some (Refused second)))) → 1 + before < now
   pub updating_taken_back : (refusal : E) → result ≡ Err (command.Updating (TakenBack (Refused refusal))) → before < now
   pub updating_unsettled : (refusal : E) (second : Option (CallError E)) → result ≡ Err (command.Updating (Unsettled (Refused refusal) second)) → before < now
+  pub updating_both : (refusal second : E) → result ≡ Err (command.Updating (Unsettled (Refused refusal) (Some (Refused second)))) → 1 + before < now

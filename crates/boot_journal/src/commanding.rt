@@ -1,12 +1,13 @@
 //! Commands, which run something over a machine's variables.
 
-ghost use Rattle.std.specs.Prelude.{◌≡◌, ◌⊎◌, IfOk, IfErr};
+ghost use Rattle.std.specs.Prelude.{◌≡◌, ◌⊎◌, true, false, IfOk, IfErr};
 ghost use Rattle.uefi_vars.specs.Vars.{Variables};
-ghost use Rattle.boot_journal.specs.Commands.{IsCommanding, IsCommandMoment, IfUnchanged, IfRunRefused, HasCommandCause};
-ghost use Rattle.boot_journal.specs.Cause.{IfRefused};
+ghost use Rattle.boot_journal.specs.Commands.{IsCommanding, IsCommandMoment, IfUnchanged, IfSettlingFailed, IfUpdatingFailed, IfRunRefused, HasCommandCause};
+ghost use Rattle.boot_journal.specs.Cause.{IfRefused, IfTakenBack, IfUntried, IfTried};
+ghost use Rattle.boot_journal.specs.Journal.{is_making};
 ghost use Rattle.boot_journal.specs.Moments.{Leaves};
 ghost use Rattle.boot_journal.specs.Moves.{IsUpdating};
-ghost use Rattle.boot_journal.specs.Store.{IsIdle, seen, updated, stands_for, brought};
+ghost use Rattle.boot_journal.specs.Store.{IsIdle, seen, updated, stands_for, falls_back_to, brought};
 
 use crate::boot_id::BootId;
 use crate::machine::{CallError, CommandError, Machine};
@@ -61,6 +62,16 @@ pub fn command<M: Machine, R: Run>(
         × (stands_for boot.now (M.store machine.new) ≡ brought (stands_for boot.now (M.store machine.old)) to)) }
     ensures unchanged { IfErr result (λ error. IfUnchanged error
         (stands_for boot.now (M.store machine.new) ≡ stands_for boot.now (M.store machine.old))) }
+    // What it says of a settling that failed, and of an update that did.
+    ensures settling { IfErr result (λ error. IfSettlingFailed error (λ why. IfTakenBack why (IsIdle (M.store machine.new)
+        × (stands_for boot.now (M.store machine.new) ≡ falls_back_to boot.now (M.store machine.old))))) }
+    ensures settling_tried { IfErr result (λ error. IfSettlingFailed error (λ why.
+        IfUntried why (is_making (M.store machine.old).journal.pending ≡ false))) }
+    ensures settling_only_tried { IfErr result (λ error. IfSettlingFailed error (λ why.
+        IfTried why (is_making (M.store machine.old).journal.pending ≡ true))) }
+    ensures updating { IfErr result (λ error. IfUpdatingFailed error (λ why. IfTakenBack why (IsIdle (M.store machine.new)
+        × (stands_for boot.now (M.store machine.new) ≡ stands_for boot.now (M.store machine.old))))) }
+    ensures updating_tried { IfErr result (λ error. IfUpdatingFailed error (λ why. IfUntried why ⊥)) }
     ensures refused { IfErr result (λ error. IfRunRefused error (R.refuses run.now (stands_for boot.now (M.store machine.old)))) }
     // Whatever is cut off when, the machine stands for what it stood for, or for what that falls back to, or for what the
     // run leads to.
@@ -93,6 +104,9 @@ fn run_settled<M: Machine, R: Run>(
     ensures done { IfOk result (λ answer. (to : Variables) × R.leads run.now (seen (M.store machine.old)) to answer
         × (M.store machine.new ≡ updated (M.store machine.old) to)) }
     ensures unchanged { IfErr result (λ error. IfUnchanged error (M.store machine.new ≡ M.store machine.old)) }
+    ensures settling { IfErr result (λ error. IfSettlingFailed error (λ _. ⊥)) }
+    ensures updating { IfErr result (λ error. IfUpdatingFailed error (λ why. IfTakenBack why (M.store machine.new ≡ M.store machine.old))) }
+    ensures updating_tried { IfErr result (λ error. IfUpdatingFailed error (λ why. IfUntried why ⊥)) }
     ensures refused { IfErr result (λ error. IfRunRefused error (R.refuses run.now (seen (M.store machine.old)))) }
     ensures left { (M.store machine.new ≡ M.store machine.old) ⊎ ((to : Variables) × (answer : R.Answer)
         × R.leads run.now (seen (M.store machine.old)) to answer × IsUpdating boot.now to (M.store machine.old) (M.store machine.new)) }

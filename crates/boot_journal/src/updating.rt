@@ -2,7 +2,7 @@
 
 ghost use Rattle.std.specs.Prelude.{◌≡◌, ◌⊎◌, ◌<◌, ◌≤◌, true, false, Some, IfErr, OnOk, OnErr};
 ghost use Rattle.boot_journal.specs.Working.{IsGoingOn, IsTakenBack, IsUndertaking, IsGivenUp};
-ghost use Rattle.boot_journal.specs.Cause.{HasCause, HasUpdateCause, IsCausedBy, IfNothingDone, IfTakenBack, IfUntried};
+ghost use Rattle.boot_journal.specs.Cause.{HasCause, HasUpdateCause, IsCausedBy, IfNothingDone, IfTakenBack, IfUntried, IfTried};
 ghost use Rattle.boot_journal.specs.declared.machine.CallError.TheVariants as CallError;
 ghost use Rattle.boot_journal.specs.declared.machine.UpdateError.TheVariants as UpdateError;
 ghost use Rattle.boot_journal.specs.Journal.{is_making};
@@ -95,6 +95,7 @@ fn go_on<M: Machine>(
     ensures taken_back { IfErr result (λ error. IfTakenBack error
         (IsTakenBack work.now back.now (M.store machine.old) (M.store machine.new))) }
     ensures tried { IfErr result (λ error. IfUntried error (is_making work.now.journal.pending ≡ false)) }
+    ensures only_tried { IfErr result (λ error. IfTried error (is_making work.now.journal.pending ≡ true)) }
     ensures left { IsGoingOn work.now back.now (M.store machine.old) (M.store machine.new) }
     ensures moments { Leaves (IsGoingOn work.now back.now (M.store machine.old)) (M.history machine.old) (M.history machine.new) }
 {
@@ -131,6 +132,7 @@ pub fn settle<M: Machine>(
     ensures taken_back { IfErr result (λ error. IfTakenBack error
         (IsIdle (M.store machine.new) × (stands_for boot.now (M.store machine.new) ≡ falls_back_to boot.now (M.store machine.old)))) }
     ensures tried { IfErr result (λ error. IfUntried error (is_making (M.store machine.old).journal.pending ≡ false)) }
+    ensures only_tried { IfErr result (λ error. IfTried error (is_making (M.store machine.old).journal.pending ≡ true)) }
     // Whatever is cut off when, the machine stands for what it stood for, or for what that falls back to.
     ensures any_moment { Leaves (IsSettledOrTakenBack boot.now (M.store machine.old)) (M.history machine.old) (M.history machine.new) }
     // What is there then, and after each move.

@@ -1,7 +1,7 @@
-use Rattle.std.proofs.Common.{false, refl, sym, ◌≡◌, None, subst, ap, ◌∙◌, rules}
+use Rattle.std.proofs.Common.{true, false, refl, sym, ◌≡◌, None, subst, ap, ◌∙◌, rules}
 use Rattle.boot_journal.specs.Journal.{JournalParts, turned, is_making}
 use Rattle.boot_journal.specs.Working.{IsWork}
-use Rattle.boot_journal.proofs.Errors.{something_done, taken_back_then, untried_then}
+use Rattle.boot_journal.proofs.Errors.{something_done, taken_back_then, untried_then, tried_then}
 use Rattle.boot_journal.proofs.Moments.{weaker}
 use Rattle.boot_journal.proofs.Settling.{AreWork, going_is_settling, settling_either, taken_back_stands, still_settling}
 use Rattle.boot_journal.proofs.updating.settle.Goals as goal
@@ -23,6 +23,12 @@ returns-clause-tried g c =
     let J = subst (λ (j : JournalParts). IsWork c.args.boot.now j c.in_ok-work.work) c.in_ok-journal.ensures c.in_ok-work.ensures in
     untried_then (is_making c.in_ok-work.work.journal.pending ≡ false) (is_making (g.M.Machine.store c.args.machine.now).journal.pending ≡ false) c.go_on.result
     (λ e. ap (λ (j : JournalParts). is_making j.pending) (sym J.journal_is) ∙ e) c.go_on.ensures.tried
+
+pub returns-clause-only_tried : goal.returns-clause-only_tried
+returns-clause-only_tried g c =
+    let J = subst (λ (j : JournalParts). IsWork c.args.boot.now j c.in_ok-work.work) c.in_ok-journal.ensures c.in_ok-work.ensures in
+    tried_then (is_making c.in_ok-work.work.journal.pending ≡ true) (is_making (g.M.Machine.store c.args.machine.now).journal.pending ≡ true) c.go_on.result
+    (λ e. ap (λ (j : JournalParts). is_making j.pending) (sym J.journal_is) ∙ e) c.go_on.ensures.only_tried
 
 pub returns-clause-moves : goal.returns-clause-moves
 returns-clause-moves g c =
