@@ -232,21 +232,22 @@ unlike name q other = by (same_name name q) refl
     by true is = absurd (other (one_name name q ((Equal-is _).0 is)))
     by false is = refl
 
+-- the next number and the outcomes are in BootKeepState alone
+pub mark_over : (v w : Variables) (number : ℕ) (kept : List Outcome) → get w keep_text ≡ get v keep_text → HasMark v number kept → HasMark w number kept
+mark_over v w number kept same mark = ⊎_elim
+    (λ second. inl (record { is = second.is; stored = same ∙ second.stored }))
+    (λ first. inr (record { codes = first.codes; is = first.is; kept_is = first.kept_is; stored = same ∙ first.stored }))
+    mark
+
 module _ (no_next : (number : ℕ) → entry_text number ≢ next_text) where
   keep_of : (v : Variables) → get (remove v next_text) keep_text ≡ get v keep_text
   keep_of v = get-remove nat_list_cmp_total v next_text keep_text
-
-  mark_without : (v : Variables) (number : ℕ) (kept : List Outcome) → HasMark v number kept → HasMark (remove v next_text) number kept
-  mark_without v number kept mark = ⊎_elim
-      (λ second. inl (record { is = second.is; stored = keep_of v ∙ second.stored }))
-      (λ first. inr (record { codes = first.codes; is = first.is; kept_is = first.kept_is; stored = keep_of v ∙ first.stored }))
-      mark
 
   pub opens_without_next : (v : Variables) (m : State) → OpensAs v m → OpensAs (remove v next_text) (after_boot m)
   opens_without_next v m opens =
       let mark = stored_mark m.next_number m.kept in record {
         is = record { entries = opens.is.entries; order = opens.is.order; next = tt; mark = opens.is.mark; others = opens.is.others };
-        mark = mark_without v m.next_number m.kept opens.mark;
+        mark = mark_over v (remove v next_text) m.next_number m.kept (keep_of v) opens.mark;
         image = record {
           entry = λ number bound. marked_without mark v (entry_text number) (unlike (entry_text number) next_text (no_next number)) ∙ opens.image.entry number bound;
           order = marked_without mark v order_text refl ∙ opens.image.order;
@@ -353,12 +354,6 @@ module _ (names : (name : List ℕ) → (is_entry_name name ≡ true) ↔ ((numb
   others_stay : (others : Variables) (cs : List Single) → AllByRecursion IsOfAnother cs → AreOthers others → AreOthers (after_each others cs)
   others_stay others [] all are = are
   others_stay others (c ∷ cs) all are = others_stay (with_data others c.0 c.1) cs all.1 (others_put others c all.0 are)
-
-  mark_over : (v w : Variables) (number : ℕ) (kept : List Outcome) → get w keep_text ≡ get v keep_text → HasMark v number kept → HasMark w number kept
-  mark_over v w number kept same mark = ⊎_elim
-      (λ second. inl (record { is = second.is; stored = same ∙ second.stored }))
-      (λ first. inr (record { codes = first.codes; is = first.is; kept_is = first.kept_is; stored = same ∙ first.stored }))
-      mark
 
   abbrev meddled : Variables → List Single → Variables
   meddled v cs = with_state (get v keep_text) (after_each v cs)

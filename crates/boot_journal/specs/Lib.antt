@@ -11,6 +11,7 @@ pub mod Cause
 pub mod Working
 pub mod Followers
 pub mod Requests
+pub mod Once
 pub mod Answering
 pub mod Commands
 pub mod Recorded

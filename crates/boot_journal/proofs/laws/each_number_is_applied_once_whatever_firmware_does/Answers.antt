@@ -1,0 +1,18 @@
+use Rattle.std.proofs.Common.{sym, subst}
+use Rattle.uefi_vars.specs.Vars.{Variables}
+use Rattle.boot_requests.specs.StoredState.{HasMark}
+use Rattle.boot_journal.proofs.Once.{all_marked, all_once}
+use Rattle.boot_journal.proofs.Updates.{keep_is_none}
+use Rattle.boot_journal.proofs.Whole.{all_whole}
+use Rattle.boot_journal.specs.Store.{stands_for}
+use Rattle.boot_journal.specs.Turns.{happened}
+use Rattle.boot_journal.proofs.laws.each_number_is_applied_once_whatever_firmware_does.Goals as goal
+
+pub returns : goal.returns
+returns c = λ w events first updates none new has are.
+    let no_keep = keep_is_none c.entry_names_are_those_of_numbers.ensures c.order_and_next_are_no_entries.ensures.len in
+    let marked = all_marked c.a_run_leads_to_a_state.ensures (stands_for w.boot w.store) (happened w events) first updates has are in
+    let whole = all_whole c.each_change_is_needed.ensures no_keep w events none new in
+    let numbers = c.each_number_is_applied_once.ensures in
+    let once = all_once numbers.numbers numbers.gap numbers.next first marked.last updates marked.on in
+    (marked.last, subst (λ (v : Variables). HasMark v marked.last.next_number marked.last.kept) (sym whole) marked.has, marked.on, once.numbers)
