@@ -10,6 +10,7 @@ pub mod Whole
 pub mod Firmware
 pub mod Dangling
 pub mod Applied
+pub mod Restarts
 pub mod Once
 pub mod Followers
 pub mod Running

@@ -1,13 +1,12 @@
 -- Updates by requests, whatever firmware did between them.
-use Rattle.std.proofs.Common.{◌≡◌, inl, ℕ, zero, suc, ◌+◌, ◌-◌, ◌≤◌, true, false, List, [], ◌∷◌, ◌++◌, refl, sym, ap, subst, ◌∙◌, arith}
+use Rattle.std.proofs.Common.{◌≡◌, inl, ℕ, ◌-◌, Bool, true, false, List, [], ◌∷◌, ◌++◌, refl, sym, ap, subst, ◌∙◌}
 use Rattle.std.specs.FinMap.{get, get-remove}
 use Rattle.std.proofs.lemmas.Cmp.{nat_list_cmp_total}
 use Rattle.uefi_vars.specs.Name.{next_text}
 use Rattle.uefi_vars.specs.Vars.{Variables}
 use Rattle.uefi_vars.specs.NameChanges.{after_each}
 use Rattle.var_stores.specs.BootChange.{changes_from}
-use Rattle.boot_requests.specs.declared.outcome.Outcome.{Outcome}
-use Rattle.boot_requests.specs.Changes.{Change, Applies, Boots as BootsChange, numbers_in, numbers_from}
+use Rattle.boot_requests.specs.Changes.{numbers_in, numbers_from}
 use Rattle.boot_requests.specs.Keeper.{AreRead}
 use Rattle.boot_requests.specs.Marks.{mark_of, mark_in}
 use Rattle.boot_requests.specs.Run.{run_followed_by, gap_at, history, state_at}
@@ -15,14 +14,17 @@ use Rattle.boot_requests.specs.Seen.{Seen}
 use Rattle.boot_requests.specs.State.{State, MarkParts, IsState, keep_text}
 use Rattle.boot_requests.specs.StoredState.{HasMark}
 use Rattle.boot_requests.proofs.Variables.Images.{one_mark}
+use Rattle.boot_requests.proofs.WholeRuns.Histories.{history_numbers}
+use Rattle.boot_requests.proofs.WholeRuns.NextNumbers.{gap_of_none, state_number}
 use Rattle.boot_journal.specs.Changes.{made}
 use Rattle.boot_journal.specs.Events.{without_next}
-use Rattle.boot_journal.specs.Once.{Update, state_after, IsUpdateFrom, AreUpdatesIn, GoOn, changes_by}
+use Rattle.boot_journal.specs.Once.{Update, state_after, IsUpdateFrom, AreUpdatesIn, GoOn, changes_by, run_of, AreAppliedOnce}
 use Rattle.boot_journal.specs.Store.{brought}
 use Rattle.boot_journal.specs.Turns as Turns
 use Rattle.boot_journal.specs.Turns.{after_turn, after_turns}
 use Rattle.boot_journal.proofs.Applied.{mark_over}
 use Rattle.boot_journal.proofs.Making.{state_of_seen}
+use Rattle.boot_journal.proofs.Restarts.{after_restart}
 
 -- ---- the next number and the outcomes
 
@@ -70,56 +72,28 @@ module _ (leads : (start : State) (run : List Seen) → IsState start → AreRea
 
 -- ---- each number once
 
-numbers_in-append : (xs ys : List Change) → numbers_in (xs ++ ys) ≡ numbers_in xs ++ numbers_in ys
-numbers_in-append [] ys = refl
-numbers_in-append (Applies number request ∷ xs) ys = ap (λ ns. number ∷ ns) (numbers_in-append xs ys)
-numbers_in-append (BootsChange ∷ xs) ys = numbers_in-append xs ys
+-- what they did is what their run does
+record IsRun (first : ℕ) (updates : List Update) (last : ℕ) : Type 0 where
+  gap : last ≡ gap_at first (run_of updates)
+  changes : changes_by updates ≡ history first (run_of updates)
 
-numbers_from-append : (first a b : ℕ) → numbers_from first (a + b) ≡ numbers_from first a ++ numbers_from (first + a) b
-numbers_from-append first zero b =
-    let all : zero + b ≡ b = omega arith in
-    let at : first ≡ first + zero = omega arith in
-    ap (λ n. numbers_from first n) all ∙ ap (λ n. numbers_from n b) at
-numbers_from-append first (suc a) b =
-    let all : suc a + b ≡ suc (a + b) = omega arith in
-    let at : suc first + a ≡ first + suc a = omega arith in
-    ap (λ n. numbers_from first n) all
-    ∙ ap (λ ns. first ∷ ns) (numbers_from-append (suc first) a b ∙ ap (λ n. numbers_from (suc first) a ++ numbers_from n b) at)
+is_run : (first last : MarkParts) (updates : List Update) → GoOn first updates last → IsRun first.next_number updates last.next_number
+is_run first last [] on = record { gap = ap (λ (m : MarkParts). m.next_number) on ∙ sym (gap_of_none first.next_number); changes = refl }
+is_run first last (update ∷ before) on =
+    let earlier = is_run first (mark_in update.before) before on.0 in
+    let run = run_followed_by [] update.seen in
+    let both = after_restart first.next_number (run_of before) update.seen in record {
+      gap = ap (λ (m : MarkParts). m.next_number) on.1 ∙ state_number update.before run ∙ ap (λ n. gap_at n run) earlier.gap ∙ sym both.gap;
+      changes = (λ i. earlier.changes i ++ history (earlier.gap i) run) ∙ sym both.changes;
+    }
 
-joined : (first mid last : ℕ) → first ≤ mid → mid ≤ last → numbers_from first (mid - first) ++ numbers_from mid (last - mid) ≡ numbers_from first (last - first)
-joined first mid last low high =
-    let at : mid ≡ first + (mid - first) = omega arith in
-    let all : (mid - first) + (last - mid) ≡ last - first = omega arith in
-    ap (λ n. numbers_from first (mid - first) ++ numbers_from n (last - mid)) at
-    ∙ sym (numbers_from-append first (mid - first) (last - mid))
-    ∙ ap (λ n. numbers_from first n) all
-
--- from the first number to the last one
-pub record AreOnce (first last : ℕ) (updates : List Update) : Type 0 where
-  pub rises : first ≤ last
-  pub numbers : numbers_in (changes_by updates) ≡ numbers_from first (last - first)
-
-module _ (numbers : (start : State) (run : List Seen) → numbers_in (history start.next_number run) ≡ numbers_from start.next_number (gap_at start.next_number run - start.next_number))
-    (gap : (start : State) (run : List Seen) → start.next_number ≤ gap_at start.next_number run)
-    (next : (start : State) (run : List Seen) → (state_at start run).next_number ≡ gap_at start.next_number run) where
-  pub all_once : (first last : MarkParts) (updates : List Update) → GoOn first updates last → AreOnce first.next_number last.next_number updates
-  all_once first last [] on =
-      let same : last.next_number ≡ first.next_number = ap (λ (m : MarkParts). m.next_number) on in
-      let no : zero ≡ last.next_number - first.next_number = omega (arith, same) in record {
-        rises = omega (arith, same);
-        numbers = ap (λ n. numbers_from first.next_number n) no;
-      }
-  all_once first last (update ∷ before) on =
-      let earlier = all_once first (mark_in update.before) before on.0 in
-      let run = run_followed_by [] update.seen in
-      let mid : ℕ = update.before.next_number in
-      let is : last.next_number ≡ gap_at mid run = ap (λ (m : MarkParts). m.next_number) on.1 ∙ next update.before run in
-      let low : first.next_number ≤ mid = earlier.rises in
-      let high : mid ≤ last.next_number = omega (arith, gap update.before run, is) in record {
-        rises = omega (arith, low, high);
-        numbers =
-            numbers_in-append (changes_by before) (history mid run)
-            ∙ ap (λ (ns : List ℕ). ns ++ numbers_in (history mid run)) earlier.numbers
-            ∙ ap (λ (ns : List ℕ). numbers_from first.next_number (mid - first.next_number) ++ ns) (numbers update.before run ∙ ap (λ n. numbers_from mid (n - mid)) (sym is))
-            ∙ joined first.next_number mid last.next_number low high;
-      }
+pub all_once : (first last : MarkParts) (updates : List Update) → GoOn first updates last → AreAppliedOnce first last updates
+all_once first last updates on =
+    let is = is_run first last updates on in record {
+      on = on;
+      gap = is.gap;
+      changes = is.changes;
+      numbers =
+          ap numbers_in is.changes ∙ history_numbers first.next_number (run_of updates)
+          ∙ ap (λ n. numbers_from first.next_number (n - first.next_number)) (sym is.gap);
+    }

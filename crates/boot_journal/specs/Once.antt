@@ -1,9 +1,9 @@
 -- Updates by requests, whatever firmware did between them.
-use Rattle.std.specs.Prelude.{◌≡◌, List, [], ◌∷◌, ◌++◌}
+use Rattle.std.specs.Prelude.{◌≡◌, ◌-◌, List, [], ◌∷◌, ◌++◌}
 use Rattle.uefi_vars.specs.Vars.{Variables}
-use Rattle.boot_requests.specs.Changes.{Change}
+use Rattle.boot_requests.specs.Changes.{Change, numbers_in, numbers_from}
 use Rattle.boot_requests.specs.Marks.{mark_in}
-use Rattle.boot_requests.specs.Run.{run_followed_by, history, state_at}
+use Rattle.boot_requests.specs.Run.{run_followed_by, gap_at, history, state_at}
 use Rattle.boot_requests.specs.Seen.{Seen, Restart}
 use Rattle.boot_requests.specs.State.{State, MarkParts}
 use Rattle.boot_requests.specs.StoredState.{OpensAs}
@@ -49,3 +49,11 @@ changes_by (update ∷ before) = changes_by before ++ history update.before.next
 abbrev pub run_of : List Update → List Seen
 run_of [] = []
 run_of (update ∷ before) = run_followed_by (Restart ∷ run_of before) update.seen
+
+-- What all of them did is what their run as a whole does, from the one mark to the other: each number from the first one to
+-- below the last next one is applied once, in order.
+pub record AreAppliedOnce (first last : MarkParts) (updates : List Update) : Type 0 where
+  pub on : GoOn first updates last
+  pub gap : last.next_number ≡ gap_at first.next_number (run_of updates)
+  pub changes : changes_by updates ≡ history first.next_number (run_of updates)
+  pub numbers : numbers_in (changes_by updates) ≡ numbers_from first.next_number (last.next_number - first.next_number)

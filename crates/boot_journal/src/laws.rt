@@ -1,6 +1,6 @@
 //! The laws of the definitions. Each is a function that does nothing, and whose contract is the law.
 
-ghost use Rattle.std.specs.Prelude.{◌≡◌, ◌⊎◌, ℕ, ◌^◌, ◌<◌, ◌-◌, Bool, false, List, [], ◌∷◌, Option, None, take, ◌↔◌, IsTrue};
+ghost use Rattle.std.specs.Prelude.{◌≡◌, ◌⊎◌, ℕ, ◌^◌, ◌<◌, Bool, false, List, [], ◌∷◌, Option, None, take, ◌↔◌, IsTrue};
 ghost use Rattle.std.specs.List.{AllByRecursion};
 ghost use Rattle.std.specs.FinMap as map;
 ghost use Rattle.uefi_path.specs.Row.{IsByte};
@@ -8,7 +8,6 @@ ghost use Rattle.uefi_vars.specs.Name.{next_text};
 ghost use Rattle.uefi_vars.specs.Vars.{Variables};
 ghost use Rattle.uefi_vars.specs.NameChanges.{after_each};
 ghost use Rattle.var_stores.specs.BootChange.{ChangeParts, same_name, changes_from, DanglesInOrder, DanglesAsNext};
-ghost use Rattle.boot_requests.specs.Changes.{numbers_in, numbers_from};
 ghost use Rattle.boot_requests.specs.Run.{state_at};
 ghost use Rattle.boot_requests.specs.Seen.{Seen};
 ghost use Rattle.boot_requests.specs.State.{State, MarkParts, keep_text};
@@ -17,7 +16,7 @@ ghost use Rattle.boot_journal.specs.Changes.{made, IsFront, LeaveAlone};
 ghost use Rattle.boot_journal.specs.Events.{Event, Starts, World, world, all_happen, without_next, IsUpdateTo, AreSettlings, AreSettlingsOrStarts, AreNoUpdates};
 ghost use Rattle.boot_journal.specs.Journal.{BeganUnderAnother, JournalParts};
 ghost use Rattle.boot_journal.specs.Moves.{cut_undoing};
-ghost use Rattle.boot_journal.specs.Once.{Update, AreUpdatesIn, GoOn, changes_by};
+ghost use Rattle.boot_journal.specs.Once.{Update, AreUpdatesIn, AreAppliedOnce};
 ghost use Rattle.boot_journal.specs.Store.{Store, IsIdle, seen, stands_for};
 ghost use Rattle.boot_journal.specs.Turns.{after_turns, happened, StartsAreNew};
 ghost use Rattle.boot_journal.specs.Requests.{IsRunOf, AgreesButForNext};
@@ -128,20 +127,20 @@ pub fn each_request_is_applied_once()
 
 /// Exactly once, whatever firmware does. If the updates that happened are by requests, each of variables that open as a
 /// state, then what the machine stands for has a next number and outcomes, each update began with those that the one before
-/// it left, and what all of them applied has each number from the first one to below the next one once, in order. Firmware
-/// may have changed any variable in between: BootKeepState, which has the two, is in the journal.
+/// it left, and what all of them applied is what their run as a whole applies, with a restart between two updates: each
+/// number from the first one to below the next one once, in order. Firmware may have changed any variable in between:
+/// BootKeepState, which has the two, is in the journal.
 pub fn each_number_is_applied_once_whatever_firmware_does()
     ensures { (w : World) (events : List Event) (first : MarkParts) (updates : List Update) → IsIdle w.store → StartsAreNew (w.boot ∷ []) events →
         HasMark (stands_for w.boot w.store) first.next_number first.kept →
         AreUpdatesIn (stands_for w.boot w.store) (happened w events) updates →
         (last : MarkParts) × HasMark (stands_for (all_happen w events).boot (all_happen w events).store) last.next_number last.kept
-        × GoOn first updates last × (numbers_in (changes_by updates) ≡ numbers_from first.next_number (last.next_number - first.next_number)) }
+        × AreAppliedOnce first last updates }
 {
     store_laws::each_change_is_needed();
     store_laws::entry_names_are_those_of_numbers();
     vars_laws::order_and_next_are_no_entries();
     request_laws::a_run_leads_to_a_state();
-    request_laws::each_number_is_applied_once();
 }
 
 /// The public constant is the name that the definitions state.

@@ -13,6 +13,4 @@ returns c = λ w events first updates none new has are.
     let no_keep = keep_is_none c.entry_names_are_those_of_numbers.ensures c.order_and_next_are_no_entries.ensures.len in
     let marked = all_marked c.a_run_leads_to_a_state.ensures (stands_for w.boot w.store) (happened w events) first updates has are in
     let whole = all_whole c.each_change_is_needed.ensures no_keep w events none new in
-    let numbers = c.each_number_is_applied_once.ensures in
-    let once = all_once numbers.numbers numbers.gap numbers.next first marked.last updates marked.on in
-    (marked.last, subst (λ (v : Variables). HasMark v marked.last.next_number marked.last.kept) (sym whole) marked.has, marked.on, once.numbers)
+    (marked.last, subst (λ (v : Variables). HasMark v marked.last.next_number marked.last.kept) (sym whole) marked.has, all_once first marked.last updates marked.on)
