@@ -160,4 +160,5 @@ module _ (starts : (start : State) → StandsFor (plain_start start) start [])
         },
         λ m opened. subst (λ (n : State). AreAnswers n [] done.seen (replies_of answers) × TellFollowers n [] done.seen answers) (one first.state m vars opens opened)
             (done.replies, done.followers),
+        (first.state, opens),
       )

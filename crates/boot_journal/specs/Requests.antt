@@ -28,11 +28,13 @@ pub record IsUpdateBy (from : Variables) (seen : List Seen) (to : Variables) : T
 abbrev pub replies_of : List Answer → List Reply
 replies_of answers = map (λ answer. answer.reply) answers
 
--- the events are run so, with these answers: their replies are those of the run, and they tell their followers
+-- the events are run so, over variables that open as a state, with these answers: their replies are those of the run, and
+-- they tell their followers
 abbrev pub IsAnswered : List Event → Variables → Variables → List Answer → Type 0
 IsAnswered events from to answers =
     (seen : List Seen) × AreSeen events seen × IsUpdateBy from seen to
     × ((m : State) → OpensAs from m → AreAnswers m [] seen (replies_of answers) × TellFollowers m [] seen answers)
+    × ((m : State) × OpensAs from m)
 
 -- a change of a variable that neither requests nor boots change
 pub record IsOfAnother (change : List ℕ × Option (List ℕ)) : Type 0 where
