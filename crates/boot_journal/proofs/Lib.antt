@@ -16,6 +16,7 @@ pub mod Followers
 pub mod Running
 pub mod Records
 pub mod Commands
+pub mod Calls
 pub mod Errors
 pub mod Between
 pub mod Next

@@ -257,6 +257,21 @@ module _ (base : Variables) where
   known_updating known w to k is =
       known_carrying known w.boot (journal_to w.boot (settled w.boot w.store) to) k (settled w.boot w.store) is.boot (known_settled known w.boot w.store)
 
+  pub known_undone : (known : List (List ℕ)) (w : World) (k back : ℕ) → IsKnown known w → IsKnown known (happens w (Undoes k back))
+  known_undone known w k back is = record { boot = is.boot; journal = known_undoing known w.boot k back w.store w.store.journal.pending is.journal }
+
+  pub known_failed : (known : List (List ℕ)) (w : World) (to : Variables) (k back : ℕ) → IsKnown known w → IsKnown known (happens w (Fails to k back))
+  known_failed known w to k back is = record {
+    boot = is.boot;
+    journal = known_carrying known w.boot (turned (journal_to w.boot (settled w.boot w.store) to)) back (updating w.boot to k (settled w.boot w.store)) is.boot (known_updating known w to k is);
+  }
+
+  pub known_started : (known : List (List ℕ)) (w : World) (boot : List ℕ) (deletes : Bool) → IsKnown known w → IsKnown (boot ∷ known) (happens w (Starts boot deletes))
+  known_started known w boot deletes is = record {
+    boot = ap (λ b. b || is_known known boot) (same_self boot);
+    journal = begun_later boot known w.store.journal.pending is.journal;
+  }
+
   -- ---- any number of events
 
   module _ (needed : (from to : Variables) → AllByRecursion (IsNeeded from to) (changes_from from to)) (no_keep : is_boot_name keep_text ≡ false) where
@@ -267,11 +282,11 @@ module _ (base : Variables) where
         all_fit known (happens w (Settles k)) a events (record { boot = is.boot; journal = known_settling known w.boot k w.store w.store.journal.pending is.journal }) new (fits_settles w a k fits)
     all_fit known w a (Undoes k zero ∷ events) is new fits =
         all_fit known (happens w (Undoes k zero)) a events
-        (record { boot = is.boot; journal = known_undoing known w.boot k zero w.store w.store.journal.pending is.journal }) new
+        (known_undone known w k zero is) new
         (subst (λ (s : Store). Fits base (world w.boot s) a) (sym (unturned w.boot k w.store)) (fits_settles w a k fits))
     all_fit known w a (Undoes k (suc back) ∷ events) is new fits =
         all_fit known (happens w (Undoes k (suc back))) (account w a (Undoes k (suc back))) events
-        (record { boot = is.boot; journal = known_undoing known w.boot k (suc back) w.store w.store.journal.pending is.journal }) new
+        (known_undone known w k (suc back) is) new
         (fits_undoes w a k back fits w.store.journal.pending refl)
     all_fit known w a (Updates to zero ∷ events) is new fits =
         all_fit known (happens w (Updates to zero)) a events (record { boot = is.boot; journal = known_settled known w.boot w.store }) new (fits_settled needed no_keep w a fits)
@@ -285,15 +300,15 @@ module _ (base : Variables) where
         (record { boot = is.boot; journal = known_updating known w to (suc k) is }) new (fits_begun needed no_keep w a to k fits)
     all_fit known w a (Fails to zero (suc back) ∷ events) is new fits =
         all_fit known (happens w (Fails to zero (suc back))) a events
-        (record { boot = is.boot; journal = known_carrying known w.boot (turned (journal_to w.boot (settled w.boot w.store) to)) (suc back) (settled w.boot w.store) is.boot (known_settled known w.boot w.store) }) new
+        (known_failed known w to zero (suc back) is) new
         (fits_failed needed no_keep w a to zero back fits)
     all_fit known w a (Fails to (suc k) (suc back) ∷ events) is new fits =
         all_fit known (happens w (Fails to (suc k) (suc back))) a events
-        (record { boot = is.boot; journal = known_carrying known w.boot (turned (journal_to w.boot (settled w.boot w.store) to)) (suc back) (updating w.boot to (suc k) (settled w.boot w.store)) is.boot (known_updating known w to (suc k) is) }) new
+        (known_failed known w to (suc k) (suc back) is) new
         (fits_failed needed no_keep w a to (suc k) back fits)
     all_fit known w a (Starts boot deletes ∷ events) is new fits =
         all_fit (boot ∷ known) (happens w (Starts boot deletes)) (account w a (Starts boot deletes)) events
-        (record { boot = ap (λ b. b || is_known known boot) (same_self boot); journal = begun_later boot known w.store.journal.pending is.journal }) new.1
+        (known_started known w boot deletes is) new.1
         (fits_starts w a boot deletes (new_to boot known w.store.journal.pending new.0 is.journal) fits)
     all_fit known w a (Firmware changes ∷ events) is new fits =
         all_fit known (happens w (Firmware changes)) (account w a (Firmware changes)) events (record { boot = is.boot; journal = is.journal }) new (fits_firmware w a changes fits)

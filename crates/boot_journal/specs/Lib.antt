@@ -14,6 +14,7 @@ pub mod Requests
 pub mod Once
 pub mod Answering
 pub mod Commands
+pub mod Calls
 pub mod Recorded
 pub mod RecordedValue
 pub mod Bytes

@@ -12,6 +12,7 @@ ghost use Rattle.boot_requests.specs.Run.{state_at};
 ghost use Rattle.boot_requests.specs.Seen.{Seen};
 ghost use Rattle.boot_requests.specs.State.{State, MarkParts, keep_text};
 ghost use Rattle.boot_requests.specs.StoredState.{HasMark, OpensAs};
+ghost use Rattle.boot_journal.specs.Calls.{Call, CallsLead, HaveNewStarts, AreByCalls};
 ghost use Rattle.boot_journal.specs.Changes.{made, IsFront, LeaveAlone};
 ghost use Rattle.boot_journal.specs.Events.{Event, Starts, World, world, all_happen, without_next, IsUpdateTo, AreSettlings, AreSettlingsOrStarts, AreNoUpdates};
 ghost use Rattle.boot_journal.specs.Journal.{BeganUnderAnother, JournalParts};
@@ -136,6 +137,27 @@ pub fn each_number_is_applied_once_whatever_firmware_does()
         AreUpdatesIn (stands_for w.boot w.store) (happened w events) updates →
         (last : MarkParts) × HasMark (stands_for (all_happen w events).boot (all_happen w events).store) last.next_number last.kept
         × AreAppliedOnce first last updates }
+{
+    store_laws::each_change_is_needed();
+    store_laws::entry_names_are_those_of_numbers();
+    vars_laws::order_and_next_are_no_entries();
+    request_laws::a_run_leads_to_a_state();
+}
+
+/// Exactly once, over a list of calls. A machine is settled at first; then [`command`] is called for lists of events, and
+/// [`settle`], one after the other, each cut off anywhere or refused anything; in between the machine is started, each time
+/// under a new identity, and firmware changes whatever variables it likes. Then some updates happened: one by each call that
+/// was done, none by a call that says that nothing changed, and at most one by each other call, in the order of the calls.
+/// What they applied is what their run as a whole applies: each number once, in order, from the first one to below the one
+/// that is the next then.
+///
+/// [`command`]: crate::command
+/// [`settle`]: crate::settle
+pub fn calls_apply_each_number_once()
+    ensures { (w v : World) (calls : List Call) (first : MarkParts) → IsIdle w.store → HaveNewStarts w.boot calls →
+        HasMark (stands_for w.boot w.store) first.next_number first.kept → CallsLead w calls v →
+        (updates : List Update) × AreByCalls calls updates
+        × (last : MarkParts) × HasMark (stands_for v.boot v.store) last.next_number last.kept × AreAppliedOnce first last updates }
 {
     store_laws::each_change_is_needed();
     store_laws::entry_names_are_those_of_numbers();
