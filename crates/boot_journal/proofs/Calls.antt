@@ -6,15 +6,15 @@ use Rattle.uefi_vars.specs.Vars.{Variables}
 use Rattle.var_stores.specs.BootChange.{is_boot_name, changes_from, IsNeeded}
 use Rattle.boot_requests.specs.declared.event.Event.{Event}
 use Rattle.boot_requests.specs.State.{keep_text}
-use Rattle.boot_journal.specs.Calls.{Call, Runs, Done, Unchanged, Open, Settling, Starts, Firmware, RunsTo, CallLeads, CallsLead, identities, HaveNewStarts, AreByCalls}
+use Rattle.boot_journal.specs.Calls.{Call, Runs, Done, Unchanged, NotRun, Open, Settling, Starts, Firmware, RunsTo, CallsLead, identities, HaveNewStarts, AreByCalls}
 use Rattle.boot_journal.specs.Commands.{IsCommanding}
 use Rattle.boot_journal.specs.Events as event
 use Rattle.boot_journal.specs.Events.{World, happens}
 use Rattle.boot_journal.specs.Journal.{PendingParts, is_making}
-use Rattle.boot_journal.specs.Moves.{IsSettling, settled}
-use Rattle.boot_journal.specs.Once.{Update, IsUpdateFrom, AreUpdatesIn}
-use Rattle.boot_journal.specs.Store.{Store, IsIdle, stands_for, brought}
-use Rattle.boot_journal.specs.Turns.{Turn, Brings, Boots, Meddles, after_turns, Account, account, is_known, IsBegunKnown, IsKnown}
+use Rattle.boot_journal.specs.Moves.{IsSettling}
+use Rattle.boot_journal.specs.Once.{Update, AreUpdatesIn}
+use Rattle.boot_journal.specs.Store.{IsIdle, stands_for, brought}
+use Rattle.boot_journal.specs.Turns.{Turn, Brings, after_turns, Account, account, is_known, IsBegunKnown, IsKnown}
 use Rattle.boot_journal.proofs.Making.{same_self}
 use Rattle.boot_journal.proofs.Whole.{Fits, all_fit, known_undone, known_failed, known_started}
 
@@ -207,6 +207,8 @@ module _ (needed : (from to : Variables) → AllByRecursion (IsNeeded from to) (
       unchanged base needed no_keep (identities w.boot before) lead.0 v before events (all_stand before lead.0 lead.1 new) lead.2.0 lead.2.1 lead.2.2
   all_stand (Runs events Open ∷ before) v lead new =
       commands base needed no_keep (identities w.boot before) lead.0 v before events (all_stand before lead.0 lead.1 new) lead.2.0 lead.2.1
+  all_stand (Runs events NotRun ∷ before) v lead new =
+      settles base needed no_keep (identities w.boot before) lead.0 v before (Runs events NotRun) (λ turns did. record { updates = did.updates; are = did.are; by = did.by }) (all_stand before lead.0 lead.1 new) lead.2.0 lead.2.1
   all_stand (Settling ∷ before) v lead new =
       settles base needed no_keep (identities w.boot before) lead.0 v before Settling (λ turns did. record { updates = did.updates; are = did.are; by = did.by }) (all_stand before lead.0 lead.1 new) lead.2.0 lead.2.1
   all_stand (Starts boot deletes ∷ before) v lead new =

@@ -20,6 +20,8 @@ pub data Ending : Type 0 where
   Done : Ending
   -- it says that the machine stands for what it did
   Unchanged : Ending
+  -- it says that the settling failed, after which nothing is run
+  NotRun : Ending
   -- it says something else, or is cut off
   Open : Ending
 
@@ -46,6 +48,7 @@ CallLeads w (Runs events Done) v =
 CallLeads w (Runs events Unchanged) v =
     (v.boot ≡ w.boot) × IsCommanding (RunsTo events) w.boot w.store v.store
     × (stands_for v.boot v.store ≡ stands_for w.boot w.store)
+CallLeads w (Runs events NotRun) v = (v.boot ≡ w.boot) × IsSettling w.boot w.store v.store
 CallLeads w (Runs events Open) v = (v.boot ≡ w.boot) × IsCommanding (RunsTo events) w.boot w.store v.store
 CallLeads w Settling v = (v.boot ≡ w.boot) × IsSettling w.boot w.store v.store
 CallLeads w (Starts boot deletes) v = v ≡ happens w (event.Starts boot deletes)
@@ -77,11 +80,12 @@ NewestIsBy events AreEarlier [] = ⊥
 NewestIsBy events AreEarlier (update ∷ earlier) = AreSeen events update.seen × AreEarlier earlier
 
 -- These are the updates by the calls, in order and each by a call of its own: each call that is done made one, none that
--- says that nothing changed did, and each other may have.
+-- says that nothing changed or that nothing was run did, and each other may have.
 abbrev pub AreByCalls : List Call → List Update → Type 0
 AreByCalls [] updates = updates ≡ []
 AreByCalls (Runs events Done ∷ before) updates = NewestIsBy events (AreByCalls before) updates
 AreByCalls (Runs events Unchanged ∷ before) updates = AreByCalls before updates
+AreByCalls (Runs events NotRun ∷ before) updates = AreByCalls before updates
 AreByCalls (Runs events Open ∷ before) updates = AreByCalls before updates ⊎ NewestIsBy events (AreByCalls before) updates
 AreByCalls (Settling ∷ before) updates = AreByCalls before updates
 AreByCalls (Starts boot deletes ∷ before) updates = AreByCalls before updates

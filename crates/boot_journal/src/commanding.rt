@@ -6,7 +6,7 @@ ghost use Rattle.boot_journal.specs.Commands.{IsCommanding, IsCommandMoment, IfU
 ghost use Rattle.boot_journal.specs.Cause.{IfRefused, IfTakenBack, IfUntried, IfTried};
 ghost use Rattle.boot_journal.specs.Journal.{is_making};
 ghost use Rattle.boot_journal.specs.Moments.{Leaves};
-ghost use Rattle.boot_journal.specs.Moves.{IsUpdating};
+ghost use Rattle.boot_journal.specs.Moves.{IsSettling, IsUpdating};
 ghost use Rattle.boot_journal.specs.Store.{IsIdle, seen, updated, stands_for, falls_back_to, brought};
 
 use crate::boot_id::BootId;
@@ -62,7 +62,8 @@ pub fn command<M: Machine, R: Run>(
         × (stands_for boot.now (M.store machine.new) ≡ brought (stands_for boot.now (M.store machine.old)) to)) }
     ensures unchanged { IfErr result (λ error. IfUnchanged error
         (stands_for boot.now (M.store machine.new) ≡ stands_for boot.now (M.store machine.old))) }
-    // What it says of a settling that failed, and of an update that did.
+    // What it says of a settling that failed, after which nothing is run, and of an update that did.
+    ensures not_run { IfErr result (λ error. IfSettlingFailed error (λ _. IsSettling boot.now (M.store machine.old) (M.store machine.new))) }
     ensures settling { IfErr result (λ error. IfSettlingFailed error (λ why. IfTakenBack why (IsIdle (M.store machine.new)
         × (stands_for boot.now (M.store machine.new) ≡ falls_back_to boot.now (M.store machine.old))))) }
     ensures settling_tried { IfErr result (λ error. IfSettlingFailed error (λ why.

@@ -147,7 +147,8 @@ pub fn each_number_is_applied_once_whatever_firmware_does()
 /// Exactly once, over a list of calls. A machine is settled at first; then [`command`] is called for lists of events, and
 /// [`settle`], one after the other, each cut off anywhere or refused anything; in between the machine is started, each time
 /// under a new identity, and firmware changes whatever variables it likes. Then some updates happened: one by each call that
-/// was done, none by a call that says that nothing changed, and at most one by each other call, in the order of the calls.
+/// was done, none by a call that says that nothing changed or that nothing was run, and at most one by each other call, in
+/// the order of the calls.
 /// What they applied is what their run as a whole applies: each number once, in order, from the first one to below the one
 /// that is the next then.
 ///
