@@ -74,6 +74,14 @@ HaveNewStarts boot (Runs events ending ∷ before) = HaveNewStarts boot before
 HaveNewStarts boot (Settling ∷ before) = HaveNewStarts boot before
 HaveNewStarts boot (Firmware changes ∷ before) = HaveNewStarts boot before
 
+-- what firmware changed by itself is so
+abbrev pub FirmwareDid : (List (List ℕ × Option (List ℕ)) → Type 0) → List Call → Type 0
+FirmwareDid AreSo [] = Unit {0}
+FirmwareDid AreSo (Firmware changes ∷ before) = AreSo changes × FirmwareDid AreSo before
+FirmwareDid AreSo (Runs events ending ∷ before) = FirmwareDid AreSo before
+FirmwareDid AreSo (Settling ∷ before) = FirmwareDid AreSo before
+FirmwareDid AreSo (Starts boot deletes ∷ before) = FirmwareDid AreSo before
+
 -- the newest of the updates is by these events, and the others are so
 abbrev pub NewestIsBy : List Event → (List Update → Type 0) → List Update → Type 0
 NewestIsBy events AreEarlier [] = ⊥

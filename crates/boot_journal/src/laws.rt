@@ -12,15 +12,15 @@ ghost use Rattle.boot_requests.specs.Run.{state_at};
 ghost use Rattle.boot_requests.specs.Seen.{Seen};
 ghost use Rattle.boot_requests.specs.State.{State, MarkParts, keep_text};
 ghost use Rattle.boot_requests.specs.StoredState.{HasMark, OpensAs};
-ghost use Rattle.boot_journal.specs.Calls.{Call, CallsLead, HaveNewStarts, AreByCalls};
+ghost use Rattle.boot_journal.specs.Calls.{Call, CallsLead, HaveNewStarts, FirmwareDid, AreByCalls};
 ghost use Rattle.boot_journal.specs.Changes.{made, IsFront, LeaveAlone};
 ghost use Rattle.boot_journal.specs.Events.{Event, Starts, World, world, all_happen, without_next, IsUpdateTo, AreSettlings, AreSettlingsOrStarts, AreNoUpdates};
 ghost use Rattle.boot_journal.specs.Journal.{BeganUnderAnother, JournalParts};
 ghost use Rattle.boot_journal.specs.Moves.{cut_undoing};
-ghost use Rattle.boot_journal.specs.Once.{Update, AreUpdatesIn, AreAppliedOnce};
+ghost use Rattle.boot_journal.specs.Once.{Update, AreUpdatesIn, run_of, AreAppliedOnce};
 ghost use Rattle.boot_journal.specs.Store.{Store, IsIdle, seen, stands_for};
 ghost use Rattle.boot_journal.specs.Turns.{after_turns, happened, StartsAreNew};
-ghost use Rattle.boot_journal.specs.Requests.{IsRunOf, AgreesButForNext};
+ghost use Rattle.boot_journal.specs.Requests.{IsOfAnother, IsRunOf, AgreesButForNext};
 ghost use Rattle.boot_journal.specs.declared.fault.JournalFault.{JournalFault};
 ghost use Rattle.boot_journal.specs.JournalValue.{IsJournal};
 ghost use Rattle.boot_journal.specs.Bytes.{SpellsJournal};
@@ -164,6 +164,27 @@ pub fn calls_apply_each_number_once()
     store_laws::entry_names_are_those_of_numbers();
     vars_laws::order_and_next_are_no_entries();
     request_laws::a_run_leads_to_a_state();
+}
+
+/// Exactly once, over a list of calls, and with all that requests change. If over such a list firmware did nothing to the
+/// boot manager's variables but start the machine and delete BootNext, then the machine stands for variables that open as a
+/// state with the entries, the order, the next number and the outcomes of the run of the updates that happened, with a
+/// restart between two of them. BootNext is that of the run, or is gone.
+pub fn calls_apply_each_request_once()
+    ensures { (w v : World) (calls : List Call) (start : State) → IsIdle w.store → HaveNewStarts w.boot calls →
+        FirmwareDid (AllByRecursion IsOfAnother) calls → OpensAs (stands_for w.boot w.store) start → CallsLead w calls v →
+        (updates : List Update) × AreByCalls calls updates
+        × (now : State) × OpensAs (stands_for v.boot v.store) now × AgreesButForNext now (state_at start (run_of updates)) }
+{
+    store_laws::each_change_is_needed();
+    store_laws::all_changes_lead_to_the_other_set();
+    store_laws::entry_names_are_those_of_numbers();
+    vars_laws::order_and_next_are_no_entries();
+    request_laws::a_run_leads_to_a_state();
+    request_laws::each_plain_state_has_a_turn();
+    request_laws::a_turn_goes_on_with_the_run();
+    request_laws::a_start_stands_for_no_events();
+    request_laws::an_image_is_migrated_to_itself();
 }
 
 /// The public constant is the name that the definitions state.
