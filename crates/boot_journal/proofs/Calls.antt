@@ -1,21 +1,21 @@
 -- Calls of `command` and `settle`, one after the other.
-use Rattle.std.proofs.Common.{◌≡◌, inl, inr, ⊎_elim, ℕ, zero, suc, ◌||◌, not, Bool, true, false, if◌then◌else◌, List, [], ◌∷◌, Option, refl, sym, ap, subst, ◌∙◌}
+use Rattle.std.proofs.Common.{◌≡◌, ◌⊎◌, inl, inr, ⊎_elim, ℕ, zero, suc, ◌||◌, not, Bool, true, false, if◌then◌else◌, List, [], ◌∷◌, Option, refl, sym, ap, subst, ◌∙◌}
 use Rattle.std.specs.List.{AllByRecursion, list_any}
 use Rattle.std.proofs.lemmas.Bool.{true≢false}
 use Rattle.uefi_vars.specs.Vars.{Variables}
 use Rattle.var_stores.specs.BootChange.{ChangeParts, same_name, is_boot_name, changes_from, IsNeeded}
 use Rattle.boot_requests.specs.declared.event.Event.{Event}
 use Rattle.boot_requests.specs.State.{keep_text}
-use Rattle.boot_journal.specs.Calls.{Call, Runs, Done, Unchanged, NotRun, Open, Settling, Starts, Firmware, RunsTo, CallsLead, identities, HaveNewStarts, FirmwareDid, AreByCalls}
+use Rattle.boot_journal.specs.Calls.{Call, Runs, Done, Unchanged, NotRun, Open, Settling, Starts, Firmware, RunsTo, CallLeads, Step, world_after, AreSteps, known_with, identities, IsNewStart, HaveNewStarts, IfFirmware, FirmwareDid, NewestIsBy, AreWith, AreByCalls}
 use Rattle.boot_journal.specs.Commands.{IsCommanding}
 use Rattle.boot_journal.specs.Events as event
 use Rattle.boot_journal.specs.Events.{World, happens}
 use Rattle.boot_journal.specs.Journal.{PendingParts, due, turned, is_making}
 use Rattle.boot_journal.specs.Moves.{IsSettling}
-use Rattle.boot_journal.specs.Once.{Update, AreUpdatesIn, run_of}
+use Rattle.boot_journal.specs.Once.{Update, IsUpdateFrom, AreUpdatesIn, run_of}
 use Rattle.boot_journal.specs.Requests.{IsRunOf, IsOfAnother}
 use Rattle.boot_journal.specs.Store.{IsIdle, stands_for, brought}
-use Rattle.boot_journal.specs.Turns.{Turn, Brings, Boots, Meddles, that_stay, after_turns, Account, account, is_known, IsBegunKnown, IsKnown}
+use Rattle.boot_journal.specs.Turns.{Turn, Brings, Boots, Meddles, that_stay, Account, account, is_known, IsBegunKnown, IsKnown}
 use Rattle.boot_journal.proofs.Making.{same_self}
 use Rattle.boot_journal.proofs.Whole.{Fits, all_fit, known_undone, known_failed, known_started}
 
@@ -30,20 +30,20 @@ Meddled AreSo (Brings to ∷ before) = Meddled AreSo before
 Meddled AreSo (Boots deletes ∷ before) = Meddled AreSo before
 Meddled AreSo (Meddles changes ∷ before) = AreSo changes × Meddled AreSo before
 
--- the updates among these turns are by the calls, and what firmware changed is so
-pub record Did (AreSo : Meddling → Type 0) (base : Variables) (calls : List Call) (turns : List Turn) : Type 0 where
+-- the updates among these turns are so, and so is what firmware changed
+pub record Did (AreSo : Meddling → Type 0) (base : Variables) (By : List Update → Type 0) (turns : List Turn) : Type 0 where
   pub updates : List Update
   pub are : AreUpdatesIn base turns updates
-  pub by : AreByCalls calls updates
+  pub by : By updates
   pub meddled : Meddled AreSo turns
 
--- the machine stands for turns whose updates are by the calls
-pub record Stands (AreSo : Meddling → Type 0) (base : Variables) (known : List (List ℕ)) (w : World) (calls : List Call) : Type 0 where
+-- the machine stands for turns whose updates are so
+pub record Stands (AreSo : Meddling → Type 0) (base : Variables) (known : List (List ℕ)) (w : World) (By : List Update → Type 0) : Type 0 where
   pub told : Account
   pub is : IsKnown known w
   pub fits : Fits base w told
-  pub now : Did AreSo base calls told.now
-  pub former : Did AreSo base calls told.former
+  pub now : Did AreSo base By told.now
+  pub former : Did AreSo base By told.former
 
 -- ---- what an event makes of an account
 
@@ -75,96 +75,99 @@ failed_former P w a to (suc k) (suc back) now former = former
 
 module _ (AreSo : Meddling → Type 0) (stay : (over : List ChangeParts) (changes : Meddling) → AreSo changes → AreSo (that_stay over changes))
     (base : Variables) (needed : (from to : Variables) → AllByRecursion (IsNeeded from to) (changes_from from to)) (no_keep : is_boot_name keep_text ≡ false) where
-  -- an update by these events
-  update_by : (events : List Event) (calls : List Call) (turns : List Turn) (to : Variables) → Did AreSo base calls turns → RunsTo events (after_turns base turns) to →
-      Did AreSo base (Runs events Done ∷ calls) (Brings to ∷ turns)
-  update_by events calls turns to did runs =
-      let answered = runs.1 in record {
-        updates = record { before = answered.4.0; seen = answered.0 } ∷ did.updates;
-        are = (record { opens = answered.4.1; by = answered.2 }, did.are);
-        by = (answered.1, did.by);
+  -- an update by these events, of what the machine stood for
+  update_by : (u : World) (events : List Event) (By : List Update → Type 0) (a : Account) (to : Variables) → Fits base u a → Did AreSo base By a.now →
+      RunsTo events (stands_for u.boot u.store) to → Did AreSo base (NewestIsBy u events By) (Brings to ∷ a.now)
+  update_by u events By a to fits did runs =
+      let answered = runs.1 in
+      let update : Update = record { before = answered.4.0; seen = answered.0 } in record {
+        updates = update ∷ did.updates;
+        are = (subst (λ (m : Variables). IsUpdateFrom m update to) fits.now (record { opens = answered.4.1; by = answered.2 }), did.are);
+        by = (answered.4.1, answered.1, did.by);
         meddled = did.meddled;
       }
 
-  -- a command that isn't known to be done may have made it
-  opened : (events : List Event) (calls : List Call) (turns : List Turn) → Did AreSo base (Runs events Done ∷ calls) turns → Did AreSo base (Runs events Open ∷ calls) turns
-  opened events calls turns did = record { updates = did.updates; are = did.are; by = inr did.by; meddled = did.meddled }
+  -- what a call may have made
+  abbrev May : World → List Event → (List Update → Type 0) → List Update → Type 0
+  May u events By updates = By updates ⊎ NewestIsBy u events By updates
 
-  passed : (events : List Event) (calls : List Call) (turns : List Turn) → Did AreSo base calls turns → Did AreSo base (Runs events Open ∷ calls) turns
-  passed events calls turns did = record { updates = did.updates; are = did.are; by = inl did.by; meddled = did.meddled }
+  made : (u : World) (events : List Event) (By : List Update → Type 0) (turns : List Turn) → Did AreSo base (NewestIsBy u events By) turns → Did AreSo base (May u events By) turns
+  made u events By turns did = record { updates = did.updates; are = did.are; by = inr did.by; meddled = did.meddled }
 
-  -- by a call that adds nothing
-  abbrev Passes : List Call → Call → Type 0
-  Passes calls call = (turns : List Turn) → Did AreSo base calls turns → Did AreSo base (call ∷ calls) turns
+  not_made : (u : World) (events : List Event) (By : List Update → Type 0) (turns : List Turn) → Did AreSo base By turns → Did AreSo base (May u events By) turns
+  not_made u events By turns did = record { updates = did.updates; are = did.are; by = inl did.by; meddled = did.meddled }
 
-  settles : (known : List (List ℕ)) (u v : World) (calls : List Call) (call : Call) → Passes calls call → Stands AreSo base known u calls → v.boot ≡ u.boot → IsSettling u.boot u.store v.store →
-      Stands AreSo base known v (call ∷ calls)
-  settles known u v calls call passes was boot at =
-      let same : v ≡ happens u (event.Undoes at.0 at.1) = λ i. record { boot = boot i; store = at.2 i } in
-      let a = was.told in
-      let turns = undone (Did AreSo base (call ∷ calls)) u a at.0 at.1 (passes a.now was.now) (passes a.former was.former) in
-      subst (λ (x : World). Stands AreSo base known x (call ∷ calls)) (sym same) (record {
-        told = account u a (event.Undoes at.0 at.1);
+  settles : (known : List (List ℕ)) (u v : World) (By : List Update → Type 0) → Stands AreSo base known u By → v.boot ≡ u.boot → IsSettling u.boot u.store v.store → Stands AreSo base known v By
+  settles known u v By was boot at =
+      let e = event.Undoes at.0 at.1 in
+      let same : v ≡ happens u e = λ i. record { boot = boot i; store = at.2 i } in
+      let turns = undone (Did AreSo base By) u was.told at.0 at.1 was.now was.former in
+      subst (λ (x : World). Stands AreSo base known x By) (sym same) (record {
+        told = account u was.told e;
         is = known_undone base known u at.0 at.1 was.is;
-        fits = all_fit base needed no_keep known u a (event.Undoes at.0 at.1 ∷ []) was.is tt was.fits;
+        fits = all_fit base needed no_keep known u was.told (e ∷ []) was.is tt was.fits;
         now = turns.0;
         former = turns.1;
       })
 
-  runs_at : (events : List Event) (u : World) (a : Account) (to : Variables) → Fits base u a → RunsTo events (stands_for u.boot u.store) to → RunsTo events (after_turns base a.now) to
-  runs_at events u a to fits runs = subst (λ (m : Variables). RunsTo events m to) fits.now runs
-
-  commands : (known : List (List ℕ)) (u v : World) (calls : List Call) (events : List Event) → Stands AreSo base known u calls → v.boot ≡ u.boot →
-      IsCommanding (RunsTo events) u.boot u.store v.store → Stands AreSo base known v (Runs events Open ∷ calls)
-  commands known u v calls events was boot at = ⊎_elim
-      (λ settling. settles known u v calls (Runs events Open) (passed events calls) was boot settling)
+  -- a command that may have made an update
+  commands : (known : List (List ℕ)) (u v : World) (events : List Event) (By : List Update → Type 0) → Stands AreSo base known u By → v.boot ≡ u.boot →
+      IsCommanding (RunsTo events) u.boot u.store v.store → Stands AreSo base known v (May u events By)
+  commands known u v events By was boot at = ⊎_elim
+      (λ settling.
+      let after = settles known u v By was boot settling in record {
+        told = after.told;
+        is = after.is;
+        fits = after.fits;
+        now = not_made u events By after.told.now after.now;
+        former = not_made u events By after.told.former after.former;
+      })
       (λ did.
       let to = did.0 in
-      let k = did.2.0 in
-      let back = did.2.1 in
-      let same : v ≡ happens u (event.Fails to k back) = λ i. record { boot = boot i; store = did.2.2 i } in
+      let e = event.Fails to did.2.0 did.2.1 in
+      let same : v ≡ happens u e = λ i. record { boot = boot i; store = did.2.2 i } in
       let a = was.told in
-      let more = opened events calls (Brings to ∷ a.now) (update_by events calls a.now to was.now (runs_at events u a to was.fits did.1)) in
-      let turns = failed (Did AreSo base (Runs events Open ∷ calls)) u a to k back (passed events calls a.now was.now) (passed events calls a.former was.former) more in
-      subst (λ (x : World). Stands AreSo base known x (Runs events Open ∷ calls)) (sym same) (record {
-        told = account u a (event.Fails to k back);
-        is = known_failed base known u to k back was.is;
-        fits = all_fit base needed no_keep known u a (event.Fails to k back ∷ []) was.is tt was.fits;
+      let more = made u events By (Brings to ∷ a.now) (update_by u events By a to was.fits was.now did.1) in
+      let turns = failed (Did AreSo base (May u events By)) u a to did.2.0 did.2.1 (not_made u events By a.now was.now) (not_made u events By a.former was.former) more in
+      subst (λ (x : World). Stands AreSo base known x (May u events By)) (sym same) (record {
+        told = account u a e;
+        is = known_failed base known u to did.2.0 did.2.1 was.is;
+        fits = all_fit base needed no_keep known u a (e ∷ []) was.is tt was.fits;
         now = turns.0;
         former = turns.1;
       }))
       at
 
-  -- the machine stands for what it did
-  unchanged : (known : List (List ℕ)) (u v : World) (calls : List Call) (events : List Event) → Stands AreSo base known u calls → v.boot ≡ u.boot →
-      IsCommanding (RunsTo events) u.boot u.store v.store → stands_for v.boot v.store ≡ stands_for u.boot u.store → Stands AreSo base known v (Runs events Unchanged ∷ calls)
-  unchanged known u v calls events was boot at stays = ⊎_elim
+  -- one after which the machine stands for what it did
+  unchanged : (known : List (List ℕ)) (u v : World) (events : List Event) (By : List Update → Type 0) → Stands AreSo base known u By → v.boot ≡ u.boot →
+      IsCommanding (RunsTo events) u.boot u.store v.store → stands_for v.boot v.store ≡ stands_for u.boot u.store → Stands AreSo base known v By
+  unchanged known u v events By was boot at stays = ⊎_elim
       (λ settling.
       let e = event.Undoes settling.0 settling.1 in
       let same : v ≡ happens u e = λ i. record { boot = boot i; store = settling.2 i } in
-      let turns = undone (Did AreSo base calls) u was.told settling.0 settling.1 was.now was.former in
+      let turns = undone (Did AreSo base By) u was.told settling.0 settling.1 was.now was.former in
       of_event e same (known_undone base known u settling.0 settling.1 was.is) (all_fit base needed no_keep known u was.told (e ∷ []) was.is tt was.fits) turns.1)
       (λ did.
       let e = event.Fails did.0 did.2.0 did.2.1 in
       let same : v ≡ happens u e = λ i. record { boot = boot i; store = did.2.2 i } in
       of_event e same (known_failed base known u did.0 did.2.0 did.2.1 was.is) (all_fit base needed no_keep known u was.told (e ∷ []) was.is tt was.fits)
-      (failed_former (Did AreSo base calls) u was.told did.0 did.2.0 did.2.1 was.now was.former))
+      (failed_former (Did AreSo base By) u was.told did.0 did.2.0 did.2.1 was.now was.former))
       at
     where
-      of_event : (e : event.Event) → v ≡ happens u e → IsKnown known (happens u e) → Fits base (happens u e) (account u was.told e) → Did AreSo base calls (account u was.told e).former →
-          Stands AreSo base known v (Runs events Unchanged ∷ calls)
+      of_event : (e : event.Event) → v ≡ happens u e → IsKnown known (happens u e) → Fits base (happens u e) (account u was.told e) → Did AreSo base By (account u was.told e).former →
+          Stands AreSo base known v By
       of_event e same is fits former = record {
         told = record { now = was.told.now; former = (account u was.told e).former };
         is = subst (IsKnown known) (sym same) is;
         fits = record { now = stays ∙ was.fits.now; former = (subst (λ (x : World). Fits base x (account u was.told e)) (sym same) fits).former };
-        now = record { updates = was.now.updates; are = was.now.are; by = was.now.by; meddled = was.now.meddled };
-        former = record { updates = former.updates; are = former.are; by = former.by; meddled = former.meddled };
+        now = was.now;
+        former = former;
       }
 
-  done : (known : List (List ℕ)) (u v : World) (calls : List Call) (events : List Event) (to : Variables) → Stands AreSo base known u calls → v.boot ≡ u.boot → IsIdle v.store →
-      RunsTo events (stands_for u.boot u.store) to → stands_for v.boot v.store ≡ brought (stands_for u.boot u.store) to → Stands AreSo base known v (Runs events Done ∷ calls)
-  done known u v calls events to was boot none runs brings =
-      let more = update_by events calls was.told.now to was.now (runs_at events u was.told to was.fits runs) in record {
+  done : (known : List (List ℕ)) (u v : World) (events : List Event) (By : List Update → Type 0) (to : Variables) → Stands AreSo base known u By → v.boot ≡ u.boot → IsIdle v.store →
+      RunsTo events (stands_for u.boot u.store) to → stands_for v.boot v.store ≡ brought (stands_for u.boot u.store) to → Stands AreSo base known v (NewestIsBy u events By)
+  done known u v events By to was boot none runs brings =
+      let more = update_by u events By was.told to was.fits was.now runs in record {
         told = record { now = Brings to ∷ was.told.now; former = Brings to ∷ was.told.now };
         is = record { boot = ap (is_known known) boot ∙ was.is.boot; journal = subst (λ (p : Option PendingParts). IsBegunKnown known p) (sym none) tt };
         fits = record {
@@ -175,29 +178,37 @@ module _ (AreSo : Meddling → Type 0) (stay : (over : List ChangeParts) (change
         former = more;
       }
 
-  starts : (known : List (List ℕ)) (u v : World) (calls : List Call) (boot : List ℕ) (deletes : Bool) → is_known known boot ≡ false → Stands AreSo base known u calls →
-      v ≡ happens u (event.Starts boot deletes) → Stands AreSo base (boot ∷ known) v (Starts boot deletes ∷ calls)
-  starts known u v calls boot deletes new was same =
-      let a = was.told in
-      subst (λ (x : World). Stands AreSo base (boot ∷ known) x (Starts boot deletes ∷ calls)) (sym same) (record {
-        told = account u a (event.Starts boot deletes);
+  starts : (known : List (List ℕ)) (u v : World) (By : List Update → Type 0) (boot : List ℕ) (deletes : Bool) → is_known known boot ≡ false → Stands AreSo base known u By →
+      v ≡ happens u (event.Starts boot deletes) → Stands AreSo base (boot ∷ known) v By
+  starts known u v By boot deletes new was same =
+      subst (λ (x : World). Stands AreSo base (boot ∷ known) x By) (sym same) (record {
+        told = account u was.told (event.Starts boot deletes);
         is = known_started base known u boot deletes was.is;
-        fits = all_fit base needed no_keep known u a (event.Starts boot deletes ∷ []) was.is (new, tt) was.fits;
+        fits = all_fit base needed no_keep known u was.told (event.Starts boot deletes ∷ []) was.is (new, tt) was.fits;
         now = record { updates = was.now.updates; are = was.now.are; by = was.now.by; meddled = was.now.meddled };
         former = record { updates = was.former.updates; are = was.former.are; by = was.former.by; meddled = was.former.meddled };
       })
 
-  firmware : (known : List (List ℕ)) (u v : World) (calls : List Call) (changes : Meddling) → AreSo changes → Stands AreSo base known u calls →
-      v ≡ happens u (event.Firmware changes) → Stands AreSo base known v (Firmware changes ∷ calls)
-  firmware known u v calls changes are was same =
-      let a = was.told in
-      subst (λ (x : World). Stands AreSo base known x (Firmware changes ∷ calls)) (sym same) (record {
-        told = account u a (event.Firmware changes);
+  firmware : (known : List (List ℕ)) (u v : World) (By : List Update → Type 0) (changes : Meddling) → AreSo changes → Stands AreSo base known u By →
+      v ≡ happens u (event.Firmware changes) → Stands AreSo base known v By
+  firmware known u v By changes are was same =
+      subst (λ (x : World). Stands AreSo base known x By) (sym same) (record {
+        told = account u was.told (event.Firmware changes);
         is = record { boot = was.is.boot; journal = was.is.journal };
-        fits = all_fit base needed no_keep known u a (event.Firmware changes ∷ []) was.is tt was.fits;
+        fits = all_fit base needed no_keep known u was.told (event.Firmware changes ∷ []) was.is tt was.fits;
         now = record { updates = was.now.updates; are = was.now.are; by = was.now.by; meddled = (stay (due u.boot u.store.journal.pending) changes are, was.now.meddled) };
         former = record { updates = was.former.updates; are = was.former.are; by = was.former.by; meddled = (stay (due u.boot (turned u.store.journal).pending) changes are, was.former.meddled) };
       })
+
+  pub one_more : (known : List (List ℕ)) (u v : World) (call : Call) (By : List Update → Type 0) → Stands AreSo base known u By → CallLeads u call v → IsNewStart known call → IfFirmware AreSo call →
+      Stands AreSo base (known_with call known) v (AreWith u call By)
+  one_more known u v (Runs events Done) By was lead new did = done known u v events By lead.2 was lead.0 lead.1 lead.3 lead.4
+  one_more known u v (Runs events Unchanged) By was lead new did = unchanged known u v events By was lead.0 lead.1 lead.2
+  one_more known u v (Runs events NotRun) By was lead new did = settles known u v By was lead.0 lead.1
+  one_more known u v (Runs events Open) By was lead new did = commands known u v events By was lead.0 lead.1
+  one_more known u v Settling By was lead new did = settles known u v By was lead.0 lead.1
+  one_more known u v (Starts boot deletes) By was lead new did = starts known u v By boot deletes new was lead
+  one_more known u v (Firmware changes) By was lead new did = firmware known u v By changes did was lead
 
 -- ---- any number of calls
 
@@ -206,41 +217,31 @@ module _ (AreSo : Meddling → Type 0) (stay : (over : List ChangeParts) (change
   abbrev base : Variables
   base = stands_for w.boot w.store
 
-  at_first : Stands AreSo base (w.boot ∷ []) w []
-  at_first = record {
+  pub all_stand : (steps : List Step) → AreSteps w steps → HaveNewStarts w.boot steps → FirmwareDid AreSo steps →
+      Stands AreSo base (identities w.boot steps) (world_after w steps) (AreByCalls w steps)
+  all_stand [] lead new did = record {
     told = record { now = []; former = [] };
     is = record { boot = ap (λ b. b || false) (same_self w.boot); journal = subst (λ (p : Option PendingParts). IsBegunKnown (w.boot ∷ []) p) (sym none) tt };
     fits = record { now = refl; former = λ making. absurd (true≢false (sym making ∙ ap is_making none)) };
     now = record { updates = []; are = refl; by = refl; meddled = tt };
     former = record { updates = []; are = refl; by = refl; meddled = tt };
   }
-
-  pub all_stand : (calls : List Call) (v : World) → CallsLead w calls v → HaveNewStarts w.boot calls → FirmwareDid AreSo calls → Stands AreSo base (identities w.boot calls) v calls
-  all_stand [] v lead new did = subst (λ (x : World). Stands AreSo base (w.boot ∷ []) x []) (sym lead) at_first
-  all_stand (Runs events Done ∷ before) v lead new did =
-      done AreSo stay base needed no_keep (identities w.boot before) lead.0 v before events lead.2.2 (all_stand before lead.0 lead.1 new did) lead.2.0 lead.2.1 lead.2.3 lead.2.4
-  all_stand (Runs events Unchanged ∷ before) v lead new did =
-      unchanged AreSo stay base needed no_keep (identities w.boot before) lead.0 v before events (all_stand before lead.0 lead.1 new did) lead.2.0 lead.2.1 lead.2.2
-  all_stand (Runs events Open ∷ before) v lead new did =
-      commands AreSo stay base needed no_keep (identities w.boot before) lead.0 v before events (all_stand before lead.0 lead.1 new did) lead.2.0 lead.2.1
-  all_stand (Runs events NotRun ∷ before) v lead new did =
-      settles AreSo stay base needed no_keep (identities w.boot before) lead.0 v before (Runs events NotRun) (λ turns did. record { updates = did.updates; are = did.are; by = did.by; meddled = did.meddled }) (all_stand before lead.0 lead.1 new did) lead.2.0 lead.2.1
-  all_stand (Settling ∷ before) v lead new did =
-      settles AreSo stay base needed no_keep (identities w.boot before) lead.0 v before Settling (λ turns did. record { updates = did.updates; are = did.are; by = did.by; meddled = did.meddled }) (all_stand before lead.0 lead.1 new did) lead.2.0 lead.2.1
-  all_stand (Starts boot deletes ∷ before) v lead new did =
-      starts AreSo stay base needed no_keep (identities w.boot before) lead.0 v before boot deletes new.0 (all_stand before lead.0 lead.1 new.1 did) lead.2
-  all_stand (Firmware changes ∷ before) v lead new did =
-      firmware AreSo stay base needed no_keep (identities w.boot before) lead.0 v before changes did.0 (all_stand before lead.0 lead.1 new did.1) lead.2
+  all_stand (step ∷ before) lead new did =
+      one_more AreSo stay base needed no_keep (identities w.boot before) (world_after w before) step.after step.call (AreByCalls w before)
+      (all_stand before lead.1 new.1 did.1) lead.0 new.0 did.0
 
 -- ---- what firmware did
 
 -- nothing is asked of it
-pub anything : (calls : List Call) → FirmwareDid (λ changes. Unit {0}) calls
+of_any : (call : Call) → IfFirmware (λ changes. Unit {0}) call
+of_any (Runs events ending) = tt
+of_any Settling = tt
+of_any (Starts boot deletes) = tt
+of_any (Firmware changes) = tt
+
+pub anything : (steps : List Step) → FirmwareDid (λ changes. Unit {0}) steps
 anything [] = tt
-anything (Runs events ending ∷ before) = anything before
-anything (Settling ∷ before) = anything before
-anything (Starts boot deletes ∷ before) = anything before
-anything (Firmware changes ∷ before) = (tt, anything before)
+anything (step ∷ before) = (of_any step.call, anything before)
 
 pub others_stay : (over : List ChangeParts) (changes : Meddling) → AllByRecursion IsOfAnother changes → AllByRecursion IsOfAnother (that_stay over changes)
 others_stay over [] are = tt

@@ -4,6 +4,7 @@ use Rattle.std.specs.Global.{Global}
 use Rattle.uefi_vars.specs.Vars.{Variables}
 use Rattle.boot_requests.specs.declared.event.Event.{Event}
 use Rattle.boot_requests.specs.Seen.{AreSeen}
+use Rattle.boot_requests.specs.StoredState.{OpensAs}
 use Rattle.boot_journal.specs.declared.requests.Answer.{Answer}
 use Rattle.boot_journal.specs.Commands.{IsCommanding}
 use Rattle.boot_journal.specs.Events.{World, happens}
@@ -54,47 +55,79 @@ CallLeads w Settling v = (v.boot ≡ w.boot) × IsSettling w.boot w.store v.stor
 CallLeads w (Starts boot deletes) v = v ≡ happens w (event.Starts boot deletes)
 CallLeads w (Firmware changes) v = v ≡ happens w (event.Firmware changes)
 
-abbrev pub CallsLead : World → List Call → World → Type 0
-CallsLead w [] v = v ≡ w
-CallsLead w (call ∷ before) v = (next : World) × CallsLead w before next × CallLeads next call v
+-- a call, and the world after it
+pub record Step : Type 0 where
+  pub call : Call
+  pub after : World
+
+-- the world after these, from this one on
+abbrev pub world_after : World → List Step → World
+world_after w [] = w
+world_after w (step ∷ before) = step.after
+
+abbrev pub AreSteps : World → List Step → Type 0
+AreSteps w [] = Unit {0}
+AreSteps w (step ∷ before) = CallLeads (world_after w before) step.call step.after × AreSteps w before
+
+-- ---- starts
+
+-- the identities with that of a start
+abbrev pub known_with : Call → List (List ℕ) → List (List ℕ)
+known_with (Starts boot deletes) known = boot ∷ known
+known_with (Runs events ending) known = known
+known_with Settling known = known
+known_with (Firmware changes) known = known
 
 -- the identities of the machine's starts, this one at first
-abbrev pub identities : List ℕ → List Call → List (List ℕ)
+abbrev pub identities : List ℕ → List Step → List (List ℕ)
 identities boot [] = boot ∷ []
-identities boot (Starts next deletes ∷ before) = next ∷ identities boot before
-identities boot (Runs events ending ∷ before) = identities boot before
-identities boot (Settling ∷ before) = identities boot before
-identities boot (Firmware changes ∷ before) = identities boot before
+identities boot (step ∷ before) = known_with step.call (identities boot before)
+
+-- a start has an identity that isn't known
+abbrev pub IsNewStart : List (List ℕ) → Call → Type 0
+IsNewStart known (Starts boot deletes) = is_known known boot ≡ false
+IsNewStart known (Runs events ending) = Unit {0}
+IsNewStart known Settling = Unit {0}
+IsNewStart known (Firmware changes) = Unit {0}
 
 -- each start has an identity that none before it had
-abbrev pub HaveNewStarts : List ℕ → List Call → Type 0
+abbrev pub HaveNewStarts : List ℕ → List Step → Type 0
 HaveNewStarts boot [] = Unit {0}
-HaveNewStarts boot (Starts next deletes ∷ before) = (is_known (identities boot before) next ≡ false) × HaveNewStarts boot before
-HaveNewStarts boot (Runs events ending ∷ before) = HaveNewStarts boot before
-HaveNewStarts boot (Settling ∷ before) = HaveNewStarts boot before
-HaveNewStarts boot (Firmware changes ∷ before) = HaveNewStarts boot before
+HaveNewStarts boot (step ∷ before) = IsNewStart (identities boot before) step.call × HaveNewStarts boot before
+
+-- ---- what firmware did
+
+abbrev pub IfFirmware : (List (List ℕ × Option (List ℕ)) → Type 0) → Call → Type 0
+IfFirmware AreSo (Firmware changes) = AreSo changes
+IfFirmware AreSo (Runs events ending) = Unit {0}
+IfFirmware AreSo Settling = Unit {0}
+IfFirmware AreSo (Starts boot deletes) = Unit {0}
 
 -- what firmware changed by itself is so
-abbrev pub FirmwareDid : (List (List ℕ × Option (List ℕ)) → Type 0) → List Call → Type 0
+abbrev pub FirmwareDid : (List (List ℕ × Option (List ℕ)) → Type 0) → List Step → Type 0
 FirmwareDid AreSo [] = Unit {0}
-FirmwareDid AreSo (Firmware changes ∷ before) = AreSo changes × FirmwareDid AreSo before
-FirmwareDid AreSo (Runs events ending ∷ before) = FirmwareDid AreSo before
-FirmwareDid AreSo (Settling ∷ before) = FirmwareDid AreSo before
-FirmwareDid AreSo (Starts boot deletes ∷ before) = FirmwareDid AreSo before
+FirmwareDid AreSo (step ∷ before) = IfFirmware AreSo step.call × FirmwareDid AreSo before
 
--- the newest of the updates is by these events, and the others are so
-abbrev pub NewestIsBy : List Event → (List Update → Type 0) → List Update → Type 0
-NewestIsBy events AreEarlier [] = ⊥
-NewestIsBy events AreEarlier (update ∷ earlier) = AreSeen events update.seen × AreEarlier earlier
+-- ---- which updates happened
 
--- These are the updates by the calls, in order and each by a call of its own: each call that is done made one, none that
--- says that nothing changed or that nothing was run did, and each other may have.
-abbrev pub AreByCalls : List Call → List Update → Type 0
-AreByCalls [] updates = updates ≡ []
-AreByCalls (Runs events Done ∷ before) updates = NewestIsBy events (AreByCalls before) updates
-AreByCalls (Runs events Unchanged ∷ before) updates = AreByCalls before updates
-AreByCalls (Runs events NotRun ∷ before) updates = AreByCalls before updates
-AreByCalls (Runs events Open ∷ before) updates = AreByCalls before updates ⊎ NewestIsBy events (AreByCalls before) updates
-AreByCalls (Settling ∷ before) updates = AreByCalls before updates
-AreByCalls (Starts boot deletes ∷ before) updates = AreByCalls before updates
-AreByCalls (Firmware changes ∷ before) updates = AreByCalls before updates
+-- the newest of the updates is by these events, of what the machine stood for in this world, and the others are so
+abbrev pub NewestIsBy : World → List Event → (List Update → Type 0) → List Update → Type 0
+NewestIsBy w events AreBefore [] = ⊥
+NewestIsBy w events AreBefore (update ∷ earlier) =
+    OpensAs (stands_for w.boot w.store) update.before × AreSeen events update.seen × AreBefore earlier
+
+-- with those before it: a command that is done made an update, one that says that nothing changed or that nothing was run
+-- didn't, and each other may have
+abbrev pub AreWith : World → Call → (List Update → Type 0) → List Update → Type 0
+AreWith w (Runs events Done) AreBefore updates = NewestIsBy w events AreBefore updates
+AreWith w (Runs events Unchanged) AreBefore updates = AreBefore updates
+AreWith w (Runs events NotRun) AreBefore updates = AreBefore updates
+AreWith w (Runs events Open) AreBefore updates = AreBefore updates ⊎ NewestIsBy w events AreBefore updates
+AreWith w Settling AreBefore updates = AreBefore updates
+AreWith w (Starts boot deletes) AreBefore updates = AreBefore updates
+AreWith w (Firmware changes) AreBefore updates = AreBefore updates
+
+-- these are the updates by the calls, in order and each by a call of its own
+abbrev pub AreByCalls : World → List Step → List Update → Type 0
+AreByCalls w [] updates = updates ≡ []
+AreByCalls w (step ∷ before) updates = AreWith (world_after w before) step.call (AreByCalls w before) updates

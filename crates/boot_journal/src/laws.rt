@@ -12,7 +12,7 @@ ghost use Rattle.boot_requests.specs.Run.{state_at};
 ghost use Rattle.boot_requests.specs.Seen.{Seen};
 ghost use Rattle.boot_requests.specs.State.{State, MarkParts, keep_text};
 ghost use Rattle.boot_requests.specs.StoredState.{HasMark, OpensAs};
-ghost use Rattle.boot_journal.specs.Calls.{Call, CallsLead, HaveNewStarts, FirmwareDid, AreByCalls};
+ghost use Rattle.boot_journal.specs.Calls.{Step, world_after, AreSteps, HaveNewStarts, FirmwareDid, AreByCalls};
 ghost use Rattle.boot_journal.specs.Changes.{made, IsFront, LeaveAlone};
 ghost use Rattle.boot_journal.specs.Events.{Event, Starts, World, world, all_happen, without_next, IsUpdateTo, AreSettlings, AreSettlingsOrStarts, AreNoUpdates};
 ghost use Rattle.boot_journal.specs.Journal.{BeganUnderAnother, JournalParts};
@@ -148,17 +148,18 @@ pub fn each_number_is_applied_once_whatever_firmware_does()
 /// [`settle`], one after the other, each cut off anywhere or refused anything; in between the machine is started, each time
 /// under a new identity, and firmware changes whatever variables it likes. Then some updates happened: one by each call that
 /// was done, none by a call that says that nothing changed or that nothing was run, and at most one by each other call, in
-/// the order of the calls.
+/// the order of the calls, and each of the state as which opened what the machine stood for at the call.
 /// What they applied is what their run as a whole applies: each number once, in order, from the first one to below the one
 /// that is the next then.
 ///
 /// [`command`]: crate::command
 /// [`settle`]: crate::settle
 pub fn calls_apply_each_number_once()
-    ensures { (w v : World) (calls : List Call) (first : MarkParts) → IsIdle w.store → HaveNewStarts w.boot calls →
-        HasMark (stands_for w.boot w.store) first.next_number first.kept → CallsLead w calls v →
-        (updates : List Update) × AreByCalls calls updates
-        × (last : MarkParts) × HasMark (stands_for v.boot v.store) last.next_number last.kept × AreAppliedOnce first last updates }
+    ensures { (w : World) (steps : List Step) (first : MarkParts) → IsIdle w.store → AreSteps w steps → HaveNewStarts w.boot steps →
+        HasMark (stands_for w.boot w.store) first.next_number first.kept →
+        (updates : List Update) × AreByCalls w steps updates
+        × (last : MarkParts) × HasMark (stands_for (world_after w steps).boot (world_after w steps).store) last.next_number last.kept
+        × AreAppliedOnce first last updates }
 {
     store_laws::each_change_is_needed();
     store_laws::entry_names_are_those_of_numbers();
@@ -171,10 +172,11 @@ pub fn calls_apply_each_number_once()
 /// state with the entries, the order, the next number and the outcomes of the run of the updates that happened, with a
 /// restart between two of them. BootNext is that of the run, or is gone.
 pub fn calls_apply_each_request_once()
-    ensures { (w v : World) (calls : List Call) (start : State) → IsIdle w.store → HaveNewStarts w.boot calls →
-        FirmwareDid (AllByRecursion IsOfAnother) calls → OpensAs (stands_for w.boot w.store) start → CallsLead w calls v →
-        (updates : List Update) × AreByCalls calls updates
-        × (now : State) × OpensAs (stands_for v.boot v.store) now × AgreesButForNext now (state_at start (run_of updates)) }
+    ensures { (w : World) (steps : List Step) (start : State) → IsIdle w.store → AreSteps w steps → HaveNewStarts w.boot steps →
+        FirmwareDid (AllByRecursion IsOfAnother) steps → OpensAs (stands_for w.boot w.store) start →
+        (updates : List Update) × AreByCalls w steps updates
+        × (now : State) × OpensAs (stands_for (world_after w steps).boot (world_after w steps).store) now
+        × AgreesButForNext now (state_at start (run_of updates)) }
 {
     store_laws::each_change_is_needed();
     store_laws::all_changes_lead_to_the_other_set();
