@@ -27,17 +27,17 @@ made_over cs fs m k =
 -- ---- what stays of firmware's changes
 
 -- whether a change is of the name
-abbrev is_in : List ChangeParts → List ℕ → Bool
+abbrev pub is_in : List ChangeParts → List ℕ → Bool
 is_in cs q = list_any (λ c. same_name c.name q) cs
 
-in_or_not : (a b : Bool) → (a || b) ≡ false → (a ≡ false) × (b ≡ false)
+pub in_or_not : (a b : Bool) → (a || b) ≡ false → (a ≡ false) × (b ≡ false)
 in_or_not true b e = absurd (true≢false e)
 in_or_not false b e = (refl, e)
 
-same_either_way : (a b : List ℕ) (v : Bool) → same_name a b ≡ v → same_name b a ≡ v
+pub same_either_way : (a b : List ℕ) (v : Bool) → same_name a b ≡ v → same_name b a ≡ v
 same_either_way a b v is = (eq_by_cmp_equiv nat_list_cmp_total).symm b a ∙ is
 
-out_keeps : (cs : List ChangeParts) (q : List ℕ) (x : Option (List ℕ)) → is_in cs q ≡ false → over (new_data cs) q x ≡ x
+pub out_keeps : (cs : List ChangeParts) (q : List ℕ) (x : Option (List ℕ)) → is_in cs q ≡ false → over (new_data cs) q x ≡ x
 out_keeps [] q x out = refl
 out_keeps (c ∷ cs) q x out =
     let apart = in_or_not (same_name c.name q) (is_in cs q) out in
@@ -54,7 +54,7 @@ forgets_step c cs q x y false later is rest =
     let here : same_name q c.name ≡ true = same_either_way c.name q true (first_in (same_name c.name q) (is_in cs q) later is) in
     ap (λ b. over (new_data cs) q (cond b c.after x)) here ∙ sym (ap (λ b. over (new_data cs) q (cond b c.after y)) here)
 
-in_forgets : (cs : List ChangeParts) (q : List ℕ) → is_in cs q ≡ true → (x y : Option (List ℕ)) → over (new_data cs) q x ≡ over (new_data cs) q y
+pub in_forgets : (cs : List ChangeParts) (q : List ℕ) → is_in cs q ≡ true → (x y : Option (List ℕ)) → over (new_data cs) q x ≡ over (new_data cs) q y
 in_forgets [] q is x y = absurd (true≢false (sym is))
 in_forgets (c ∷ cs) q is x y = forgets_step c cs q x y (is_in cs q) refl is (in_forgets cs q)
 

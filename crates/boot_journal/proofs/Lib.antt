@@ -8,6 +8,7 @@ pub mod Updates
 pub mod Unchanged
 pub mod Whole
 pub mod Firmware
+pub mod Own
 pub mod Dangling
 pub mod Applied
 pub mod Restarts

@@ -1,13 +1,14 @@
 -- What may happen to a machine, one after the other.
-use Rattle.std.specs.Prelude.{◌≡◌, ℕ, Bool, false, List, [], ◌∷◌, Option, if◌then◌else◌}
+use Rattle.std.specs.Prelude.{◌≡◌, ℕ, Bool, true, false, List, [], ◌∷◌, ◌++◌, Option, None, if◌then◌else◌}
 use Rattle.std.specs.List.{AllByRecursion}
 use Rattle.std.specs.FinMap.{remove}
 use Rattle.uefi_vars.specs.Name.{next_text}
 use Rattle.uefi_vars.specs.Vars.{Variables}
 use Rattle.uefi_vars.specs.NameChanges.{after_each}
-use Rattle.var_stores.specs.BootChange.{same_name}
+use Rattle.var_stores.specs.BootChange.{same_name, changes_from}
+use Rattle.boot_journal.specs.Changes.{LeaveAlone}
 use Rattle.boot_journal.specs.Journal.{PendingParts, BeganUnderAnother}
-use Rattle.boot_journal.specs.Store.{Store, journal_to}
+use Rattle.boot_journal.specs.Store.{Store, seen, journal_to}
 use Rattle.boot_journal.specs.Moves.{cut_carrying, cut_settling, cut_undoing, cut_failing, settled}
 
 pub data Event : Type 0 where
@@ -93,3 +94,34 @@ AreNoUpdates pending (Undoes moves back ∷ events) = AreNoUpdates pending event
 AreNoUpdates pending (Starts boot deletes ∷ events) = BeganUnderAnother boot pending × AreNoUpdates pending events
 AreNoUpdates pending (Firmware changes ∷ events) = LeaveNext changes × AreNoUpdates pending events
 AreNoUpdates pending (_ ∷ events) = ⊥
+
+-- ---- firmware's own
+
+-- what firmware does to variables in an event: at a start it may delete BootNext
+abbrev pub firmware_in : Event → List (List ℕ × Option (List ℕ))
+firmware_in (Settles moves) = []
+firmware_in (Undoes moves back) = []
+firmware_in (Updates to moves) = []
+firmware_in (Fails to moves back) = []
+firmware_in (Starts boot true) = (next_text, None) ∷ []
+firmware_in (Starts boot false) = []
+firmware_in (Firmware changes) = changes
+
+-- what firmware does to them in all events, in order
+abbrev pub by_firmware : List Event → List (List ℕ × Option (List ℕ))
+by_firmware [] = []
+by_firmware (event ∷ events) = firmware_in event ++ by_firmware events
+
+-- the event isn't an update with a change of this name
+abbrev pub LeavesAlone : List ℕ → World → Event → Type 0
+LeavesAlone name w (Settles moves) = Unit {0}
+LeavesAlone name w (Undoes moves back) = Unit {0}
+LeavesAlone name w (Updates to moves) = LeaveAlone name (changes_from (seen (settled w.boot w.store)) to)
+LeavesAlone name w (Fails to moves back) = LeaveAlone name (changes_from (seen (settled w.boot w.store)) to)
+LeavesAlone name w (Starts boot deletes) = Unit {0}
+LeavesAlone name w (Firmware changes) = Unit {0}
+
+-- no update among the events has a change of this name
+abbrev pub UpdatesLeaveAlone : List ℕ → World → List Event → Type 0
+UpdatesLeaveAlone name w [] = Unit {0}
+UpdatesLeaveAlone name w (event ∷ events) = LeavesAlone name w event × UpdatesLeaveAlone name (happens w event) events

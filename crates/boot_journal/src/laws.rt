@@ -14,11 +14,11 @@ ghost use Rattle.boot_requests.specs.State.{State, MarkParts, keep_text};
 ghost use Rattle.boot_requests.specs.StoredState.{HasMark, OpensAs};
 ghost use Rattle.boot_journal.specs.Calls.{Step, world_after, AreSteps, HaveNewStarts, FirmwareDid, AreByCalls};
 ghost use Rattle.boot_journal.specs.Changes.{made, IsFront, LeaveAlone};
-ghost use Rattle.boot_journal.specs.Events.{Event, Starts, World, world, all_happen, without_next, IsUpdateTo, AreSettlings, AreSettlingsOrStarts, AreNoUpdates};
-ghost use Rattle.boot_journal.specs.Journal.{BeganUnderAnother, JournalParts};
+ghost use Rattle.boot_journal.specs.Events.{Event, Starts, World, world, all_happen, without_next, with_variables, IsUpdateTo, AreSettlings, AreSettlingsOrStarts, AreNoUpdates, by_firmware, UpdatesLeaveAlone};
+ghost use Rattle.boot_journal.specs.Journal.{BeganUnderAnother, JournalParts, changes_of, due};
 ghost use Rattle.boot_journal.specs.Moves.{cut_undoing};
 ghost use Rattle.boot_journal.specs.Once.{Update, AreUpdatesIn, run_of, AreAppliedOnce};
-ghost use Rattle.boot_journal.specs.Store.{Store, IsIdle, seen, stands_for};
+ghost use Rattle.boot_journal.specs.Store.{Store, IsIdle, seen, stands_for, falls_back_to};
 ghost use Rattle.boot_journal.specs.Turns.{after_turns, happened, StartsAreNew};
 ghost use Rattle.boot_journal.specs.Requests.{IsOfAnother, IsRunOf, AgreesButForNext};
 ghost use Rattle.boot_journal.specs.declared.fault.JournalFault.{JournalFault};
@@ -103,6 +103,23 @@ pub fn firmware_keeps_its_own()
         map.get (made changes vars) name ≡ map.get vars name }
     ensures over { (changes : List ChangeParts) (firmware : List (List ℕ × Option (List ℕ))) (vars : Variables) (count : ℕ) →
         made changes (after_each (made (take count changes) vars) firmware) ≡ made changes (after_each vars firmware) }
+{}
+
+/// Firmware's own, over lists. Updates and settlings are cut off or fail after any number of moves, the machine is started
+/// in between, and firmware changes variables. Then a variable of which no change was to be done at first, and none of an
+/// update is, is at the end as firmware alone made it: whatever is done or taken back when, before a start or after it. A
+/// start that deletes BootNext counts as firmware's. And firmware may come after any number of the changes that are due:
+/// then what the machine stands for under whatever identity, and what that falls back to, is as if none had been made.
+pub fn firmware_keeps_its_own_whatever_happens()
+    ensures others { (w : World) (events : List Event) (name : List ℕ) → LeaveAlone name (changes_of w.store.journal.pending) →
+        UpdatesLeaveAlone name w events →
+        map.get (all_happen w events).store.variables name ≡ map.get (after_each w.store.variables (by_firmware events)) name }
+    ensures over { (boot later : List ℕ) (s : Store) (firmware : List (List ℕ × Option (List ℕ))) (count : ℕ) →
+        stands_for later (with_variables (after_each (made (take count (due boot s.journal.pending)) s.variables) firmware) s)
+        ≡ stands_for later (with_variables (after_each s.variables firmware) s) }
+    ensures back { (boot later : List ℕ) (s : Store) (firmware : List (List ℕ × Option (List ℕ))) (count : ℕ) →
+        falls_back_to later (with_variables (after_each (made (take count (due boot s.journal.pending)) s.variables) firmware) s)
+        ≡ falls_back_to later (with_variables (after_each s.variables firmware) s) }
 {}
 
 /// Exactly once. If the updates that happened are by requests, and firmware did nothing to the boot manager's variables but
