@@ -1,8 +1,8 @@
 -- The requests that follow one without a gap: each of their outcomes is kept.
 use Rattle.std.proofs.Common.{◌≡◌, ◌≢◌, ◌⊎◌, inl, inr, ℕ, zero, suc, ◌+◌, ◌-◌, ◌<◌, ◌≤◌, min, ltb, leb, eqb, true, false, List, [], ◌∷◌, ◌++◌, map, length, Option, Some, None, refl, sym, ap, subst, ◌∙◌, arith}
 use Rattle.std.specs.Prelude.{MatchBool, MatchOption, IfSome, IsSome, is_some, slice_get, nat_lt, if◌then◌else◌}
-use Rattle.std.specs.FinMap.{get, contains_key, insert}
-use Rattle.std.proofs.lemmas.Bool.{cond-false, le-ltb}
+use Rattle.std.specs.FinMap.{get, insert}
+use Rattle.std.proofs.lemmas.Bool.{le-ltb}
 use Rattle.std.proofs.lemmas.Bool.Decides.{nat_tests}
 use Rattle.std.proofs.lemmas.List.{length-append, length-drop, map-append}
 use Rattle.boot_requests.specs.declared.request.Request.{Request}
@@ -18,7 +18,7 @@ use Rattle.boot_requests.specs.Seen.{Seen, Came, Malformed, Prepare, Hand, Resta
 use Rattle.boot_requests.specs.Window.{Requests, gap_of}
 use Rattle.boot_requests.specs.Changes.{Change, Applies, Boots, changes_between, after_changes, numbers_from}
 use Rattle.boot_requests.specs.Answer.{IsReplyTo, again, kept_outcome, choice_count, reply_to_hand}
-use Rattle.boot_requests.specs.Turn.{Plain, settled_state, after_delivery, Turn}
+use Rattle.boot_requests.specs.Turn.{Plain, after_delivery, Turn}
 use Rattle.boot_requests.specs.Keeper.{AreWaiting}
 use Rattle.boot_requests.proofs.WholeRuns.Gaps.{gap_is}
 use Rattle.boot_requests.proofs.WholeRuns.NextNumbers.{effect_kept, after_request_number}

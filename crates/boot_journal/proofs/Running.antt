@@ -1,13 +1,13 @@
 -- Runs of events over variables, one by one.
-use Rattle.std.proofs.Common.{◌≡◌, ◌≢◌, ◌+◌, ◌<◌, ◌≤◌, ℕ, Bool, true, false, List, [], ◌∷◌, ◌++◌, map, length, take, drop, get_or, refl, sym, ap, subst, ◌∙◌, arith}
-use Rattle.std.proofs.lemmas.List.{take_all, take_more, map-append, length-append, length-drop}
+use Rattle.std.proofs.Common.{◌≡◌, ◌≢◌, ◌+◌, ◌<◌, ◌≤◌, ℕ, Bool, true, false, List, [], ◌∷◌, ◌++◌, length, take, drop, get_or, refl, sym, ap, subst, ◌∙◌, arith}
+use Rattle.std.proofs.lemmas.List.{take_more, map-append, length-append}
 use Rattle.uefi_vars.specs.Vars.{Variables}
 use Rattle.boot_requests.specs.declared.event.Event.{Event}
 use Rattle.boot_requests.specs.declared.event.Event.TheVariants as event
 use Rattle.boot_requests.specs.declared.fault.OpenFault.{OpenFault}
 use Rattle.boot_requests.specs.declared.fault.OpenFault.TheVariants as opening
 use Rattle.boot_requests.specs.declared.reply.Reply.{Reply}
-use Rattle.boot_requests.specs.Keeper.{AreRead, StandsFor, IsPlain}
+use Rattle.boot_requests.specs.Keeper.{AreRead, StandsFor}
 use Rattle.boot_requests.specs.Reply.{IsReply, AreAnswers}
 use Rattle.boot_requests.specs.Run.{run_followed_by, state_at}
 use Rattle.boot_requests.specs.Seen.{Seen, Came, Malformed, Prepare, Hand, Restart, IsEvent, IsSeen, AreSeen}
@@ -17,7 +17,7 @@ use Rattle.boot_requests.specs.Turn.{Plain, plain_start, Turn, Turns}
 use Rattle.boot_journal.specs.declared.machine.CallError.{CallError}
 use Rattle.boot_journal.specs.declared.machine.CallError.TheVariants.{OutOfMemory, Refused}
 use Rattle.boot_journal.specs.declared.requests.Answer.{Answer}
-use Rattle.boot_journal.specs.Answering.{IsTaken, IsTakenTo, AreTaken}
+use Rattle.boot_journal.specs.Answering.{IsTaken, AreTaken}
 use Rattle.boot_journal.specs.Cause.{IfRefused}
 use Rattle.boot_journal.specs.Followers.{AreFollowers, TellFollowers}
 use Rattle.boot_journal.specs.Requests.{replies_of, IsAnswered}
