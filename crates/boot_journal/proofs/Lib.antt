@@ -18,6 +18,7 @@ pub mod Running
 pub mod Records
 pub mod Commands
 pub mod Calls
+pub mod OwnCalls
 pub mod Errors
 pub mod Between
 pub mod Next

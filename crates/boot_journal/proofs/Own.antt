@@ -47,7 +47,7 @@ or_spent_in true cs q = refl
 or_spent_in false cs q = spent_in cs q
 
 -- what is due has the names of the changes that are made or taken back
-due_in : (boot : List ℕ) (p : Option PendingParts) (q : List ℕ) → is_in (due boot p) q ≡ is_in (changes_of p) q
+pub due_in : (boot : List ℕ) (p : Option PendingParts) (q : List ℕ) → is_in (due boot p) q ≡ is_in (changes_of p) q
 due_in boot None q = refl
 due_in boot (Some (Makes former changes began)) q = or_spent_in (same_name boot began) changes q
 due_in boot (Some (TakesBack changes began)) q = or_spent_in (same_name boot began) (taken_back changes) q ∙ back_in changes q
@@ -64,11 +64,11 @@ take_out (suc k) (c ∷ cs) q out =
     let apart = in_or_not (same_name c.name q) (is_in cs q) out in
     λ i. apart.0 i || take_out k cs q apart.1 i
 
-alone_out : (q : List ℕ) (cs : List ChangeParts) → LeaveAlone q cs → is_in cs q ≡ false
+pub alone_out : (q : List ℕ) (cs : List ChangeParts) → LeaveAlone q cs → is_in cs q ≡ false
 alone_out q [] alone = refl
 alone_out q (c ∷ cs) alone = λ i. same_either_way q c.name false alone.0 i || alone_out q cs alone.1 i
 
-made_out : (cs : List ChangeParts) (m : Variables) (q : List ℕ) → is_in cs q ≡ false → get (made cs m) q ≡ get m q
+pub made_out : (cs : List ChangeParts) (m : Variables) (q : List ℕ) → is_in cs q ≡ false → get (made cs m) q ≡ get m q
 made_out cs m q out = get-each (new_data cs) m q ∙ out_keeps cs q (get m q) out
 
 -- ---- what is due, made over firmware's
@@ -111,9 +111,9 @@ back_over boot later s fs k =
 -- ---- a variable that no change is of
 
 -- it is this, and no change that is to be done is of it
-record Own (q : List ℕ) (x : Option (List ℕ)) (s : Store) : Type 0 where
-  here : get s.variables q ≡ x
-  out : is_in (changes_of s.journal.pending) q ≡ false
+pub record Own (q : List ℕ) (x : Option (List ℕ)) (s : Store) : Type 0 where
+  pub here : get s.variables q ≡ x
+  pub out : is_in (changes_of s.journal.pending) q ≡ false
 
 module _ (q : List ℕ) (x : Option (List ℕ)) where
   making_own : (k : ℕ) (cs : List ChangeParts) (state : Option (List ℕ)) (s : Store) → is_in cs q ≡ false → Own q x s → Own q x (cut_making k cs (idle state) s)
@@ -137,7 +137,7 @@ module _ (q : List ℕ) (x : Option (List ℕ)) where
   turned_out : (journal : JournalParts) → is_in (changes_of journal.pending) q ≡ false → is_in (changes_of (turned journal).pending) q ≡ false
   turned_out journal out = ap (λ (l : List ChangeParts). is_in l q) (turned_in journal.state journal.pending) ∙ out
 
-  undoing_own_by : (p : Option PendingParts) (boot : List ℕ) (k back : ℕ) (s : Store) → Own q x s → Own q x (cut_undoing_by p boot k back s)
+  pub undoing_own_by : (p : Option PendingParts) (boot : List ℕ) (k back : ℕ) (s : Store) → Own q x s → Own q x (cut_undoing_by p boot k back s)
   undoing_own_by None boot k back s own = own
   undoing_own_by (Some (Makes former changes began)) boot k back s own =
       carrying_own boot (turned s.journal) back (cut_settling boot k s) (turned_out s.journal own.out) (settling_own boot k s own)
@@ -155,7 +155,7 @@ module _ (q : List ℕ) (x : Option (List ℕ)) where
   updating_own boot to k s alone own =
       carrying_own boot (journal_to boot (settled boot s) to) k (settled boot s) (alone_out q _ alone) (settled_own boot s own)
 
-  failing_own : (boot : List ℕ) (to : Variables) (k back : ℕ) (s : Store) → LeaveAlone q (changes_from (seen (settled boot s)) to) → Own q x s → Own q x (failing boot to k back (settled boot s))
+  pub failing_own : (boot : List ℕ) (to : Variables) (k back : ℕ) (s : Store) → LeaveAlone q (changes_from (seen (settled boot s)) to) → Own q x s → Own q x (failing boot to k back (settled boot s))
   failing_own boot to k back s alone own =
       let journal = journal_to boot (settled boot s) to in
       carrying_own boot (turned journal) back (updating boot to k (settled boot s)) (turned_out journal (alone_out q _ alone)) (updating_own boot to k s alone own)

@@ -1,11 +1,14 @@
 -- Calls of `command` and `settle`, one after the other. In each list the newest is the first.
-use Rattle.std.specs.Prelude.{◌≡◌, ◌⊎◌, ℕ, Bool, false, List, [], ◌∷◌, Option, Vec}
+use Rattle.std.specs.Prelude.{◌≡◌, ◌⊎◌, ℕ, Bool, true, false, List, [], ◌∷◌, ◌++◌, Option, None, Vec}
 use Rattle.std.specs.Global.{Global}
+use Rattle.uefi_vars.specs.Name.{next_text}
 use Rattle.uefi_vars.specs.Vars.{Variables}
+use Rattle.var_stores.specs.BootChange.{changes_from}
 use Rattle.boot_requests.specs.declared.event.Event.{Event}
 use Rattle.boot_requests.specs.Seen.{AreSeen}
 use Rattle.boot_requests.specs.StoredState.{OpensAs}
 use Rattle.boot_journal.specs.declared.requests.Answer.{Answer}
+use Rattle.boot_journal.specs.Changes.{LeaveAlone}
 use Rattle.boot_journal.specs.Commands.{IsCommanding}
 use Rattle.boot_journal.specs.Events.{World, happens}
 use Rattle.boot_journal.specs.Events as event
@@ -107,6 +110,32 @@ IfFirmware AreSo (Starts boot deletes) = Unit {0}
 abbrev pub FirmwareDid : (List (List ℕ × Option (List ℕ)) → Type 0) → List Step → Type 0
 FirmwareDid AreSo [] = Unit {0}
 FirmwareDid AreSo (step ∷ before) = IfFirmware AreSo step.call × FirmwareDid AreSo before
+
+-- what firmware did to variables, with what it did in a call: at a start it may delete BootNext
+abbrev pub did_with : Call → List (List ℕ × Option (List ℕ)) → List (List ℕ × Option (List ℕ))
+did_with (Runs events ending) did = did
+did_with Settling did = did
+did_with (Starts boot true) did = did ++ (next_text, None) ∷ []
+did_with (Starts boot false) did = did
+did_with (Firmware changes) did = did ++ changes
+
+-- what firmware did to them in all, in order
+abbrev pub did_by_firmware : List Step → List (List ℕ × Option (List ℕ))
+did_by_firmware [] = []
+did_by_firmware (step ∷ before) = did_with step.call (did_by_firmware before)
+
+-- no run of the events, from what the machine stands for, has a change of this name
+abbrev pub CallLeavesAlone : List ℕ → World → Call → Type 0
+CallLeavesAlone name w (Runs events ending) =
+    (to : Variables) → RunsTo events (stands_for w.boot w.store) to → LeaveAlone name (changes_from (stands_for w.boot w.store) to)
+CallLeavesAlone name w Settling = Unit {0}
+CallLeavesAlone name w (Starts boot deletes) = Unit {0}
+CallLeavesAlone name w (Firmware changes) = Unit {0}
+
+-- no run of a command among these calls has
+abbrev pub CallsLeaveAlone : List ℕ → World → List Step → Type 0
+CallsLeaveAlone name w [] = Unit {0}
+CallsLeaveAlone name w (step ∷ before) = CallLeavesAlone name (world_after w before) step.call × CallsLeaveAlone name w before
 
 -- ---- which updates happened
 

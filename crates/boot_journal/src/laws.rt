@@ -12,7 +12,7 @@ ghost use Rattle.boot_requests.specs.Run.{state_at};
 ghost use Rattle.boot_requests.specs.Seen.{Seen};
 ghost use Rattle.boot_requests.specs.State.{State, MarkParts, keep_text};
 ghost use Rattle.boot_requests.specs.StoredState.{HasMark, OpensAs};
-ghost use Rattle.boot_journal.specs.Calls.{Step, world_after, AreSteps, HaveNewStarts, FirmwareDid, AreByCalls};
+ghost use Rattle.boot_journal.specs.Calls.{Step, world_after, AreSteps, HaveNewStarts, FirmwareDid, did_by_firmware, CallsLeaveAlone, AreByCalls};
 ghost use Rattle.boot_journal.specs.Changes.{made, IsFront, LeaveAlone};
 ghost use Rattle.boot_journal.specs.Events.{Event, Starts, World, world, all_happen, without_next, with_variables, IsUpdateTo, AreSettlings, AreSettlingsOrStarts, AreNoUpdates, by_firmware, UpdatesLeaveAlone};
 ghost use Rattle.boot_journal.specs.Journal.{BeganUnderAnother, JournalParts, changes_of, due};
@@ -120,6 +120,18 @@ pub fn firmware_keeps_its_own_whatever_happens()
     ensures back { (boot later : List ℕ) (s : Store) (firmware : List (List ℕ × Option (List ℕ))) (count : ℕ) →
         falls_back_to later (with_variables (after_each (made (take count (due boot s.journal.pending)) s.variables) firmware) s)
         ≡ falls_back_to later (with_variables (after_each s.variables firmware) s) }
+{}
+
+/// Firmware's own, over a list of calls of [`command`] and [`settle`], each cut off anywhere or refused anything. A variable
+/// other than BootKeepState of which no change was to be done at first, and of which no change would be made by a run of a
+/// call's events, is at the end as firmware alone made it. A start that deletes BootNext counts as firmware's.
+///
+/// [`command`]: crate::command
+/// [`settle`]: crate::settle
+pub fn calls_keep_what_firmware_did()
+    ensures { (w : World) (steps : List Step) (name : List ℕ) → AreSteps w steps → same_name name keep_text ≡ false →
+        LeaveAlone name (changes_of w.store.journal.pending) → CallsLeaveAlone name w steps →
+        map.get (world_after w steps).store.variables name ≡ map.get (after_each w.store.variables (did_by_firmware steps)) name }
 {}
 
 /// Exactly once. If the updates that happened are by requests, and firmware did nothing to the boot manager's variables but

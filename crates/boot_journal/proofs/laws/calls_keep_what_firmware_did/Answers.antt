@@ -1,0 +1,5 @@
+use Rattle.boot_journal.proofs.OwnCalls.{owned_calls}
+use Rattle.boot_journal.proofs.laws.calls_keep_what_firmware_did.Goals as goal
+
+pub returns : goal.returns
+returns c = owned_calls
