@@ -31,7 +31,7 @@ below-filter key p (r ∷ records) below = elim (p r) as (λ b. AllByRecursion (
   | false ↦ below-filter key p records below.1
 ]
 
-sorted-filter : (p : RecordParts → Bool) (records : List RecordParts) → IsStrictlySortedBy name_cmp (map key_of records) → IsStrictlySortedBy name_cmp (map key_of (filter p records))
+pub sorted-filter : (p : RecordParts → Bool) (records : List RecordParts) → IsStrictlySortedBy name_cmp (map key_of records) → IsStrictlySortedBy name_cmp (map key_of (filter p records))
 unfolding IsStrictlySortedBy
 sorted-filter p [] sorted = tt
 sorted-filter p (r ∷ records) sorted = elim (p r) as (λ b. IsStrictlySortedBy name_cmp (map key_of (cond b (r ∷ filter p records) (filter p records)))) [

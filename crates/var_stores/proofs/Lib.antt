@@ -18,6 +18,7 @@ pub mod PresentValues
 pub mod NewRecords
 pub mod SameHead
 pub mod Kept
+pub mod LeftOut
 pub mod WholeRecords
 pub mod RewrittenStores
 pub mod AfterWriting

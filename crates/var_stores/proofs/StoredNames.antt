@@ -11,7 +11,7 @@ is_zero : (n : ℕ) → (n == 0) ≡ true → n ≡ 0
 is_zero n e = grind (arith, e)
 
 -- the name, if the first two bytes are a character or not
-abbrev name_if : ℕ → ℕ → List ℕ → Bool → Option (List ℕ)
+abbrev pub name_if : ℕ → ℕ → List ℕ → Bool → Option (List ℕ)
 name_if low high stored b =
     cond b (option_map (λ name. low ∷ name) (name_in stored)) (cond (((low == 0) && (high == 0)) && (length stored == 0)) (Some []) None)
 
@@ -31,7 +31,7 @@ pub name_in-stored_name : (name : List ℕ) → AllByRecursion IsNameByte name �
 name_in-stored_name [] h = refl
 name_in-stored_name (byte ∷ name) h = read_byte byte 0 (stored_name name) refl (graphic_byte byte h.0) ∙ ap (option_map (λ name. byte ∷ name)) (name_in-stored_name name h.1)
 
-some_is : (a b : List ℕ) → Some a ≡ Some b → a ≡ b
+pub some_is : (a b : List ℕ) → Some a ≡ Some b → a ≡ b
 some_is a b same = cc
 
 -- what a name is read from is what is stored for it

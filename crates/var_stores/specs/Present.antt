@@ -1,10 +1,12 @@
 -- Which records of a store are the variables that are there, and which of these a set has.
-use Rattle.std.specs.Prelude.{◌≡◌, ℕ, ◌==◌, nat_lt, ◌||◌, ◌&&◌, not, Bool, false, if◌then◌else◌, List, [], ◌∷◌, ◌++◌, length, Option, Some, None}
-use Rattle.std.specs.Option.{option_map}
+use Rattle.std.specs.Prelude.{◌≡◌, ℕ, ◌==◌, nat_lt, ◌||◌, ◌&&◌, not, Bool, true, false, if◌then◌else◌, List, [], ◌∷◌, ◌++◌, length, map, Option, Some, None}
+use Rattle.std.specs.Option.{option_map, option_map_or}
 use Rattle.std.specs.Char.{is_ascii_graphic}
 use Rattle.std.specs.FinMap.{get}
-use Rattle.uefi_vars.specs.Name.{IsName}
-use Rattle.uefi_vars.specs.Vars.{Variables, data_max}
+use Rattle.std.specs.List.{AllByRecursion}
+use Rattle.std.specs.List.Sorted.{IsStrictlySortedBy}
+use Rattle.uefi_vars.specs.Name.{name_max, IsName}
+use Rattle.uefi_vars.specs.Vars.{Variables, name_cmp, data_max}
 use Rattle.var_stores.specs.BootChange.{same_name}
 use Rattle.var_stores.specs.Record.{RecordParts, vendor_in}
 
@@ -83,3 +85,24 @@ data_there records name = set_data (found (global_key name) records)
 -- the set has what is there under each name that a set can have
 abbrev pub IsSetOf : List RecordParts → Variables → Type 0
 IsSetOf records vars = (name : List ℕ) → IsName name → get vars name ≡ data_there records name
+
+-- ---- the variables of the standard's vendor that no set can hold
+
+-- whether a set can have the name that is stored so
+abbrev pub is_set_name : List ℕ → Bool
+is_set_name stored = option_map_or (λ name. not (length name == 0) && not (nat_lt name_max (length name))) (name_in stored) false
+
+-- whether the record is of that vendor, and no set can hold its value under its name
+abbrev pub is_left_out : RecordParts → Bool
+is_left_out r = same_name global_guid (vendor_in r.header) && not (is_set_value r.value && is_set_name r.name)
+
+-- the record, if there is one, and it is left out
+abbrev pub if_left_out : Option RecordParts → Option RecordParts
+if_left_out None = None
+if_left_out (Some r) = if is_left_out r then Some r else None
+
+-- the records of the variables that are there and are left out, each once, in the order of their names
+pub record AreLeftOut (records left : List RecordParts) : Type 0 where
+  pub order : IsStrictlySortedBy name_cmp (map key_of left)
+  pub alive : AllByRecursion (λ r. is_alive r ≡ true) left
+  pub each : (key : List ℕ) → found key left ≡ if_left_out (found key records)

@@ -4,14 +4,14 @@ ghost use Rattle.std.specs.Prelude.{◌≡◌, ◌≢◌, ◌⊎◌, ◌↔◌, 
 ghost use Rattle.std.specs.Option.{option_map};
 ghost use Rattle.std.specs.List.{AllByRecursion, IsDistinct};
 ghost use Rattle.std.specs.FinMap as map;
-ghost use Rattle.uefi_vars.specs.Name.{entry_text};
+ghost use Rattle.uefi_vars.specs.Name.{entry_text, IsName};
 ghost use Rattle.uefi_vars.specs.Vars.{Variables};
 ghost use Rattle.uefi_vars.specs.NameChanges.{after_each};
 ghost use Rattle.var_stores.specs.BootChange.{ChangeParts, same_name, is_entry_name, is_boot_name, changes_from, new_data, IsNeeded, DanglesInOrder, DanglesAsNext};
 ghost use Rattle.var_stores.specs.declared.fault.StoreFault.{StoreFault};
 ghost use Rattle.var_stores.specs.Volume.{StoreParts, SpellsStore, IsStoreFault};
-ghost use Rattle.var_stores.specs.Record.{RecordParts};
-ghost use Rattle.var_stores.specs.Present.{global_key, is_of, is_added, is_alive, found};
+ghost use Rattle.var_stores.specs.Record.{RecordParts, vendor_in};
+ghost use Rattle.var_stores.specs.Present.{global_guid, global_key, is_of, is_added, is_alive, is_left_out, found, IsSetOf};
 ghost use Rattle.var_stores.specs.Rewriting.{IsWritten};
 
 use uefi_vars::laws as vars_laws;
@@ -94,6 +94,13 @@ pub fn one_record_of_a_variable_is_there()
         AllByRecursion (λ s. (is_of key s && is_alive s) ≡ false) after → found key (before ++ (r ∷ after)) ≡ Some r }
     ensures none { (key : List ℕ) (records : List RecordParts) →
         AllByRecursion (λ s. (is_of key s && is_alive s) ≡ false) records → found key records ≡ None }
+{}
+
+/// A variable of the standard's vendor that is there is in the store's set, with its value, exactly if it isn't left out.
+pub fn a_variable_is_in_the_set_or_left_out()
+    ensures { (records : List RecordParts) (vars : Variables) (key : List ℕ) (r : RecordParts) → IsSetOf records vars →
+        found key records ≡ Some r → vendor_in r.header ≡ global_guid → (is_left_out r ≡ false)
+        ↔ ((name : List ℕ) × IsName name × (key ≡ global_key name) × (map.get vars name ≡ Some r.value)) }
 {}
 
 /// Once they are written, the boot manager's variables are those that were asked for.

@@ -1,21 +1,24 @@
 //! The variables of a store as a set.
 
 ghost use Rattle.std.specs.Prelude.{◌≡◌, ◌≢◌, ℕ, List, Err, map, IfOk, OnOk};
-ghost use Rattle.std.specs.List.{AllByRecursion};
+ghost use Rattle.std.specs.BTreeMap.{IsOrdered, values};
+ghost use Rattle.std.specs.List.{AllByRecursion, filter};
 ghost use Rattle.std.specs.Option.{option_map};
 ghost use Rattle.std.specs.String.{string_bytes};
 ghost use Rattle.uefi_vars.specs.declared.fault.PutFault.{PutFault};
 ghost use Rattle.uefi_vars.specs.Name.{IsName};
+ghost use Rattle.uefi_vars.specs.Vars.{name_cmp};
 ghost use Rattle.std.specs.FinMap as map;
-ghost use Rattle.var_stores.specs.Record.{record_parts, IsRecord};
-ghost use Rattle.var_stores.specs.Present.{global_key, name_in, set_data, IsSetOf};
+ghost use Rattle.var_stores.specs.BootChange.{same_name};
+ghost use Rattle.var_stores.specs.Record.{record_parts, vendor_in, IsRecord};
+ghost use Rattle.var_stores.specs.Present.{global_guid, global_key, name_in, set_data, is_set_name, is_set_value, is_left_out, IsSetOf, AreLeftOut};
 ghost use Rattle.var_stores.specs.PresentMap.{record_under, AreKeyed, AreWhole, PutsStored, PutsRecord};
 
 use crate::present::{Present, present};
 use crate::record::Record;
 use crate::store::VariableStore;
 use std::alloc::{AllocError, Global};
-use uefi_vars::{PutFault, Vars};
+use uefi_vars::{DATA_MAX, NAME_MAX, PutFault, Vars, laws as vars_laws};
 
 /// 8be4df61-93ca-11d2-aa0d-00e098032b8c, the vendor's GUID of the variables that the standard names, as it is stored
 /// (UEFI 2.10, 3.3).
@@ -39,34 +42,72 @@ pub fn store_vars(alloc: Global, store: &VariableStore<'_>) -> Result<Vars, Allo
     vars_of(alloc, &present)
 }
 
-/// The records of the same vendor that are there, and that no set can hold: their name isn't one to
-/// [`NAME_MAX`](uefi_vars::NAME_MAX) characters from 0x21 to 0x7E, or their value has no byte or more than
-/// [`DATA_MAX`](uefi_vars::DATA_MAX) bytes.
+/// The records of the same vendor that are there, and that no set can hold: their name isn't one to [`NAME_MAX`]
+/// characters from 0x21 to 0x7E, or their value has no byte or more than [`DATA_MAX`] bytes. They come in the order of
+/// their names, as bytes.
 ///
 /// # Errors
 ///
 /// [`AllocError`] if memory was refused.
-pub fn left_out<'a>(
-    alloc: Global,
-    store: &VariableStore<'a>,
-) -> Result<Vec<Record<'a>>, AllocError> {
+pub fn left_out<'a>(alloc: Global, store: &VariableStore<'a>) -> Result<Vec<Record<'a>>, AllocError>
+    ensures { IfOk result (λ left. AreLeftOut (map record_parts store.now.records.items) (map record_parts left.items)) }
+{
     let present = present(alloc, &store.records)?;
-    let vars = vars_of(alloc, &present)?;
-    let mut records = Vec::new(alloc);
-    for record in present.values() {
-        if record.vendor() == GLOBAL_GUID.as_slice() && !has_variable(alloc, &vars, record.name)? {
-            records.push(*record)?;
-        }
-    }
-    Ok(records)
+    left_out_of(alloc, &present)
 }
 
-/// Whether the set has a variable of this stored name.
-fn has_variable(alloc: Global, vars: &Vars, stored: &[u8]) -> Result<bool, AllocError> {
+/// The records of those that are there that no set can hold.
+fn left_out_of<'a>(alloc: Global, present: &Present<'a>) -> Result<Vec<Record<'a>>, AllocError>
+    ensures ordered { IsOrdered (λ x y. name_cmp x.items y.items) present.now }
+    ensures left { IfOk result (λ left. map record_parts left.items
+        ≡ filter is_left_out (map record_parts (values present.now))) }
+{
+    let mut left = Vec::new(alloc);
+    for record in present.values() {
+        if is_left_out(alloc, record)? {
+            left.push(*record)?;
+        }
+    }
+    Ok(left)
+}
+
+/// Whether the record is of the standard's vendor, and no set can hold its value under its name.
+fn is_left_out(alloc: Global, record: &Record<'_>) -> Result<bool, AllocError>
+    ensures { IfOk result (λ left_out. left_out ≡ is_left_out (record_parts «record».now)) }
+{
+    if !is_global(record) {
+        return Ok(false);
+    }
+    if !is_set_value(record.value) {
+        return Ok(true);
+    }
+    Ok(!is_set_name(alloc, record.name)?)
+}
+
+/// Whether the record's vendor is that of the variables that the standard names.
+pub(crate) fn is_global(record: &Record<'_>) -> bool
+    ensures { result ≡ same_name global_guid (vendor_in «record».now.header.now) }
+{
+    GLOBAL_GUID.as_slice() == record.vendor()
+}
+
+/// Whether a set can have the name that is stored so.
+fn is_set_name(alloc: Global, stored: &[u8]) -> Result<bool, AllocError>
+    ensures { IfOk result (λ is. is ≡ is_set_name stored.now) }
+{
+    vars_laws::constants_are_those_of_the_definitions();
     match name_of(alloc, stored)? {
-        Some(name) => Ok(vars.get(&name).is_some()),
+        Some(name) => Ok(!name.is_empty() && name.len() <= NAME_MAX),
         None => Ok(false),
     }
+}
+
+/// Whether a set can hold the value.
+fn is_set_value(value: &[u8]) -> bool
+    ensures { result ≡ is_set_value value.now }
+{
+    vars_laws::constants_are_those_of_the_definitions();
+    !value.is_empty() && value.len() <= DATA_MAX
 }
 
 /// The variables of the standard's vendor among those that are there, as a set.

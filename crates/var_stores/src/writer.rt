@@ -8,9 +8,8 @@ ghost use Rattle.std.specs.FinMap as map;
 ghost use Rattle.uefi_vars.specs.Name.{IsName};
 ghost use Rattle.uefi_vars.specs.Vars.{name_cmp, IsData, IsVars};
 ghost use Rattle.var_stores.specs.declared.write_fault.WriteFault.{WriteFault};
-ghost use Rattle.var_stores.specs.BootChange.{same_name};
-ghost use Rattle.var_stores.specs.Record.{record_parts, record_bytes, padding_len, vendor_in};
-ghost use Rattle.var_stores.specs.Present.{global_guid, stored_name, global_key};
+ghost use Rattle.var_stores.specs.Record.{record_parts, record_bytes, padding_len};
+ghost use Rattle.var_stores.specs.Present.{stored_name, global_key};
 ghost use Rattle.var_stores.specs.PresentMap.{record_under, AreWhole};
 ghost use Rattle.var_stores.specs.Rewriting.{is_rewritten, is_outdated, without_outdated, unchanged, attributes_there, header_of, new_record, added, Fits, IsWritten, IsFull};
 
@@ -18,7 +17,7 @@ use crate::boot_change::{is_boot_name, is_changed};
 use crate::present::{Present, present};
 use crate::record::{ADDED, Record, begins_record, padding_len};
 use crate::store::read_store;
-use crate::stored_vars::{GLOBAL_GUID, name_of, vars_of};
+use crate::stored_vars::{GLOBAL_GUID, is_global, name_of, vars_of};
 use crate::write_fault::WriteFault;
 use std::alloc::{AllocError, Global};
 use uefi_vars::Vars;
@@ -293,13 +292,6 @@ fn is_outdated(
         Some(name) => Ok(is_rewritten(from, to, &name)),
         None => Ok(false),
     }
-}
-
-/// Whether the record's vendor is that of the variables that the standard names.
-fn is_global(record: &Record<'_>) -> bool
-    ensures { result ≡ same_name global_guid (vendor_in «record».now.header.now) }
-{
-    GLOBAL_GUID.as_slice() == record.vendor()
 }
 
 /// Whether the variable of this name is one of the boot manager's that isn't in both sets, with equal data.

@@ -2,7 +2,7 @@ use Rattle.std.proofs.Common.{List, ℕ, sym, ap, ◌∙◌}
 use Rattle.std.proofs.lemmas.Map.Text.{is_eq-slice_cmp}
 use Rattle.var_stores.specs.BootChange.{same_name}
 use Rattle.var_stores.specs.Present.{global_guid}
-use Rattle.var_stores.proofs.writer.is_global.Goals as goal
+use Rattle.var_stores.proofs.stored_vars.is_global.Goals as goal
 
 pub returns : goal.returns
 returns c =
