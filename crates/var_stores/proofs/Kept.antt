@@ -50,12 +50,15 @@ module _ (present : BTreeMap (Vec ℕ) Record) (ordered : IsOrdered (λ x y. nam
   kept_sorted : (from to : Variables) → IsStrictlySortedBy name_cmp (map key_of (unchanged from to there))
   kept_sorted from to = sorted-filter (λ r. not (is_outdated from to r)) there (records_sorted present ordered keyed)
 
+  kept_alive : (from to : Variables) → AllByRecursion (λ r. is_alive r ≡ true) (unchanged from to there)
+  kept_alive from to = filter-all (λ r. is_alive r ≡ true) (λ r. not (is_outdated from to r)) there (records_alive present ordered keyed)
+
   pub are_kept : (records : List RecordParts) (from to : Variables) → ((key : List ℕ) → record_under present key ≡ found key records) → AreKept records from to (unchanged from to there)
   are_kept records from to all = record {
     order = kept_sorted from to;
+    alive = kept_alive from to;
     each = λ key.
-        found-first key (unchanged from to there) (IsDistinct-from_sorted name_cmp (map key_of (unchanged from to there)) (kept_sorted from to))
-        (filter-all (λ r. is_alive r ≡ true) (λ r. not (is_outdated from to r)) there (records_alive present ordered keyed))
+        found-first key (unchanged from to there) (IsDistinct-from_sorted name_cmp (map key_of (unchanged from to there)) (kept_sorted from to)) (kept_alive from to)
         ∙ first_of-filter (λ r. not (is_outdated from to r)) key there (records_of_each_one present ordered keyed)
         ∙ ap (if_passes (λ r. not (is_outdated from to r))) (first_under present ordered keyed key ∙ all key) ∙ passes-or-not from to (found key records);
   }

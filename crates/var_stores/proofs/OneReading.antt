@@ -51,6 +51,20 @@ no_reading (r ∷ rs) (s ∷ ss) bytes rest g is whole cut q =
 pub cut_or_read : (bytes g : List ℕ) (place : ℕ) (ss : List RecordParts) → HasCutRecord bytes place → HasRecords bytes ss g → ⊥
 cut_or_read bytes g place ss h q = no_reading h.records ss bytes h.rest g h.is h.whole h.here q
 
+-- bytes end in one record
+one_cut : (rs ss : List RecordParts) (bytes x y : List ℕ) → bytes ≡ flat_map record_bytes rs ++ x → bytes ≡ flat_map record_bytes ss ++ y → AllByRecursion IsRecord rs → AllByRecursion IsRecord ss →
+    IsCutRecord x → IsCutRecord y → flat_map record_bytes rs ≡ flat_map record_bytes ss
+one_cut [] [] bytes x y e f p q cut cut' = refl
+one_cut [] (s ∷ ss) bytes x y e f p q cut cut' = absurd (cut.cut s (flat_map record_bytes ss ++ y) q.0 (sym e ∙ f ∙ longer s ss y))
+one_cut (r ∷ rs) [] bytes x y e f p q cut cut' = absurd (cut'.cut r (flat_map record_bytes rs ++ x) p.0 (sym f ∙ e ∙ longer r rs x))
+one_cut (r ∷ rs) (s ∷ ss) bytes x y e f p q cut cut' =
+    let one = one_record bytes r s (flat_map record_bytes rs ++ x) (flat_map record_bytes ss ++ y) p.0 q.0 (e ∙ longer r rs x) (f ∙ longer s ss y) in
+    ap (λ (t : RecordParts). record_bytes t ++ flat_map record_bytes rs) one.0
+    ∙ ap (λ (t : List ℕ). record_bytes s ++ t) (one_cut rs ss (flat_map record_bytes rs ++ x) x y refl one.1 p.1 q.1 cut cut')
+
+pub one_place : (bytes : List ℕ) (m n : ℕ) → HasCutRecord bytes m → HasCutRecord bytes n → m ≡ n
+one_place bytes m n g h = g.place_is ∙ ap length (one_cut g.records h.records bytes g.rest h.rest g.is h.is g.whole h.whole g.here h.here) ∙ sym h.place_is
+
 pub one_store : (file : List ℕ) (s t : StoreParts) → SpellsStore file s → SpellsStore file t → s ≡ t
 one_store file s t p q =
     let records = one_reading s.records t.records (area_of file) s.free t.free p.area q.area in

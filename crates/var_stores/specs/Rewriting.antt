@@ -1,15 +1,18 @@
 -- What becomes of a store if the boot manager's variables are to be those of a set.
-use Rattle.std.specs.Prelude.{◌≡◌, ◌⊎◌, ℕ, ◌+◌, ◌-◌, ◌<◌, ◌≤◌, ◌||◌, ◌&&◌, not, Bool, false, if◌then◌else◌, List, [], ◌∷◌, ◌++◌, length, map, drop, Option, Some, None}
+use Rattle.std.specs.Prelude.{◌≡◌, ◌≢◌, ◌⊎◌, ℕ, ◌+◌, ◌-◌, ◌<◌, ◌≤◌, ◌||◌, ◌&&◌, not, Bool, true, false, if◌then◌else◌, List, [], ◌∷◌, ◌++◌, length, map, drop, Option, Some, None}
 use Rattle.std.specs.Option.{is_none, option_map_or}
-use Rattle.std.specs.List.{filter, flat_map}
+use Rattle.std.specs.List.{AllByRecursion, filter, flat_map}
 use Rattle.std.proofs.Math.ListN.{replicate}
 use Rattle.std.specs.List.Sorted.{IsStrictlySortedBy}
 use Rattle.std.specs.Int.{w32, to_le_bytes}
 use Rattle.std.specs.FinMap.{get, entries}
 use Rattle.uefi_vars.specs.Vars.{Variables, name_cmp}
+use Rattle.var_stores.specs.declared.fault.StoreFault.TheVariants as fault
+use Rattle.var_stores.specs.declared.write_fault.WriteFault.{WriteFault}
+use Rattle.var_stores.specs.declared.write_fault.WriteFault.TheVariants as write_fault
 use Rattle.var_stores.specs.BootChange.{same_name, differs, is_boot_name}
 use Rattle.var_stores.specs.Record.{RecordParts, vendor_in, attribute_bytes, padding_len, record_bytes, BeginsRecord}
-use Rattle.var_stores.specs.Volume.{area_of, StoreParts, SpellsStore}
+use Rattle.var_stores.specs.Volume.{area_of, StoreParts, SpellsStore, IsStoreFault}
 use Rattle.var_stores.specs.Present.{global_guid, stored_name, name_in, key_of, global_key, is_alive, found, IsSetOf}
 
 -- ---- which variables change
@@ -91,6 +94,7 @@ unless_outdated from to (Some r) = if is_outdated from to r then None else Some 
 -- the records of the variables that are there and don't change, in the order of their vendors and names
 pub record AreKept (records : List RecordParts) (from to : Variables) (kept : List RecordParts) : Type 0 where
   pub order : IsStrictlySortedBy name_cmp (map key_of kept)
+  pub alive : AllByRecursion (λ r. is_alive r ≡ true) kept
   pub each : (key : List ℕ) → found key kept ≡ unless_outdated from to (found key records)
 
 -- ---- the file
@@ -131,3 +135,9 @@ pub record IsFull (file : List ℕ) (to : Variables) : Type 0 where
   pub kept : List RecordParts
   pub are : AreKept before.records from to kept
   pub many : length (area_of file) < length (flat_map record_bytes kept ++ new_bytes before.records from to)
+
+-- why nothing is written: a fault of the file, or too little room, unless it is out of memory
+abbrev pub IsWriteFault : List ℕ → Variables → WriteFault → Type 0
+IsWriteFault file to (write_fault.Store f) = IsStoreFault file f × (f ≢ fault.OutOfMemory)
+IsWriteFault file to write_fault.Full = IsFull file to
+IsWriteFault file to write_fault.OutOfMemory = Unit {0}

@@ -83,6 +83,12 @@ pub fn a_fault_leaves_no_store()
         IsStoreFault file fault → SpellsStore file store → ⊥ }
 {}
 
+/// A file has at most one first fault.
+pub fn a_file_has_one_fault()
+    ensures { (file : List ℕ) (f g : StoreFault) → f ≢ StoreFault.OutOfMemory → g ≢ StoreFault.OutOfMemory →
+        IsStoreFault file f → IsStoreFault file g → f ≡ g }
+{}
+
 /// The record of a variable that is there is the first of its records that was added; if none was, the last that is being
 /// replaced; and if there is none of either kind, the variable isn't there.
 pub fn one_record_of_a_variable_is_there()

@@ -1,17 +1,20 @@
 //! Stores whose boot variables are to be those of a set.
 
-ghost use Rattle.std.specs.Prelude.{◌≡◌, ◌<◌, ◌^◌, ◌∷◌, ◌++◌, ℕ, List, length, drop, map, true, false, Ok, Err, MatchOption, IfSome, IfOk, OnOk};
+ghost use Rattle.std.specs.Prelude.{◌≡◌, ◌≢◌, ◌<◌, ◌^◌, ◌∷◌, ◌++◌, ℕ, List, length, drop, map, true, false, Ok, Err, MatchOption, IfSome, IfOk, IfErr, OnOk};
 ghost use Rattle.std.specs.List.{flat_map};
 ghost use Rattle.std.proofs.Math.ListN.{replicate};
 ghost use Rattle.std.specs.BTreeMap.{IsOrdered, values};
 ghost use Rattle.std.specs.FinMap as map;
 ghost use Rattle.uefi_vars.specs.Name.{IsName};
 ghost use Rattle.uefi_vars.specs.Vars.{name_cmp, IsData, IsVars};
+ghost use Rattle.uefi_path.specs.Answer.{IsUnless};
+ghost use Rattle.var_stores.specs.declared.fault.StoreFault.{StoreFault};
 ghost use Rattle.var_stores.specs.declared.write_fault.WriteFault.{WriteFault};
 ghost use Rattle.var_stores.specs.Record.{record_parts, record_bytes, padding_len};
+ghost use Rattle.var_stores.specs.Volume.{IsStoreFault};
 ghost use Rattle.var_stores.specs.Present.{stored_name, global_key};
 ghost use Rattle.var_stores.specs.PresentMap.{record_under, AreWhole};
-ghost use Rattle.var_stores.specs.Rewriting.{is_rewritten, is_outdated, without_outdated, unchanged, attributes_there, header_of, new_record, added, Fits, IsWritten, IsFull};
+ghost use Rattle.var_stores.specs.Rewriting.{is_rewritten, is_outdated, without_outdated, unchanged, attributes_there, header_of, new_record, added, Fits, IsWritten, IsWriteFault};
 
 use crate::boot_change::{is_boot_name, is_changed};
 use crate::present::{Present, present};
@@ -45,7 +48,9 @@ const BLANK: u8 = 0xFF;
 /// [`WriteFault::Full`] if the records have no room in the store; [`WriteFault::OutOfMemory`] if memory was refused.
 pub fn write_boot_vars(alloc: Global, file: &[u8], to: &Vars) -> Result<Vec<u8>, WriteFault>
     ensures written { IfOk result (λ bytes. IsWritten file.now to.now bytes.items) }
-    ensures full { result ≡ Err WriteFault.Full → IsFull file.now to.now }
+    ensures fault { IfErr result (IsWriteFault file.now to.now) }
+    ensures only_fault { (fault : StoreFault) → fault ≢ StoreFault.OutOfMemory → IsStoreFault file.now fault →
+        IsUnless result (Err (WriteFault.Store fault)) WriteFault.OutOfMemory }
 {
     let store = read_store(alloc, file)?;
     let present = present(alloc, &store.records)?;

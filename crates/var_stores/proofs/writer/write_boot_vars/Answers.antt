@@ -10,6 +10,7 @@ use Rattle.var_stores.specs.Volume.{store_parts, SpellsStore}
 use Rattle.var_stores.specs.Present.{global_key, found, set_data, IsSetOf}
 use Rattle.var_stores.specs.PresentMap.{record_under, AreWhole}
 use Rattle.var_stores.specs.Rewriting.{added, unchanged, without_outdated, new_records, new_bytes, Fits, IsWritten}
+use Rattle.var_stores.proofs.StoreFaults.{no_store, store_fault, store_only}
 use Rattle.var_stores.proofs.PresentRecords.{are_whole}
 use Rattle.var_stores.proofs.RewrittenStores.{appended, moved, put_together, fills_area, exceeds_area}
 use Rattle.var_stores.proofs.WholeRecords.{without_outdated-whole, added-whole}
@@ -23,8 +24,24 @@ added-requires c =
     are_whole c.in_ok-present.present records
     (λ key. c.in_ok-present.ensures.there key ∙ ap (λ (rs : List Record). found key (map record_parts rs)) c.deref.ensures.value) c.in_ok-store.ensures.found.area.whole
 
-pub returns-then-not-branch-clause-full : goal.returns-then-not-branch-clause-full
-returns-then-not-branch-clause-full c = λ is_full.
+pub returns-in_err-store-clause-fault : goal.returns-in_err-store-clause-fault
+returns-in_err-store-clause-fault c =
+    store_fault c.args.file.now c.args.to.now c.in_err-store.field-0.0 c.from_residual.result c.from_residual.ensures.1 c.in_err-store.ensures.fault
+
+pub returns-in_err-store-clause-only_fault : goal.returns-in_err-store-clause-only_fault
+returns-in_err-store-clause-only_fault c = λ fault other is.
+    store_only c.args.file.now c.in_err-store.field-0.0 fault c.from_residual.result c.from_residual.ensures.1 c.in_err-store.ensures.fault other is
+
+pub returns-then-not-branch-clause-only_fault : goal.returns-then-not-branch-clause-only_fault
+returns-then-not-branch-clause-only_fault c = λ fault other is.
+    absurd (no_store c.args.file.now fault (store_parts c.in_ok-store.store) other is c.in_ok-store.ensures.found)
+
+pub returns-clause-only_fault : goal.returns-clause-only_fault
+returns-clause-only_fault c = λ fault other is.
+    absurd (no_store c.args.file.now fault (store_parts c.in_ok-store.store) other is c.in_ok-store.ensures.found)
+
+pub returns-then-not-branch-clause-fault : goal.returns-then-not-branch-clause-fault
+returns-then-not-branch-clause-fault c =
     let store = c.in_ok-store.store in
     let file = c.args.file.now in
     let s = store_parts store in
