@@ -1,3 +1,4 @@
 -- what the proofs of functions use
 mod Texts
 mod Left
+mod Standard

@@ -1,4 +1,5 @@
 -- what public contracts cite
 pub mod Table
+pub mod Standard
 pub mod Shown
 pub mod Named

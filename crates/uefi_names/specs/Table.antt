@@ -1,12 +1,13 @@
--- The table of nodes: which row and which form of it a node has.
-use Rattle.std.specs.Prelude.{◌≡◌, ℕ, ◌-◌, ◌%◌, Bool, true, ◌==◌, ◌&&◌, not, nat_le, List, [], ◌∷◌, length, take, drop, map}
+-- A table of nodes: which row and which form of it a node has, and what each table is to keep to.
+use Rattle.std.specs.Prelude.{◌≡◌, ℕ, ◌+◌, ◌-◌, ◌%◌, Bool, true, ◌==◌, ◌&&◌, not, nat_le, List, [], ◌∷◌, length, take, drop, map}
 use Rattle.std.specs.Prelude.{Option, slice_index, bit_and, if◌then◌else◌}
 use Rattle.std.specs.Cmp.Lexicographic.{pointwise}
-use Rattle.std.specs.List.{find, list_any}
+use Rattle.std.specs.List.{find, list_all, list_any}
 use Rattle.std.specs.Option.{option_and_then}
 use Rattle.uefi_names.specs.declared.table.NodeTable.{NodeTable}
 use Rattle.uefi_names.specs.declared.table.NodeRow.{NodeRow}
 use Rattle.uefi_names.specs.declared.table.Form.{Form}
+use Rattle.uefi_names.specs.declared.table.Field.{Field}
 use Rattle.uefi_names.specs.declared.table.When.{When}
 use Rattle.uefi_names.specs.declared.table.When.TheVariants.{Always, Byte, Bytes}
 use Rattle.uefi_names.specs.declared.table.DataLen.{DataLen}
@@ -55,3 +56,25 @@ are_distinct (n ∷ others) = not (list_any (λ other. n == other) others) && ar
 -- no two rows of a type have the same sub-type
 abbrev pub IsTable : NodeTable → Type 0
 IsTable table = (kind : ℕ) → are_distinct (map (λ row. row.sub) (rows_of table kind)) ≡ true
+
+-- the length of a field that goes to the end of the data
+abbrev pub to_end : ℕ
+to_end = 18446744073709551615
+
+-- the fewest bytes that data may have
+abbrev pub least : DataLen → ℕ
+least (Exactly wanted) = wanted
+least (AtLeast few) = few
+least (Items before each) = before
+
+-- the field has its bytes among so many, or goes from one of these, or from their end, to the end of the data
+abbrev pub is_within : ℕ → Field → Bool
+is_within few field = if field.len == to_end then nat_le field.at few else nat_le (field.at + field.len) few
+
+-- each field of the form is within the fewest bytes that its data may have
+abbrev pub is_whole : Form → Bool
+is_whole form = list_all (is_within (least form.len)) form.fields.now
+
+-- that is so of each form of each type
+abbrev pub AreWhole : NodeTable → Type 0
+AreWhole table = (kind : ℕ) → list_all (λ row. list_all is_whole row.forms.now) (rows_of table kind) ≡ true

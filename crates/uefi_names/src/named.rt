@@ -2,8 +2,7 @@
 
 ghost use Rattle.std.specs.Prelude.{◌≡◌, IfOk};
 ghost use Rattle.std.specs.String.{string_bytes};
-ghost use Rattle.uefi_names.specs.declared.table.NodeTable.{NodeTable};
-ghost use Rattle.uefi_names.specs.Table.{IsTable};
+ghost use Rattle.uefi_names.specs.Standard.{standard_table};
 ghost use Rattle.uefi_names.specs.Named.{named_path};
 
 use crate::shown::FormText;
@@ -102,8 +101,7 @@ impl fmt::Display for NamedNode<'_> {
 /// fields for each node of the standard (UEFI 2.10, 10.3) that would be printed as a `Path` of its bytes. It can't be
 /// read back, and two paths may have the same. This fails only when out of memory.
 pub fn named_text(alloc: Global, path: &Path) -> Result<String, AllocError>
-    ensures { IfOk result (λ text. (table : NodeTable) × IsTable table
-        × (string_bytes text ≡ named_path table path.now)) }
+    ensures { IfOk result (λ text. string_bytes text ≡ named_path standard_table path.now) }
 {
     let table = NodeTable::standard();
     NamedPath {

@@ -1,7 +1,9 @@
 //! The table of the nodes that have a name here: each of the standard (UEFI 2.10, 10.3) that [`Node`](uefi_path::Node)
 //! has no case for.
 
-ghost use Rattle.uefi_names.specs.Table.{IsTable};
+ghost use Rattle.std.specs.Prelude.{◌≡◌};
+ghost use Rattle.uefi_names.specs.Table.{IsTable, AreWhole};
+ghost use Rattle.uefi_names.specs.Standard.{plain_table, standard_table};
 
 use crate::table::{
     DataLen, Field, Form, Item, NodeRow, NodeTable, Numeral, REST, Show, When, Word,
@@ -550,7 +552,9 @@ static BIOS_BOOT: [NodeRow; 1] = [row!(
 impl NodeTable {
     /// The table of the nodes of the standard that [`Node`](uefi_path::Node) has no case for.
     pub fn standard() -> NodeTable
-        ensures { IsTable result }
+        ensures rows { plain_table result ≡ standard_table }
+        ensures distinct { IsTable result }
+        ensures whole { AreWhole result }
     {
         NodeTable {
             hardware: &HARDWARE,

@@ -6,8 +6,7 @@ ghost use Rattle.uefi_path.specs.declared.node.Node.{Node};
 ghost use Rattle.uefi_path.specs.Node.{row_of, IsNode};
 ghost use Rattle.uefi_path.specs.Path.{IsPath, path_rows};
 ghost use Rattle.uefi_path.specs.Views.{row_seen, rows_left};
-ghost use Rattle.uefi_names.specs.declared.table.NodeTable.{NodeTable};
-ghost use Rattle.uefi_names.specs.Table.{IsTable};
+ghost use Rattle.uefi_names.specs.Standard.{standard_table};
 ghost use Rattle.uefi_names.specs.Named.{named_node, named_path, slash_behind};
 
 use crate::named::NamedNode;
@@ -22,9 +21,8 @@ const END: u8 = 0x7f;
 /// The text of a path for a person, as [`named_text`](crate::named_text) has it, from the nodes that
 /// [`nodes`](uefi_path::nodes) gives where they are in its bytes. This fails only when out of memory.
 pub fn named_nodes_text(alloc: Global, nodes: NodeIter<'_>) -> Result<String, AllocError>
-    ensures { IfOk result (λ text. (table : NodeTable) × IsTable table
-        × ((path : List (List Node)) → IsPath path → rows_left nodes.entry ≡ path_rows path →
-        string_bytes text ≡ named_path table path)) }
+    ensures { IfOk result (λ text. (path : List (List Node)) → IsPath path → rows_left nodes.entry ≡ path_rows path →
+        string_bytes text ≡ named_path standard_table path) }
 {
     let table = NodeTable::standard();
     let mut text = String::new(alloc);

@@ -1,8 +1,9 @@
-use Rattle.std.proofs.Common.{◌≡◌, ◌++◌, ◌∷◌, [], rules}
+use Rattle.std.proofs.Common.{◌≡◌, ◌++◌, ◌∷◌, [], rules, ◌∙◌}
 use Rattle.std.specs.String.{string_bytes}
 use Rattle.uefi_path.specs.Views.{row_seen, rows_left}
 use Rattle.uefi_text.specs.Segment.{comma}
 use Rattle.uefi_names.proofs.Left.{all-left, end-done, node-done, all-done}
+use Rattle.uefi_names.proofs.Standard.{standard-text}
 use Rattle.uefi_names.proofs.views.named_nodes_text.Goals as goal
 
 pub loop-view-init : goal.loop-view-init
@@ -19,5 +20,5 @@ loop-view-preserved c = λ path is e.
     node-done c.standard-table.result path _ _ _ (row_seen c.in-Some.view) _ _ c.in-Some.ensures.steps c.if-view-eq-END.false c.in_ok-append_node.ensures (c.loop-view.invariant path is e)
 
 pub returns : goal.returns
-returns c =
-    (c.standard-table.result, c.standard-table.ensures, λ path is e. all-done c.standard-table.result path _ _ _ c.in-None.ensures.steps.0 (c.loop-view.invariant path is e))
+returns c = λ path is e.
+    all-done c.standard-table.result path _ _ _ c.in-None.ensures.steps.0 (c.loop-view.invariant path is e) ∙ standard-text c.standard-table.result c.standard-table.ensures.rows path
