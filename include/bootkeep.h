@@ -434,6 +434,38 @@ uint32_t bootkeep_keeper_next_number(struct bootkeep_keeper *keeper, uint32_t *n
  */
 uint32_t bootkeep_keeper_close(struct bootkeep_keeper *keeper);
 
+/* ---- Layouts ---------------------------------------------------------------------------------------------------- */
+
+/* Where the library has the fields of each struct. A compiler that can compares its own places with these. */
+#if defined(__cplusplus) && __cplusplus >= 201103L
+#define BOOTKEEP_ASSERT(condition) static_assert(condition, #condition)
+#elif defined(__STDC_VERSION__) && __STDC_VERSION__ >= 201112L
+#define BOOTKEEP_ASSERT(condition) _Static_assert(condition, #condition)
+#endif
+
+#ifdef BOOTKEEP_ASSERT
+BOOTKEEP_ASSERT(offsetof(struct bootkeep_refusal, kind) == 0);
+BOOTKEEP_ASSERT(offsetof(struct bootkeep_refusal, inner_kind) == 4);
+BOOTKEEP_ASSERT(offsetof(struct bootkeep_refusal, place) == 8);
+BOOTKEEP_ASSERT(offsetof(struct bootkeep_refusal, inner_place) == 16);
+BOOTKEEP_ASSERT(sizeof(struct bootkeep_refusal) == 24);
+
+BOOTKEEP_ASSERT(offsetof(struct bootkeep_option_parts, attributes) == 0);
+BOOTKEEP_ASSERT(offsetof(struct bootkeep_option_parts, reserved) == 4);
+BOOTKEEP_ASSERT(offsetof(struct bootkeep_option_parts, description) == 8);
+BOOTKEEP_ASSERT(offsetof(struct bootkeep_option_parts, description_len) == 16);
+BOOTKEEP_ASSERT(offsetof(struct bootkeep_option_parts, list) == 24);
+BOOTKEEP_ASSERT(offsetof(struct bootkeep_option_parts, list_len) == 32);
+BOOTKEEP_ASSERT(offsetof(struct bootkeep_option_parts, optional) == 40);
+BOOTKEEP_ASSERT(offsetof(struct bootkeep_option_parts, optional_len) == 48);
+BOOTKEEP_ASSERT(sizeof(struct bootkeep_option_parts) == 56);
+
+BOOTKEEP_ASSERT(offsetof(struct bootkeep_keeper, is_open) == 0);
+BOOTKEEP_ASSERT(offsetof(struct bootkeep_keeper, at) == 8);
+BOOTKEEP_ASSERT(sizeof(struct bootkeep_keeper) == 16);
+#undef BOOTKEEP_ASSERT
+#endif
+
 #ifdef __cplusplus
 }
 #endif
