@@ -97,7 +97,10 @@ uint32_t bootkeep_version(void);
 #define BOOTKEEP_NO_ROOM 2
 /* There is no variable of this name. */
 #define BOOTKEEP_ABSENT 3
-/* Memory was refused. Nothing has happened. This may come in the place of any other status but BOOTKEEP_CLOSED. */
+/*
+ * Memory was refused. Nothing has happened. This may come in the place of any other status but BOOTKEEP_CLOSED, and but
+ * BOOTKEEP_REFUSED at the calls that say so.
+ */
 #define BOOTKEEP_NO_MEMORY 4
 /* The keeper isn't open. */
 #define BOOTKEEP_CLOSED 5
@@ -225,7 +228,8 @@ struct bootkeep_refusal {
 
 /*
  * The text of the device path at the start of the bytes (UEFI 2.10, 10.3 and 10.6), in the one spelling that is
- * printed, and in `*taken` how many bytes the path takes. What comes after its end is left.
+ * printed, and in `*taken` how many bytes the path takes. What comes after its end is left. A fault of the path is told
+ * even if there is no memory.
  *
  *     BOOTKEEP_DONE, BOOTKEEP_NO_ROOM, BOOTKEEP_NO_MEMORY
  *     BOOTKEEP_REFUSED   a number of paths
@@ -289,7 +293,7 @@ uint32_t bootkeep_option_parts(const uint8_t *bytes, size_t bytes_len, struct bo
 
 /*
  * The description of the load option that the bytes are, as one line of ASCII: units that don't print are shown by
- * their numbers, as docs/formats.md says.
+ * their numbers, as docs/formats.md says. A fault of the option is told even if there is no memory.
  *
  *     BOOTKEEP_DONE, BOOTKEEP_NO_ROOM, BOOTKEEP_NO_MEMORY
  *     BOOTKEEP_REFUSED   a number of load options

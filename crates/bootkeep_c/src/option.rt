@@ -94,7 +94,8 @@ fn places_in(bytes: &[u8], view: OptionView<'_>) -> OptionPlaces
     }
 }
 
-/// The description of the load option that the bytes are, all of them, as one line of ASCII.
+/// The description of the load option that the bytes are, all of them, as one line of ASCII. A fault of the option is
+/// told without taking memory.
 #[unsafe(no_mangle)]
 pub extern "C" fn bootkeep_option_description(
     alloc: Global,

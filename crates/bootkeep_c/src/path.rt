@@ -8,7 +8,7 @@ ghost use Rattle.uefi_path.specs.Path.{IsPathFront};
 ghost use Rattle.uefi_path.specs.Fault.{IsFirstFault};
 ghost use Rattle.uefi_text.specs.Printed.{canonical};
 ghost use Rattle.bootkeep_c.specs.Status.{done, refused, no_room, IsReadStatus, IsGiveStatus};
-ghost use Rattle.bootkeep_c.specs.Refusals.{path_failure, Tells, TellsUnless};
+ghost use Rattle.bootkeep_c.specs.Refusals.{path_failure, Tells};
 ghost use Rattle.bootkeep_c.specs.Buffer.{IsInFront, GivesUnless};
 
 use crate::buffer::give;
@@ -19,7 +19,8 @@ use std::alloc::Global;
 use uefi_path::{check_path, read_path};
 use uefi_text::path_text;
 
-/// The text of the device path at the start of the bytes (UEFI 2.10, 10.3 and 10.6), and how many bytes it takes.
+/// The text of the device path at the start of the bytes (UEFI 2.10, 10.3 and 10.6), and how many bytes it takes. A
+/// fault of the path is told without taking memory.
 #[unsafe(no_mangle)]
 pub extern "C" fn bootkeep_path_text(
     alloc: Global,
@@ -34,7 +35,7 @@ pub extern "C" fn bootkeep_path_text(
         GivesUnless result (canonical path) out.old out.new len.old len.new × (result ≡ done → taken.new ≡ n) }
     // The first fault is told.
     ensures fault { (fault : PathFault) → IsFirstFault bytes.now fault →
-        TellsUnless (path_failure fault) result refusal.old refusal.new }
+        Tells (path_failure fault) result refusal.old refusal.new }
     // What is given is the text of what is spelled, and what is told is the first fault.
     ensures found { result ≡ done → (path : List (List Node))
         × IsPathFront bytes.now path taken.new × IsInFront (canonical path) out.old out.new len.new }
@@ -64,7 +65,11 @@ fn printed(alloc: Global, bytes: &[u8]) -> Result<(String, usize), Failure>
         × IsPathFront bytes.now path printed.1 × (string_bytes printed.0 ≡ canonical path)) }
     ensures fault { IfErr result (λ failed. failed ≢ Failure.Memory →
         (fault : PathFault) × IsFirstFault bytes.now fault × (failed ≡ path_failure fault)) }
+    // A fault is found before memory is taken.
+    ensures only_fault { (fault : PathFault) → IsFirstFault bytes.now fault →
+        IfErr result (λ failed. failed ≡ path_failure fault) }
 {
+    check_path(bytes)?;
     let (path, count) = read_path(alloc, bytes)?;
     let text = path_text(alloc, &path)?;
     Ok((text, count))

@@ -1,10 +1,10 @@
 use Rattle.std.proofs.Common.{◌≡◌, ℕ, List, inl, inr, refl, ap, subst, ◌∙◌, arith}
 use Rattle.uefi_path.proofs.Paths.{same_front, no_fault_at_front}
-use Rattle.uefi_path.proofs.Faults.{same_fault}
 use Rattle.uefi_text.specs.Printed.{canonical}
-use Rattle.bootkeep_c.specs.Refusals.{path_failure}
+use Rattle.bootkeep_c.specs.declared.failure.Failure.{Failure}
+use Rattle.bootkeep_c.specs.Refusals.{Tells}
 use Rattle.bootkeep_c.specs.Buffer.{Gives}
-use Rattle.bootkeep_c.proofs.Telling.{only_memory, only_failure}
+use Rattle.bootkeep_c.proofs.Telling.{only_memory}
 use Rattle.bootkeep_c.proofs.path.bootkeep_path_text.Goals as goal
 use Rattle.bootkeep_c.proofs.path.bootkeep_path_text.Goals.{then-status-eq-DONE, else-status-eq-DONE}
 
@@ -33,5 +33,4 @@ returns-in-Err-clause-text c = λ path n front.
 
 pub returns-in-Err-clause-fault : goal.returns-in-Err-clause-fault
 returns-in-Err-clause-fault c = λ fault first.
-    only_failure c.in-Err.failure (path_failure fault) c.tell.result c.args.refusal.now c.tell.new.refusal c.tell.ensures
-    (λ other. let why = c.in-Err.ensures.fault other in why.2 ∙ ap path_failure (same_fault c.args.bytes.now why.0 fault why.1 first))
+    subst (λ (f : Failure). Tells f c.tell.result c.args.refusal.now c.tell.new.refusal) (c.in-Err.ensures.only_fault fault first) c.tell.ensures
