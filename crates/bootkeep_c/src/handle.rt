@@ -77,6 +77,9 @@ pub struct KeeperHandle {
     pub ghost tells: { is_open ≡ open_number seal.kept },
 }
 
+// As many bytes as the header asserts.
+const _: () = prove!(size_of::<KeeperHandle>() == 16);
+
 impl KeeperHandle {
     /// A closed handle.
     fn closed(alloc: Global) -> KeeperHandle

@@ -45,6 +45,9 @@ pub struct OptionPlaces {
     pub optional_len: usize,
 }
 
+// As many bytes as the header asserts.
+const _: () = prove!(size_of::<OptionPlaces>() == 56);
+
 /// Where the parts of the load option are that the bytes are, all of them (UEFI 2.10, 3.1.3). This takes no memory.
 #[unsafe(no_mangle)]
 pub extern "C" fn bootkeep_option_parts(

@@ -115,3 +115,6 @@ pub struct Refusal {
     /// Where the fault within is, from there on, or [`NO_PLACE`].
     pub inner_place: usize,
 }
+
+// As many bytes as the header asserts.
+const _: () = prove!(size_of::<Refusal>() == 24);
