@@ -1,7 +1,7 @@
 //! A run of the program, over any runtime.
 
 ghost use Rattle.std.specs.Prelude.{◌≡◌, ◌≢◌, ℕ, ◌<◌, ◌≤◌, List, length, Err, IfOk, IfErr, IfSome, MatchResult, false};
-ghost use Rattle.std.specs.Io.KnownBytes.{Appends};
+ghost use Rattle.std.specs.Io.KnownBytes.{Keeps, Appends};
 ghost use Rattle.uefi_vars.specs.Vars.{Variables};
 ghost use Rattle.boot_requests.specs.declared.reply.Reply.{Reply};
 ghost use Rattle.boot_commands.specs.declared.fault.ScriptFault.{ScriptFault};
@@ -19,9 +19,8 @@ use boot_commands::{
     path_report, read_file, refuse, run_script, run_stream, set_report, text_report, write_file,
 };
 use std::alloc::Global;
-use std::env;
-use std::io::{self, Read, Write};
 use std::rt::{Env, Files};
+use std::{env, io};
 use uefi_vars::{Vars, read_set, write_set};
 
 /// Does what the words of the command line ask for, and returns the status to end with: 0, or that
@@ -89,57 +88,68 @@ fn run_file<R: Files<File: OutputFile> + Print + AllocGlobal>(
             return Err(fault.into());
         }
     };
+    let mut reader = watch(script.as_slice());
     let lock = lock_file(rt, file);
     let vars = read_vars(rt, set)?;
     let lock = match lock {
         Ok(lock) => lock,
         Err(fault) => {
-            run_events(alloc, format, script.as_slice(), io::sink(), vars)?;
+            run_events(alloc, format, &mut reader, &mut watch(io::sink()), vars)?;
             return Err(fault.into());
         }
     };
-    let vars = run_events(alloc, format, script.as_slice(), io::writer(rt), vars)?;
+    let vars = run_events(alloc, format, &mut reader, &mut watch(io::writer(rt)), vars)?;
     let bytes = write_set(alloc, &vars)?;
     Ok(write_file(rt, lock, &bytes)?)
 }
 
-/// The variables after the events of a script or a stream, whose replies are written, a line for each.
-fn run_events<R: Read + Drop, W: Write + Drop>(
+/// A reader or a writer of which no call has failed.
+fn watch<T>(inner: T) -> Watched<T>
+    ensures inner { result.inner ≡ inner }
+    ensures failed { result.failed ≡ false }
+{
+    Watched {
+        inner,
+        failed: false,
+    }
+}
+
+/// The variables after the events of a script or a stream, whose replies are written, a line for each. If this fails,
+/// nothing is written, except at [`Failure::Write`], when it is a prefix of the lines.
+fn run_events<R: Source, W: Sink>(
     alloc: Global,
     format: InputFormat,
-    script: R,
-    replies: W,
+    script: &mut R,
+    replies: &mut W,
     vars: Vars,
 ) -> Result<Vars, Failure>
-    // All that was read is a script or a stream, and the variables are those after it.
+    requires reads { R.failed script.old ≡ false }
+    requires writes { W.failed replies.old ≡ false }
+    // All that was read is a script or a stream, the variables are those after it, and all its replies were written.
     ensures done { IfOk result (λ after.
-        (text : List ℕ) × IfSome (R.remaining script) (λ known. known ≡ text) × (length text ≤ script_max)
-        × (answers : List Reply) × RunsIn format text vars after answers) }
-    ensures refused { IfErr result (λ failure. IfSome (R.remaining script) (λ text.
+        (text : List ℕ) × ReadsAll (R.remaining script.old) (R.remaining script.new) text × (length text ≤ script_max)
+        × (answers : List Reply) × RunsIn format text vars after answers
+        × Appends (W.contents replies.old) (W.contents replies.new) (answer_lines answers)) }
+    ensures refused { IfErr result (λ failure. IfSome (R.remaining script.old) (λ text.
         IfRefused failure (TellsScriptFault format text vars))) }
-    ensures too_much { result ≡ Err failure.TooMuch → IfSome (R.remaining script) (λ text.
+    ensures too_much { result ≡ Err failure.TooMuch → IfSome (R.remaining script.old) (λ text.
         script_max < length text) }
     // The first fault of the input and of the variables is told as the program's failure for it.
-    ensures only_fault { IfSome (R.remaining script) (λ text. (fault : ScriptFault) →
+    ensures only_fault { IfSome (R.remaining script.old) (λ text. (fault : ScriptFault) →
         IsFirstFaultIn format text vars fault → IsFailureUnless result fault) }
-    // If replies aren't written, all of the input was read.
+    // If replies aren't written, all of the input was read, and the first of them were written.
     ensures write { result ≡ Err failure.Write →
-        (text : List ℕ) × IfSome (R.remaining script) (λ known. known ≡ text) × (length text ≤ script_max)
-        × (after : Variables) × (answers : List Reply) × RunsIn format text vars after answers }
+        (text : List ℕ) × ReadsAll (R.remaining script.old) (R.remaining script.new) text × (length text ≤ script_max)
+        × (after : Variables) × (answers : List Reply) × RunsIn format text vars after answers
+        × AppendsFront (W.contents replies.old) (W.contents replies.new) (answer_lines answers) }
+    ensures unwritten { IfErr result (λ failed. failed ≢ failure.Write →
+        Keeps (W.contents replies.old) (W.contents replies.new)) }
     // Which failures may come, also if the bytes aren't known: those for the faults that such a run may have.
     ensures may_come { IfErr result (λ failure.
         (fault : ScriptFault) × MayComeIn format vars fault × IsFailureOf fault failure) }
     ensures no_usage { result ≢ Err failure.CommandLine }
 {
-    let mut reader = Watched {
-        inner: script,
-        failed: false,
-    };
-    let mut writer = Watched {
-        inner: replies,
-        failed: false,
-    };
-    match run_input(alloc, format, &mut reader, &mut writer, vars) {
+    match run_input(alloc, format, script, replies, vars) {
         Ok(vars) => Ok(vars),
         Err(fault) => Err(Failure::of_script(alloc, fault)),
     }
@@ -169,6 +179,8 @@ fn run_input<R: Source, W: Sink>(
         (text : List ℕ) × ReadsAll (R.remaining reader.old) (R.remaining reader.new) text × (length text ≤ script_max)
         × (after : Variables) × (answers : List Reply) × RunsIn format text vars after answers
         × AppendsFront (W.contents writer.old) (W.contents writer.new) (answer_lines answers) }
+    ensures unwritten { IfErr result (λ fault. fault ≢ ScriptFault.Write →
+        Keeps (W.contents writer.old) (W.contents writer.new)) }
 {
     match format {
         InputFormat::Script => run_script(alloc, reader, writer, vars),
