@@ -1,16 +1,18 @@
 //! What differs between two sets of variables, by `bootvars diff`.
 
 use crate::content::{Content, DataText, EntryDigits, Quoted};
-use crate::json::json_line;
+use crate::json::{
+    JsonObject, Leaf, append_leaf, append_leaves, append_object, append_objects, json_line,
+};
 use crate::shown_option::{AttributeWords, ShownOption};
-use serde::Serialize;
+use serde::Serializer;
 use std::alloc::{AllocError, Global};
-use std::fmt;
+use std::fmt::{self, Display};
 use uefi_vars::{Vars, entry_number};
 use var_stores::{BootChange, boot_changes};
 
-/// What differs between two sets, as it is shown: the fields of its JSON.
-#[derive(Drop, Serialize)]
+/// What differs between two sets, as it is shown.
+#[derive(Drop)]
 struct ShownDiff<'a> {
     /// Whether nothing does.
     equal: bool,
@@ -18,8 +20,15 @@ struct ShownDiff<'a> {
     changes: Vec<ShownChange<'a>>,
 }
 
+impl JsonObject for ShownDiff<'_> {
+    fn append_members<S: Serializer>(&self, out: &mut S) -> Result<(), S::Error> {
+        append_leaf("equal", Leaf::Flag(self.equal), out)?;
+        append_objects("changes", &self.changes, out)
+    }
+}
+
 /// A change as it is shown.
-#[derive(Drop, Serialize)]
+#[derive(Drop)]
 struct ShownChange<'a> {
     /// What becomes of the variable.
     change: ChangeKind,
@@ -33,9 +42,23 @@ struct ShownChange<'a> {
     after: Option<Content>,
 }
 
+impl JsonObject for ShownChange<'_> {
+    fn append_members<S: Serializer>(&self, out: &mut S) -> Result<(), S::Error> {
+        append_leaves(
+            &[
+                ("change", Leaf::Word(Some(self.change.word()))),
+                ("name", Leaf::Text(Some(self.name))),
+                ("entry", Leaf::Entry(self.entry)),
+            ],
+            out,
+        )?;
+        append_object("before", self.before.as_ref(), out)?;
+        append_object("after", self.after.as_ref(), out)
+    }
+}
+
 /// What becomes of a variable.
-#[derive(Clone, Copy, PartialEq, Eq, Drop, Serialize)]
-#[serde(rename_all = "lowercase")]
+#[derive(Clone, Copy)]
 enum ChangeKind {
     /// It is new.
     Added,
@@ -52,6 +75,15 @@ impl ChangeKind {
             (None, Some(_)) => ChangeKind::Added,
             (Some(_), None) => ChangeKind::Removed,
             _ => ChangeKind::Changed,
+        }
+    }
+
+    /// What its JSON calls it.
+    fn word(self) -> &'static str {
+        match self {
+            ChangeKind::Added => "added",
+            ChangeKind::Removed => "removed",
+            ChangeKind::Changed => "changed",
         }
     }
 
@@ -140,15 +172,13 @@ fn append_change(
     change: &BootChange<'_>,
     report: &mut String,
 ) -> Result<(), AllocError> {
-    let ShownChange {
-        change: kind,
-        name,
-        before,
-        after,
-        ..
-    } = ShownChange::new(alloc, change)?;
-    write!(report, "{} {name}", kind.sign())?;
-    match (&before, &after) {
+    append_shown(&ShownChange::new(alloc, change)?, report)
+}
+
+/// Appends the lines of a change, as it is shown.
+fn append_shown(change: &ShownChange<'_>, report: &mut String) -> Result<(), AllocError> {
+    write!(report, "{} {}", change.change.sign(), change.name)?;
+    match (&change.before, &change.after) {
         (Some(Content::LoadOption(before)), Some(Content::LoadOption(after))) => {
             writeln!(report, " {}", Quoted(&after.description))?;
             append_parts(before, after, report)
@@ -168,22 +198,38 @@ fn append_parts(
 ) -> Result<(), AllocError> {
     if before.description != after.description {
         let (before, after) = (Quoted(&before.description), Quoted(&after.description));
-        writeln!(report, "  description {before} -> {after}")?;
+        append_part("description", before, after, report)?;
     }
     if before.attributes != after.attributes {
-        let (before, after) = (
-            AttributeWords(before.attributes),
+        let before = AttributeWords(before.attributes);
+        append_part(
+            "attributes",
+            before,
             AttributeWords(after.attributes),
-        );
-        writeln!(report, "  attributes {before} -> {after}")?;
+            report,
+        )?;
     }
     append_paths(before, after, report)?;
     if before.optional != after.optional {
         let before = OptionalData(before.optional.as_ref());
-        let after = OptionalData(after.optional.as_ref());
-        writeln!(report, "  optional {before} -> {after}")?;
+        append_part(
+            "optional",
+            before,
+            OptionalData(after.optional.as_ref()),
+            report,
+        )?;
     }
     Ok(())
+}
+
+/// Appends an indented line for a part that was one thing, and becomes another.
+fn append_part<D: Display + Drop>(
+    name: &str,
+    before: D,
+    after: D,
+    report: &mut String,
+) -> Result<(), AllocError> {
+    writeln!(report, "  {name} {before} -> {after}")
 }
 
 /// Appends an indented line for each place of the lists of paths in which two options differ.

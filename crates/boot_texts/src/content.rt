@@ -1,5 +1,6 @@
 //! What variables hold, as it is shown.
 
+use crate::json::{JsonObject, Leaf, append_leaf, append_leaves};
 use crate::reason::{bytes_reason, numbers_reason};
 use crate::shown_option::ShownOption;
 use serde::{Described, Serialize, Serializer};
@@ -44,8 +45,8 @@ impl fmt::Display for NumberList<'_> {
     }
 }
 
-/// Bytes that aren't what their variable is to hold, as they are shown: the fields of their JSON.
-#[derive(Drop, Serialize)]
+/// Bytes that aren't what their variable is to hold, as they are shown.
+#[derive(Drop)]
 pub(crate) struct ShownFault {
     /// The words of the fault.
     pub(crate) fault: String,
@@ -57,18 +58,30 @@ pub(crate) struct ShownFault {
     pub(crate) data: String,
 }
 
+impl JsonObject for ShownFault {
+    fn append_members<S: Serializer>(&self, out: &mut S) -> Result<(), S::Error> {
+        append_leaves(
+            &[
+                ("fault", Leaf::Text(Some(&self.fault))),
+                ("place", Leaf::Count(self.place)),
+                ("reason", Leaf::Word(Some(self.reason))),
+                ("data", Leaf::Text(Some(&self.data))),
+            ],
+            out,
+        )
+    }
+}
+
 impl fmt::Display for ShownFault {
     fn fmt<W: fmt::Write>(&self, f: &mut fmt::Formatter<W>) -> fmt::Result {
         write!(f, "undecodable, {}: {}", self.fault, self.reason)
     }
 }
 
-/// What a variable holds, as it is shown. Its JSON has the member `kind`.
-#[derive(Drop, Serialize)]
-#[serde(tag = "kind", rename_all = "lowercase")]
+/// What a variable holds, as it is shown.
+#[derive(Drop)]
 pub(crate) enum Content {
     /// A load option, of an entry.
-    #[serde(rename = "option")]
     LoadOption(ShownOption),
     /// The numbers of BootOrder.
     Order { entries: Vec<EntryDigits> },
@@ -126,6 +139,16 @@ impl Content {
         }
     }
 
+    /// What its JSON calls it.
+    fn kind(&self) -> &'static str {
+        match self {
+            Content::LoadOption(_) => "option",
+            Content::Order { .. } => "order",
+            Content::Next { .. } => "next",
+            Content::Undecodable(_) => "undecodable",
+        }
+    }
+
     /// Bytes that are no numbers of entries.
     fn of_bad_numbers(alloc: Global, bytes: &[u8], fault: VarFault) -> Result<Content, AllocError> {
         Ok(Content::Undecodable(ShownFault {
@@ -134,6 +157,18 @@ impl Content {
             reason: numbers_reason(&fault),
             data: hex::encode(alloc, bytes)?,
         }))
+    }
+}
+
+impl JsonObject for Content {
+    fn append_members<S: Serializer>(&self, out: &mut S) -> Result<(), S::Error> {
+        append_leaf("kind", Leaf::Word(Some(self.kind())), out)?;
+        match self {
+            Content::LoadOption(option) => option.append_members(out),
+            Content::Order { entries } => { append_leaf("entries", Leaf::Entries(entries), out) }
+            Content::Next { entry } => append_leaf("entry", Leaf::Entry(Some(*entry)), out),
+            Content::Undecodable(fault) => fault.append_members(out),
+        }
     }
 }
 

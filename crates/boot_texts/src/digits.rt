@@ -8,24 +8,24 @@ const ENTRY_DIGITS_MAX: usize = 4;
 /// The greatest number that a request has.
 const NUMBER_MAX: u32 = u32::MAX - 1;
 
-/// Why a word isn't the number that it is to be. It holds the word.
-#[derive(Clone, Copy, Debug, PartialEq, Eq, Drop, Error)]
-pub enum DigitsFault<'a> {
+/// Why a word isn't the number that it is to be: what the word is, for a sentence that begins with it and `is`.
+#[derive(Clone, Copy, Debug, PartialEq, Eq, Error)]
+pub enum DigitsFault {
     /// It isn't one to four hexadecimal digits.
-    #[error("{0:?} is no entry: an entry is one to four hexadecimal digits, as 0003 of Boot0003")]
-    Entry(&'a str),
+    #[error("no entry: an entry is one to four hexadecimal digits, as 0003 of Boot0003")]
+    Entry,
     /// It isn't decimal digits.
-    #[error("{0:?} is no number of a request: that is decimal digits, as 10")]
-    Number(&'a str),
+    #[error("no number of a request: that is decimal digits, as 10")]
+    Number,
     /// It is above the greatest number of a request.
-    #[error("{0:?} is too large: the number of a request is at most 4294967294")]
-    NumberTooLarge(&'a str),
+    #[error("too large: the number of a request is at most 4294967294")]
+    NumberTooLarge,
     /// It is neither decimal digits nor `0x` and hexadecimal ones.
-    #[error("{0:?} isn't attributes: these are decimal digits, or 0x and hexadecimal ones")]
-    Attributes(&'a str),
+    #[error("no value of attributes: that is decimal digits, or 0x and hexadecimal ones")]
+    Attributes,
     /// It has more than 32 bits.
-    #[error("{0:?} is too large: attributes have 32 bits, so they are at most 0xffffffff")]
-    AttributesTooLarge(&'a str),
+    #[error("too large: attributes have 32 bits, so they are at most 0xffffffff")]
+    AttributesTooLarge,
 }
 
 /// The number of an entry that the text is: one to four hexadecimal digits of either case, as in the name of the entry's
@@ -34,11 +34,11 @@ pub enum DigitsFault<'a> {
 /// # Errors
 ///
 /// [`DigitsFault::Entry`] if the text is something else.
-pub fn entry_of_digits(text: &str) -> Result<u16, DigitsFault<'_>> {
+pub fn entry_of_digits(text: &str) -> Result<u16, DigitsFault> {
     if text.len() > ENTRY_DIGITS_MAX || !is_hexadecimal(text) {
-        return Err(DigitsFault::Entry(text));
+        return Err(DigitsFault::Entry);
     }
-    u16::from_str_radix(text, 16).map_err(|_| DigitsFault::Entry(text))
+    u16::from_str_radix(text, 16).map_err(|_| DigitsFault::Entry)
 }
 
 /// The number of a request that the text is: decimal digits, of which the first may be zeros. `0010` is ten.
@@ -47,13 +47,13 @@ pub fn entry_of_digits(text: &str) -> Result<u16, DigitsFault<'_>> {
 ///
 /// [`DigitsFault::Number`] if the text isn't decimal digits, and [`DigitsFault::NumberTooLarge`] if the number is
 /// above 4,294,967,294, the greatest one of a request.
-pub fn number_of_digits(text: &str) -> Result<u32, DigitsFault<'_>> {
+pub fn number_of_digits(text: &str) -> Result<u32, DigitsFault> {
     if !is_decimal(text) {
-        return Err(DigitsFault::Number(text));
+        return Err(DigitsFault::Number);
     }
     match text.parse::<u32>() {
         Ok(number) if number <= NUMBER_MAX => Ok(number),
-        _ => Err(DigitsFault::NumberTooLarge(text)),
+        _ => Err(DigitsFault::NumberTooLarge),
     }
 }
 
@@ -64,13 +64,13 @@ pub fn number_of_digits(text: &str) -> Result<u32, DigitsFault<'_>> {
 ///
 /// [`DigitsFault::Attributes`] if the text is something else, and [`DigitsFault::AttributesTooLarge`] if the number
 /// has more than 32 bits.
-pub fn attributes_of_text(text: &str) -> Result<u32, DigitsFault<'_>> {
+pub fn attributes_of_text(text: &str) -> Result<u32, DigitsFault> {
     let number = match text.strip_prefix("0x") {
         Some(digits) if is_hexadecimal(digits) => u32::from_str_radix(digits, 16),
         None if is_decimal(text) => text.parse::<u32>(),
-        _ => return Err(DigitsFault::Attributes(text)),
+        _ => return Err(DigitsFault::Attributes),
     };
-    number.map_err(|_| DigitsFault::AttributesTooLarge(text))
+    number.map_err(|_| DigitsFault::AttributesTooLarge)
 }
 
 /// Whether the text is decimal digits, one at least: no sign, no blank.

@@ -1,13 +1,15 @@
 //! What the frames of a script or a stream ask for, by `bootvars explain`.
 
 use crate::content::{EntryDigits, NumberList, Summary, digits_of, option_place};
-use crate::json::json_line;
+use crate::json::{
+    JsonObject, Leaf, append_leaf, append_leaves, append_object, append_objects, json_line,
+};
 use crate::place::{Place, script_places};
 use crate::reason::{bytes_reason, frame_reason};
 use crate::shown_option::{AttributeWords, ShownOption};
 use boot_commands::{ScriptFault, read_script};
-use boot_requests::{Event, FeedFault, FrameFault, Inbox, Request, read_frame};
-use serde::Serialize;
+use boot_requests::{Bytes, Event, FeedFault, FrameFault, Inbox, Request, read_frame};
+use serde::Serializer;
 use std::alloc::{AllocError, Global};
 use std::fmt;
 use uefi_option::LoadOption;
@@ -39,8 +41,8 @@ pub struct Explained {
     pub is_faulty: bool,
 }
 
-/// A script or a stream as it is shown: the fields of its JSON.
-#[derive(Drop, Serialize)]
+/// A script or a stream as it is shown.
+#[derive(Drop)]
 struct Explanation {
     /// What the bytes are.
     form: Form,
@@ -53,8 +55,7 @@ struct Explanation {
 }
 
 /// What the bytes are.
-#[derive(Clone, Copy, Drop, Serialize)]
-#[serde(rename_all = "lowercase")]
+#[derive(Clone, Copy)]
 enum Form {
     /// Lines, each with an event.
     Script,
@@ -63,64 +64,42 @@ enum Form {
 }
 
 /// One event of a script, or one frame of a stream.
-#[derive(Drop, Serialize)]
+#[derive(Drop)]
 struct Step {
     /// Where it is.
-    #[serde(flatten)]
     place: Place,
     /// What it asks for.
-    #[serde(flatten)]
     asks: Asks,
 }
 
-/// What a step asks for. The cases without members have braces, since serde flattens no unit variant.
-#[derive(Drop, Serialize)]
-#[serde(tag = "kind", rename_all = "kebab-case")]
+/// What a step asks for.
+#[derive(Drop)]
 enum Asks {
-    /// To store an entry that isn't there.
-    Add {
-        request: u32,
-        entry: EntryDigits,
-        option: Box<ShownOption>,
-    },
-    /// To store an entry in the place of one that is there.
-    Replace {
-        request: u32,
-        entry: EntryDigits,
-        option: Box<ShownOption>,
-    },
-    /// To take out an entry.
-    Remove {
-        request: u32,
-        entry: EntryDigits,
-    },
-    /// To set BootOrder.
-    Order {
-        request: u32,
-        entries: Vec<EntryDigits>,
-    },
-    /// To set BootNext.
-    Next {
-        request: u32,
-        entry: EntryDigits,
-    },
-    /// To store an entry under the least number that none has.
-    AddFree {
-        request: u32,
-        option: Box<ShownOption>,
-    },
-    /// To prepare a boot.
-    Prepare {},
-    /// To hand out the plan.
-    Hand {},
-    /// To start again.
-    Restart {},
+    /// What a request does.
+    Request(ShownRequest),
+    /// An event of this word that is no delivery.
+    Event(&'static str),
     /// Nothing: the bytes aren't a frame.
     Malformed(Malformed),
 }
 
+/// A request as it is shown.
+#[derive(Drop)]
+struct ShownRequest {
+    /// What it is about, in a word.
+    kind: &'static str,
+    /// Its number.
+    request: u32,
+    /// The number of the entry that it names, if it names one.
+    entry: Option<EntryDigits>,
+    /// The numbers that BootOrder is to have, if it is about that.
+    entries: Option<Vec<EntryDigits>>,
+    /// The load option that it has, if it has one. It is in a box, since a script may have many requests without one.
+    option: Option<Box<ShownOption>>,
+}
+
 /// Bytes that are delivered and aren't a frame.
-#[derive(Drop, Serialize)]
+#[derive(Drop)]
 struct Malformed {
     /// The words of the fault.
     fault: String,
@@ -133,10 +112,9 @@ struct Malformed {
 }
 
 /// The fault of a script or a stream.
-#[derive(Drop, Serialize)]
+#[derive(Drop)]
 struct FormFault {
     /// Where it is.
-    #[serde(flatten)]
     place: Place,
     /// The words of the fault.
     fault: String,
@@ -154,7 +132,15 @@ struct FormFault {
 /// [`AllocError`] if memory was refused.
 pub fn explain_report(alloc: Global, bytes: &[u8]) -> Result<Explained, AllocError> {
     let explanation = explain(alloc, bytes)?;
-    let mut text = format!(in alloc; "{}\n", explanation.form)?;
+    let mut text = String::new(alloc);
+    append_explanation(&explanation, &mut text)?;
+    let is_faulty = explanation.first_fault.is_some();
+    Ok(Explained { text, is_faulty })
+}
+
+/// Appends the lines of a script or a stream.
+fn append_explanation(explanation: &Explanation, text: &mut String) -> Result<(), AllocError> {
+    writeln!(text, "{}", explanation.form.word())?;
     for step in &explanation.steps {
         writeln!(text, "{}: {}", step.place, step.asks)?;
     }
@@ -162,11 +148,9 @@ pub fn explain_report(alloc: Global, bytes: &[u8]) -> Result<Explained, AllocErr
         writeln!(text, "{}: {}: {}", fault.place, fault.fault, fault.reason)?;
     }
     match &explanation.first_fault {
-        Some(place) => writeln!(text, "first fault at {place}")?,
-        None => text.push_str("no fault\n")?,
+        Some(place) => writeln!(text, "first fault at {place}"),
+        None => text.push_str("no fault\n"),
     }
-    let is_faulty = explanation.first_fault.is_some();
-    Ok(Explained { text, is_faulty })
 }
 
 /// Explains what the frames of a script or a stream ask for as JSON, an object on one line that ends with a line feed:
@@ -208,57 +192,88 @@ fn first_fault(explanation: &Explanation) -> Option<Place> {
 
 /// What the frames of a stream ask for.
 fn explain_stream(alloc: Global, stream: &[u8]) -> Result<Explanation, AllocError> {
-    let mut inbox = Inbox::new(alloc);
     let mut frames = Vec::new(alloc);
-    let fault = match inbox.feed(stream, &mut frames) {
-        Ok(()) if inbox.held() > 0 => Some(ScriptFault::Rest(inbox.held())),
-        Ok(()) => None,
-        Err(FeedFault::OutOfMemory) => return Err(AllocError),
-        Err(fault) => Some(ScriptFault::Stream(fault)),
-    };
-    let mut steps = Vec::with_capacity(alloc, frames.len())?;
-    let mut offset = 0usize;
-    for frame in &frames {
-        steps.push(Step {
-            place: Place::at_offset(offset),
-            asks: Asks::of_frame(alloc, frame.bytes())?,
-        })?;
-        offset = offset.saturating_add(frame.bytes().len());
-    }
-    let fault = match fault {
-        Some(fault) => Some(FormFault {
-            place: Place::at_offset(offset),
-            fault: fault.words(alloc)?,
-            reason: stream_reason(&fault),
-        }),
-        None => None,
-    };
+    let fault = cut_stream(alloc, stream, &mut frames)?;
+    let (steps, end) = steps_of_frames(alloc, &frames)?;
     Ok(Explanation {
         form: Form::Stream,
         steps,
-        fault,
+        fault: stream_fault(alloc, end, fault)?,
         first_fault: None,
     })
 }
 
+/// Cuts the frames off a stream. The answer is the fault of the stream, if it has one.
+fn cut_stream(
+    alloc: Global,
+    stream: &[u8],
+    frames: &mut Vec<Bytes>,
+) -> Result<Option<ScriptFault>, AllocError> {
+    let mut inbox = Inbox::new(alloc);
+    match inbox.feed(stream, frames) {
+        Ok(()) if inbox.held() > 0 => Ok(Some(ScriptFault::Rest(inbox.held()))),
+        Ok(()) => Ok(None),
+        Err(FeedFault::OutOfMemory) => Err(AllocError),
+        Err(fault) => Ok(Some(ScriptFault::Stream(fault))),
+    }
+}
+
+/// The steps of the frames, one after the other from offset 0, and the offset at which they end.
+fn steps_of_frames(alloc: Global, frames: &[Bytes]) -> Result<(Vec<Step>, usize), AllocError> {
+    let mut steps = Vec::with_capacity(alloc, frames.len())?;
+    let mut offset = 0usize;
+    for frame in frames {
+        let asks = Asks::of_frame(alloc, frame.bytes())?;
+        let place = Place::at_offset(offset);
+        steps.push(Step { place, asks })?;
+        offset = offset.saturating_add(frame.bytes().len());
+    }
+    Ok((steps, offset))
+}
+
+/// The fault of a stream at this offset, if it has one.
+fn stream_fault(
+    alloc: Global,
+    offset: usize,
+    fault: Option<ScriptFault>,
+) -> Result<Option<FormFault>, AllocError> {
+    match fault {
+        Some(fault) => Ok(Some(FormFault {
+            place: Place::at_offset(offset),
+            fault: fault.words(alloc)?,
+            reason: stream_reason(&fault),
+        })),
+        None => Ok(None),
+    }
+}
+
 /// What the lines of a script ask for, up to the first that is bad.
 fn explain_script(alloc: Global, text: &[u8]) -> Result<Explanation, AllocError> {
-    let (steps, fault) = match read_script(alloc, text) {
-        Ok(events) => (steps_of(alloc, text, &events)?, None),
+    match read_script(alloc, text) {
+        Ok(events) => explain_lines(alloc, text, &events, None),
         Err(ScriptFault::BadLine(number)) => {
             let (front, rest) = split_before_line(text, number);
-            // The lines before the first bad one are a script.
-            let Ok(events) = read_script(alloc, front) else {
-                return Err(AllocError);
-            };
             let fault = line_fault(alloc, number, rest)?;
-            (steps_of(alloc, front, &events)?, Some(fault))
+            match read_script(alloc, front) {
+                Ok(events) => explain_lines(alloc, front, &events, Some(fault)),
+                // The lines before the first bad one are a script.
+                Err(_) => Err(AllocError),
+            }
         }
-        Err(_) => return Err(AllocError),
-    };
+        Err(_) => Err(AllocError),
+    }
+}
+
+/// What the lines of a script ask for, which are these events, and the fault of the line after them.
+fn explain_lines(
+    alloc: Global,
+    text: &[u8],
+    events: &[Event],
+    fault: Option<FormFault>,
+) -> Result<Explanation, AllocError> {
     Ok(Explanation {
         form: Form::Script,
-        steps,
+        steps: steps_of(alloc, text, events)?,
         fault,
         first_fault: None,
     })
@@ -321,16 +336,16 @@ impl Asks {
     fn of_event(alloc: Global, event: &Event) -> Result<Asks, AllocError> {
         match event {
             Event::Deliver(bytes) => Asks::of_frame(alloc, bytes.bytes()),
-            Event::Prepare => Ok(Asks::Prepare {}),
-            Event::Hand => Ok(Asks::Hand {}),
-            Event::Restart => Ok(Asks::Restart {}),
+            Event::Prepare => Ok(Asks::Event("prepare")),
+            Event::Hand => Ok(Asks::Event("hand")),
+            Event::Restart => Ok(Asks::Event("restart")),
         }
     }
 
     /// What the bytes ask for, which may be a frame.
     fn of_frame(alloc: Global, bytes: &[u8]) -> Result<Asks, AllocError> {
         match read_frame(alloc, bytes) {
-            Ok((number, request)) => Asks::of_request(alloc, number, &request),
+            Ok((number, request)) => Ok(Asks::Request(ShownRequest::new(alloc, number, &request)?)),
             Err(FrameFault::OutOfMemory) => Err(AllocError),
             Err(fault) => Ok(Asks::Malformed(Malformed {
                 fault: fault.words(alloc)?,
@@ -340,41 +355,42 @@ impl Asks {
             })),
         }
     }
+}
 
-    /// What the request with this number asks for.
-    fn of_request(alloc: Global, number: u32, request: &Request) -> Result<Asks, AllocError> {
-        Ok(match request {
-            Request::Add(entry, option) => Asks::Add {
-                request: number,
-                entry: EntryDigits(*entry),
-                option: shown_option(alloc, option)?,
+impl ShownRequest {
+    /// What is shown of the request with this number.
+    fn new(alloc: Global, number: u32, request: &Request) -> Result<ShownRequest, AllocError> {
+        let (kind, entry) = kind_and_entry(request);
+        Ok(ShownRequest {
+            kind,
+            request: number,
+            entry: entry.map(EntryDigits),
+            entries: match request {
+                Request::Order(order) => Some(digits_of(alloc, order.numbers())?),
+                _ => None,
             },
-            Request::Replace(entry, option) => Asks::Replace {
-                request: number,
-                entry: EntryDigits(*entry),
-                option: shown_option(alloc, option)?,
-            },
-            Request::Remove(entry) => Asks::Remove {
-                request: number,
-                entry: EntryDigits(*entry),
-            },
-            Request::Order(order) => Asks::Order {
-                request: number,
-                entries: digits_of(alloc, order.numbers())?,
-            },
-            Request::Next(entry) => Asks::Next {
-                request: number,
-                entry: EntryDigits(*entry),
-            },
-            Request::AddFree(option) => Asks::AddFree {
-                request: number,
-                option: shown_option(alloc, option)?,
+            option: match request {
+                Request::Add(_, option) | Request::Replace(_, option) | Request::AddFree(option) =>
+                    Some(shown_option(alloc, option)?),
+                _ => None,
             },
         })
     }
 }
 
-/// What is shown of an option, in a box: a script may have many steps without one.
+/// What the request is about, in a word, and the number of the entry that it names.
+fn kind_and_entry(request: &Request) -> (&'static str, Option<u16>) {
+    match request {
+        Request::Add(entry, _) => ("add", Some(*entry)),
+        Request::Replace(entry, _) => ("replace", Some(*entry)),
+        Request::Remove(entry) => ("remove", Some(*entry)),
+        Request::Order(_) => ("order", None),
+        Request::Next(entry) => ("next", Some(*entry)),
+        Request::AddFree(_) => ("add-free", None),
+    }
+}
+
+/// What is shown of an option, in a box.
 fn shown_option(alloc: Global, option: &LoadOption) -> Result<Box<ShownOption>, AllocError> {
     Ok(Box::new(alloc, ShownOption::new(alloc, option)?)?)
 }
@@ -414,61 +430,46 @@ fn reason_in_frame(bytes: &[u8], fault: &FrameFault) -> &'static str {
     }
 }
 
-impl fmt::Display for Form {
-    fn fmt<W: fmt::Write>(&self, f: &mut fmt::Formatter<W>) -> fmt::Result {
-        f.write_str(match self {
+impl Form {
+    /// What it is called.
+    fn word(self) -> &'static str {
+        match self {
             Form::Script => "script",
             Form::Stream => "stream",
-        })
+        }
     }
 }
 
 impl fmt::Display for Asks {
     fn fmt<W: fmt::Write>(&self, f: &mut fmt::Formatter<W>) -> fmt::Result {
         match self {
-            Asks::Add {
-                request,
-                entry,
-                option,
-            } => {
-                write!(
-                    f,
-                    "request {request}: add {entry} {}",
-                    WithAttributes(option)
-                )
-            }
-            Asks::Replace {
-                request,
-                entry,
-                option,
-            } => {
-                write!(
-                    f,
-                    "request {request}: replace {entry} {}",
-                    WithAttributes(option)
-                )
-            }
-            Asks::Remove { request, entry } => write!(f, "request {request}: remove {entry}"),
-            Asks::Order { request, entries } => {
-                write!(f, "request {request}: order{}", NumberList(entries))
-            }
-            Asks::Next { request, entry } => write!(f, "request {request}: next {entry}"),
-            Asks::AddFree { request, option } => {
-                write!(f, "request {request}: add-free {}", WithAttributes(option))
-            }
-            Asks::Prepare {} => f.write_str("prepare"),
-            Asks::Hand {} => f.write_str("hand"),
-            Asks::Restart {} => f.write_str("restart"),
-            Asks::Malformed(bytes) => {
-                let Malformed {
-                    fault,
-                    place,
-                    reason,
-                    ..
-                } = bytes;
-                write!(f, "malformed, {fault}, at byte {place}: {reason}")
-            }
+            Asks::Request(request) => write!(f, "{request}"),
+            Asks::Event(word) => f.write_str(word),
+            Asks::Malformed(malformed) => write!(f, "{malformed}"),
         }
+    }
+}
+
+impl fmt::Display for ShownRequest {
+    fn fmt<W: fmt::Write>(&self, f: &mut fmt::Formatter<W>) -> fmt::Result {
+        write!(f, "request {}: {}", self.request, self.kind)?;
+        if let Some(entry) = &self.entry {
+            write!(f, " {entry}")?;
+        }
+        if let Some(entries) = &self.entries {
+            write!(f, "{}", NumberList(entries))?;
+        }
+        match &self.option {
+            Some(option) => write!(f, " {}", WithAttributes(option)),
+            None => Ok(()),
+        }
+    }
+}
+
+impl fmt::Display for Malformed {
+    fn fmt<W: fmt::Write>(&self, f: &mut fmt::Formatter<W>) -> fmt::Result {
+        let (fault, reason) = (self.fault.as_str(), self.reason);
+        write!(f, "malformed, {fault}, at byte {}: {reason}", self.place)
     }
 }
 
@@ -480,5 +481,70 @@ impl fmt::Display for WithAttributes<'_> {
     fn fmt<W: fmt::Write>(&self, f: &mut fmt::Formatter<W>) -> fmt::Result {
         let attributes = AttributeWords(self.0.attributes);
         write!(f, "{} ({attributes})", Summary(self.0))
+    }
+}
+
+impl JsonObject for Explanation {
+    fn append_members<S: Serializer>(&self, out: &mut S) -> Result<(), S::Error> {
+        append_leaf("form", Leaf::Word(Some(self.form.word())), out)?;
+        append_objects("steps", &self.steps, out)?;
+        append_object("fault", self.fault.as_ref(), out)?;
+        append_object("first_fault", self.first_fault.as_ref(), out)
+    }
+}
+
+impl JsonObject for Step {
+    fn append_members<S: Serializer>(&self, out: &mut S) -> Result<(), S::Error> {
+        self.place.append_members(out)?;
+        match &self.asks {
+            Asks::Request(request) => request.append_members(out),
+            Asks::Event(word) => append_leaf("kind", Leaf::Word(Some(word)), out),
+            Asks::Malformed(malformed) => malformed.append_members(out),
+        }
+    }
+}
+
+impl JsonObject for ShownRequest {
+    fn append_members<S: Serializer>(&self, out: &mut S) -> Result<(), S::Error> {
+        append_leaf("kind", Leaf::Word(Some(self.kind)), out)?;
+        append_leaf("request", Leaf::Number(Some(self.request)), out)?;
+        if let Some(entry) = self.entry {
+            append_leaf("entry", Leaf::Entry(Some(entry)), out)?;
+        }
+        if let Some(entries) = &self.entries {
+            append_leaf("entries", Leaf::Entries(entries), out)?;
+        }
+        match &self.option {
+            Some(option) => append_object("option", Some(&**option), out),
+            None => Ok(()),
+        }
+    }
+}
+
+impl JsonObject for Malformed {
+    fn append_members<S: Serializer>(&self, out: &mut S) -> Result<(), S::Error> {
+        append_leaves(
+            &[
+                ("kind", Leaf::Word(Some("malformed"))),
+                ("fault", Leaf::Text(Some(&self.fault))),
+                ("place", Leaf::Count(Some(self.place))),
+                ("reason", Leaf::Word(Some(self.reason))),
+                ("data", Leaf::Text(Some(&self.data))),
+            ],
+            out,
+        )
+    }
+}
+
+impl JsonObject for FormFault {
+    fn append_members<S: Serializer>(&self, out: &mut S) -> Result<(), S::Error> {
+        self.place.append_members(out)?;
+        append_leaves(
+            &[
+                ("fault", Leaf::Text(Some(&self.fault))),
+                ("reason", Leaf::Word(Some(self.reason))),
+            ],
+            out,
+        )
     }
 }

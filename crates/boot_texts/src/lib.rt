@@ -8,7 +8,7 @@
 //!
 //! [`option_bytes`] makes a load option of words, and [`frame_bytes`] a frame, which [`frame_line`] puts into a line of
 //! a script. [`attribute_bits`], [`attributes_of_text`], [`optional_text`], [`entry_of_digits`] and
-//! [`number_of_digits`] read the words that these take. Faults are sentences for a person, by `{}`.
+//! [`number_of_digits`] read the words that these take. Faults are told in words for a person, by `{}`.
 #![tactic(auto)]
 
 mod changes;

@@ -1,12 +1,13 @@
 //! Places of events in a script or a stream.
 
+use crate::json::{JsonObject, Leaf, append_leaves};
 use boot_requests::Event;
-use serde::Serialize;
+use serde::Serializer;
 use std::alloc::{AllocError, Global};
 use std::fmt;
 
 /// Where an event or a fault is: by the line of a script, or the offset in a stream.
-#[derive(Clone, Copy, Debug, PartialEq, Eq, Drop, Serialize)]
+#[derive(Clone, Copy, Debug, PartialEq, Eq, Drop)]
 pub struct Place {
     /// The number of the line, counted from 1.
     line: Option<usize>,
@@ -29,6 +30,18 @@ impl Place {
             line: None,
             offset: Some(offset),
         }
+    }
+}
+
+impl JsonObject for Place {
+    fn append_members<S: Serializer>(&self, out: &mut S) -> Result<(), S::Error> {
+        append_leaves(
+            &[
+                ("line", Leaf::Count(self.line)),
+                ("offset", Leaf::Count(self.offset)),
+            ],
+            out,
+        )
     }
 }
 

@@ -1,19 +1,18 @@
 //! Replies to requests, as `bootvars update` prints them in JSON.
 
 use crate::content::EntryDigits;
-use crate::json::json_line;
+use crate::json::{JsonObject, Leaf, append_leaves, append_object, append_objects, json_line};
 use crate::place::Place;
 use crate::shown_vars::ShownPlan;
 use boot_requests::{Event, FrameFault, Outcome, Reply, read_frame};
-use serde::Serialize;
+use serde::Serializer;
 use std::alloc::{AllocError, Global};
 use uefi_vars::BootPlan;
 
-/// A reply as it is shown: the fields of its JSON.
-#[derive(Drop, Serialize)]
+/// A reply as it is shown.
+#[derive(Drop)]
 struct ShownReply {
     /// Where the event is.
-    #[serde(flatten)]
     place: Place,
     /// The number of the request, if the event is one.
     request: Option<u32>,
@@ -36,7 +35,7 @@ struct ShownReply {
 }
 
 /// A request that had waited and was applied right after another one.
-#[derive(Drop, Serialize)]
+#[derive(Drop)]
 struct Follower {
     /// Its number.
     request: u32,
@@ -44,6 +43,35 @@ struct Follower {
     outcome: &'static str,
     /// The entry under which an AddFree stored its option.
     entry: Option<EntryDigits>,
+}
+
+impl JsonObject for ShownReply {
+    fn append_members<S: Serializer>(&self, out: &mut S) -> Result<(), S::Error> {
+        self.place.append_members(out)?;
+        self.append_reply(out)?;
+        append_objects("followers", &self.followers, out)?;
+        append_leaves(
+            &[
+                ("fault", Leaf::Text(self.fault.as_deref())),
+                ("options", Leaf::Count(self.options)),
+            ],
+            out,
+        )?;
+        append_object("plan", self.plan.as_ref(), out)
+    }
+}
+
+impl JsonObject for Follower {
+    fn append_members<S: Serializer>(&self, out: &mut S) -> Result<(), S::Error> {
+        append_leaves(
+            &[
+                ("request", Leaf::Number(Some(self.request))),
+                ("outcome", Leaf::Word(Some(self.outcome))),
+                ("entry", Leaf::Entry(self.entry)),
+            ],
+            out,
+        )
+    }
 }
 
 /// Shows the reply to the event at this place as JSON, an object on one line that ends with a line feed. The followers are
@@ -96,6 +124,20 @@ impl ShownReply {
                 _ => None,
             },
         })
+    }
+
+    /// Appends what the reply is, and what it tells in numbers and words.
+    fn append_reply<S: Serializer>(&self, out: &mut S) -> Result<(), S::Error> {
+        append_leaves(
+            &[
+                ("request", Leaf::Number(self.request)),
+                ("reply", Leaf::Word(Some(self.reply))),
+                ("outcome", Leaf::Word(self.outcome)),
+                ("entry", Leaf::Entry(self.entry)),
+                ("next", Leaf::Number(self.next)),
+            ],
+            out,
+        )
     }
 }
 

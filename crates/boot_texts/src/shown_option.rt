@@ -1,6 +1,7 @@
 //! Load options as they are shown.
 
-use serde::Serialize;
+use crate::json::{JsonObject, Leaf, append_leaves};
+use serde::Serializer;
 use std::alloc::{AllocError, Global};
 use std::fmt;
 use uefi_names::named_text;
@@ -8,23 +9,18 @@ use uefi_option::{
     ACTIVE, CATEGORY, CATEGORY_APP, CATEGORY_BOOT, FORCE_RECONNECT, HIDDEN, LoadOption, category,
     description_text, is_active, is_normal,
 };
-use uefi_path::read_units;
+use uefi_path::{Path, read_units};
 use uefi_text::path_text;
 
-/// A load option (UEFI 2.10, 3.1.3) as it is shown: the fields of its JSON.
-#[derive(Drop, Serialize)]
+/// A load option (UEFI 2.10, 3.1.3) as it is shown.
+#[derive(Drop)]
 pub(crate) struct ShownOption {
     /// The description, as [`description_text`] shows it.
     pub(crate) description: String,
     /// The attributes, all 32 bits.
     pub(crate) attributes: u32,
-    active: bool,
-    hidden: bool,
-    force_reconnect: bool,
     /// `boot`, `app`, or the bits of the category.
     category: String,
-    /// Whether the boot manager tries the option by itself.
-    pub(crate) normal: bool,
     /// The text of each path from which it can be had again, as [`path_text`] has it.
     pub(crate) paths: Vec<String>,
     /// The text of each path for a person, as [`named_text`] has it.
@@ -43,26 +39,58 @@ impl ShownOption {
     /// [`AllocError`] if memory was refused.
     pub(crate) fn new(alloc: Global, option: &LoadOption) -> Result<ShownOption, AllocError> {
         let attributes = option.attributes();
-        let mut paths = Vec::with_capacity(alloc, option.paths().len())?;
-        let mut named_paths = Vec::with_capacity(alloc, option.paths().len())?;
-        for path in option.paths() {
-            paths.push(path_text(alloc, path)?)?;
-            named_paths.push(named_text(alloc, path)?)?;
-        }
+        let (paths, named_paths) = path_texts(alloc, option.paths())?;
         Ok(ShownOption {
             description: description_text(alloc, option.description())?,
             attributes,
-            active: is_active(attributes),
-            hidden: attributes & HIDDEN != 0,
-            force_reconnect: attributes & FORCE_RECONNECT != 0,
             category: format!(in alloc; "{}", Category(attributes))?,
-            normal: is_normal(attributes),
             paths,
             named_paths,
             optional: optional_digits(alloc, option.optional())?,
             optional_text: printed_text(alloc, option.optional())?,
         })
     }
+
+    /// Whether the boot manager tries the option by itself.
+    pub(crate) fn is_normal(&self) -> bool {
+        is_normal(self.attributes)
+    }
+}
+
+impl JsonObject for ShownOption {
+    fn append_members<S: Serializer>(&self, out: &mut S) -> Result<(), S::Error> {
+        let attributes = self.attributes;
+        append_leaves(
+            &[
+                ("description", Leaf::Text(Some(&self.description))),
+                ("attributes", Leaf::Number(Some(attributes))),
+                ("active", Leaf::Flag(is_active(attributes))),
+                ("hidden", Leaf::Flag(attributes & HIDDEN != 0)),
+                (
+                    "force_reconnect",
+                    Leaf::Flag(attributes & FORCE_RECONNECT != 0),
+                ),
+                ("category", Leaf::Text(Some(&self.category))),
+                ("normal", Leaf::Flag(self.is_normal())),
+                ("paths", Leaf::Texts(&self.paths)),
+                ("named_paths", Leaf::Texts(&self.named_paths)),
+                ("optional", Leaf::Text(self.optional.as_deref())),
+                ("optional_text", Leaf::Text(self.optional_text.as_deref())),
+            ],
+            out,
+        )
+    }
+}
+
+/// The exact text of each path, and the text of each for a person.
+fn path_texts(alloc: Global, paths: &[Path]) -> Result<(Vec<String>, Vec<String>), AllocError> {
+    let mut exact = Vec::with_capacity(alloc, paths.len())?;
+    let mut named = Vec::with_capacity(alloc, paths.len())?;
+    for path in paths {
+        exact.push(path_text(alloc, path)?)?;
+        named.push(named_text(alloc, path)?)?;
+    }
+    Ok((exact, named))
 }
 
 /// Data in hexadecimal digits, or `None` if there are none.
@@ -123,18 +151,20 @@ impl fmt::Display for AttributeWords {
         } else {
             "inactive"
         };
-        write!(f, "0x{bits:08x} {active}")?;
-        if bits & HIDDEN != 0 {
-            f.write_str(", hidden")?;
+        let hidden = if bits & HIDDEN != 0 { ", hidden" } else { "" };
+        let reconnect = if bits & FORCE_RECONNECT != 0 {
+            ", force reconnect"
+        } else {
+            ""
+        };
+        let category = Category(bits);
+        write!(
+            f,
+            "0x{bits:08x} {active}{hidden}{reconnect}, category {category}"
+        )?;
+        match bits & !(ACTIVE | FORCE_RECONNECT | HIDDEN | CATEGORY) {
+            0 => Ok(()),
+            others => write!(f, ", other bits 0x{others:08x}"),
         }
-        if bits & FORCE_RECONNECT != 0 {
-            f.write_str(", force reconnect")?;
-        }
-        write!(f, ", category {}", Category(bits))?;
-        let others = bits & !(ACTIVE | FORCE_RECONNECT | HIDDEN | CATEGORY);
-        if others != 0 {
-            write!(f, ", other bits 0x{others:08x}")?;
-        }
-        Ok(())
     }
 }

@@ -3,14 +3,16 @@
 use crate::content::{
     ByteCount, Content, DataText, EntryDigits, NumberList, ShownFault, digits_of,
 };
-use crate::json::json_line;
+use crate::json::{
+    JsonObject, Leaf, append_leaf, append_leaves, append_object, append_objects, json_line,
+};
 use crate::shown_option::{AttributeWords, ShownOption};
-use serde::Serialize;
+use serde::Serializer;
 use std::alloc::{AllocError, Global};
 use uefi_vars::{BOOT_NEXT, BOOT_ORDER, VarFault, Vars, entry_number, plan_numbers};
 
-/// Variables as they are shown: the fields of their JSON.
-#[derive(Drop, Serialize)]
+/// Variables as they are shown.
+#[derive(Drop)]
 struct ShownVars<'a> {
     /// How many there are.
     variables: usize,
@@ -31,19 +33,31 @@ struct ShownVars<'a> {
 }
 
 /// An entry as it is shown.
-#[derive(Drop, Serialize)]
+#[derive(Drop)]
 struct ShownEntry<'a> {
     /// The name of its variable.
     name: &'a str,
     /// Its number.
     entry: EntryDigits,
     /// What it holds.
-    #[serde(flatten)]
     content: Content,
 }
 
+impl JsonObject for ShownEntry<'_> {
+    fn append_members<S: Serializer>(&self, out: &mut S) -> Result<(), S::Error> {
+        append_leaves(
+            &[
+                ("name", Leaf::Text(Some(self.name))),
+                ("entry", Leaf::Entry(Some(self.entry))),
+            ],
+            out,
+        )?;
+        self.content.append_members(out)
+    }
+}
+
 /// What a boot would try.
-#[derive(Drop, Serialize)]
+#[derive(Drop)]
 pub(crate) struct ShownPlan {
     /// The entry of BootNext, if it is a load option.
     pub(crate) next: Option<EntryDigits>,
@@ -51,23 +65,53 @@ pub(crate) struct ShownPlan {
     pub(crate) normal: Vec<EntryDigits>,
 }
 
+impl JsonObject for ShownPlan {
+    fn append_members<S: Serializer>(&self, out: &mut S) -> Result<(), S::Error> {
+        append_leaves(
+            &[
+                ("next", Leaf::Entry(self.next)),
+                ("normal", Leaf::Entries(&self.normal)),
+            ],
+            out,
+        )
+    }
+}
+
 /// A variable that can't be read, and why.
-#[derive(Drop, Serialize)]
+#[derive(Drop)]
 struct NamedFault {
     /// The name of the variable.
     name: &'static str,
     /// Why it can't be read.
-    #[serde(flatten)]
     fault: ShownFault,
 }
 
+impl JsonObject for NamedFault {
+    fn append_members<S: Serializer>(&self, out: &mut S) -> Result<(), S::Error> {
+        append_leaf("name", Leaf::Text(Some(self.name)), out)?;
+        self.fault.append_members(out)
+    }
+}
+
 /// A variable that isn't the boot manager's.
-#[derive(Drop, Serialize)]
+#[derive(Drop)]
 struct OtherVariable<'a> {
     /// Its name.
     name: &'a str,
     /// How many bytes it has.
     length: usize,
+}
+
+impl JsonObject for OtherVariable<'_> {
+    fn append_members<S: Serializer>(&self, out: &mut S) -> Result<(), S::Error> {
+        append_leaves(
+            &[
+                ("name", Leaf::Text(Some(self.name))),
+                ("length", Leaf::Count(Some(self.length))),
+            ],
+            out,
+        )
+    }
 }
 
 impl<'a> ShownVars<'a> {
@@ -86,12 +130,7 @@ impl<'a> ShownVars<'a> {
         for (name, data) in vars.iter() {
             shown.push(alloc, name, data)?;
         }
-        let mut missing = Vec::new(alloc);
-        push_missing(vars, &shown.order, &mut missing)?;
-        push_missing(vars, shown.next.as_slice(), &mut missing)?;
-        missing.sort_unstable();
-        missing.dedup();
-        shown.missing = missing;
+        shown.missing = missing_of(alloc, vars, &shown.order, shown.next)?;
         Ok(shown)
     }
 
@@ -137,6 +176,39 @@ impl<'a> ShownVars<'a> {
     }
 }
 
+impl JsonObject for ShownVars<'_> {
+    fn append_members<S: Serializer>(&self, out: &mut S) -> Result<(), S::Error> {
+        append_leaf("variables", Leaf::Count(Some(self.variables)), out)?;
+        append_objects("entries", &self.entries, out)?;
+        append_leaves(
+            &[
+                ("order", Leaf::Entries(&self.order)),
+                ("next", Leaf::Entry(self.next)),
+            ],
+            out,
+        )?;
+        append_object("plan", self.plan.as_ref(), out)?;
+        append_leaf("missing", Leaf::Entries(&self.missing), out)?;
+        append_objects("faults", &self.faults, out)?;
+        append_objects("others", &self.others, out)
+    }
+}
+
+/// The numbers of BootOrder and BootNext that no entry of the variables has, each once, by rising number.
+fn missing_of(
+    alloc: Global,
+    vars: &Vars,
+    order: &[EntryDigits],
+    next: Option<EntryDigits>,
+) -> Result<Vec<EntryDigits>, AllocError> {
+    let mut missing = Vec::new(alloc);
+    push_missing(vars, order, &mut missing)?;
+    push_missing(vars, next.as_slice(), &mut missing)?;
+    missing.sort_unstable();
+    missing.dedup();
+    Ok(missing)
+}
+
 /// What a boot would try, or `None` if BootOrder or BootNext can't be read.
 fn shown_plan(alloc: Global, vars: &Vars) -> Result<Option<ShownPlan>, AllocError> {
     match plan_numbers(alloc, vars) {
@@ -171,26 +243,8 @@ fn push_missing(
 ///
 /// [`AllocError`] if memory was refused.
 pub fn vars_report(alloc: Global, vars: &Vars) -> Result<String, AllocError> {
-    let shown = ShownVars::new(alloc, vars)?;
-    let mut report = format!(in alloc; "variables {}\n", shown.variables)?;
-    for entry in &shown.entries {
-        append_entry(entry, &mut report)?;
-    }
-    match shown.fault_of(BOOT_ORDER) {
-        Some(fault) => append_fault("order", fault, &mut report)?,
-        None => writeln!(report, "order{}", NumberList(&shown.order))?,
-    }
-    match shown.fault_of(BOOT_NEXT) {
-        Some(fault) => append_fault("next", fault, &mut report)?,
-        None => writeln!(report, "next{}", NumberList(shown.next.as_slice()))?,
-    }
-    append_plan(&shown, &mut report)?;
-    if !shown.missing.is_empty() {
-        writeln!(report, "missing{}", NumberList(&shown.missing))?;
-    }
-    for other in &shown.others {
-        writeln!(report, "other {} {}", other.name, ByteCount(other.length))?;
-    }
+    let mut report = String::new(alloc);
+    append_vars(&ShownVars::new(alloc, vars)?, &mut report)?;
     Ok(report)
 }
 
@@ -205,11 +259,51 @@ pub fn vars_json(alloc: Global, vars: &Vars) -> Result<String, AllocError> {
     json_line(alloc, &ShownVars::new(alloc, vars)?)
 }
 
+/// Appends the lines of variables.
+fn append_vars(shown: &ShownVars<'_>, report: &mut String) -> Result<(), AllocError> {
+    writeln!(report, "variables {}", shown.variables)?;
+    for entry in &shown.entries {
+        append_entry(entry, report)?;
+    }
+    append_numbers("order", shown.fault_of(BOOT_ORDER), &shown.order, report)?;
+    append_numbers(
+        "next",
+        shown.fault_of(BOOT_NEXT),
+        shown.next.as_slice(),
+        report,
+    )?;
+    append_plan(shown, report)?;
+    if !shown.missing.is_empty() {
+        writeln!(report, "missing{}", NumberList(&shown.missing))?;
+    }
+    for other in &shown.others {
+        writeln!(report, "other {} {}", other.name, ByteCount(other.length))?;
+    }
+    Ok(())
+}
+
+/// Appends the lines of BootOrder or BootNext: the numbers that it has, or why it can't be read.
+fn append_numbers(
+    word: &str,
+    fault: Option<&ShownFault>,
+    numbers: &[EntryDigits],
+    report: &mut String,
+) -> Result<(), AllocError> {
+    match fault {
+        Some(fault) => append_fault(word, fault, report),
+        None => writeln!(report, "{word}{}", NumberList(numbers)),
+    }
+}
+
 /// Appends the lines of an entry.
 fn append_entry(entry: &ShownEntry<'_>, report: &mut String) -> Result<(), AllocError> {
     match &entry.content {
         Content::LoadOption(option) => {
-            let kind = if option.normal { "normal" } else { "other" };
+            let kind = if option.is_normal() {
+                "normal"
+            } else {
+                "other"
+            };
             writeln!(report, "{} {kind} {}", entry.name, option.description)?;
             append_option(option, report)
         }

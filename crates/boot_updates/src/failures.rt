@@ -29,12 +29,22 @@ pub(crate) fn of_command(
 ) -> Failure {
     match error {
         CommandError::OutOfMemory => Failure::Memory,
-        CommandError::Run(fault) => match ScriptFault::Open(fault).words(alloc) {
-            Ok(text) => Failure::of_run(alloc, words.place, text.as_str()),
-            Err(AllocError) => Failure::Memory,
-        },
+        CommandError::Run(fault) => of_open(alloc, words, fault),
         CommandError::Settling(error) => of_settling(alloc, words, error),
-        CommandError::Updating(error) => of_update(alloc, words, error),
+        CommandError::Updating(error) => of_error(
+            alloc,
+            words,
+            error,
+            "so the update is taken back, and the machine is as before it",
+        ),
+    }
+}
+
+/// What it is to the program that the variables of the place are refused.
+fn of_open(alloc: Global, words: &UpdateWords<'_>, fault: OpenFault) -> Failure {
+    match ScriptFault::Open(fault).words(alloc) {
+        Ok(text) => Failure::of_run(alloc, words.place, text.as_str()),
+        Err(AllocError) => Failure::Memory,
     }
 }
 
@@ -44,30 +54,26 @@ pub(crate) fn of_settling(
     words: &UpdateWords<'_>,
     error: UpdateError<Failure>,
 ) -> Failure {
-    match error {
-        UpdateError::OutOfMemory => Failure::Memory,
-        UpdateError::TakenBack(cause) => Failure::taken_back(
-            alloc,
-            format_args!(
-                "{}; so an earlier update is taken back, and nothing else is done",
-                Cause(&cause),
-            ),
-        ),
-        UpdateError::Unsettled(cause, second) => unsettled(alloc, words, &cause, second.as_ref()),
-    }
+    of_error(
+        alloc,
+        words,
+        error,
+        "so an earlier update is taken back, and nothing else is done",
+    )
 }
 
-/// What it is to the program that an update couldn't be made.
-fn of_update(alloc: Global, words: &UpdateWords<'_>, error: UpdateError<Failure>) -> Failure {
+/// What it is to the program that an update couldn't be made: if it is taken back, these words say so.
+fn of_error(
+    alloc: Global,
+    words: &UpdateWords<'_>,
+    error: UpdateError<Failure>,
+    taken_back: &str,
+) -> Failure {
     match error {
         UpdateError::OutOfMemory => Failure::Memory,
-        UpdateError::TakenBack(cause) => Failure::taken_back(
-            alloc,
-            format_args!(
-                "{}; so the update is taken back, and the machine is as before it",
-                Cause(&cause),
-            ),
-        ),
+        UpdateError::TakenBack(cause) => {
+            Failure::taken_back(alloc, format_args!("{}; {taken_back}", Cause(&cause)))
+        }
         UpdateError::Unsettled(cause, second) => unsettled(alloc, words, &cause, second.as_ref()),
     }
 }

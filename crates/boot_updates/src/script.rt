@@ -29,16 +29,25 @@ pub(crate) fn read_events<R: Files + Input + AllocGlobal>(
 ) -> Result<Script, Failure> {
     let alloc = rt.alloc();
     let bytes = read(rt, path)?;
-    let of_fault = |fault| of_script(alloc, path, fault);
-    if is_stream {
-        let events = read_stream(alloc, &bytes).map_err(of_fault)?;
-        let places = stream_places(alloc, &events)?;
-        Ok(Script { events, places })
-    } else {
-        let events = read_script(alloc, &bytes).map_err(of_fault)?;
-        let places = script_places(alloc, &bytes)?;
-        Ok(Script { events, places })
+    match script_of(alloc, &bytes, is_stream) {
+        Ok(script) => Ok(script),
+        Err(fault) => Err(of_script(alloc, path, fault)),
     }
+}
+
+/// The events of the script or the stream that the bytes are.
+fn script_of(alloc: Global, bytes: &[u8], is_stream: bool) -> Result<Script, ScriptFault> {
+    let events = if is_stream {
+        read_stream(alloc, bytes)?
+    } else {
+        read_script(alloc, bytes)?
+    };
+    let places = if is_stream {
+        stream_places(alloc, &events)?
+    } else {
+        script_places(alloc, bytes)?
+    };
+    Ok(Script { events, places })
 }
 
 /// What it is to the program that the script at this path has this fault.

@@ -7,7 +7,7 @@ use crate::script::{Script, read_events};
 use crate::state_folder::{lock_folder, stored_journal};
 use crate::told::tell_of_settling;
 use boot_commands::OutputFile;
-use boot_journal::{Answer, BootId, Recorded, Requests, command, settle};
+use boot_journal::{Answer, BootId, Journal, Recorded, Requests, command, settle};
 use boot_requests::Event;
 use std::alloc::Global;
 use std::rt::Files;
@@ -91,15 +91,24 @@ fn run_script<R: Files<File: OutputFile> + Input + Print + Eprint + AllocGlobal>
     script: &Script,
     json: bool,
 ) -> Result<Ended, Failure> {
-    let alloc = rt.alloc();
     let answers = run_events(rt, words, &script.events)?;
+    print_answers(rt, script, &answers, json)?;
+    Ok(ending(rt.alloc(), &script.events, &answers)?)
+}
+
+/// Prints the replies to the events of the script.
+fn print_answers<R: Print + AllocGlobal>(
+    rt: &R,
+    script: &Script,
+    answers: &[Answer],
+    json: bool,
+) -> Result<(), Failure> {
     let text = if json {
-        answers_json(alloc, script, &answers)?
+        answers_json(rt.alloc(), script, answers)?
     } else {
-        answer_lines(alloc, &answers)?
+        answer_lines(rt.alloc(), answers)?
     };
-    print(rt, text.as_bytes())?;
-    Ok(ending(alloc, &script.events, &answers)?)
+    print(rt, text.as_bytes())
 }
 
 /// Prints the next number.
@@ -107,10 +116,19 @@ fn tell_next<R: Files<File: OutputFile> + Input + Print + Eprint + AllocGlobal>(
     rt: &R,
     words: &UpdateWords<'_>,
 ) -> Result<Ended, Failure> {
-    let answers = run_events(rt, words, &[Event::Restart])?;
-    let text = format!(in rt.alloc(); "{}\n", last_next(&answers))?;
+    let next = next_number(rt, words)?;
+    let text = format!(in rt.alloc(); "{next}\n")?;
     print(rt, text.as_bytes())?;
     Ok(Ended::AllDone)
+}
+
+/// The next number, after what is left of earlier updates was done.
+fn next_number<R: Files<File: OutputFile> + Input + Print + Eprint + AllocGlobal>(
+    rt: &R,
+    words: &UpdateWords<'_>,
+) -> Result<u32, Failure> {
+    let answers = run_events(rt, words, &[Event::Restart])?;
+    Ok(last_next(&answers))
 }
 
 /// Does what is left of earlier updates, and runs the events.
@@ -119,9 +137,19 @@ fn run_events<R: Files<File: OutputFile> + Input + Print + Eprint + AllocGlobal>
     words: &UpdateWords<'_>,
     events: &[Event],
 ) -> Result<Vec<Answer>, Failure> {
-    let alloc = rt.alloc();
     let folder = lock_folder(rt, words.state)?;
-    let (mut machine, boot) = open_machine(rt, words, folder.journal())?;
+    run_locked(rt, words, folder.journal(), events)
+}
+
+/// Does what is left of earlier updates, and runs the events. The folder with the journal at this path is locked.
+fn run_locked<R: Files<File: OutputFile> + Input + Print + Eprint + AllocGlobal>(
+    rt: &R,
+    words: &UpdateWords<'_>,
+    journal_path: &str,
+    events: &[Event],
+) -> Result<Vec<Answer>, Failure> {
+    let alloc = rt.alloc();
+    let (mut machine, boot) = open_machine(rt, words, journal_path)?;
     command(alloc, &mut machine, &Requests { events }, &boot).map_err(|error| of_command(
         alloc, words, error,
     ))
@@ -132,13 +160,20 @@ fn settle_place<R: Files<File: OutputFile> + Input + Print + Eprint + AllocGloba
     rt: &R,
     words: &UpdateWords<'_>,
 ) -> Result<Ended, Failure> {
-    let alloc = rt.alloc();
     let folder = lock_folder(rt, words.state)?;
-    let (mut machine, boot) = open_machine(rt, words, folder.journal())?;
-    match settle(alloc, &mut machine, &boot) {
-        Ok(()) => Ok(Ended::AllDone),
-        Err(error) => Err(of_settling(alloc, words, error)),
-    }
+    settle_locked(rt, words, folder.journal())?;
+    Ok(Ended::AllDone)
+}
+
+/// Does what is left of earlier updates. The folder with the journal at this path is locked.
+fn settle_locked<R: Files<File: OutputFile> + Input + Print + Eprint + AllocGlobal>(
+    rt: &R,
+    words: &UpdateWords<'_>,
+    journal_path: &str,
+) -> Result<(), Failure> {
+    let alloc = rt.alloc();
+    let (mut machine, boot) = open_machine(rt, words, journal_path)?;
+    settle(alloc, &mut machine, &boot).map_err(|error| of_settling(alloc, words, error))
 }
 
 /// The machine in the place, with the journal at this path, and the identity of its start. Tells on standard error what is
@@ -148,54 +183,94 @@ fn open_machine<'a, R: Files<File: OutputFile> + Input + Print + Eprint + AllocG
     words: &UpdateWords<'_>,
     journal_path: &str,
 ) -> Result<(Machine<'a, R>, BootId), Failure> {
-    let alloc = rt.alloc();
     let journal = stored_journal(rt, journal_path)?;
     let is_folder = is_folder(rt, words.place)?;
     let boot = boot_id(rt, words, is_folder)?;
-    let (place, vars) = if is_folder {
-        open_folder(rt, words.place)?
-    } else {
-        open_file(rt, words.place)?
-    };
-    tell_of_settling(rt, words.place, &vars, &journal, &boot)?;
-    let device = PlaceDevice {
-        rt,
-        place,
-        journal: String::from_str(alloc, journal_path)?,
-    };
-    Ok((Recorded::new(alloc, device, vars, journal)?, boot))
+    let opened = open_place(rt, words.place, is_folder)?;
+    tell_of_settling(rt, words.place, &opened.vars, &journal, &boot)?;
+    let machine = machine_in(rt, opened, journal, journal_path)?;
+    Ok((machine, boot))
 }
 
-/// The folder at this path as a place, and its variables.
+/// The machine in a place that is open, with this journal, which is at this path.
+fn machine_in<'a, R: Files<File: OutputFile> + Input + Print + Eprint + AllocGlobal>(
+    rt: &'a R,
+    opened: OpenedPlace,
+    journal: Journal,
+    journal_path: &str,
+) -> Result<Machine<'a, R>, Failure> {
+    let alloc = rt.alloc();
+    let device = PlaceDevice {
+        rt,
+        place: opened.place,
+        journal: String::from_str(alloc, journal_path)?,
+    };
+    Ok(Recorded::new(alloc, device, opened.vars, journal)?)
+}
+
+/// A place, and what its variables are.
+#[derive(Drop)]
+struct OpenedPlace {
+    place: Place,
+    vars: Vars,
+}
+
+/// The folder or the file at this path as a place.
+fn open_place<R: Files + Input + Eprint + AllocGlobal>(
+    rt: &R,
+    path: &str,
+    is_folder: bool,
+) -> Result<OpenedPlace, Failure> {
+    if is_folder {
+        open_folder(rt, path)
+    } else {
+        open_file(rt, path)
+    }
+}
+
+/// The folder at this path as a place.
 fn open_folder<R: Files + Eprint + AllocGlobal>(
     rt: &R,
     path: &str,
-) -> Result<(Place, Vars), Failure> {
+) -> Result<OpenedPlace, Failure> {
     let folder = read_folder(rt, path)?;
     let vars = folder.vars.copy(rt.alloc())?;
     let path = String::from_str(rt.alloc(), path)?;
-    Ok((Place::Folder { path, folder }, vars))
+    Ok(OpenedPlace {
+        place: Place::Folder { path, folder },
+        vars,
+    })
 }
 
-/// The variable file at this path as a place, and its variables.
+/// The variable file at this path as a place.
 fn open_file<R: Files + Input + Eprint + AllocGlobal>(
     rt: &R,
     path: &str,
-) -> Result<(Place, Vars), Failure> {
+) -> Result<OpenedPlace, Failure> {
     let alloc = rt.alloc();
     if path == STANDARD {
         return Err(Failure::refused(alloc, name_of(path), Reason::Standard));
     }
     let bytes = read(rt, path)?;
     match file_kind(&bytes) {
-        FileKind::VariableFile => {
-            let vars = file_vars(rt, path, &bytes)?;
-            let path = String::from_str(alloc, path)?;
-            Ok((Place::File { path }, vars))
-        }
+        FileKind::VariableFile => open_variable_file(rt, path, &bytes),
         FileKind::Set => Err(Failure::refused(alloc, path, Reason::SetPlace)),
         FileKind::Other => Err(no_place(alloc, path, &bytes)),
     }
+}
+
+/// The variable file at this path, which has these bytes, as a place.
+fn open_variable_file<R: Eprint + AllocGlobal>(
+    rt: &R,
+    path: &str,
+    bytes: &[u8],
+) -> Result<OpenedPlace, Failure> {
+    let vars = file_vars(rt, path, bytes)?;
+    let path = String::from_str(rt.alloc(), path)?;
+    Ok(OpenedPlace {
+        place: Place::File { path },
+        vars,
+    })
 }
 
 /// The identity of the machine's start: the one that is given, or that of this system if its own variables are updated.

@@ -20,19 +20,28 @@ pub(crate) fn set_in_file<R: Files<File: OutputFile> + Input + Print + AllocGlob
     name: &str,
     value: Option<&[u8]>,
 ) -> Result<(), Failure> {
-    let alloc = rt.alloc();
     let output = lock(rt, path)?;
+    match changed_file(rt, path, name, value)? {
+        Some(bytes) => write(rt, output, &bytes),
+        None => Ok(()),
+    }
+}
+
+/// What the file at this path is to be, for the variable to have this value: `None` if it has it.
+fn changed_file<R: Files + Input + AllocGlobal>(
+    rt: &R,
+    path: &str,
+    name: &str,
+    value: Option<&[u8]>,
+) -> Result<Option<Vec<u8>>, Failure> {
+    let alloc = rt.alloc();
     let bytes = read(rt, path)?;
     let mut vars = stored_variables(alloc, path, &bytes)?;
     if vars.get(name) == value {
-        return Ok(());
+        return Ok(None);
     }
     set(&mut vars, name, value)?;
-    write(
-        rt,
-        output,
-        &changed_variable_file(alloc, path, &bytes, &vars)?,
-    )
+    Ok(Some(changed_variable_file(alloc, path, &bytes, &vars)?))
 }
 
 /// Whether the variable of this name has this value in the file at this path, or isn't there if the value is `None`.

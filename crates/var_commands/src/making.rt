@@ -3,9 +3,9 @@
 use crate::action::{AttributeWords, Form, LoadOptionWords, OptionalWords, RequestWords};
 use boot_commands::OutputFile;
 use boot_texts::{
-    FrameWords, FrameWordsFault, OptionWords, OptionWordsFault, attribute_bits, attributes_of_text,
-    entry_of_digits, explain_json, explain_report, frame_bytes, frame_line, number_of_digits,
-    option_bytes, optional_text,
+    DigitsFault, FrameWords, FrameWordsFault, OptionWords, OptionWordsFault, attribute_bits,
+    attributes_of_text, entry_of_digits, explain_json, explain_report, frame_bytes, frame_line,
+    number_of_digits, option_bytes, optional_text,
 };
 use hex::FromHexError;
 use std::alloc::Global;
@@ -46,7 +46,7 @@ pub(crate) fn make_option<R: Files<File: OutputFile> + Input + Print + AllocGlob
 fn attributes(alloc: Global, words: AttributeWords<'_>) -> Result<u32, Failure> {
     match words {
         AttributeWords::Number(text) => {
-            attributes_of_text(text).map_err(|fault| Failure::of_word(alloc, fault))
+            attributes_of_text(text).map_err(|fault| of_digits(alloc, text, fault))
         }
         AttributeWords::Flags(flags) => Ok(attribute_bits(flags)),
     }
@@ -86,7 +86,7 @@ pub(crate) fn make_frame<R: Files + Input + Print + AllocGlobal>(
     raw: bool,
 ) -> Result<(), Failure> {
     let alloc = rt.alloc();
-    let number = number_of_digits(number).map_err(|fault| Failure::of_word(alloc, fault))?;
+    let number = number_of_digits(number).map_err(|fault| of_digits(alloc, number, fault))?;
     let frame = frame(rt, number, request)?;
     if raw {
         print(rt, &frame)
@@ -104,48 +104,77 @@ fn frame<R: Files + Input + AllocGlobal>(
     let alloc = rt.alloc();
     match request {
         RequestWords::Add { entry, file } => {
-            let (entry, option) = (entry_of(alloc, entry)?, read(rt, file)?);
-            frame_bytes(alloc, number, FrameWords::Add(entry, &option)).map_err(|fault| of_option(
-                alloc, file, &option, fault,
-            ))
+            let entry = entry_of(alloc, entry)?;
+            let option = read(rt, file)?;
+            frame_of_option(
+                alloc,
+                number,
+                file,
+                &option,
+                FrameWords::Add(entry, &option),
+            )
         }
         RequestWords::Replace { entry, file } => {
-            let (entry, option) = (entry_of(alloc, entry)?, read(rt, file)?);
-            frame_bytes(alloc, number, FrameWords::Replace(entry, &option)).map_err(
-                |fault| of_option(alloc, file, &option, fault),
+            let entry = entry_of(alloc, entry)?;
+            let option = read(rt, file)?;
+            frame_of_option(
+                alloc,
+                number,
+                file,
+                &option,
+                FrameWords::Replace(entry, &option),
             )
         }
         RequestWords::AddFree { file } => {
             let option = read(rt, file)?;
-            frame_bytes(alloc, number, FrameWords::AddFree(&option)).map_err(|fault| of_option(
-                alloc, file, &option, fault,
-            ))
+            frame_of_option(alloc, number, file, &option, FrameWords::AddFree(&option))
         }
         RequestWords::Remove { entry } => {
-            frame_bytes(alloc, number, FrameWords::Remove(entry_of(alloc, entry)?)).map_err(
-                |fault| of_words(alloc, fault),
-            )
+            frame_of_words(alloc, number, FrameWords::Remove(entry_of(alloc, entry)?))
         }
         RequestWords::Order { entries } => {
-            let mut numbers = Vec::with_capacity(alloc, entries.len())?;
-            for entry in *entries {
-                numbers.push(entry_of(alloc, entry)?)?;
-            }
-            frame_bytes(alloc, number, FrameWords::Order(&numbers)).map_err(|fault| of_words(
-                alloc, fault,
-            ))
+            let numbers = entries_of(alloc, entries)?;
+            frame_of_words(alloc, number, FrameWords::Order(&numbers))
         }
         RequestWords::Next { entry } => {
-            frame_bytes(alloc, number, FrameWords::Next(entry_of(alloc, entry)?)).map_err(
-                |fault| of_words(alloc, fault),
-            )
+            frame_of_words(alloc, number, FrameWords::Next(entry_of(alloc, entry)?))
         }
     }
 }
 
+/// The bytes of the frame that asks for this, with the load option that is in the file at this path and has these bytes.
+fn frame_of_option(
+    alloc: Global,
+    number: u32,
+    file: &str,
+    bytes: &[u8],
+    words: FrameWords<'_>,
+) -> Result<Vec<u8>, Failure> {
+    frame_bytes(alloc, number, words).map_err(|fault| of_option(alloc, file, bytes, fault))
+}
+
+/// The bytes of the frame that asks for this, which has no load option.
+fn frame_of_words(alloc: Global, number: u32, words: FrameWords<'_>) -> Result<Vec<u8>, Failure> {
+    frame_bytes(alloc, number, words).map_err(|fault| of_words(alloc, fault))
+}
+
+/// The numbers of the entries that the words name.
+fn entries_of(alloc: Global, words: &[&str]) -> Result<Vec<u16>, Failure> {
+    let mut entries = Vec::with_capacity(alloc, words.len())?;
+    for word in words {
+        entries.push(entry_of(alloc, word)?)?;
+    }
+    Ok(entries)
+}
+
 /// The number of the entry that the word names.
 fn entry_of(alloc: Global, word: &str) -> Result<u16, Failure> {
-    entry_of_digits(word).map_err(|fault| Failure::of_word(alloc, fault))
+    entry_of_digits(word).map_err(|fault| of_digits(alloc, word, fault))
+}
+
+/// What it is to the program that a word isn't the number that it is to be.
+fn of_digits(alloc: Global, word: &str, fault: DigitsFault) -> Failure {
+    Failure::of_word(alloc, format_args!("{word:?} is {fault}"))
 }
 
 /// What it is to the program that no frame is made of the load option in the file at this path, which has these bytes.
@@ -178,15 +207,23 @@ pub(crate) fn explain<R: Files + Input + Print + AllocGlobal>(
     file: &str,
     form: Form,
 ) -> Result<(), Failure> {
-    let alloc = rt.alloc();
     let bytes = read(rt, file)?;
-    let explained = match form {
-        Form::Text => explain_report(alloc, &bytes)?,
-        Form::Json => explain_json(alloc, &bytes)?,
-    };
-    print(rt, explained.text.as_bytes())?;
-    if explained.is_faulty {
-        return Err(Failure::refused(alloc, name_of(file), Reason::Faulty));
+    if explain_bytes(rt, &bytes, form)? {
+        return Err(Failure::refused(rt.alloc(), name_of(file), Reason::Faulty));
     }
     Ok(())
+}
+
+/// Prints what the frames of a script or a stream ask for, and tells whether something is at fault.
+fn explain_bytes<R: Print + AllocGlobal>(
+    rt: &R,
+    bytes: &[u8],
+    form: Form,
+) -> Result<bool, Failure> {
+    let explained = match form {
+        Form::Text => explain_report(rt.alloc(), bytes)?,
+        Form::Json => explain_json(rt.alloc(), bytes)?,
+    };
+    print(rt, explained.text.as_bytes())?;
+    Ok(explained.is_faulty)
 }

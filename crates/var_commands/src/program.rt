@@ -10,14 +10,15 @@ use crate::making::{explain, make_frame, make_option};
 use crate::write::write_place;
 use boot_commands::OutputFile;
 use boot_texts::{diff_json, diff_report, vars_json, vars_report};
-use boot_updates::{Ended, update};
+use boot_updates::{Ended, UpdateWords, update};
 use clap::error::ErrorKind;
 use std::alloc::{AllocError, Global};
 use std::rt::{Env, Files};
 use std::{env, io};
 use uefi_vars::{BOOT_NEXT, BOOT_ORDER, Changes, Vars, entry_number, write_set};
 use var_places::{
-    Failure, KEEP_STATE, Reason, STANDARD, has_keep_state, lock, name_of, print, read_place, write,
+    Failure, KEEP_STATE, Output, Reason, STANDARD, has_keep_state, lock, name_of, print,
+    read_place, write,
 };
 use var_stores::boot_changes;
 
@@ -151,25 +152,36 @@ fn act<R: Files<File: OutputFile> + Input + Print + Eprint + AllocGlobal>(
             place,
             out,
             boot_only,
-        } => make_set(rt, place, out, boot_only)?,
-        Action::Show { place, form } => show(rt, place, form)?,
-        Action::Diff { from, to, form } => return diff(rt, from, to, form),
-        Action::Write(words) => write_place(rt, &words)?,
-        Action::Update(words) => {
-            return Ok(match update(rt, &words)? {
-                Ended::AllDone => Ending::Done,
-                Ended::NotAll => Ending::NotAll,
-            });
-        }
-        Action::LoadOption(words) => make_option(rt, &words)?,
+        } => done(make_set(rt, place, out, boot_only)),
+        Action::Show { place, form } => done(show(rt, place, form)),
+        Action::Diff { from, to, form } => diff(rt, from, to, form),
+        Action::Write(words) => done(write_place(rt, &words)),
+        Action::Update(words) => update_place(rt, &words),
+        Action::LoadOption(words) => done(make_option(rt, &words)),
         Action::Frame {
             number,
             request,
             raw,
-        } => make_frame(rt, number, &request, raw)?,
-        Action::Explain { file, form } => explain(rt, file, form)?,
+        } => done(make_frame(rt, number, &request, raw)),
+        Action::Explain { file, form } => done(explain(rt, file, form)),
     }
-    Ok(Ending::Done)
+}
+
+/// The ending of what is done if nothing failed.
+fn done(outcome: Result<(), Failure>) -> Result<Ending, Failure> {
+    outcome.map(|()| Ending::Done)
+}
+
+/// Updates a machine.
+fn update_place<R: Files<File: OutputFile> + Input + Print + Eprint + AllocGlobal>(
+    rt: &R,
+    words: &UpdateWords<'_>,
+) -> Result<Ending, Failure> {
+    match update(rt, words) {
+        Ok(Ended::AllDone) => Ok(Ending::Done),
+        Ok(Ended::NotAll) => Ok(Ending::NotAll),
+        Err(failure) => Err(failure),
+    }
 }
 
 /// Makes a set file of the variables of a place. It is locked before the place is read, which may be the same file. A set
@@ -181,15 +193,35 @@ fn make_set<R: Files<File: OutputFile> + Input + Print + Eprint + AllocGlobal>(
     boot_only: bool,
 ) -> Result<(), Failure> {
     let output = lock(rt, out);
+    let vars = read_vars(rt, place, boot_only)?;
+    write_vars(rt, out, output?, &vars)
+}
+
+/// The variables of a place, or the boot variables alone.
+fn read_vars<R: Files + Input + Eprint + AllocGlobal>(
+    rt: &R,
+    place: &str,
+    boot_only: bool,
+) -> Result<Vars, Failure> {
     let mut vars = read_place(rt, place)?;
     if boot_only {
         keep_boot_variables(rt.alloc(), &mut vars)?;
     }
-    let output = output?;
+    Ok(vars)
+}
+
+/// Writes the set file of variables at this path, unless BootKeepState would be lost.
+fn write_vars<R: Files<File: OutputFile> + Input + Print + AllocGlobal>(
+    rt: &R,
+    out: &str,
+    output: Output<'_, R::File>,
+    vars: &Vars,
+) -> Result<(), Failure> {
     if vars.get(KEEP_STATE).is_none() && has_keep_state(rt, out)? {
         return Err(Failure::refused(rt.alloc(), out, Reason::LosesKeepState));
     }
-    write(rt, output, &write_set(rt.alloc(), &vars)?)
+    let bytes = write_set(rt.alloc(), vars)?;
+    write(rt, output, &bytes)
 }
 
 /// Takes out all variables but Boot####, BootOrder and BootNext.
@@ -230,12 +262,23 @@ fn diff<R: Files + Input + Print + Eprint + AllocGlobal>(
     }
     let from = read_place(rt, from)?;
     let to = read_place(rt, to)?;
+    print_diff(rt, &from, &to, form)
+}
+
+/// Prints how two sets of boot variables differ.
+fn print_diff<R: Print + AllocGlobal>(
+    rt: &R,
+    from: &Vars,
+    to: &Vars,
+    form: Form,
+) -> Result<Ending, Failure> {
+    let alloc = rt.alloc();
     let text = match form {
-        Form::Text => diff_report(alloc, &from, &to)?,
-        Form::Json => diff_json(alloc, &from, &to)?,
+        Form::Text => diff_report(alloc, from, to)?,
+        Form::Json => diff_json(alloc, from, to)?,
     };
     print(rt, text.as_bytes())?;
-    Ok(if boot_changes(alloc, &from, &to)?.is_empty() {
+    Ok(if boot_changes(alloc, from, to)?.is_empty() {
         Ending::Done
     } else {
         Ending::Differs

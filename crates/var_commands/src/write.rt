@@ -9,9 +9,9 @@ use std::{fs, io};
 use uefi_option::{OptionFault, check_option};
 use uefi_vars::{BOOT_NEXT, BOOT_ORDER, Vars, entry_number};
 use var_places::{
-    Failure, FileKind, Folder, KEEP_STATE, Output, Reason, STANDARD, changed_set,
-    changed_variable_file, file_kind, file_vars, is_folder, lock, make_change, name_of, no_place,
-    note, print, read, read_folder, set_vars, shown, write,
+    Failure, FileKind, Folder, KEEP_STATE, Reason, STANDARD, changed_set, changed_variable_file,
+    file_kind, file_vars, is_folder, lock, make_change, name_of, no_place, note, print, read,
+    read_folder, set_vars, shown, write,
 };
 use var_stores::{BootChange, boot_changes};
 
@@ -75,46 +75,69 @@ fn write_to_file<R: Files<File: OutputFile> + Input + Print + Eprint + AllocGlob
     words: &WriteWords<'_>,
     to: &Vars,
 ) -> Result<(), Failure> {
-    let alloc = rt.alloc();
     check_regular(rt, words.place)?;
-    let output = if words.dry_run {
-        None
-    } else {
-        Some(lock(rt, words.place)?)
-    };
+    if words.dry_run {
+        let planned = plan_file(rt, words, to)?;
+        return print(rt, planned.report.as_bytes());
+    }
+    let output = lock(rt, words.place)?;
+    let planned = plan_file(rt, words, to)?;
+    if planned.changes {
+        write(rt, output, &planned.bytes)?;
+    }
+    print(rt, planned.report.as_bytes())
+}
+
+/// What a file is to be.
+#[derive(Drop)]
+struct PlannedFile {
+    /// Its bytes.
+    bytes: Vec<u8>,
+    /// Whether a variable changes.
+    changes: bool,
+    /// The lines that tell of the changes.
+    report: String,
+}
+
+/// What the set file or the variable file is to be.
+fn plan_file<R: Files + Input + Eprint + AllocGlobal>(
+    rt: &R,
+    words: &WriteWords<'_>,
+    to: &Vars,
+) -> Result<PlannedFile, Failure> {
     let bytes = read(rt, words.place)?;
     let from = file_vars(rt, words.place, &bytes)?;
-    let changes = boot_changes(alloc, &from, to)?;
-    let changed = match file_kind(&bytes) {
+    let changes = boot_changes(rt.alloc(), &from, to)?;
+    let bytes = changed_bytes(rt, words, &bytes, (&from, to), &changes)?;
+    Ok(PlannedFile {
+        report: report(rt.alloc(), &changes)?,
+        bytes,
+        changes: !changes.is_empty(),
+    })
+}
+
+/// The bytes of a set file or a variable file after changes from the one set of variables to the other.
+fn changed_bytes<R: Eprint + AllocGlobal>(
+    rt: &R,
+    words: &WriteWords<'_>,
+    bytes: &[u8],
+    (from, to): (&Vars, &Vars),
+    changes: &[BootChange<'_>],
+) -> Result<Vec<u8>, Failure> {
+    let alloc = rt.alloc();
+    match file_kind(bytes) {
         FileKind::Set => {
             note(
                 rt,
                 words.place,
                 "it is a set file: this changes a file, and no machine",
             );
-            changed_set(alloc, &from, &changes)?
+            changed_set(alloc, from, changes)
         }
         _ => {
             note_keep_state(rt, words, to);
-            changed_variable_file(alloc, words.place, &bytes, to)?
+            changed_variable_file(alloc, words.place, bytes, to)
         }
-    };
-    let report = report(alloc, &changes)?;
-    if !changes.is_empty() {
-        replace(rt, output, &changed)?;
-    }
-    print(rt, report.as_bytes())
-}
-
-/// Replaces the file that is locked, if there is one.
-fn replace<R: Files<File: OutputFile> + Print + AllocGlobal>(
-    rt: &R,
-    output: Option<Output<'_, R::File>>,
-    bytes: &[u8],
-) -> Result<(), Failure> {
-    match output {
-        Some(output) => write(rt, output, bytes),
-        None => Ok(()),
     }
 }
 
@@ -162,15 +185,27 @@ fn make_changes<R: Files + Print + AllocGlobal>(
 ) -> Result<(), Failure> {
     let mut printed = Ok(());
     for (index, change) in changes.iter().enumerate() {
-        let line = change_report(rt.alloc(), change)?;
-        if let Err(error) = make_change(rt, folder, place, change) {
-            let around = (&changes[..index], &changes[index + 1..]);
-            return Err(change_failure(rt.alloc(), place, (change, error), around)?);
-        }
+        let around = (&changes[..index], &changes[index + 1..]);
+        let line = make_shown_change(rt, place, folder, change, around)?;
         // The changes go on even if nobody reads of them: half of them would be worse.
         printed = printed.and(print(rt, line.as_bytes()));
     }
     printed
+}
+
+/// Makes a change, after those before it and before those after it, and gives the lines that tell of it.
+fn make_shown_change<R: Files + Print + AllocGlobal>(
+    rt: &R,
+    place: &str,
+    folder: &Folder,
+    change: &BootChange<'_>,
+    around: (&[BootChange<'_>], &[BootChange<'_>]),
+) -> Result<String, Failure> {
+    let line = change_report(rt.alloc(), change)?;
+    match make_change(rt, folder, place, change) {
+        Ok(()) => Ok(line),
+        Err(error) => Err(change_failure(rt.alloc(), place, (change, error), around)?),
+    }
 }
 
 /// What it is to the program that the system refuses a change, after the changes before it and before those after it.
