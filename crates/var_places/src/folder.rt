@@ -6,6 +6,7 @@ ghost use Rattle.var_places.specs.Folder.{IsFileName};
 
 use crate::failure::Failure;
 use crate::input::read_file;
+use crate::mounts::is_on_efivarfs;
 use crate::notes::note;
 use crate::reason::Reason;
 use std::alloc::{AllocError, Global};
@@ -64,20 +65,22 @@ pub enum LeftOut {
 ///
 /// # Errors
 ///
-/// [`Failure::Read`] if the folder or the file of one of its variables can't be read, [`Failure::Refused`] if it has no
-/// boot variable or a variable twice, and [`Failure::Memory`] if memory was refused.
+/// [`Failure::Read`] if the folder or the file of one of its variables can't be read, [`Failure::Refused`] if it has a
+/// variable twice, or no file of a variable and isn't on an efivarfs, and [`Failure::Memory`] if memory was refused.
 pub fn read_folder<R: Files + Eprint + AllocGlobal>(rt: &R, path: &str) -> Result<Folder, Failure> {
     let mut folder = Folder {
         vars: Vars::new(rt.alloc()),
         files: BTreeMap::new(rt.alloc()),
     };
-    for file in &file_names(rt, path)? {
+    let files = file_names(rt, path)?;
+    // A machine may have no entry, and then none of these variables, until it gets one.
+    if !files.iter().any(|file| variable_name(file).is_some()) && !is_on_efivarfs(rt, path)? {
+        return Err(Failure::refused(rt.alloc(), path, Reason::NoVariables));
+    }
+    for file in &files {
         if let Some(name) = variable_name(file) {
             add_variable(rt, path, &mut folder, name, file)?;
         }
-    }
-    if !folder.vars.iter().any(|(name, _)| name.starts_with("Boot")) {
-        return Err(Failure::refused(rt.alloc(), path, Reason::NoBootVariables));
     }
     Ok(folder)
 }

@@ -14,6 +14,7 @@ mod file_place;
 mod folder;
 mod folder_change;
 mod input;
+mod mounts;
 mod notes;
 mod output;
 mod place;

@@ -69,9 +69,9 @@ pub enum Reason {
     /// A store has no room for what is to be written.
     #[error("its store of variables has no room for the changes, and nothing is changed")]
     Full,
-    /// A folder has no boot variable.
+    /// A folder has no variable of the standard, and isn't on an efivarfs.
     #[error("no boot variables are in it: is efivarfs mounted there?")]
-    NoBootVariables,
+    NoVariables,
     /// Two files of a folder show one variable.
     #[error("{first:?} and {second:?} are the same variable: take one of them away")]
     Twice {
