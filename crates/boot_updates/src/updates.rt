@@ -13,8 +13,8 @@ use std::alloc::Global;
 use std::rt::Files;
 use uefi_vars::Vars;
 use var_places::{
-    Failure, FileKind, Reason, STANDARD, file_kind, file_vars, is_folder, name_of, no_place, print,
-    read, read_file, read_folder,
+    Failure, FileKind, Quoted, Reason, STANDARD, file_kind, file_vars, is_folder, name_of,
+    no_place, print, read, read_file, read_folder,
 };
 
 /// The file in which Linux tells the identity of its start.
@@ -308,11 +308,14 @@ fn own_boot_id<R: Files + AllocGlobal>(rt: &R) -> Result<BootId, Failure> {
 fn boot_id_of(alloc: Global, from: &str, text: &str) -> Result<BootId, Failure> {
     match BootId::new(String::from_str(alloc, text)?) {
         Some(boot) => Ok(boot),
-        None => Err(Failure::of_word(
-            alloc,
-            format_args!(
-                "{from} {text:?} is no identity of a start: one to 64 characters of ASCII that print, without blanks"
-            ),
-        )),
+        None => {
+            let text = Quoted(text);
+            Err(Failure::of_word(
+                alloc,
+                format_args!(
+                    "{from} {text} is no identity of a start: one to 64 characters of ASCII that print, without blanks"
+                ),
+            ))
+        }
     }
 }

@@ -10,7 +10,7 @@ use boot_texts::{
 use hex::FromHexError;
 use std::alloc::Global;
 use std::rt::Files;
-use var_places::{Failure, Reason, lock, name_of, no_option, print, read, write};
+use var_places::{Failure, Quoted, Reason, lock, name_of, no_option, print, read, write};
 
 /// Makes a file with the load option of these words.
 ///
@@ -60,15 +60,23 @@ fn optional<R: Files + Input + AllocGlobal>(
     let alloc = rt.alloc();
     match words {
         OptionalWords::Nothing => Ok(Vec::new(alloc)),
-        OptionalWords::Hex(digits) => hex::decode(alloc, digits).map_err(|fault| match fault {
-            FromHexError::OutOfMemory => Failure::Memory,
-            fault => Failure::of_word(
-                alloc,
-                format_args!("--optional-hex {digits:?}: {fault}; --optional-text takes a text"),
-            ),
-        }),
+        OptionalWords::Hex(digits) => {
+            hex::decode(alloc, digits).map_err(|fault| of_hex(alloc, digits, fault))
+        }
         OptionalWords::File(file) => read(rt, file),
         OptionalWords::Text(text) => Ok(optional_text(alloc, text)?),
+    }
+}
+
+/// What it is to the program that these digits of optional data have this fault.
+fn of_hex(alloc: Global, digits: &str, fault: FromHexError) -> Failure {
+    let digits = Quoted(digits);
+    match fault {
+        FromHexError::OutOfMemory => Failure::Memory,
+        fault => Failure::of_word(
+            alloc,
+            format_args!("--optional-hex {digits}: {fault}; --optional-text takes a text"),
+        ),
     }
 }
 
@@ -174,7 +182,8 @@ fn entry_of(alloc: Global, word: &str) -> Result<u16, Failure> {
 
 /// What it is to the program that a word isn't the number that it is to be.
 fn of_digits(alloc: Global, word: &str, fault: DigitsFault) -> Failure {
-    Failure::of_word(alloc, format_args!("{word:?} is {fault}"))
+    let word = Quoted(word);
+    Failure::of_word(alloc, format_args!("{word} is {fault}"))
 }
 
 /// What it is to the program that no frame is made of the load option in the file at this path, which has these bytes.

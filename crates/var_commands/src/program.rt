@@ -17,8 +17,8 @@ use std::rt::{Env, Files};
 use std::{env, io};
 use uefi_vars::{BOOT_NEXT, BOOT_ORDER, Changes, Vars, entry_number, write_set};
 use var_places::{
-    Failure, KEEP_STATE, Output, Reason, STANDARD, has_keep_state, lock, name_of, print,
-    read_place, write,
+    Failure, KEEP_STATE, Output, Reason, SHOWN_MAX, STANDARD, Shortened, has_keep_state, lock,
+    name_of, print, read_place, write,
 };
 use var_stores::boot_changes;
 
@@ -81,13 +81,14 @@ fn answer<R: Env + Files<File: OutputFile> + Input + Print + Eprint + AllocGloba
             Some(action) => act(rt, action),
             None => Err(Failure::of_word(alloc, "no command is named")),
         },
-        Err(error) => end_without_action(rt, &error),
+        Err(error) => end_without_action(rt, words.as_slice(), &error),
     }
 }
 
 /// Prints what `clap` answers in place of matches, if it is the help or the version; if not, no action was asked for.
 fn end_without_action<R: Print + AllocGlobal>(
     rt: &R,
+    words: &[String],
     error: &clap::Error,
 ) -> Result<Ending, Failure> {
     let alloc = rt.alloc();
@@ -95,7 +96,7 @@ fn end_without_action<R: Print + AllocGlobal>(
         return Err(Failure::Memory);
     }
     if error.use_stderr() {
-        return Err(wrong_words(alloc, error));
+        return Err(wrong_words(alloc, words, error));
     }
     print(rt, format!(in alloc; "{error}")?.as_bytes())?;
     Ok(Ending::Done)
@@ -115,18 +116,40 @@ fn words<R: Env + AllocGlobal>(rt: &R) -> Result<Vec<String>, Failure> {
 }
 
 /// What it is to the program that `clap` finds words wrong: its message, with the usage.
-fn wrong_words(alloc: Global, error: &clap::Error) -> Failure {
-    match message_of(alloc, error) {
+fn wrong_words(alloc: Global, words: &[String], error: &clap::Error) -> Failure {
+    match message_of(alloc, words, error) {
         Ok(message) => Failure::Words(message),
         Err(AllocError) => Failure::Memory,
     }
 }
 
 /// The message of `clap`, with the usage, for a line that begins with the program's name.
-fn message_of(alloc: Global, error: &clap::Error) -> Result<String, AllocError> {
+fn message_of(
+    alloc: Global,
+    words: &[String],
+    error: &clap::Error,
+) -> Result<String, AllocError> {
     let text = format!(in alloc; "{error}")?;
     let message = text.trim_end();
-    without_controls(alloc, message.strip_prefix("error: ").unwrap_or(message))
+    let message = message.strip_prefix("error: ").unwrap_or(message);
+    without_controls(alloc, shortened(alloc, message, words)?.as_str())
+}
+
+/// The message, in which each of the words, and of an option with a value its name and its value, is shown as messages show
+/// what is wrong.
+fn shortened(alloc: Global, message: &str, words: &[String]) -> Result<String, AllocError> {
+    let mut message = String::from_str(alloc, message)?;
+    for word in words {
+        let word = word.as_str();
+        let (name, value) = word.split_once('=').unwrap_or((word, ""));
+        for part in [word, name, value] {
+            if part.len() > SHOWN_MAX && message.contains(part) {
+                let front = format!(in alloc; "{}", Shortened(part))?;
+                message = message.replace(alloc, part, front.as_str())?;
+            }
+        }
+    }
+    Ok(message)
 }
 
 /// The lines of a message that repeats words, in which each control character but the line feeds is shown by an escape.

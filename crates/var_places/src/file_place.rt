@@ -4,7 +4,7 @@ use crate::failure::Failure;
 use crate::file_kinds::{FileKind, file_kind, other_kind};
 use crate::folder::{KEEP_STATE, LeftOut};
 use crate::input::{STANDARD, read_file};
-use crate::notes::note;
+use crate::notes::{Shortened, note};
 use crate::reason::Reason;
 use boot_commands::LIMIT;
 use std::alloc::{AllocError, Global};
@@ -94,6 +94,7 @@ fn variable_file_vars<R: Eprint + AllocGlobal>(
     let store = read_store(alloc, bytes).map_err(|fault| of_store(alloc, name, fault))?;
     for record in &left_out(alloc, &store)? {
         let variable = record_name(alloc, record)?;
+        let variable = Shortened(variable.as_str());
         let why = why_left_out(record);
         note(rt, name, format_args!("{variable} is left out: {why}"));
     }

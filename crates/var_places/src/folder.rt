@@ -7,12 +7,12 @@ ghost use Rattle.var_places.specs.Folder.{IsFileName};
 use crate::failure::Failure;
 use crate::input::read_file;
 use crate::mounts::is_on_efivarfs;
-use crate::notes::note;
+use crate::notes::{Quoted, Shortened, note};
 use crate::reason::Reason;
 use std::alloc::{AllocError, Global};
 use std::collections::BTreeMap;
 use std::fs;
-use std::io::ErrorKind;
+use std::io::{self, ErrorKind};
 use std::path::{Path, PathBuf};
 use std::rt::Files;
 use thiserror::Error;
@@ -137,11 +137,28 @@ fn add_variable<R: Files + Eprint + AllocGlobal>(
                 let name = String::from_str(alloc, name)?;
                 folder.files.insert(name, String::from_str(alloc, file)?)?;
             }
-            Some(why) => note(rt, path, format_args!("{file:?} is left out: {why}")),
+            Some(why) => {
+                let file = Quoted(file);
+                note(rt, path, format_args!("{file} is left out: {why}"));
+            }
         },
-        Err(error) => return Err(Failure::of_read(alloc, whole, error)),
+        Err(error) => return Err(of_file(alloc, path, file, error)),
     }
     Ok(())
+}
+
+/// What it is to the program that the file of this name in the folder at this path can't be read.
+fn of_file(alloc: Global, path: &str, file: &str, error: io::Error) -> Failure {
+    match path_with_front(alloc, path, file) {
+        Ok(name) => Failure::of_read(alloc, name.as_path().as_str(), error),
+        Err(AllocError) => Failure::Memory,
+    }
+}
+
+/// The path of a folder, and as much of the name of a file in it as messages show.
+fn path_with_front(alloc: Global, path: &str, file: &str) -> Result<PathBuf, AllocError> {
+    let front = format!(in alloc; "{}", Shortened(file))?;
+    Path::new(path).join(alloc, front.as_str())
 }
 
 /// Stores the value of a file under this name, or says why that can't be.

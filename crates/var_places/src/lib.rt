@@ -28,7 +28,7 @@ pub use file_place::{
 pub use folder::{Folder, KEEP_STATE, LeftOut, read_folder};
 pub use folder_change::{has_value, make_change, set_variable};
 pub use input::{STANDARD, name_of, read, read_file};
-pub use notes::{note, shown};
+pub use notes::{Quoted, SHOWN_MAX, Shortened, note, shown};
 pub use output::{Output, lock, print, write};
 pub use place::{is_folder, read_place};
 pub use reason::Reason;

@@ -1,7 +1,54 @@
-//! What is told beside an answer, and names as messages show them.
+//! What is told beside an answer, and names and texts as messages show them.
 
 use std::alloc::{AllocError, Global};
 use std::fmt::{self, Display};
+
+/// How many characters messages show of a text that isn't the user's path.
+pub const SHOWN_MAX: usize = 60;
+
+/// A text from within a file or a folder, or a wrong word of the command line, as messages show it: as it is if it has at
+/// most [`SHOWN_MAX`] characters, and otherwise so many of them, and then how many it has.
+#[derive(Clone, Copy)]
+pub struct Shortened<'a>(pub &'a str);
+
+/// The same text between quotes, with escapes.
+#[derive(Clone, Copy)]
+pub struct Quoted<'a>(pub &'a str);
+
+/// How many characters a text has, told after its front if that isn't all of it.
+#[derive(Clone, Copy)]
+struct Length<'a>(&'a str);
+
+impl Display for Shortened<'_> {
+    fn fmt<W: fmt::Write>(&self, f: &mut fmt::Formatter<W>) -> fmt::Result {
+        write!(f, "{}{}", front(self.0), Length(self.0))
+    }
+}
+
+impl Display for Quoted<'_> {
+    fn fmt<W: fmt::Write>(&self, f: &mut fmt::Formatter<W>) -> fmt::Result {
+        write!(f, "{:?}{}", front(self.0), Length(self.0))
+    }
+}
+
+impl Display for Length<'_> {
+    fn fmt<W: fmt::Write>(&self, f: &mut fmt::Formatter<W>) -> fmt::Result {
+        let count = self.0.chars().count();
+        if count > SHOWN_MAX {
+            write!(f, "... ({count} characters)")
+        } else {
+            Ok(())
+        }
+    }
+}
+
+/// The first [`SHOWN_MAX`] characters of the text, or all of them if there are fewer.
+fn front(text: &str) -> &str {
+    match text.char_indices().nth(SHOWN_MAX) {
+        Some((end, _)) => text.get(..end).unwrap_or(text),
+        None => text,
+    }
+}
 
 /// The name of a file or a place, to be shown: as it is if each of its bytes is a blank or ASCII that prints, and
 /// otherwise between quotes, with escapes, so that it can't steer a terminal or look like a line of its own.

@@ -1,6 +1,7 @@
 //! Why an input is refused, in words for a person.
 
 use crate::file_kinds::{NoOption, OtherKind};
+use crate::notes::Quoted;
 use thiserror::Error;
 use uefi_vars::SetFault;
 use var_stores::StoreFault;
@@ -73,7 +74,8 @@ pub enum Reason {
     #[error("no boot variables are in it: is efivarfs mounted there?")]
     NoVariables,
     /// Two files of a folder show one variable.
-    #[error("{first:?} and {second:?} are the same variable: take one of them away")]
+    #[error("{one} and {other} are the same variable: take one of them away",
+        one = Quoted(.first.as_str()), other = Quoted(.second.as_str()))]
     Twice {
         /// The name of the one file.
         first: String,
