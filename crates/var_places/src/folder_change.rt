@@ -7,7 +7,7 @@ ghost use Rattle.var_places.specs.Folder.{ShowsValue, stored_attributes};
 use crate::folder::{ATTRIBUTES_LEN, Folder};
 use crate::input::read_file;
 use std::alloc::{AllocError, Global};
-use std::fs::{self, OpenFile, OpenOptions};
+use std::fs::{self, File, OpenFile, OpenOptions};
 use std::io::{self, ErrorKind, Write};
 use std::path::Path;
 use std::rt::Files;
@@ -19,12 +19,14 @@ use var_stores::BootChange;
 const ATTRIBUTES: [u8; 4] = [7, 0, 0, 0];
 
 /// Makes one change in the folder at this path, which shows these variables: by one write of the attributes and the
-/// value, as efivarfs wants it, to a file that isn't cut before, or by removing the file.
+/// value, as efivarfs wants it, to a file that isn't cut before, or by removing the file. Then it is brought to the disk,
+/// if the folder is on one: firmware keeps what efivarfs has.
 ///
 /// # Errors
 ///
 /// The system's, if the file can't be opened, written or removed, and that memory was refused. The variable is as it was
-/// then, and a file that was to be made is gone.
+/// then, and a file that was to be made is gone. The system's too, if the change can't be brought to the disk: it is made
+/// then, and a cut may undo it.
 pub fn make_change<R: Files + AllocGlobal>(
     rt: &R,
     folder: &Folder,
@@ -33,18 +35,21 @@ pub fn make_change<R: Files + AllocGlobal>(
 ) -> io::Result<()> {
     let file = folder.path_of(rt.alloc(), path, change.name)?;
     match change.after {
-        Some(value) => store(rt, file.as_path(), value, change.before.is_none()),
-        None => fs::remove_file(rt, file.as_path()),
+        Some(value) => store(rt, file.as_path(), value, change.before.is_none())?,
+        None => fs::remove_file(rt, file.as_path())?,
     }
+    sync_folder(rt, path)
 }
 
 /// Sets the variable of this name to this value, or takes it out if the value is `None`, whatever is there. Nothing is
-/// written if it is so already. The folder is what was read of this path, and the name has no slash.
+/// written if it is so already. Either way it is brought to the disk, as by [`make_change`]. The folder is what was read of
+/// this path, and the name has no slash.
 ///
 /// # Errors
 ///
 /// The system's, if the file can't be opened, read, written or removed, and that memory was refused. The variable is as it
-/// was then, and a file that was to be made is gone.
+/// was then, and a file that was to be made is gone. The system's too, if the change can't be brought to the disk, as of
+/// [`make_change`].
 pub fn set_variable<R: Files + AllocGlobal>(
     rt: &R,
     folder: &Folder,
@@ -54,13 +59,14 @@ pub fn set_variable<R: Files + AllocGlobal>(
 ) -> io::Result<()> {
     let file = folder.path_of(rt.alloc(), path, name)?;
     let found = find(rt, file.as_path())?;
-    if found.has(value) {
-        return Ok(());
-    }
     match value {
-        Some(value) => store(rt, file.as_path(), value, matches!(found, Found::Nothing)),
-        None => fs::remove_file(rt, file.as_path()),
+        // Whoever wrote it may have been killed before it was on the disk.
+        Some(_) if found.has(value) => sync(&File::open(rt, file.as_path())?)?,
+        None if found.has(value) => {}
+        Some(value) => store(rt, file.as_path(), value, matches!(found, Found::Nothing))?,
+        None => fs::remove_file(rt, file.as_path())?,
     }
+    sync_folder(rt, path)
 }
 
 /// Whether the variable of this name has this value, or isn't there if the value is `None`. A variable with more than
@@ -120,7 +126,7 @@ fn shows_value(bytes: &[u8], value: &[u8]) -> bool
     bytes.len() >= ATTRIBUTES_LEN && &bytes[ATTRIBUTES_LEN..] == value
 }
 
-/// Stores the value in the file at this path, which is made if the variable is new.
+/// Stores the value in the file at this path, which is made if the variable is new, and brings it to the disk.
 fn store<R: Files + AllocGlobal>(
     rt: &R,
     path: Path<'_>,
@@ -134,7 +140,8 @@ fn store<R: Files + AllocGlobal>(
     if written.is_err() && is_new && file.metadata()?.len() == 0 {
         fs::remove_file(rt, path)?;
     }
-    written
+    written?;
+    sync(&file)
 }
 
 /// The bytes of the file that shows this value.
@@ -144,6 +151,31 @@ fn file_bytes(alloc: Global, value: &[u8]) -> Result<Vec<u8>, AllocError>
     let mut bytes = Vec::from_slice(alloc, &ATTRIBUTES)?;
     bytes.extend_from_slice(value)?;
     Ok(bytes)
+}
+
+/// Brings the names in the folder at this path to the disk, as [`sync`] does: without that a file may come back that was
+/// removed, and a new one be lost. Whether the last change made or removed one isn't asked, since one before may have been
+/// cut off.
+fn sync_folder<R: Files>(rt: &R, path: &str) -> io::Result<()> {
+    match File::open(rt, path) {
+        Ok(folder) => sync(&folder),
+        // A folder may be written by someone who may not read it.
+        Err(error) if error.kind() == ErrorKind::PermissionDenied => Ok(()),
+        Err(error) => Err(error),
+    }
+}
+
+/// Brings a file or a folder to the disk. A file system that has none, as efivarfs, answers that it can't, and that is
+/// passed over.
+fn sync<F: OpenFile>(file: &F) -> io::Result<()> {
+    match file.sync_all() {
+        Err(error)
+            if matches!(
+                error.kind(),
+                ErrorKind::InvalidInput | ErrorKind::Unsupported
+            ) => { Ok(()) }
+        done => done,
+    }
 }
 
 /// Writes all of the bytes at once.
