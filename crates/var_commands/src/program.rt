@@ -124,11 +124,7 @@ fn wrong_words(alloc: Global, words: &[String], error: &clap::Error) -> Failure 
 }
 
 /// The message of `clap`, with the usage, for a line that begins with the program's name.
-fn message_of(
-    alloc: Global,
-    words: &[String],
-    error: &clap::Error,
-) -> Result<String, AllocError> {
+fn message_of(alloc: Global, words: &[String], error: &clap::Error) -> Result<String, AllocError> {
     let text = format!(in alloc; "{error}")?;
     let message = text.trim_end();
     let message = message.strip_prefix("error: ").unwrap_or(message);
