@@ -75,7 +75,7 @@ pub fn read_folder<R: Files + Eprint + AllocGlobal>(rt: &R, path: &str) -> Resul
     let files = file_names(rt, path)?;
     // A machine may have no entry, and then none of these variables, until it gets one.
     if !files.iter().any(|file| variable_name(file).is_some()) && !is_on_efivarfs(rt, path)? {
-        return Err(Failure::refused(rt.alloc(), path, Reason::NoVariables));
+        return Err(Failure::refused(rt.alloc(), path, Reason::NoBootVariables));
     }
     for file in &files {
         if let Some(name) = variable_name(file) {

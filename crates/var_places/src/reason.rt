@@ -72,10 +72,9 @@ pub enum Reason {
     Full,
     /// A folder has no variable of the standard, and isn't on an efivarfs.
     #[error("no boot variables are in it: is efivarfs mounted there?")]
-    NoVariables,
+    NoBootVariables,
     /// Two files of a folder show one variable.
-    #[error("{one} and {other} are the same variable: take one of them away",
-        one = Quoted(.first.as_str()), other = Quoted(.second.as_str()))]
+    #[error("{one} and {other} are the same variable: take one of them away", one = Quoted(.first.as_str()), other = Quoted(.second.as_str()))]
     Twice {
         /// The name of the one file.
         first: String,
