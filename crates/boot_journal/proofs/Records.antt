@@ -1,11 +1,12 @@
 -- Records of what was done.
-use Rattle.std.proofs.Common.{◌≡◌, ◌+◌, ℕ, Bool, true, false, Result, Ok, Err, List, [], ◌∷◌, ◌++◌, refl, sym, ap, ◌∙◌, arith}
+use Rattle.std.proofs.Common.{◌≡◌, ◌+◌, ℕ, Bool, true, false, Result, Ok, Err, Option, Some, None, List, [], ◌∷◌, ◌++◌, refl, sym, ap, ◌∙◌, append_assoc, arith}
 use Rattle.boot_journal.specs.declared.recorded.Move.{Move}
 use Rattle.boot_journal.specs.declared.recorded.Move.TheVariants.{Made, Replaced, Refused}
 use Rattle.std.proofs.lemmas.Bool.{true≢false}
 use Rattle.var_stores.specs.BootChange.{ChangeParts}
 use Rattle.boot_journal.specs.declared.machine.CallError.{CallError}
 use Rattle.boot_journal.specs.declared.machine.CallError.TheVariants.{Refused as Refusal}
+use Rattle.boot_journal.specs.Asked.{Ask, and_then}
 use Rattle.boot_journal.specs.Cause.{HasCause}
 use Rattle.boot_journal.specs.Journal.{JournalParts}
 use Rattle.boot_journal.specs.Moments.{Leaves, IsNow}
@@ -90,3 +91,18 @@ count_replaced items items' journal pushed = ap refusals_in pushed ∙ refusals_
 
 pub count_refused : (items items' : List Move) → items' ≡ items ++ Refused ∷ [] → refusals_in items' ≡ 1 + refusals_in items
 count_refused items items' pushed = ap refusals_in pushed ∙ refusals_refused items
+
+-- ---- what a device was asked
+
+then_again : (asked : Option (List Ask)) (xs ys : List Ask) → and_then (and_then asked xs) ys ≡ and_then asked (xs ++ ys)
+then_again None xs ys = refl
+then_again (Some asks) xs ys = ap Some (append_assoc asks xs ys)
+
+pub asked_twice : (asked mid asked' : Option (List Ask)) (x y : Ask) → mid ≡ and_then asked (x ∷ []) → asked' ≡ and_then mid (y ∷ []) → asked' ≡ and_then asked (x ∷ y ∷ [])
+asked_twice asked mid asked' x y first second = second ∙ ap (λ (a : Option (List Ask)). and_then a (y ∷ [])) first ∙ then_again asked (x ∷ []) (y ∷ [])
+
+pub told_once : (moves same moves' : List Move) (m n : Move) → same ≡ moves → m ≡ n → moves' ≡ same ++ m ∷ [] → moves' ≡ moves ++ n ∷ []
+told_once moves same moves' m n is alike pushed = pushed ∙ (λ i. is i ++ alike i ∷ [])
+
+pub told_twice : (moves mid moves' : List Move) (m n : Move) → mid ≡ moves ++ m ∷ [] → moves' ≡ mid ++ n ∷ [] → moves' ≡ moves ++ m ∷ n ∷ []
+told_twice moves mid moves' m n first second = second ∙ ap (λ (l : List Move). l ++ n ∷ []) first ∙ append_assoc moves (m ∷ []) (n ∷ [])

@@ -15,6 +15,7 @@ pub mod Once
 pub mod Answering
 pub mod Commands
 pub mod Calls
+pub mod Asked
 pub mod Recorded
 pub mod RecordedValue
 pub mod Bytes

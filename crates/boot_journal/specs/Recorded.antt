@@ -1,5 +1,8 @@
 -- What was done to a machine, from the first on.
-use Rattle.std.specs.Prelude.{ℕ, ◌+◌, List, [], ◌∷◌}
+use Rattle.std.specs.Prelude.{◌≡◌, ℕ, ◌+◌, Bool, true, false, List, [], ◌∷◌, ◌++◌, Option}
+use Rattle.var_stores.specs.BootChange.{ChangeParts}
+use Rattle.boot_journal.specs.Asked.{Ask, ToMake, HasMade, ToReplace, HasReplaced, and_then}
+use Rattle.boot_journal.specs.Journal.{JournalParts}
 use Rattle.boot_journal.specs.declared.recorded.Move.{Move}
 use Rattle.boot_journal.specs.declared.recorded.Move.TheVariants.{Made, Replaced, Refused}
 use Rattle.boot_journal.specs.Store.{Store, with_made, with_journal}
@@ -26,3 +29,38 @@ refusals_in [] = 0
 refusals_in (Made change ∷ moves) = refusals_in moves
 refusals_in (Replaced journal ∷ moves) = refusals_in moves
 refusals_in (Refused ∷ moves) = 1 + refusals_in moves
+
+-- ---- what a device was asked for
+
+-- A device does what it is asked to, or it refuses to and, when it is asked, tells whether it has done it nevertheless.
+pub data Attempt : Type 0 where
+  Makes : ChangeParts → Attempt
+  RefusesToMake : ChangeParts → Bool → Attempt
+  Replaces : JournalParts → Attempt
+  RefusesToReplace : JournalParts → Bool → Attempt
+
+-- what it was asked then, and answered
+abbrev pub asks_of : Attempt → List Ask
+asks_of (Makes change) = ToMake change true ∷ []
+asks_of (RefusesToMake change has) = ToMake change false ∷ HasMade change has ∷ []
+asks_of (Replaces journal) = ToReplace journal true ∷ []
+asks_of (RefusesToReplace journal has) = ToReplace journal false ∷ HasReplaced journal has ∷ []
+
+-- what was done by its answers
+abbrev pub moves_of : Attempt → List Move
+moves_of (Makes change) = Made change ∷ []
+moves_of (RefusesToMake change true) = Made change ∷ Refused ∷ []
+moves_of (RefusesToMake change false) = Refused ∷ []
+moves_of (Replaces journal) = Replaced journal ∷ []
+moves_of (RefusesToReplace journal true) = Replaced journal ∷ Refused ∷ []
+moves_of (RefusesToReplace journal false) = Refused ∷ []
+
+-- the device was asked for this, and no more, and the record tells what was done by its answers
+pub record Tells (attempt : Attempt) (asked asked' : Option (List Ask)) (moves moves' : List Move) : Type 0 where
+  pub asks : asked' ≡ and_then asked (asks_of attempt)
+  pub told : moves' ≡ moves ++ moves_of attempt
+
+-- the device was asked for nothing, and the record tells of nothing
+pub record TellsNothing (asked asked' : Option (List Ask)) (moves moves' : List Move) : Type 0 where
+  pub asks : asked' ≡ asked
+  pub told : moves' ≡ moves

@@ -1,11 +1,12 @@
 //! Machines over devices, with a record of what was done.
 
-ghost use Rattle.std.specs.Prelude.{◌≡◌, [], IfOk, OnOk, ◌∷◌, ◌++◌, ◌+◌, ◌<◌, ◌≤◌};
+ghost use Rattle.std.specs.Prelude.{◌≡◌, ◌⊎◌, Bool, List, [], Option, None, IfOk, OnOk, OnErr, is_ok, ◌∷◌, ◌++◌, ◌+◌, ◌<◌, ◌≤◌};
 ghost use Rattle.std.specs.Coded.{codes};
 ghost use Rattle.std.specs.FinMap.{code as map_code};
 ghost use Rattle.std.specs.Option.{option_map};
 ghost use Rattle.std.specs.Vec.{vec_len, vec_capacity};
 ghost use Rattle.uefi_vars.specs.NameChanges.{with_data};
+ghost use Rattle.boot_journal.specs.Asked.{Ask, ToMake, HasMade, ToReplace, HasReplaced, and_then};
 ghost use Rattle.boot_journal.specs.Changes.{made};
 ghost use Rattle.boot_journal.specs.Recorded.{done_to, past, refusals_in};
 ghost use Rattle.boot_journal.specs.Store.{with_made, with_journal, seen};
@@ -25,17 +26,24 @@ pub trait Device: Drop {
     /// Why it refuses something.
     type Refusal: Drop;
 
+    /// What it was asked, each with whether it answered that it did or has that, the first call first, if it tells that.
+    ghost asked: { Self → Option (List Ask) } = { λ _. None };
+
     /// Sets the variable to its data after the change, or takes it out.
-    fn make(&mut self, change: &Change) -> Result<(), CallError<Self::Refusal>>;
+    fn make(&mut self, change: &Change) -> Result<(), CallError<Self::Refusal>>
+        ensures { asked self.new ≡ and_then (asked self.old) (ToMake change.now (is_ok result) ∷ []) };
 
     /// Whether the variable has its data after the change, although `make` failed.
-    fn has_made(&mut self, change: &Change) -> bool;
+    fn has_made(&mut self, change: &Change) -> bool
+        ensures { asked self.new ≡ and_then (asked self.old) (HasMade change.now result ∷ []) };
 
     /// Replaces the journal.
-    fn replace_journal(&mut self, journal: &Journal) -> Result<(), CallError<Self::Refusal>>;
+    fn replace_journal(&mut self, journal: &Journal) -> Result<(), CallError<Self::Refusal>>
+        ensures { asked self.new ≡ and_then (asked self.old) (ToReplace journal.now (is_ok result) ∷ []) };
 
     /// Whether the journal is this one, although `replace_journal` failed.
-    fn has_replaced(&mut self, journal: &Journal) -> bool;
+    fn has_replaced(&mut self, journal: &Journal) -> bool
+        ensures { asked self.new ≡ and_then (asked self.old) (HasReplaced journal.now result ∷ []) };
 }
 
 /// What was done to a machine.
@@ -58,8 +66,8 @@ pub(crate) struct Kept {
     pub(crate) journal: Journal,
 }
 
-/// A machine over a device. It keeps what the device has, and a record of what was done to it. That it calls the device for
-/// each of these is read in its source, and no contract says it.
+/// A machine over a device. It keeps what the device has, and a record of what was done to it: what the device was asked for
+/// and answered that it did.
 #[derive(Drop)]
 pub struct Recorded<D: Device> {
     device: D,
@@ -81,7 +89,8 @@ impl<D: Device> Recorded<D> {
         vars: Vars,
         journal: Journal,
     ) -> Result<Recorded<D>, AllocError>
-        ensures { IfOk result (λ machine. (store_of machine.now ≡ record { variables = vars; journal = journal }) × (machine.moves.items ≡ [])) }
+        ensures { IfOk result (λ machine. (store_of machine.now ≡ record { variables = vars; journal = journal }) × (machine.moves.items ≡ [])
+            × (machine.device ≡ device)) }
     {
         let first = Kept {
             vars: vars.copy(alloc)?,
@@ -97,7 +106,9 @@ impl<D: Device> Recorded<D> {
     }
 
     /// The device.
-    pub fn device(&self) -> &D {
+    pub fn device(&self) -> &D
+        ensures { result.now ≡ self.entry.now.device }
+    {
         &self.device
     }
 
@@ -110,6 +121,7 @@ impl<D: Device> Recorded<D> {
         ensures moves { self.new.moves.items ≡ self.old.moves.items ++ Move.Made change ∷ [] }
         ensures len { vec_len self.new.moves ≡ vec_len self.old.moves + 1 }
         ensures capacity { vec_capacity self.new.moves ≡ vec_capacity self.old.moves }
+        ensures device { self.new.device ≡ self.old.device }
     {
         self.now.vars = vars;
         self.moves.push_reserved(Move::Made(change));
@@ -124,6 +136,7 @@ impl<D: Device> Recorded<D> {
         ensures moves { self.new.moves.items ≡ self.old.moves.items ++ Move.Replaced journal ∷ [] }
         ensures len { vec_len self.new.moves ≡ vec_len self.old.moves + 1 }
         ensures capacity { vec_capacity self.new.moves ≡ vec_capacity self.old.moves }
+        ensures device { self.new.device ≡ self.old.device }
     {
         self.now.journal = journal;
         self.moves.push_reserved(Move::Replaced(kept));
@@ -135,6 +148,7 @@ impl<D: Device> Recorded<D> {
         ensures store { store_of self.new.now ≡ store_of self.old.now }
         ensures first { self.new.first ≡ self.old.first }
         ensures moves { self.new.moves.items ≡ self.old.moves.items ++ Move.Refused ∷ [] }
+        ensures device { self.new.device ≡ self.old.device }
     {
         self.moves.push_reserved(Move::Refused);
     }
@@ -147,14 +161,18 @@ impl<D: Device> Recorded<D> {
         ensures now { store_of self.new.now ≡ store_of self.old.now }
         ensures first { self.new.first ≡ self.old.first }
         ensures moves { self.new.moves.items ≡ self.old.moves.items }
+        ensures device { self.new.device ≡ self.old.device }
     {
         self.moves.reserve(2)
     }
 }
 
 impl<D: Device> Machine for Recorded<D> {
-    ghost use Rattle.boot_journal.specs.Recorded.{past, refusals_in};
+    ghost use Rattle.boot_journal.specs.Cause.{HasCause};
+    ghost use Rattle.boot_journal.specs.Moments.{Leaves, IsRecorded};
+    ghost use Rattle.boot_journal.specs.Recorded.{past, refusals_in, Makes, RefusesToMake, Replaces, RefusesToReplace, Tells, TellsNothing};
     ghost use Rattle.boot_journal.specs.RecordedValue.{store_of};
+    ghost use Rattle.boot_journal.specs.Store.{IsEither};
 
     type Refusal = D::Refusal;
 
@@ -176,7 +194,21 @@ impl<D: Device> Machine for Recorded<D> {
         self.now.journal.is_idle()
     }
 
-    fn make(&mut self, change: &Change) -> Result<(), CallError<D::Refusal>> {
+    fn make(&mut self, change: &Change) -> Result<(), CallError<D::Refusal>>
+        ensures cause { HasCause (refusals_in self.old.moves.items) (refusals_in self.new.moves.items) result }
+        ensures made { OnOk result (store_of self.new.now ≡ with_made (change.now ∷ []) (store_of self.old.now)) }
+        ensures recorded { IsRecorded (store_of self.old.now) (store_of self.new.now)
+            (past (store_of self.old.first) self.old.moves.items) (past (store_of self.new.first) self.new.moves.items) }
+        ensures whole { IsEither (store_of self.old.now) (with_made (change.now ∷ []) (store_of self.old.now)) (store_of self.new.now) }
+        ensures moments { Leaves (IsEither (store_of self.old.now) (with_made (change.now ∷ []) (store_of self.old.now)))
+            (past (store_of self.old.first) self.old.moves.items) (past (store_of self.new.first) self.new.moves.items) }
+        // What it tells of moves is what its device was asked for, and answered.
+        ensures asked { OnOk result (Tells (Makes change.now)
+            (D.asked self.old.device) (D.asked self.new.device) self.old.moves.items self.new.moves.items) }
+        ensures refused { OnErr result (TellsNothing (D.asked self.old.device) (D.asked self.new.device) self.old.moves.items self.new.moves.items
+            ⊎ ((has : Bool) × Tells (RefusesToMake change.now has)
+            (D.asked self.old.device) (D.asked self.new.device) self.old.moves.items self.new.moves.items)) }
+    {
         let vars = changed(self.alloc, &self.now.vars, change)?;
         let copy = change.copy(self.alloc)?;
         self.reserve()?;
@@ -198,7 +230,21 @@ impl<D: Device> Machine for Recorded<D> {
         }
     }
 
-    fn replace_journal(&mut self, journal: &Journal) -> Result<(), CallError<D::Refusal>> {
+    fn replace_journal(&mut self, journal: &Journal) -> Result<(), CallError<D::Refusal>>
+        ensures cause { HasCause (refusals_in self.old.moves.items) (refusals_in self.new.moves.items) result }
+        ensures replaced { OnOk result (store_of self.new.now ≡ with_journal journal.now (store_of self.old.now)) }
+        ensures recorded { IsRecorded (store_of self.old.now) (store_of self.new.now)
+            (past (store_of self.old.first) self.old.moves.items) (past (store_of self.new.first) self.new.moves.items) }
+        ensures whole { IsEither (store_of self.old.now) (with_journal journal.now (store_of self.old.now)) (store_of self.new.now) }
+        ensures moments { Leaves (IsEither (store_of self.old.now) (with_journal journal.now (store_of self.old.now)))
+            (past (store_of self.old.first) self.old.moves.items) (past (store_of self.new.first) self.new.moves.items) }
+        // What it tells of moves is what its device was asked for, and answered.
+        ensures asked { OnOk result (Tells (Replaces journal.now)
+            (D.asked self.old.device) (D.asked self.new.device) self.old.moves.items self.new.moves.items) }
+        ensures refused { OnErr result (TellsNothing (D.asked self.old.device) (D.asked self.new.device) self.old.moves.items self.new.moves.items
+            ⊎ ((has : Bool) × Tells (RefusesToReplace journal.now has)
+            (D.asked self.old.device) (D.asked self.new.device) self.old.moves.items self.new.moves.items)) }
+    {
         let kept = journal.copy(self.alloc)?;
         let copy = journal.copy(self.alloc)?;
         self.reserve()?;

@@ -1,12 +1,13 @@
-use Rattle.std.proofs.Common.{◌≡◌, ◌+◌, inl, inr, List, [], ◌∷◌, ◌++◌, ap, ◌∙◌}
+use Rattle.std.proofs.Common.{◌≡◌, ◌+◌, inl, inr, true, false, is_ok, List, [], ◌∷◌, ◌++◌, refl, ap, ◌∙◌}
 use Rattle.var_stores.specs.BootChange.{ChangeParts}
 use Rattle.boot_journal.specs.declared.recorded.Move.{Move}
 use Rattle.boot_journal.specs.declared.recorded.Move.TheVariants.{Made, Refused}
+use Rattle.boot_journal.specs.Asked.{ToMake, HasMade, and_then}
 use Rattle.boot_journal.specs.Recorded.{refusals_in}
 use Rattle.boot_journal.specs.RecordedValue.{store_of}
 use Rattle.boot_journal.specs.Store.{Store, with_made, IsEither}
 use Rattle.boot_journal.proofs.Moments.{then}
-use Rattle.boot_journal.proofs.Records.{Step, step_moments, step_now, step_is, no_refusal, one_refusal, count_made, count_refused}
+use Rattle.boot_journal.proofs.Records.{Step, step_moments, step_now, step_is, no_refusal, one_refusal, count_made, count_refused, asked_twice, told_once, told_twice}
 use Rattle.boot_journal.proofs.recorded.RecordedMachine.make.Goals as goal
 
 pub returns-in-Ok-clause-cause : goal.returns-in-Ok-clause-cause
@@ -128,3 +129,45 @@ returns-else-has_made-clause-recorded g c =
       goes = c.keep_refusal-else-has_made.ensures.store ∙ c.reserve.ensures.now;
     } in
     inl (step_now (store_of s.first) now (store_of r.first) (store_of r.now) s.moves.items r.moves.items Refused step)
+
+pub returns-in-Ok-clause-asked : goal.returns-in-Ok-clause-asked
+returns-in-Ok-clause-asked g c = record {
+  asks =
+      ap g.D.Device.asked c.keep_change.ensures.device
+      ∙ c.make.ensures
+      ∙ ap (λ r. and_then (g.D.Device.asked c.reserve.new.self.device) (ToMake c.args.change.now (is_ok r) ∷ [])) c.in-Ok.is
+      ∙ ap (λ d. and_then (g.D.Device.asked d) (ToMake c.args.change.now true ∷ [])) c.reserve.ensures.device;
+  told = told_once _ _ _ _ _ c.reserve.ensures.moves (ap Made c.in_ok-copy.ensures) c.keep_change.ensures.moves;
+}
+
+pub returns-then-has_made-clause-refused : goal.returns-then-has_made-clause-refused
+returns-then-has_made-clause-refused g c = inr (
+  true,
+  record {
+    asks =
+        ap g.D.Device.asked (c.keep_refusal.ensures.device ∙ c.keep_change-then-has_made.ensures.device)
+        ∙ asked_twice _ _ _ _ _
+        (c.make.ensures
+        ∙ ap (λ r. and_then (g.D.Device.asked c.reserve.new.self.device) (ToMake c.args.change.now (is_ok r) ∷ [])) c.in-Err.is
+        ∙ ap (λ d. and_then (g.D.Device.asked d) (ToMake c.args.change.now false ∷ [])) c.reserve.ensures.device)
+        (c.has_made.ensures ∙ ap (λ b. and_then (g.D.Device.asked c.make.new.self) (HasMade c.args.change.now b ∷ [])) c.if-has_made.true);
+    told = told_twice _ _ _ _ _
+        (told_once _ _ _ _ _ c.reserve.ensures.moves (ap Made c.in_ok-copy.ensures) c.keep_change-then-has_made.ensures.moves)
+        c.keep_refusal.ensures.moves;
+  },
+)
+
+pub returns-else-has_made-clause-refused : goal.returns-else-has_made-clause-refused
+returns-else-has_made-clause-refused g c = inr (
+  false,
+  record {
+    asks =
+        ap g.D.Device.asked c.keep_refusal-else-has_made.ensures.device
+        ∙ asked_twice _ _ _ _ _
+        (c.make.ensures
+        ∙ ap (λ r. and_then (g.D.Device.asked c.reserve.new.self.device) (ToMake c.args.change.now (is_ok r) ∷ [])) c.in-Err.is
+        ∙ ap (λ d. and_then (g.D.Device.asked d) (ToMake c.args.change.now false ∷ [])) c.reserve.ensures.device)
+        (c.has_made.ensures ∙ ap (λ b. and_then (g.D.Device.asked c.make.new.self) (HasMade c.args.change.now b ∷ [])) c.if-has_made.false);
+    told = told_once _ _ _ _ _ c.reserve.ensures.moves refl c.keep_refusal-else-has_made.ensures.moves;
+  },
+)

@@ -1,12 +1,13 @@
-use Rattle.std.proofs.Common.{◌≡◌, ◌+◌, inl, inr, List, [], ◌∷◌, ◌++◌, ap, ◌∙◌}
+use Rattle.std.proofs.Common.{◌≡◌, ◌+◌, inl, inr, true, false, is_ok, List, [], ◌∷◌, ◌++◌, refl, ap, ◌∙◌}
 use Rattle.boot_journal.specs.declared.recorded.Move.{Move}
 use Rattle.boot_journal.specs.declared.recorded.Move.TheVariants.{Replaced, Refused}
 use Rattle.boot_journal.specs.Journal.{JournalParts}
+use Rattle.boot_journal.specs.Asked.{ToReplace, HasReplaced, and_then}
 use Rattle.boot_journal.specs.Recorded.{refusals_in}
 use Rattle.boot_journal.specs.RecordedValue.{store_of}
 use Rattle.boot_journal.specs.Store.{Store, with_journal, IsEither}
 use Rattle.boot_journal.proofs.Moments.{then}
-use Rattle.boot_journal.proofs.Records.{Step, step_moments, step_now, step_is, no_refusal, one_refusal, count_replaced, count_refused}
+use Rattle.boot_journal.proofs.Records.{Step, step_moments, step_now, step_is, no_refusal, one_refusal, count_replaced, count_refused, asked_twice, told_once, told_twice}
 use Rattle.boot_journal.proofs.recorded.RecordedMachine.replace_journal.Goals as goal
 
 pub returns-in-Ok-clause-cause : goal.returns-in-Ok-clause-cause
@@ -128,3 +129,45 @@ returns-else-has_replaced-clause-recorded g c =
       goes = c.keep_refusal-else-has_replaced.ensures.store ∙ c.reserve.ensures.now;
     } in
     inl (step_now (store_of s.first) now (store_of r.first) (store_of r.now) s.moves.items r.moves.items Refused step)
+
+pub returns-in-Ok-clause-asked : goal.returns-in-Ok-clause-asked
+returns-in-Ok-clause-asked g c = record {
+  asks =
+      ap g.D.Device.asked c.keep_journal.ensures.device
+      ∙ c.replace_journal.ensures
+      ∙ ap (λ r. and_then (g.D.Device.asked c.reserve.new.self.device) (ToReplace c.args.journal.now (is_ok r) ∷ [])) c.in-Ok.is
+      ∙ ap (λ d. and_then (g.D.Device.asked d) (ToReplace c.args.journal.now true ∷ [])) c.reserve.ensures.device;
+  told = told_once _ _ _ _ _ c.reserve.ensures.moves (ap Replaced c.in_ok-copy.ensures) c.keep_journal.ensures.moves;
+}
+
+pub returns-then-has_replaced-clause-refused : goal.returns-then-has_replaced-clause-refused
+returns-then-has_replaced-clause-refused g c = inr (
+  true,
+  record {
+    asks =
+        ap g.D.Device.asked (c.keep_refusal.ensures.device ∙ c.keep_journal-then-has_replaced.ensures.device)
+        ∙ asked_twice _ _ _ _ _
+        (c.replace_journal.ensures
+        ∙ ap (λ r. and_then (g.D.Device.asked c.reserve.new.self.device) (ToReplace c.args.journal.now (is_ok r) ∷ [])) c.in-Err.is
+        ∙ ap (λ d. and_then (g.D.Device.asked d) (ToReplace c.args.journal.now false ∷ [])) c.reserve.ensures.device)
+        (c.has_replaced.ensures ∙ ap (λ b. and_then (g.D.Device.asked c.replace_journal.new.self) (HasReplaced c.args.journal.now b ∷ [])) c.if-has_replaced.true);
+    told = told_twice _ _ _ _ _
+        (told_once _ _ _ _ _ c.reserve.ensures.moves (ap Replaced c.in_ok-copy.ensures) c.keep_journal-then-has_replaced.ensures.moves)
+        c.keep_refusal.ensures.moves;
+  },
+)
+
+pub returns-else-has_replaced-clause-refused : goal.returns-else-has_replaced-clause-refused
+returns-else-has_replaced-clause-refused g c = inr (
+  false,
+  record {
+    asks =
+        ap g.D.Device.asked c.keep_refusal-else-has_replaced.ensures.device
+        ∙ asked_twice _ _ _ _ _
+        (c.replace_journal.ensures
+        ∙ ap (λ r. and_then (g.D.Device.asked c.reserve.new.self.device) (ToReplace c.args.journal.now (is_ok r) ∷ [])) c.in-Err.is
+        ∙ ap (λ d. and_then (g.D.Device.asked d) (ToReplace c.args.journal.now false ∷ [])) c.reserve.ensures.device)
+        (c.has_replaced.ensures ∙ ap (λ b. and_then (g.D.Device.asked c.replace_journal.new.self) (HasReplaced c.args.journal.now b ∷ [])) c.if-has_replaced.false);
+    told = told_once _ _ _ _ _ c.reserve.ensures.moves refl c.keep_refusal-else-has_replaced.ensures.moves;
+  },
+)
