@@ -83,7 +83,7 @@ fn is_made_in<R: Files + Input + AllocGlobal>(rt: &R, place: &Place, change: &Ch
     }
 }
 
-/// Replaces the journal at this path.
+/// Replaces the journal at this path, unless it would be longer than what is read of one.
 fn replace<R: Files<File: OutputFile> + AllocGlobal>(
     rt: &R,
     path: &str,
@@ -91,10 +91,22 @@ fn replace<R: Files<File: OutputFile> + AllocGlobal>(
 ) -> Result<(), Failure> {
     let alloc = rt.alloc();
     let bytes = write_journal(alloc, journal)?;
+    if bytes.len() > LIMIT {
+        return Err(too_long(alloc, path, bytes.len()));
+    }
     match replace_file(rt, path, &bytes) {
         Ok(()) => Ok(()),
         Err(error) => Err(Failure::of_write(alloc, path, error)),
     }
+}
+
+/// What it is to the program that the journal at this path would have so many bytes.
+fn too_long(alloc: Global, path: &str, len: usize) -> Failure {
+    Failure::of_fault(
+        alloc,
+        path,
+        format_args!("the update takes a journal of {len} bytes, and at most {LIMIT} are read"),
+    )
 }
 
 /// Whether the journal at this path is this one, or that can't be told: then it may be so, and is to be taken back.
