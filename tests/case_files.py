@@ -31,6 +31,11 @@ class Case(NamedTuple):
         """Whether it takes many seconds."""
         return "slow" in self.members
 
+    @property
+    def is_of_program(self) -> bool:
+        """Whether the program alone runs it, since what makes calls takes minutes for it."""
+        return self.members.get("slow") == "program"
+
 
 def read_cases(file: Path) -> List[Case]:
     """The cases of a file, in their order."""

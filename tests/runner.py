@@ -169,7 +169,8 @@ def slow_jobs(programs: Programs, quick: bool, file: Path, cases: List[Case]) ->
     """The cases of a file that take long, each alone."""
     if not quick:
         verb, program = "slow-cases", programs.case_runner
-        yield from jobs_of_calls(program, verb, file, cases, len(cases))
+        one_each = jobs_of_calls(program, verb, file, cases, len(cases))
+        yield from (job for job, case in zip(one_each, cases) if not case.is_of_program)
         yield from jobs_of_command_lines(programs, file, cases)
     elif cases:
         yield left_out(file.name, len(cases))
