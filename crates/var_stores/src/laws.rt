@@ -12,8 +12,9 @@ ghost use Rattle.var_stores.specs.declared.fault.StoreFault.{StoreFault};
 ghost use Rattle.var_stores.specs.Volume.{StoreParts, SpellsStore, IsStoreFault};
 ghost use Rattle.var_stores.specs.Record.{RecordParts, vendor_in};
 ghost use Rattle.var_stores.specs.Present.{global_guid, global_key, is_of, is_added, is_alive, is_left_out, found, IsSetOf};
-ghost use Rattle.var_stores.specs.Rewriting.{IsWritten};
+ghost use Rattle.var_stores.specs.Rewriting.{boot_attributes, IsWritten};
 
+use crate::writer::BOOT_ATTRIBUTES;
 use uefi_vars::laws as vars_laws;
 
 /// The names of entries are those of the numbers of two bytes.
@@ -122,4 +123,9 @@ pub fn other_variables_are_there_as_before()
     ensures { (file bytes : List ℕ) (to : Variables) (written : IsWritten file to bytes) (key : List ℕ) →
         ((name : List ℕ) → is_boot_name name ≡ true → key ≢ global_key name) →
         found key written.after.records ≡ found key written.before.records }
+{}
+
+/// The public constant is the bytes that the definitions state.
+pub fn constants_are_those_of_the_definitions()
+    ensures { BOOT_ATTRIBUTES ≡ boot_attributes }
 {}

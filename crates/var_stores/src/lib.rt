@@ -25,4 +25,4 @@ pub use record::Record;
 pub use store::{VariableStore, read_store};
 pub use stored_vars::{left_out, store_vars};
 pub use write_fault::WriteFault;
-pub use writer::write_boot_vars;
+pub use writer::{BOOT_ATTRIBUTES, write_boot_vars};

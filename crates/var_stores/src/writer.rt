@@ -25,9 +25,9 @@ use crate::write_fault::WriteFault;
 use std::alloc::{AllocError, Global};
 use uefi_vars::Vars;
 
-/// The bytes of the attributes of a new variable of the boot manager: it is kept without power, and is there for loaders and for the
-/// system that they start (UEFI 2.10, 3.3 and 8.2).
-const BOOT_ATTRIBUTES: [u8; 4] = [7, 0, 0, 0];
+/// The bytes of the attributes of a new variable of the boot manager, little-endian: it is kept without power, and is there
+/// for loaders and for the system that they start (UEFI 2.10, 3.3 and 8.2).
+pub const BOOT_ATTRIBUTES: [u8; 4] = [7, 0, 0, 0];
 
 /// The bits of a state that stay if the variable is deleted.
 const DELETED: u8 = 0xFD;
