@@ -61,14 +61,14 @@ def try_program(words):
     return ran.returncode
 
 
-def prove(verb):
-    """`rt run -- --help` and `rt lib`."""
+def prove(verb, jobs):
+    """`rt run -- --help` and `rt lib`, with or without a number of jobs."""
     name = Path.cwd().name
     print(
         f"rt: chose --jobs 2 for {name}\nchecked one, 1 of 2\nchecked two, 2 of 2", file=sys.stderr
     )
     with open(os.environ["FAKE_RT_LOG"], "a") as log:
-        log.write(f"{verb} {name}\n")
+        log.write(" ".join([verb, name, *jobs]) + "\n")
     if "slow" in MODES:
         time.sleep(2)
     if f"refuse-{verb}" in MODES or "refuse-lib" in MODES:
@@ -92,7 +92,7 @@ def main(words):
         return 0
     if words[0] == "try":
         return try_program(words[words.index("--") + 1 :])
-    return prove(words[0])
+    return prove(words[0], [] if "--" in words else words[1:])
 
 
 if __name__ == "__main__":

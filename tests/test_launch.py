@@ -16,6 +16,7 @@ TESTS = Path(__file__).resolve().parent
 ROOT = TESTS.parent
 sys.path.insert(0, str(ROOT / "tools"))
 
+import building  # noqa: E402
 import progress  # noqa: E402
 import repository  # noqa: E402
 
@@ -37,9 +38,10 @@ class Clone(unittest.TestCase):
             (self.root / name).parent.mkdir(exist_ok=True)
             shutil.copy(ROOT / name, self.root / name)
         (self.root / "crates.txt").write_text(
-            "low: thiserror\nother: thiserror\nbootkeep: low other\nbootvars: low\ncalls_c staticlib: low\n"
+            "low: thiserror\nother: thiserror\nhigh: low other\nbootkeep: low other high\n"
+            "bootvars: low\ncalls_c staticlib: low\n"
         )
-        for crate in ("low", "other", "bootkeep", "bootvars", "calls_c"):
+        for crate in ("low", "other", "high", "bootkeep", "bootvars", "calls_c"):
             (self.root / "crates" / crate / "src").mkdir(parents=True)
             (self.root / "crates" / crate / "src" / "lib.rt").write_text("pub fn one() {}\n")
         toolchain = self.folder / "toolchain"
@@ -141,14 +143,23 @@ class Unproved(Clone):
     def test_a_proof_by_name(self) -> None:
         called = self.call("bootkeep", "--prove")
         self.assertEqual((called.returncode, called.stdout), (0, ""))
-        self.assertIn("3 crates, about ", called.stderr)
+        self.assertIn("4 crates, about ", called.stderr)
         self.assertIn(
             "this toolchain is a toolchain that proves nothing, and all is proved with",
             called.stderr,
         )
-        self.assertEqual(sorted(self.proofs()), ["lib low", "lib other", "run bootkeep"])
+        self.assertEqual(sorted(self.proofs()), sorted(self.proofs_wanted()))
         self.assertEqual(self.call("bootkeep", "show").stdout, "proved bootkeep: show\n")
         self.assertEqual(self.call("bootkeep", "show").stderr, "")
+
+    @staticmethod
+    def proofs_wanted() -> List[str]:
+        """The proofs of bootkeep: without room for two, `rt` proves the libraries by itself. Beside the third one no other
+        can be proved, so it gets all processors."""
+        if not building.has_room():
+            return ["run bootkeep"]
+        jobs = min(len(os.sched_getaffinity(0)), building.JOBS_MAX)
+        return ["lib low", "lib other", f"lib high --jobs {jobs}", "run bootkeep"]
 
     def test_a_static_library(self) -> None:
         called = self.build("calls_c")

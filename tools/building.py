@@ -31,6 +31,9 @@ from repository import (
 ROOM_FOR_TWO = 12_000_000_000
 """How many bytes of memory have to be free for libraries to be proved side by side."""
 
+JOBS_MAX = 4
+"""How many jobs the proof of a library has at most. Each takes up to 2 GB, and more gain little."""
+
 LOG_END = 20
 """How many lines of what a failed build said are told."""
 
@@ -98,6 +101,7 @@ class _Build:
         self.running: Dict[str, "subprocess.Popen[str]"] = {}
         self.changed = threading.Condition()
         self.lanes: List[threading.Thread] = []
+        self.lacking: List[str] = []
         self.is_stopped = False
 
     def run(self) -> None:
@@ -107,8 +111,8 @@ class _Build:
                 "it has to be proved and built, and the command rt, which does that, isn't on PATH"
             )
         below = crates_below(self.name, self.crates)
-        lacking = [it for it in below if not self._has_library(it)]
-        self.progress = Progress(self.name, [*lacking, self.name], self.crates, say)
+        self.lacking = [it for it in below if not self._has_library(it)]
+        self.progress = Progress(self.name, [*self.lacking, self.name], self.crates, say)
         note = toolchain_note()
         if note:
             say(self.name, note)
@@ -116,8 +120,8 @@ class _Build:
         sources = sources_sum(self.name, self.root)
         with self.progress.shown():
             try:
-                if len(lacking) > 1 and _has_room():
-                    self._build_side_by_side(lacking)
+                if len(self.lacking) > 1 and has_room():
+                    self._build_side_by_side()
                 status = self._call(self.name, self.root / "crates" / self.name, self._last_words())
             finally:
                 self._stop()
@@ -140,12 +144,14 @@ class _Build:
         """Whether a library has been built, of these sources or of others."""
         return (self._library(crate) / "stamp").is_file()
 
-    def _build_side_by_side(self, libraries: List[str]) -> None:
+    def _build_side_by_side(self) -> None:
         """Builds the libraries that have never been built. What doesn't come out is left to the last call, which says
         why."""
         self._clear_trees()
         self.trees.mkdir()
-        self.lanes = [threading.Thread(target=self._build_library, args=(it,)) for it in libraries]
+        self.lanes = [
+            threading.Thread(target=self._build_library, args=(it,)) for it in self.lacking
+        ]
         for lane in self.lanes:
             lane.start()
         for lane in self.lanes:
@@ -163,7 +169,8 @@ class _Build:
         status = 1
         try:
             tree = self._plant_tree(library, below)
-            status = self._call(library, tree / "crates" / library, ["lib"])
+            words = ["lib", *self._jobs(library)]
+            status = self._call(library, tree / "crates" / library, words)
         except OSError as error:
             self.log.append(f"{library} {error}")
         finally:
@@ -171,6 +178,19 @@ class _Build:
                 self._put_back(library)
                 self.is_stopped = self.is_stopped or status != 0
                 self.changed.notify_all()
+
+    def _jobs(self, library: str) -> List[str]:
+        """The words by which a library beside which no other one can be proved gets all processors: `rt` alone would
+        give it two jobs at most if it is no large one. None otherwise, or if there is little memory.
+        """
+        others = [it for it in self.lacking if it != library and not self._has_library(it)]
+        is_alone = not any(
+            all(self._has_library(below) for below in crates_below(it, self.crates))
+            for it in others
+        )
+        if not is_alone or not has_room():
+            return []
+        return ["--jobs", str(min(len(os.sched_getaffinity(0)), JOBS_MAX))]
 
     def _plant_tree(self, library: str, below: List[str]) -> Path:
         """Makes a tree for a library: all sources, what is built of the crates below it, and what is kept of itself."""
@@ -250,7 +270,7 @@ class _Build:
         )
 
 
-def _has_room() -> bool:
+def has_room() -> bool:
     """Whether there are processors and memory for two builds."""
     with open("/proc/meminfo", encoding="ascii") as lines:
         free = next((int(it.split()[1]) for it in lines if it.startswith("MemAvailable:")), 0)
