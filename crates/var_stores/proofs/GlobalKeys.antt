@@ -32,12 +32,14 @@ pub is_of-foreign : (r : RecordParts) (name : List ℕ) → length (vendor_in r.
 is_of-foreign r name len other =
     false_from_ne_true (is_of (global_key name) r) (λ same. other (global_name r name len (same_name-is (global_key name) (key_of r) same)).0)
 
--- what a set has once the record of a variable of the standard was put into it
-pub puts_global : (old new : Variables) (r : RecordParts) → vendor_in r.header ≡ global_guid → PutsStored old new r.name r.value → PutsRecord old new r
-puts_global old new r vendor puts name is =
-    puts name is ∙ ap (λ b. cond (b && is_set_value r.value) (Some r.value) (get old name)) (sym (is_of-global r name vendor))
+-- what a set has once a part of the record of a variable of the standard was put into it
+pub puts_global : (old new : Variables) (r : RecordParts) (part : List ℕ) → vendor_in r.header ≡ global_guid → is_set_value part ≡ is_set_value r.value → PutsStored old new r.name part →
+    PutsRecord old new r part
+puts_global old new r part vendor held puts name is =
+    puts name is ∙ ap (λ b. cond (same_name r.name (stored_name name) && b) (Some part) (get old name)) held
+    ∙ ap (λ b. cond (b && is_set_value r.value) (Some part) (get old name)) (sym (is_of-global r name vendor))
 
 -- or of one of another vendor
-pub puts_foreign : (vars : Variables) (r : RecordParts) → length (vendor_in r.header) ≡ 16 → (vendor_in r.header ≡ global_guid → ⊥) → (name : List ℕ) →
-    get vars name ≡ cond (is_of (global_key name) r && is_set_value r.value) (Some r.value) (get vars name)
-puts_foreign vars r len other name = ap (λ b. cond (b && is_set_value r.value) (Some r.value) (get vars name)) (sym (is_of-foreign r name len other))
+pub puts_foreign : (vars : Variables) (r : RecordParts) (part : List ℕ) → length (vendor_in r.header) ≡ 16 → (vendor_in r.header ≡ global_guid → ⊥) → (name : List ℕ) →
+    get vars name ≡ cond (is_of (global_key name) r && is_set_value r.value) (Some part) (get vars name)
+puts_foreign vars r part len other name = ap (λ b. cond (b && is_set_value r.value) (Some part) (get vars name)) (sym (is_of-foreign r name len other))

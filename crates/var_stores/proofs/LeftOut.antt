@@ -83,6 +83,10 @@ name_fits : (name : List ℕ) → IsName name → is_long_enough name ≡ true
 name_fits [] is = absurd (is.some refl)
 name_fits (byte ∷ name) is = let len = is.len in grind (arith, len)
 
+-- a set can have the name that is stored for it
+pub set_name_fits : (name : List ℕ) → IsName name → is_set_name (stored_name name) ≡ true
+set_name_fits name is = ap (λ (o : Option (List ℕ)). option_map_or is_long_enough o false) (name_in-stored_name name is.printing) ∙ name_fits name is
+
 -- ---- a variable that is there is in the set or left out
 
 module _ (records : List RecordParts) (vars : Variables) (key : List ℕ) (r : RecordParts)
@@ -120,7 +124,7 @@ module _ (records : List RecordParts) (vars : Variables) (key : List ℕ) (r : R
       let value : is_set_value r.value ≡ true = some_of (is_set_value r.value) (sym (set_has name h.0 h.1) ∙ h.2) in
       let stored : r.name ≡ stored_name name = (global_name r name (ap length vendor) (sym h.1 ∙ sym own)).1 in
       let named : is_set_name r.name ≡ true =
-      ap (λ (n : List ℕ). is_set_name n) stored ∙ ap (λ (o : Option (List ℕ)). option_map_or is_long_enough o false) (name_in-stored_name name h.0.printing) ∙ name_fits name h.0 in
+      ap (λ (n : List ℕ). is_set_name n) stored ∙ set_name_fits name h.0 in
       unless_held ∙ ap (λ b. not (b && is_set_name r.name)) value ∙ ap not named
     where
       some_of : (b : Bool) → cond b (Some r.value) None ≡ Some r.value → b ≡ true

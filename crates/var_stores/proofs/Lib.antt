@@ -22,3 +22,4 @@ pub mod LeftOut
 pub mod WholeRecords
 pub mod RewrittenStores
 pub mod AfterWriting
+pub mod Counts

@@ -4,7 +4,7 @@ use Rattle.std.specs.List.{AllByRecursion, IsDistinct, filter}
 use Rattle.std.proofs.lemmas.Map.Keys.{IsDistinct-head, IsDistinct-tail}
 use Rattle.var_stores.specs.Record.{RecordParts}
 use Rattle.var_stores.specs.BootChange.{same_name}
-use Rattle.var_stores.specs.Present.{key_of, is_of, is_alive, found, found_after, is_set_value, set_data}
+use Rattle.var_stores.specs.Present.{key_of, is_of, is_alive, found, found_after, is_set_value, set_part}
 use Rattle.var_stores.proofs.Names.{same_name-is}
 use Rattle.var_stores.proofs.PresentRecords.{stays_of_other, takes_over}
 
@@ -88,20 +88,22 @@ first_of-filter p key (r ∷ records) each = by_first key r records (first_of ke
 
 -- ---- what a set has of them
 
--- what a set has under a key once it was given the values of records
-abbrev pub data_after : List ℕ → Option (List ℕ) → List RecordParts → Option (List ℕ)
-data_after key before [] = before
-data_after key before (r ∷ records) = data_after key (cond (is_of key r && is_set_value r.value) (Some r.value) before) records
+-- what a set has under a key once it was given a part of each record
+abbrev pub part_after : (RecordParts → List ℕ) → List ℕ → Option (List ℕ) → List RecordParts → Option (List ℕ)
+part_after part key before [] = before
+part_after part key before (r ∷ records) = part_after part key (cond (is_of key r && is_set_value r.value) (Some (part r)) before) records
 
-data_after-others : (key : List ℕ) (before : Option (List ℕ)) (records : List RecordParts) → AreOfOthers key records → data_after key before records ≡ before
-data_after-others key before [] others = refl
-data_after-others key before (r ∷ records) others =
-    ap (λ b. data_after key (cond (b && is_set_value r.value) (Some r.value) before) records) others.0 ∙ data_after-others key before records others.1
+part_after-others : (part : RecordParts → List ℕ) (key : List ℕ) (before : Option (List ℕ)) (records : List RecordParts) → AreOfOthers key records → part_after part key before records ≡ before
+part_after-others part key before [] others = refl
+part_after-others part key before (r ∷ records) others =
+    ap (λ b. part_after part key (cond (b && is_set_value r.value) (Some (part r)) before) records) others.0 ∙ part_after-others part key before records others.1
 
-pub data_after-first : (key : List ℕ) (records : List RecordParts) → AreOfEachOne records → data_after key None records ≡ set_data (first_of key records)
-data_after-first key [] each = refl
-data_after-first key (r ∷ records) each = by_first key r records (data_after key None (r ∷ records) ≡ set_data (first_of key (r ∷ records))) each
+pub part_after-first : (part : RecordParts → List ℕ) (key : List ℕ) (records : List RecordParts) → AreOfEachOne records → part_after part key None records ≡ set_part part (first_of key records)
+part_after-first part key [] each = refl
+part_after-first part key (r ∷ records) each = by_first key r records (part_after part key None (r ∷ records) ≡ set_part part (first_of key (r ∷ records))) each
     (λ same others.
-    ap (λ b. data_after key (cond (b && is_set_value r.value) (Some r.value) None) records) same ∙ data_after-others key (set_data (Some r)) records others ∙ ap set_data (sym (first_is key r records same)))
+    ap (λ b. part_after part key (cond (b && is_set_value r.value) (Some (part r)) None) records) same ∙ part_after-others part key (set_part part (Some r)) records others
+    ∙ ap (set_part part) (sym (first_is key r records same)))
     (λ other.
-    ap (λ b. data_after key (cond (b && is_set_value r.value) (Some r.value) None) records) other ∙ data_after-first key records (tail_of r records each) ∙ ap set_data (sym (first_later key r records other)))
+    ap (λ b. part_after part key (cond (b && is_set_value r.value) (Some (part r)) None) records) other ∙ part_after-first part key records (tail_of r records each)
+    ∙ ap (set_part part) (sym (first_later key r records other)))

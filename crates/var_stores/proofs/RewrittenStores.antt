@@ -42,22 +42,22 @@ blank_stops zero begins = begins
 blank_stops (suc zero) begins = begins
 blank_stops (suc (suc n)) begins = let first : 0xFF ≡ 0xAA = begins.0 in omega (arith, first)
 
-module _ (file : List ℕ) (s : StoreParts) (was : SpellsStore file s) (from to : Variables) (from_is : IsSetOf s.records from) (new_whole : AllByRecursion IsRecord (new_records s.records from to)) where
+module _ (file : List ℕ) (s : StoreParts) (was : SpellsStore file s) (from to attributes : Variables) (from_is : IsSetOf s.records from) (new_whole : AllByRecursion IsRecord (new_records s.records from to attributes)) where
   area_is : area_of file ≡ flat_map record_bytes s.records ++ s.free
   area_is = was.area.is
 
   -- new records after the others
-  pub appended : (bytes : List ℕ) → AllByRecursion IsRecord (without_outdated from to s.records) → Fits (new_bytes s.records from to) s.free →
-      bytes ≡ s.head ++ (((flat_map record_bytes (without_outdated from to s.records) ++ new_bytes s.records from to) ++ drop (length (new_bytes s.records from to)) s.free) ++ s.rest) →
-      IsWritten file to bytes
+  pub appended : (bytes : List ℕ) → AllByRecursion IsRecord (without_outdated from to s.records) → Fits (new_bytes s.records from to attributes) s.free →
+      bytes ≡ s.head ++ (((flat_map record_bytes (without_outdated from to s.records) ++ new_bytes s.records from to attributes) ++ drop (length (new_bytes s.records from to attributes)) s.free) ++ s.rest) →
+      IsWritten file to attributes bytes
   appended bytes old_whole fits is =
-      let free = drop (length (new_bytes s.records from to)) s.free in
-      let records = without_outdated from to s.records ++ new_records s.records from to in
-      let all : flat_map record_bytes records ≡ flat_map record_bytes (without_outdated from to s.records) ++ new_bytes s.records from to =
-      flat_map-append record_bytes (without_outdated from to s.records) (new_records s.records from to) in
+      let free = drop (length (new_bytes s.records from to attributes)) s.free in
+      let records = without_outdated from to s.records ++ new_records s.records from to attributes in
+      let all : flat_map record_bytes records ≡ flat_map record_bytes (without_outdated from to s.records) ++ new_bytes s.records from to attributes =
+      flat_map-append record_bytes (without_outdated from to s.records) (new_records s.records from to attributes) in
       let old_len = without_outdated-len from to s.records in
-      let both = length-append (flat_map record_bytes (without_outdated from to s.records)) (new_bytes s.records from to) in
-      let left = length-drop (length (new_bytes s.records from to)) s.free in
+      let both = length-append (flat_map record_bytes (without_outdated from to s.records)) (new_bytes s.records from to attributes) in
+      let left = length-drop (length (new_bytes s.records from to attributes)) s.free in
       let total = length-append (flat_map record_bytes records) free in
       let area = ap length area_is ∙ length-append (flat_map record_bytes s.records) s.free in
       let recorded = ap length all in
@@ -67,7 +67,7 @@ module _ (file : List ℕ) (s : StoreParts) (was : SpellsStore file s) (from to 
         after = record { head = s.head; records = records; free = free; rest = s.rest };
         was = was;
         is = rewritten file s bytes free records was (is ∙ ap (λ (b : List ℕ). s.head ++ ((b ++ free) ++ s.rest)) (sym all))
-            (omega (arith, old_len, both, left, total, area, recorded, room)) (AllByRecursion-append IsRecord (without_outdated from to s.records) (new_records s.records from to) old_whole new_whole) fits.stops;
+            (omega (arith, old_len, both, left, total, area, recorded, room)) (AllByRecursion-append IsRecord (without_outdated from to s.records) (new_records s.records from to attributes) old_whole new_whole) fits.stops;
         head = refl;
         rest = refl;
         from = from;
@@ -76,19 +76,19 @@ module _ (file : List ℕ) (s : StoreParts) (was : SpellsStore file s) (from to 
       }
 
   -- the records that stay, moved together, and new records after them
-  pub moved : (bytes : List ℕ) (kept : List RecordParts) (left : ℕ) → AllByRecursion IsRecord kept → AreKept s.records from to kept → (Fits (new_bytes s.records from to) s.free → ⊥) →
-      bytes ≡ s.head ++ (((flat_map record_bytes kept ++ new_bytes s.records from to) ++ replicate left 0xFF) ++ s.rest) →
-      length ((flat_map record_bytes kept ++ new_bytes s.records from to) ++ replicate left 0xFF) ≡ length (area_of file) → IsWritten file to bytes
+  pub moved : (bytes : List ℕ) (kept : List RecordParts) (left : ℕ) → AllByRecursion IsRecord kept → AreKept s.records from to kept → (Fits (new_bytes s.records from to attributes) s.free → ⊥) →
+      bytes ≡ s.head ++ (((flat_map record_bytes kept ++ new_bytes s.records from to attributes) ++ replicate left 0xFF) ++ s.rest) →
+      length ((flat_map record_bytes kept ++ new_bytes s.records from to attributes) ++ replicate left 0xFF) ≡ length (area_of file) → IsWritten file to attributes bytes
   moved bytes kept left kept_whole are full is size =
       let free = replicate left 0xFF in
-      let records = kept ++ new_records s.records from to in
-      let all : flat_map record_bytes records ≡ flat_map record_bytes kept ++ new_bytes s.records from to = flat_map-append record_bytes kept (new_records s.records from to) in
+      let records = kept ++ new_records s.records from to attributes in
+      let all : flat_map record_bytes records ≡ flat_map record_bytes kept ++ new_bytes s.records from to attributes = flat_map-append record_bytes kept (new_records s.records from to attributes) in
       record {
         before = s;
         after = record { head = s.head; records = records; free = free; rest = s.rest };
         was = was;
         is = rewritten file s bytes free records was (is ∙ ap (λ (b : List ℕ). s.head ++ ((b ++ free) ++ s.rest)) (sym all)) (ap (λ (b : List ℕ). length (b ++ free)) all ∙ size)
-            (AllByRecursion-append IsRecord kept (new_records s.records from to) kept_whole new_whole) (blank_stops left);
+            (AllByRecursion-append IsRecord kept (new_records s.records from to attributes) kept_whole new_whole) (blank_stops left);
         head = refl;
         rest = refl;
         from = from;

@@ -86,17 +86,17 @@ out_of_memory_or fault.BadStore = inr (λ e. cc, refl)
 out_of_memory_or (fault.CutRecord place) = inr (λ e. cc, refl)
 out_of_memory_or fault.OutOfMemory = inl refl
 
-of_fault : (file : List ℕ) (to : Variables) (f : StoreFault) → IsStoreFault file f → IsWriteFault file to (write_fault_of f)
-of_fault file to f h = elim (out_of_memory_or f) as (λ _. IsWriteFault file to (write_fault_of f)) [
-  | inl memory ↦ subst (λ (g : StoreFault). IsWriteFault file to (write_fault_of g)) (sym memory) tt
-  | inr other ↦ subst (IsWriteFault file to) (sym other.1) (h, other.0)
+of_fault : (file : List ℕ) (to attributes : Variables) (f : StoreFault) → IsStoreFault file f → IsWriteFault file to attributes (write_fault_of f)
+of_fault file to attributes f h = elim (out_of_memory_or f) as (λ _. IsWriteFault file to attributes (write_fault_of f)) [
+  | inl memory ↦ subst (λ (g : StoreFault). IsWriteFault file to attributes (write_fault_of g)) (sym memory) tt
+  | inr other ↦ subst (IsWriteFault file to attributes) (sym other.1) (h, other.0)
 ]
 
 module _ {T : Type 0} (file : List ℕ) where
   -- a fault of the file is why nothing is written
-  pub store_fault : (to : Variables) (f : StoreFault) (r : Result T WriteFault) → IsErrAnd r (λ made. made ≡ write_fault_of f) → IsStoreFault file f → IfErr r (IsWriteFault file to)
-  store_fault to f (Ok value) is h = absurd is
-  store_fault to f (Err made) is h = subst (IsWriteFault file to) (sym is) (of_fault file to f h)
+  pub store_fault : (to attributes : Variables) (f : StoreFault) (r : Result T WriteFault) → IsErrAnd r (λ made. made ≡ write_fault_of f) → IsStoreFault file f → IfErr r (IsWriteFault file to attributes)
+  store_fault to attributes f (Ok value) is h = absurd is
+  store_fault to attributes f (Err made) is h = subst (IsWriteFault file to attributes) (sym is) (of_fault file to attributes f h)
 
   -- and the first fault is, unless memory was refused
   pub store_only : (f g : StoreFault) (r : Result T WriteFault) → IsErrAnd r (λ made. made ≡ write_fault_of f) → IsStoreFault file f → g ≢ fault.OutOfMemory → IsStoreFault file g →
@@ -109,9 +109,9 @@ module _ {T : Type 0} (file : List ℕ) where
       ]
 
   -- memory was refused
-  pub memory_fault : (to : Variables) (r : Result T WriteFault) → IsErrAnd r (λ made. made ≡ write_fault.OutOfMemory) → IfErr r (IsWriteFault file to)
-  memory_fault to (Ok value) is = absurd is
-  memory_fault to (Err made) is = subst (IsWriteFault file to) (sym is) tt
+  pub memory_fault : (to attributes : Variables) (r : Result T WriteFault) → IsErrAnd r (λ made. made ≡ write_fault.OutOfMemory) → IfErr r (IsWriteFault file to attributes)
+  memory_fault to attributes (Ok value) is = absurd is
+  memory_fault to attributes (Err made) is = subst (IsWriteFault file to attributes) (sym is) tt
 
 pub memory_only : {T : Type 0} (g : StoreFault) (r : Result T WriteFault) → IsErrAnd r (λ made. made ≡ write_fault.OutOfMemory) → IsUnless r (Err (write_fault.Store g)) write_fault.OutOfMemory
 memory_only g (Ok value) is = absurd is

@@ -1,15 +1,18 @@
 -- Deleted and new records have the lengths that their headers state.
-use Rattle.std.proofs.Common.{◌≡◌, ◌≢◌, ◌⊎◌, ℕ, ◌+◌, ◌-◌, ◌<◌, ◌==◌, ◌||◌, Bool, true, false, cond, List, [], ◌∷◌, length, drop, Option, Some, None, IfSome, inl, inr, refl, sym, ap, ◌∙◌, arith}
-use Rattle.std.proofs.lemmas.Bool.{or_cases, or_left, or_right, and_parts, false_from_ne_true, eqb-true, eq-eqb}
+use Rattle.std.proofs.Common.{◌≡◌, ◌≢◌, ◌⊎◌, ℕ, ◌+◌, ◌-◌, ◌<◌, ◌==◌, ◌||◌, ◌&&◌, not, Bool, true, false, cond, List, [], ◌∷◌, length, take, drop, Option, Some, None, IfSome, inl, inr, refl, sym, ap, ◌∙◌, arith}
+use Rattle.std.specs.Prelude.{nat_lt}
+use Rattle.std.specs.Option.{unwrap_or}
+use Rattle.std.specs.FinMap.{get}
+use Rattle.std.proofs.lemmas.Bool.{or_cases, or_left, or_right, and_parts, false_from_ne_true, true≢false, ltb-false, eqb-true, eq-eqb}
 use Rattle.std.proofs.lemmas.List.{length-replicate, length-take-le, length-drop}
 use Rattle.std.proofs.lemmas.Nat.{from_le_bytes-to_le_bytes_4}
 use Rattle.std.specs.Int.{w32, from_le_bytes}
 use Rattle.std.specs.List.{AllByRecursion}
 use Rattle.uefi_vars.specs.Name.{IsName}
-use Rattle.uefi_vars.specs.Vars.{Variables, IsData, IsVariable}
-use Rattle.var_stores.specs.Record.{RecordParts, number_in, attributes_in, blank, is_unfinished, padding_len, name_len, value_len, IsRecord}
-use Rattle.var_stores.specs.Present.{stored_name, global_key, key_of, is_alive, found}
-use Rattle.var_stores.specs.Rewriting.{is_rewritten, is_outdated, deleted, without_outdated, attributes_there, header_of, new_record, added}
+use Rattle.uefi_vars.specs.Vars.{Variables, data_max, IsData, IsVariable}
+use Rattle.var_stores.specs.Record.{RecordParts, number_in, attributes_in, attribute_bytes, blank, is_unfinished, padding_len, name_len, value_len, IsRecord}
+use Rattle.var_stores.specs.Present.{stored_name, global_key, key_of, is_alive, found, is_set_value}
+use Rattle.var_stores.specs.Rewriting.{is_rewritten, is_outdated, deleted, without_outdated, attributes_there, new_attributes, header_of, new_record, added}
 use Rattle.var_stores.proofs.Found.{IsFoundAs, found_after-is, found_after-all}
 use Rattle.var_stores.proofs.GlobalKeys.{vendor_len, global_name}
 use Rattle.var_stores.proofs.StoredNames.{stored_name-len}
@@ -102,14 +105,18 @@ new-whole attributes name value four written is held =
 abbrev HasAttributes : List ℕ → Type 0
 HasAttributes attributes = (length attributes ≡ 4) × (from_le_bytes w32 attributes ≢ blank)
 
+four_bytes : (r : RecordParts) → IsRecord r → length (attribute_bytes r.header) ≡ 4
+four_bytes r is = length-take-le 4 (drop 1 r.header) (let more = length-drop 1 r.header in let len = is.header in omega (arith, more, len))
+
+-- a set can hold them
+pub attributes_fit : (r : RecordParts) → IsRecord r → is_set_value (attribute_bytes r.header) ≡ true
+attributes_fit r is = ap (λ n. not (n == 0) && not (nat_lt data_max n)) (four_bytes r is)
+
 of_record : (r : RecordParts) (name : List ℕ) → IsRecord r → key_of r ≡ global_key name → HasAttributes (attributes_there (Some r))
-of_record r name is key = (four, λ e. unfinished (or_right' e))
+of_record r name is key = (four_bytes r is, λ e. unfinished (or_right' e))
   where
     stored : r.name ≡ stored_name name
     stored = (global_name r name (vendor_len r is) (sym key)).1
-
-    four : length (attributes_there (Some r)) ≡ 4
-    four = length-take-le 4 (drop 1 r.header) (let more = length-drop 1 r.header in let len = is.header in omega (arith, more, len))
 
     unfinished : is_unfinished r.state r.header ≡ true → ⊥
     unfinished e =
@@ -128,16 +135,36 @@ attributes-there records name whole = go (found (global_key name) records) (foun
     go None own is = (refl, λ e. let seven : 7 ≡ blank = e in omega (arith, seven))
     go (Some r) own is = of_record r name is own.0
 
-pub added-whole : (records : List RecordParts) (from to : Variables) (variables : List (List ℕ × List ℕ)) → AllByRecursion IsRecord records → AllByRecursion IsVariable variables →
-    AllByRecursion IsRecord (added from to (λ name. found (global_key name) records) variables)
-added-whole records from to [] whole valid = tt
-added-whole records from to (variable ∷ rest) whole valid =
-    one (is_rewritten from to variable.0) (added-whole records from to rest whole valid.1)
+-- those that are given, or else of a record that is there
+pub attributes-new : (records : List RecordParts) (name : List ℕ) (given : Option (List ℕ)) → AllByRecursion IsRecord records →
+    HasAttributes (new_attributes given (found (global_key name) records))
+attributes-new records name None whole = attributes-there records name whole
+attributes-new records name (Some given) whole = few (nat_lt (length given) 4) refl
   where
-    one : (b : Bool) → AllByRecursion IsRecord (added from to (λ name. found (global_key name) records) rest) →
-        AllByRecursion IsRecord (cond b (new_record (attributes_there (found (global_key variable.0) records)) variable.0 variable.1 ∷ added from to (λ name. found (global_key name) records) rest)
-        (added from to (λ name. found (global_key name) records) rest))
+    erased : (b : Bool) → (from_le_bytes w32 (take 4 given) == blank) ≡ b → length (take 4 given) ≡ 4 →
+        HasAttributes (unwrap_or (cond b None (Some (take 4 given))) (attributes_there (found (global_key name) records)))
+    erased true e four = attributes-there records name whole
+    erased false e four = (four, λ same. true≢false (sym (eq-eqb (from_le_bytes w32 (take 4 given)) blank same) ∙ e))
+
+    few : (b : Bool) → nat_lt (length given) 4 ≡ b →
+        HasAttributes (unwrap_or (cond b None (cond (from_le_bytes w32 (take 4 given) == blank) None (Some (take 4 given)))) (attributes_there (found (global_key name) records)))
+    few true e = attributes-there records name whole
+    few false e = erased (from_le_bytes w32 (take 4 given) == blank) refl (length-take-le 4 given (ltb-false (length given) 4 e))
+
+-- the attributes of a new record of the name
+abbrev attributes_for : List RecordParts → Variables → List ℕ → List ℕ
+attributes_for records attributes name = new_attributes (get attributes name) (found (global_key name) records)
+
+pub added-whole : (records : List RecordParts) (from to attributes : Variables) (variables : List (List ℕ × List ℕ)) → AllByRecursion IsRecord records → AllByRecursion IsVariable variables →
+    AllByRecursion IsRecord (added from to (attributes_for records attributes) variables)
+added-whole records from to attributes [] whole valid = tt
+added-whole records from to attributes (variable ∷ rest) whole valid =
+    one (is_rewritten from to variable.0) (added-whole records from to attributes rest whole valid.1)
+  where
+    one : (b : Bool) → AllByRecursion IsRecord (added from to (attributes_for records attributes) rest) →
+        AllByRecursion IsRecord (cond b (new_record (attributes_for records attributes variable.0) variable.0 variable.1 ∷ added from to (attributes_for records attributes) rest)
+        (added from to (attributes_for records attributes) rest))
     one true others =
-        let has = attributes-there records variable.0 whole in
-        (new-whole (attributes_there (found (global_key variable.0) records)) variable.0 variable.1 has.0 has.1 valid.0.0 valid.0.1, others)
+        let has = attributes-new records variable.0 (get attributes variable.0) whole in
+        (new-whole (attributes_for records attributes variable.0) variable.0 variable.1 has.0 has.1 valid.0.0 valid.0.1, others)
     one false others = others

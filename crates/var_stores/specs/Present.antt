@@ -8,7 +8,7 @@ use Rattle.std.specs.List.Sorted.{IsStrictlySortedBy}
 use Rattle.uefi_vars.specs.Name.{name_max, IsName}
 use Rattle.uefi_vars.specs.Vars.{Variables, name_cmp, data_max}
 use Rattle.var_stores.specs.BootChange.{same_name}
-use Rattle.var_stores.specs.Record.{RecordParts, vendor_in}
+use Rattle.var_stores.specs.Record.{RecordParts, vendor_in, attribute_bytes}
 
 -- ---- names
 
@@ -69,10 +69,18 @@ found key records = found_after key None records
 abbrev pub is_set_value : List ℕ → Bool
 is_set_value value = not (length value == 0) && not (nat_lt data_max (length value))
 
+-- a part of a record, if a set can hold the record's value
+abbrev pub set_part : (RecordParts → List ℕ) → Option RecordParts → Option (List ℕ)
+set_part part None = None
+set_part part (Some r) = if is_set_value r.value then Some (part r) else None
+
 -- the value of a record, if a set can hold it
 abbrev pub set_data : Option RecordParts → Option (List ℕ)
-set_data None = None
-set_data (Some r) = if is_set_value r.value then Some r.value else None
+set_data o = set_part (λ r. r.value) o
+
+-- the bytes of its attributes, if a set can hold its value
+abbrev pub set_attributes : Option RecordParts → Option (List ℕ)
+set_attributes o = set_part (λ r. attribute_bytes r.header) o
 
 -- that of the standard's variable of this name
 abbrev pub global_key : List ℕ → List ℕ
@@ -85,6 +93,10 @@ data_there records name = set_data (found (global_key name) records)
 -- the set has what is there under each name that a set can have
 abbrev pub IsSetOf : List RecordParts → Variables → Type 0
 IsSetOf records vars = (name : List ℕ) → IsName name → get vars name ≡ data_there records name
+
+-- the set has, under each name under which that set has a value, the attributes of the record that is there
+abbrev pub AreAttributesOf : List RecordParts → Variables → Type 0
+AreAttributesOf records vars = (name : List ℕ) → IsName name → get vars name ≡ set_attributes (found (global_key name) records)
 
 -- ---- the variables of the standard's vendor that no set can hold
 

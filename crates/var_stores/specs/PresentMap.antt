@@ -28,7 +28,8 @@ abbrev pub PutsStored : Variables → Variables → List ℕ → List ℕ → Ty
 PutsStored old new stored value =
     (name : List ℕ) → IsName name → get new name ≡ (if same_name stored (stored_name name) && is_set_value value then Some value else get old name)
 
--- the same of a record, if it is of the standard's vendor
-abbrev pub PutsRecord : Variables → Variables → RecordParts → Type 0
-PutsRecord old new r =
-    (name : List ℕ) → IsName name → get new name ≡ (if is_of (global_key name) r && is_set_value r.value then Some r.value else get old name)
+-- the set has the part of the record under its name, if the record is of the standard's vendor, and a set can hold its
+-- value, and else what it had before
+abbrev pub PutsRecord : Variables → Variables → RecordParts → List ℕ → Type 0
+PutsRecord old new r part =
+    (name : List ℕ) → IsName name → get new name ≡ (if is_of (global_key name) r && is_set_value r.value then Some part else get old name)

@@ -11,8 +11,9 @@ ghost use Rattle.var_stores.specs.BootChange.{ChangeParts, same_name, is_entry_n
 ghost use Rattle.var_stores.specs.declared.fault.StoreFault.{StoreFault};
 ghost use Rattle.var_stores.specs.Volume.{StoreParts, SpellsStore, IsStoreFault};
 ghost use Rattle.var_stores.specs.Record.{RecordParts, vendor_in};
-ghost use Rattle.var_stores.specs.Present.{global_guid, global_key, is_of, is_added, is_alive, is_left_out, found, IsSetOf};
-ghost use Rattle.var_stores.specs.Rewriting.{boot_attributes, IsWritten};
+ghost use Rattle.var_stores.specs.Present.{global_guid, global_key, is_of, is_added, is_alive, is_left_out, if_left_out, found, IsSetOf};
+ghost use Rattle.var_stores.specs.Rewriting.{boot_attributes, new_attributes, new_record, IsWritten};
+ghost use Rattle.var_stores.specs.Damage.{CountsRecords};
 
 use crate::writer::BOOT_ATTRIBUTES;
 use uefi_vars::laws as vars_laws;
@@ -110,19 +111,45 @@ pub fn a_variable_is_in_the_set_or_left_out()
         ↔ ((name : List ℕ) × IsName name × (key ≡ global_key name) × (map.get vars name ≡ Some r.value)) }
 {}
 
-/// Once they are written, the boot manager's variables are those that were asked for.
+/// Once they are written, the boot manager's variables are those that were asked for: of each the value is there that the
+/// set has, or none is there if it has none. This is so of each variable that the set has, and of each of which the store
+/// had no record that no set can hold. A variable of which the store had such a record, and that the set doesn't have, is
+/// there as before: its record is the same, with its attributes and its value.
 pub fn written_boot_variables_are_those_asked_for()
-    ensures { (file bytes : List ℕ) (to : Variables) (written : IsWritten file to bytes) (name : List ℕ) → is_boot_name name ≡ true →
+    ensures asked { (file bytes : List ℕ) (to attributes : Variables) (written : IsWritten file to attributes bytes) (name : List ℕ) →
+        is_boot_name name ≡ true →
+        (map.get to name ≢ None) ⊎ (if_left_out (found (global_key name) written.before.records) ≡ None) →
         option_map (λ r. r.value) (found (global_key name) written.after.records) ≡ map.get to name }
+    ensures left_out { (file bytes : List ℕ) (to attributes : Variables) (written : IsWritten file to attributes bytes) (name : List ℕ) →
+        is_boot_name name ≡ true →
+        (r : RecordParts) → found (global_key name) written.before.records ≡ Some r → is_left_out r ≡ true → map.get to name ≡ None →
+        found (global_key name) written.after.records ≡ Some r }
+{
+    vars_laws::boot_names_are_names();
+}
+
+/// The record of a boot variable that is new or has a new value has the attributes that are given for it: the first four
+/// bytes of what is given under its name. If none are given, or none that a record can have, they are those of the record
+/// that was there, or those of a new variable if there was none. Its value is that of the set.
+pub fn new_records_have_the_attributes_that_are_given()
+    ensures { (file bytes : List ℕ) (to attributes : Variables) (written : IsWritten file to attributes bytes) (name value : List ℕ) →
+        is_boot_name name ≡ true → map.get to name ≡ Some value → map.get written.from name ≢ Some value →
+        found (global_key name) written.after.records ≡ Some (new_record
+        (new_attributes (map.get attributes name) (found (global_key name) written.before.records)) name value) }
 {
     vars_laws::boot_names_are_names();
 }
 
 /// Every other variable is there as before: its record is the same, with its attributes and its value.
 pub fn other_variables_are_there_as_before()
-    ensures { (file bytes : List ℕ) (to : Variables) (written : IsWritten file to bytes) (key : List ℕ) →
+    ensures { (file bytes : List ℕ) (to attributes : Variables) (written : IsWritten file to attributes bytes) (key : List ℕ) →
         ((name : List ℕ) → is_boot_name name ≡ true → key ≢ global_key name) →
         found key written.after.records ≡ found key written.before.records }
+{}
+
+/// Bytes have one count of the records that are among them.
+pub fn bytes_have_one_count_of_records()
+    ensures { (bytes : List ℕ) (m n : ℕ) → CountsRecords bytes m → CountsRecords bytes n → m ≡ n }
 {}
 
 /// The public constant is the bytes that the definitions state.

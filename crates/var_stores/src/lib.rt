@@ -6,9 +6,11 @@
 //! them.
 //!
 //! [`read_store`] finds the records of variables in an emulator's variable file, as edk2 writes it.
+//! [`VariableStore::damage`] tells of what isn't erased behind them.
 #![tactic(auto)]
 
 mod boot_change;
+mod damage;
 mod fault;
 pub mod laws;
 mod present;
@@ -20,9 +22,10 @@ mod write_fault;
 mod writer;
 
 pub use boot_change::{BootChange, boot_changes, is_boot_name};
+pub use damage::Damage;
 pub use fault::StoreFault;
 pub use record::Record;
 pub use store::{VariableStore, read_store};
-pub use stored_vars::{left_out, store_vars};
+pub use stored_vars::{left_out, store_attributes, store_vars};
 pub use write_fault::WriteFault;
 pub use writer::{BOOT_ATTRIBUTES, write_boot_vars};

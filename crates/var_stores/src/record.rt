@@ -12,7 +12,7 @@ use std::alloc::{AllocError, Global};
 const START: [u8; 2] = [0xAA, 0x55];
 
 /// The bytes of a record's header after its state.
-const HEADER_LEN: usize = 57;
+pub(crate) const HEADER_LEN: usize = 57;
 
 // The places of fields in those bytes.
 const ATTRIBUTES: usize = 1;
@@ -30,7 +30,7 @@ pub(crate) const ADDED: u8 = 0x3F;
 const REPLACED: u8 = 0x3E;
 
 /// The greatest number of four bytes, which memory that wasn't written reads as.
-const BLANK: u32 = u32::MAX;
+pub(crate) const BLANK: u32 = u32::MAX;
 
 /// A record of a variable store, where it is in the bytes.
 #[derive(Clone, Copy, Debug)]
@@ -132,7 +132,7 @@ pub(crate) fn begins_record(bytes: &[u8]) -> bool
 }
 
 /// The record at the start of the bytes, and the bytes after it: `None` if they end in it.
-fn split_record(bytes: &[u8]) -> Option<(Record<'_>, &[u8])>
+pub(crate) fn split_record(bytes: &[u8]) -> Option<(Record<'_>, &[u8])>
     requires { BeginsRecord bytes.now }
     ensures found { IfSome result (λ found. IsRecord (record_parts found.0)
         × (bytes.now ≡ record_bytes (record_parts found.0) ++ found.1.now)) }

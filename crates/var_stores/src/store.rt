@@ -27,8 +27,10 @@ pub struct VariableStore<'a> {
     pub head: &'a [u8],
     /// The records, in their order.
     pub records: Vec<Record<'a>>,
-    /// The bytes of the store after the records.
+    /// The bytes of the store after the records. All are 0xFF unless something is damaged: [`VariableStore::damage`].
     pub free: &'a [u8],
+    /// Where these bytes begin: their offset in bytes from the file's first byte.
+    pub free_at: usize,
     /// The bytes of the file after the store.
     pub rest: &'a [u8],
 }
@@ -47,6 +49,7 @@ pub struct VariableStore<'a> {
 /// ends after the store. [`StoreFault::OutOfMemory`] if memory for the list of records was refused.
 pub fn read_store(alloc: Global, file: &[u8]) -> Result<VariableStore<'_>, StoreFault>
     ensures found { IfOk result (λ store. SpellsStore file.now (store_parts store)) }
+    ensures place { IfOk result (λ store. store.free_at + (length store.free.now + length store.rest.now) ≡ length file.now) }
     ensures fault { IfErr result (IsStoreFault file.now) }
 {
     if !is_volume(file) {
@@ -75,6 +78,7 @@ pub fn read_store(alloc: Global, file: &[u8]) -> Result<VariableStore<'_>, Store
             head,
             records,
             free,
+            free_at: file.len() - rest.len() - free.len(),
             rest,
         }),
         Err(RecordsFault::Cut(place)) => Err(StoreFault::CutRecord(head.len() + place)),

@@ -10,12 +10,12 @@ ghost use Rattle.uefi_vars.specs.Name.{IsName};
 ghost use Rattle.uefi_vars.specs.Vars.{name_cmp};
 ghost use Rattle.std.specs.FinMap as map;
 ghost use Rattle.var_stores.specs.BootChange.{same_name};
-ghost use Rattle.var_stores.specs.Record.{record_parts, vendor_in, IsRecord};
-ghost use Rattle.var_stores.specs.Present.{global_guid, global_key, name_in, set_data, is_set_name, is_set_value, is_left_out, IsSetOf, AreLeftOut};
+ghost use Rattle.var_stores.specs.Record.{record_parts, vendor_in, attribute_bytes, IsRecord};
+ghost use Rattle.var_stores.specs.Present.{global_guid, global_key, name_in, set_data, set_attributes, is_set_name, is_set_value, is_left_out, IsSetOf, AreAttributesOf, AreLeftOut};
 ghost use Rattle.var_stores.specs.PresentMap.{record_under, AreKeyed, AreWhole, PutsStored, PutsRecord};
 
 use crate::present::{Present, present};
-use crate::record::Record;
+use crate::record::{HEADER_LEN, Record};
 use crate::store::VariableStore;
 use std::alloc::{AllocError, Global};
 use uefi_vars::{DATA_MAX, NAME_MAX, PutFault, Vars, laws as vars_laws};
@@ -40,6 +40,20 @@ pub fn store_vars(alloc: Global, store: &VariableStore<'_>) -> Result<Vars, Allo
 {
     let present = present(alloc, &store.records)?;
     vars_of(alloc, &present)
+}
+
+/// The attributes of the variables of [`store_vars`], as a set: under each of their names the four bytes of the attributes
+/// of the record that is there, the lowest first (UEFI 2.10, 8.2).
+///
+/// # Errors
+///
+/// [`AllocError`] if memory was refused.
+pub fn store_attributes(alloc: Global, store: &VariableStore<'_>) -> Result<Vars, AllocError>
+    ensures { IfOk result (λ vars. AllByRecursion IsRecord (map record_parts store.now.records.items) →
+        AreAttributesOf (map record_parts store.now.records.items) vars) }
+{
+    let present = present(alloc, &store.records)?;
+    attributes_of(alloc, &present)
 }
 
 /// The records of the same vendor that are there, and that no set can hold: their name isn't one to [`NAME_MAX`]
@@ -126,12 +140,39 @@ pub(crate) fn vars_of(alloc: Global, present: &Present<'_>) -> Result<Vars, Allo
 /// Puts the record's variable into the set, if it is of the standard's vendor, and the set can hold it.
 fn put_record(alloc: Global, vars: &mut Vars, record: &Record<'_>) -> Result<(), AllocError>
     ensures { OnOk result (IsRecord (record_parts «record».now) →
-        PutsRecord vars.old vars.new (record_parts «record».now)) }
+        PutsRecord vars.old vars.new (record_parts «record».now) (record_parts «record».now).value) }
 {
     if record.vendor() != GLOBAL_GUID.as_slice() {
         return Ok(());
     }
     put(alloc, vars, record.name, record.value)
+}
+
+/// The attributes of the variables that [`vars_of`] has, as a set.
+fn attributes_of(alloc: Global, present: &Present<'_>) -> Result<Vars, AllocError>
+    requires { AreKeyed present.now }
+    ensures { IfOk result (λ vars. AreWhole present.now → (name : List ℕ) → IsName name →
+        map.get vars name ≡ set_attributes (record_under present.now (global_key name))) }
+{
+    let mut vars = Vars::new(alloc);
+    for record in present.values() {
+        put_attributes(alloc, &mut vars, record)?;
+    }
+    Ok(vars)
+}
+
+/// Puts the attributes of the record's variable into the set, if it is of the standard's vendor, and a set can hold it.
+fn put_attributes(alloc: Global, vars: &mut Vars, record: &Record<'_>) -> Result<(), AllocError>
+    ensures { OnOk result (IsRecord (record_parts «record».now) →
+        PutsRecord vars.old vars.new (record_parts «record».now) (attribute_bytes (record_parts «record».now).header)) }
+{
+    if record.vendor() != GLOBAL_GUID.as_slice() {
+        return Ok(());
+    }
+    if record.header.len() != HEADER_LEN || !is_set_value(record.value) {
+        return Ok(());
+    }
+    put(alloc, vars, record.name, &record.attributes())
 }
 
 /// Puts the variable of this stored name into the set, if the set can hold it.

@@ -2,6 +2,7 @@
 
 ghost use Rattle.std.specs.Prelude.{◌≡◌, ◌≢◌, ◌<◌, ◌^◌, ◌∷◌, ◌++◌, ℕ, List, length, drop, map, true, false, Ok, Err, MatchOption, IfSome, IfOk, IfErr, OnOk};
 ghost use Rattle.std.specs.List.{flat_map};
+ghost use Rattle.std.specs.Option.{option_map};
 ghost use Rattle.std.proofs.Math.ListN.{replicate};
 ghost use Rattle.std.specs.BTreeMap.{IsOrdered, values};
 ghost use Rattle.std.specs.FinMap as map;
@@ -14,11 +15,11 @@ ghost use Rattle.var_stores.specs.Record.{record_parts, record_bytes, padding_le
 ghost use Rattle.var_stores.specs.Volume.{IsStoreFault};
 ghost use Rattle.var_stores.specs.Present.{stored_name, global_key};
 ghost use Rattle.var_stores.specs.PresentMap.{record_under, AreWhole};
-ghost use Rattle.var_stores.specs.Rewriting.{is_rewritten, is_outdated, without_outdated, unchanged, attributes_there, header_of, new_record, added, Fits, IsWritten, IsWriteFault};
+ghost use Rattle.var_stores.specs.Rewriting.{is_rewritten, is_outdated, without_outdated, unchanged, attributes_there, given_attributes, new_attributes, header_of, new_record, added, Fits, IsWritten, IsWriteFault};
 
 use crate::boot_change::{is_boot_name, is_changed};
 use crate::present::{Present, present};
-use crate::record::{ADDED, Record, begins_record, padding_len};
+use crate::record::{ADDED, BLANK as BLANK_NUMBER, Record, begins_record, padding_len};
 use crate::store::read_store;
 use crate::stored_vars::{GLOBAL_GUID, is_global, name_of, vars_of};
 use crate::write_fault::WriteFault;
@@ -35,27 +36,41 @@ const DELETED: u8 = 0xFD;
 /// What memory that wasn't written reads as.
 const BLANK: u8 = 0xFF;
 
-/// The bytes of an emulator's variable file once Boot####, BootOrder and BootNext are those of the set: the others of its
-/// variables stay, and so do the bytes before and after the store. Variables of other names in the set are left alone.
+/// The bytes of an emulator's variable file once Boot####, BootOrder and BootNext are those of the set `to`: the others of
+/// its variables stay, and so do the bytes before and after the store. Variables of other names in the set are left alone.
+/// So is a Boot####, BootOrder or BootNext that no set can hold ([`left_out`](crate::left_out) tells it), if `to` has none
+/// of that name: its record stays as it is.
 ///
-/// The record of a variable that changes is marked as deleted, and new records are written after the last one, each with
-/// the attributes of the record that it replaces, or 7 if there is none, and with a count, a time and a key's index of
-/// zero. If there is no room, the records that are there are moved together first.
+/// The records of a variable that changes are marked as deleted, each whose state is 0x3F or 0x3E, so that none of them
+/// comes back. Those of one that doesn't change stay as they are, of whatever state. New records are written after the last
+/// one, each with a count, a time and a key's index of zero. The attributes of a new record are the first four bytes of
+/// what the set `attributes` has under the variable's name, the lowest first (UEFI 2.10, 8.2); or else those of the record
+/// that it replaces; or else [`BOOT_ATTRIBUTES`]. Nothing is taken from `attributes` that has fewer than four bytes, or
+/// whose first four are all 0xFF, as those of a header that wasn't written.
+///
+/// If there is no room, or a record would seem to begin with the free bytes that are left, the records that are there and
+/// stay are moved together first: of each variable the one that is there, and none that is deleted, that wasn't written to
+/// its end, or in whose place another is there.
 ///
 /// # Errors
 ///
 /// [`WriteFault::Store`] with the fault of [`read_store`] if the file isn't an emulator's variable file;
 /// [`WriteFault::Full`] if the records have no room in the store; [`WriteFault::OutOfMemory`] if memory was refused.
-pub fn write_boot_vars(alloc: Global, file: &[u8], to: &Vars) -> Result<Vec<u8>, WriteFault>
-    ensures written { IfOk result (λ bytes. IsWritten file.now to.now bytes.items) }
-    ensures fault { IfErr result (IsWriteFault file.now to.now) }
+pub fn write_boot_vars(
+    alloc: Global,
+    file: &[u8],
+    to: &Vars,
+    attributes: &Vars,
+) -> Result<Vec<u8>, WriteFault>
+    ensures written { IfOk result (λ bytes. IsWritten file.now to.now attributes.now bytes.items) }
+    ensures fault { IfErr result (IsWriteFault file.now to.now attributes.now) }
     ensures only_fault { (fault : StoreFault) → fault ≢ StoreFault.OutOfMemory → IsStoreFault file.now fault →
         IsUnless result (Err (WriteFault.Store fault)) WriteFault.OutOfMemory }
 {
     let store = read_store(alloc, file)?;
     let present = present(alloc, &store.records)?;
     let from = vars_of(alloc, &present)?;
-    let added = added(alloc, &present, &from, to)?;
+    let added = added(alloc, &present, &from, to, attributes)?;
     let mut bytes = Vec::from_slice(alloc, store.head)?;
     match free_after(store.free, &added) {
         Some(free) => append_all(&mut bytes, &store.records, &from, to, &added, free)?,
@@ -188,41 +203,67 @@ fn added(
     present: &Present<'_>,
     from: &Vars,
     to: &Vars,
+    attributes: &Vars,
 ) -> Result<Vec<u8>, AllocError>
     requires { AreWhole present.now }
-    ensures bytes { IfOk result (λ bytes. bytes.items ≡ flat_map record_bytes
-        (added from.now to.now (λ name. record_under present.now (global_key name)) (map.entries to.now))) }
+    ensures bytes { IfOk result (λ bytes. bytes.items ≡ flat_map record_bytes (added from.now to.now
+        (λ name. new_attributes (map.get attributes.now name) (record_under present.now (global_key name))) (map.entries to.now))) }
     ensures valid { IfOk result (λ _. IsVars to.now) }
 {
     let mut bytes = Vec::new(alloc);
     for (name, value) in to.iter() {
         if is_rewritten(from, to, name) {
-            append_new(&mut bytes, present, name, value)?;
+            append_new(&mut bytes, present, attributes, name, value)?;
         }
     }
     Ok(bytes)
 }
 
-/// Appends a new record of the standard's variable of this name, with the attributes of the one that is there.
+/// Appends a new record of the standard's variable of this name, with the attributes that are given, or else those of the
+/// one that is there.
 fn append_new(
     bytes: &mut Vec<u8>,
     present: &Present<'_>,
+    attributes: &Vars,
     name: &str,
     value: &[u8],
 ) -> Result<(), AllocError>
     requires whole { AreWhole present.now }
     requires name { IsName name.now }
     requires value { IsData value.now }
-    ensures { OnOk result (bytes.new.items ≡ bytes.old.items ++ record_bytes
-        (new_record (attributes_there (record_under present.now (global_key name.now))) name.now value.now)) }
+    ensures { OnOk result (bytes.new.items ≡ bytes.old.items ++ record_bytes (new_record
+        (new_attributes (map.get attributes.now name.now) (record_under present.now (global_key name.now))) name.now value.now)) }
 {
     let mut key = Vec::from_slice(*bytes.allocator(), &GLOBAL_GUID)?;
     append_name(&mut key, name)?;
-    let attributes = attributes_there(present, &key);
+    let attributes = new_attributes(attributes.get(name), present, &key);
     append_head(bytes, attributes, 2 * name.len() + 2, value.len())?;
     append_name(bytes, name)?;
     bytes.extend_from_slice(value)?;
     append_padding(bytes, 2 * name.len() + 2 + value.len())
+}
+
+/// The bytes of the attributes of a new record: those that are given, or else those of the record under this key.
+fn new_attributes(given: Option<&[u8]>, present: &Present<'_>, key: &[u8]) -> [u8; 4]
+    requires { AreWhole present.now }
+    ensures { result ≡ new_attributes (option_map (λ bytes. bytes.now) given.entry) (record_under present.now key.now) }
+{
+    match given_attributes(given) {
+        Some(attributes) => attributes,
+        None => attributes_there(present, key),
+    }
+}
+
+/// The first four of the bytes that are given: `None` if there are fewer, or these are what memory that wasn't written reads
+/// as.
+fn given_attributes(given: Option<&[u8]>) -> Option<[u8; 4]>
+    ensures { result ≡ given_attributes (option_map (λ bytes. bytes.now) given.entry) }
+{
+    let (attributes, _more) = given?.split_first_chunk::<4>()?;
+    if u32::from_le_bytes(*attributes) == BLANK_NUMBER {
+        return None;
+    }
+    Some(*attributes)
 }
 
 /// The bytes of the attributes of the record under this key, or those of a new variable if there is none.
@@ -299,9 +340,9 @@ fn is_outdated(
     }
 }
 
-/// Whether the variable of this name is one of the boot manager's that isn't in both sets, with equal data.
+/// Whether the variable of this name is one of the boot manager's, and the two sets differ under it.
 fn is_rewritten(from: &Vars, to: &Vars, name: &str) -> bool
     ensures { result ≡ is_rewritten from.now to.now name.now }
 {
-    is_boot_name(name) && (to.get(name).is_none() || is_changed(from, to, name))
+    is_boot_name(name) && is_changed(from, to, name)
 }

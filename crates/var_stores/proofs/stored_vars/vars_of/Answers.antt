@@ -8,7 +8,7 @@ use Rattle.var_stores.specs.PresentMap.{record_under}
 use Rattle.var_stores.specs.declared.record.Record.{Record}
 use Rattle.var_stores.specs.Record.{record_parts, IsRecord}
 use Rattle.var_stores.specs.Present.{global_key, set_data}
-use Rattle.var_stores.proofs.OfEachOne.{data_after, data_after-first}
+use Rattle.var_stores.proofs.OfEachOne.{part_after, part_after-first}
 use Rattle.var_stores.proofs.PresentValues.{records_of_each_one, first_under, records_whole}
 use Rattle.var_stores.proofs.stored_vars.vars_of.Goals as goal
 
@@ -19,10 +19,10 @@ loop-record-init c = λ whole.
     let all : c.into_iter-record-iterator.result ≡ values present = c.into_iter-record-iterator.ensures.into_iter_gives ∙ c.values-record-items.ensures.rest in (
       subst (λ (rs : List Record). AllByRecursion IsRecord (map record_parts rs)) (sym all) (records_whole present ordered c.requires whole),
       λ name is.
-          ap (λ vars. data_after (global_key name) (get vars name) (map record_parts c.into_iter-record-iterator.result)) c.new-vars.ensures
-          ∙ ap (λ before. data_after (global_key name) before (map record_parts c.into_iter-record-iterator.result)) (get-empty name_cmp name)
-          ∙ ap (λ (rs : List Record). data_after (global_key name) None (map record_parts rs)) all
-          ∙ data_after-first (global_key name) (map record_parts (values present)) (records_of_each_one present ordered c.requires)
+          ap (λ vars. part_after (λ r. r.value) (global_key name) (get vars name) (map record_parts c.into_iter-record-iterator.result)) c.new-vars.ensures
+          ∙ ap (λ before. part_after (λ r. r.value) (global_key name) before (map record_parts c.into_iter-record-iterator.result)) (get-empty name_cmp name)
+          ∙ ap (λ (rs : List Record). part_after (λ r. r.value) (global_key name) None (map record_parts rs)) all
+          ∙ part_after-first (λ r. r.value) (global_key name) (map record_parts (values present)) (records_of_each_one present ordered c.requires)
           ∙ ap set_data (first_under present ordered c.requires (global_key name)),
     )
 
@@ -30,10 +30,10 @@ pub loop-record-preserved : goal.loop-record-preserved
 loop-record-preserved c = λ whole.
     let vars = c.loop-record.vars in
     let leads : AllByRecursion IsRecord (map record_parts (c.in-Some.record.now ∷ c.next.new.self))
-    × ((name : List ℕ) → IsName name → data_after (global_key name) (get vars name) (map record_parts (c.in-Some.record.now ∷ c.next.new.self)) ≡ set_data (record_under c.args.present.now (global_key name)))
+    × ((name : List ℕ) → IsName name → part_after (λ r. r.value) (global_key name) (get vars name) (map record_parts (c.in-Some.record.now ∷ c.next.new.self)) ≡ set_data (record_under c.args.present.now (global_key name)))
     = subst (λ (rs : List Record). AllByRecursion IsRecord (map record_parts rs)
-    × ((name : List ℕ) → IsName name → data_after (global_key name) (get vars name) (map record_parts rs) ≡ set_data (record_under c.args.present.now (global_key name)))) c.in-Some.ensures.steps
+    × ((name : List ℕ) → IsName name → part_after (λ r. r.value) (global_key name) (get vars name) (map record_parts rs) ≡ set_data (record_under c.args.present.now (global_key name)))) c.in-Some.ensures.steps
     (c.loop-record.invariant whole) in (
       leads.0.1,
-      λ name is. ap (λ before. data_after (global_key name) before (map record_parts c.next.new.self)) (c.in_ok-put_record.ensures leads.0.0 name is) ∙ leads.1 name is,
+      λ name is. ap (λ before. part_after (λ r. r.value) (global_key name) before (map record_parts c.next.new.self)) (c.in_ok-put_record.ensures leads.0.0 name is) ∙ leads.1 name is,
     )

@@ -5,11 +5,11 @@ use Rattle.uefi_vars.specs.Name.{IsName}
 use Rattle.var_stores.specs.Record.{record_parts, IsRecord}
 use Rattle.var_stores.specs.Present.{global_key, set_data}
 use Rattle.var_stores.specs.PresentMap.{record_under, AreWhole}
-use Rattle.var_stores.proofs.OfEachOne.{data_after}
+use Rattle.var_stores.proofs.OfEachOne.{part_after}
 use Rattle.var_stores.proofs.stored_vars.vars_of.Given as goal
 
 -- with the records that are still to come, what the set has leads to what it is to have
 abbrev pub invariant-loop-record : goal.invariant-loop-record
 invariant-loop-record l =
     AreWhole l.present → AllByRecursion IsRecord (map record_parts l.record-iterator)
-    × ((name : List ℕ) → IsName name → data_after (global_key name) (get l.vars name) (map record_parts l.record-iterator) ≡ set_data (record_under l.present (global_key name)))
+    × ((name : List ℕ) → IsName name → part_after (λ r. r.value) (global_key name) (get l.vars name) (map record_parts l.record-iterator) ≡ set_data (record_under l.present (global_key name)))
