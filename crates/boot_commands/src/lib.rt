@@ -8,7 +8,8 @@
 //! and all four tell what is wrong by a [`ScriptFault`]. [`read_file`] and [`read_input`] read an input of up to
 //! [`LIMIT`] bytes. [`write_file`] replaces a whole file, which [`lock_file`] has locked: whoever changes a file this
 //! way reads it in between, and nobody's change is lost. [`try_lock_file`] and [`try_write_file`] do the same, and keep
-//! the system's reason if they fail; [`replace_file`] replaces a file that the caller keeps others from by other means.
+//! the system's reason if they fail; [`try_rewrite_file`] keeps the lock too, for one change after the other;
+//! [`replace_file`] replaces a file that the caller keeps others from by other means.
 #![tactic(auto)]
 
 mod fault;
@@ -27,7 +28,7 @@ mod transfer;
 pub use fault::ScriptFault;
 pub use input::{InputFault, LIMIT, read_file, read_input};
 pub use lock::{FileLock, OutputFile, lock_file, try_lock_file};
-pub use output::{OutputFault, replace_file, try_write_file, write_file};
+pub use output::{OutputFault, replace_file, try_rewrite_file, try_write_file, write_file};
 pub use refusal::{Fault, Refusal, refuse};
 pub use report::{option_report, path_report, set_report, text_report};
 pub use runs::{run_script, run_stream};

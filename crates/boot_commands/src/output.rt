@@ -100,7 +100,36 @@ pub fn try_write_file<R: Files<File: OutputFile> + AllocGlobal>(
     lock: FileLock<R::File>,
     bytes: &[u8],
 ) -> io::Result<()> {
-    write_at(rt, lock.path.as_path(), &lock.found, bytes)
+    let path = lock.path.as_path();
+    match &lock.found {
+        Found::Regular(file) => place(rt, path, Some(&file.metadata()?), bytes),
+        Found::Nothing(_) => place(rt, path, None, bytes),
+        Found::Other => overwrite(rt, path, bytes),
+    }
+}
+
+/// Does what [`try_write_file`] does, and keeps the lock: afterwards it is of the new file, which is locked before the
+/// path leads to it, so that nobody who waits or comes gets in between. What isn't a regular file is written straight
+/// to, and isn't locked afterwards either.
+///
+/// # Errors
+///
+/// Those of [`try_write_file`], [`ErrorKind::ResourceBusy`] also if somebody else has locked the new file under the
+/// name that it has at first, and the system's if it gives no lock. The lock is then as it was, and can be used again;
+/// if only the last step failed, by which the new name is brought to the disk, it is of the new file.
+pub fn try_rewrite_file<R: Files<File: OutputFile> + AllocGlobal>(
+    rt: &R,
+    lock: &mut FileLock<R::File>,
+    bytes: &[u8],
+) -> io::Result<()> {
+    let path = lock.path.as_path();
+    let file = match &lock.found {
+        Found::Regular(file) => place_locked(rt, path, Some(&file.metadata()?), bytes)?,
+        Found::Nothing(_) => place_locked(rt, path, None, bytes)?,
+        Found::Other => return overwrite(rt, path, bytes),
+    };
+    lock.found = Found::Regular(file);
+    sync_folder(rt, lock.path.as_path())
 }
 
 /// Replaces the file at this path as [`try_write_file`] does, or makes it, without a lock: the caller keeps others from it
@@ -124,20 +153,6 @@ pub fn replace_file<R: Files<File: OutputFile> + AllocGlobal>(
     }
 }
 
-/// Makes these bytes what is at the path, which leads to what was found.
-fn write_at<R: Files<File: OutputFile> + AllocGlobal>(
-    rt: &R,
-    path: Path<'_>,
-    found: &Found<R::File>,
-    bytes: &[u8],
-) -> io::Result<()> {
-    match found {
-        Found::Regular(file) => place(rt, path, Some(&file.metadata()?), bytes),
-        Found::Nothing(_) => place(rt, path, None, bytes),
-        Found::Other => overwrite(rt, path, bytes),
-    }
-}
-
 /// Writes these bytes straight to what isn't locked.
 fn overwrite<R: Files>(rt: &R, path: Path<'_>, bytes: &[u8]) -> io::Result<()> {
     let mut file = OpenOptions::new().write(true).open(rt, path)?;
@@ -156,13 +171,33 @@ fn place<R: Files<File: OutputFile> + AllocGlobal>(
     bytes: &[u8],
 ) -> io::Result<()> {
     let (new, mut file) = create_beside(rt, path, old)?;
-    let new = new.as_path();
-    if let Err(error) = complete(rt, new, &mut file, (path, old), bytes) {
-        // If it can't be removed either, the first failure tells why.
-        let _ = discard(rt, new, &file);
+    complete_or_discard(rt, new.as_path(), &mut file, (path, old), bytes)?;
+    sync_folder(rt, path)
+}
+
+/// Puts a new file with these bytes at the path as [`place`] does, locked, but for bringing its name to the disk.
+fn place_locked<R: Files<File: OutputFile> + AllocGlobal>(
+    rt: &R,
+    path: Path<'_>,
+    old: Option<&Metadata>,
+    bytes: &[u8],
+) -> io::Result<R::File> {
+    let (new, mut file) = create_beside(rt, path, old)?;
+    if let Err(error) = lock_at_once(&file) {
+        let _ = discard(rt, new.as_path(), &file);
         return Err(error);
     }
-    sync_folder(rt, path)
+    complete_or_discard(rt, new.as_path(), &mut file, (path, old), bytes)?;
+    Ok(file)
+}
+
+/// Locks the new file, which nobody else should have, without waiting.
+fn lock_at_once<F: OutputFile>(file: &F) -> io::Result<()> {
+    if file.try_lock()? {
+        Ok(())
+    } else {
+        Err(io::Error::from(ErrorKind::ResourceBusy))
+    }
 }
 
 /// Makes a new file in the folder of the path, in the place of one of the same name that is left there.
@@ -226,6 +261,22 @@ fn keep_access<F: OutputFile>(file: &F, old: &Metadata) {
     let _ = file.chown(None, Some(old.gid()));
     let _ = file.chown(Some(old.uid()), None);
     let _ = file.set_permissions(old.permissions());
+}
+
+/// Completes the new file, or removes it if that fails.
+fn complete_or_discard<R: Files>(
+    rt: &R,
+    new: Path<'_>,
+    file: &mut R::File,
+    (path, old): (Path<'_>, Option<&Metadata>),
+    bytes: &[u8],
+) -> io::Result<()> {
+    let completed = complete(rt, new, file, (path, old), bytes);
+    if completed.is_err() {
+        // If it can't be removed either, the first failure tells why.
+        let _ = discard(rt, new, file);
+    }
+    completed
 }
 
 /// Writes the bytes to the new file, and gives it the name of the old one, if both still have theirs.

@@ -1,6 +1,12 @@
 -- Folders in which Linux shows variables.
-use Rattle.std.specs.Prelude.{◌≡◌, ◌++◌, ◌∷◌, ◌≤◌, [], ℕ, List, length, drop}
+use Rattle.std.specs.Prelude.{◌≡◌, ◌++◌, ◌∷◌, [], ℕ, List, take, drop, Option, Some, None, ⊤}
+use Rattle.std.specs.Option.{unwrap_or}
+use Rattle.std.specs.FinMap.{get}
 use Rattle.uefi_text.specs.Guid.{IsGuid}
+use Rattle.uefi_vars.specs.Vars.{Variables}
+use Rattle.var_stores.specs.Rewriting.{boot_attributes}
+use Rattle.var_places.specs.declared.folder_change.Found.{Found}
+use Rattle.var_places.specs.declared.folder_change.Found.TheVariants as found
 
 -- 8be4df61-93ca-11d2-aa0d-00e098032b8c, as it is stored
 abbrev pub global_vendor : List ℕ
@@ -10,11 +16,17 @@ global_vendor = 0x61 ∷ 0xDF ∷ 0xE4 ∷ 0x8B ∷ 0xCA ∷ 0x93 ∷ 0xD2 ∷ 0
 abbrev pub IsFileName : List ℕ → List ℕ → Type 0
 IsFileName file name = (vendor : List ℕ) × (file ≡ name ++ 0x2D ∷ vendor) × IsGuid vendor global_vendor
 
--- the attributes that the boot manager's variables are stored with, in four bytes
-abbrev pub stored_attributes : List ℕ
-stored_attributes = 7 ∷ 0 ∷ 0 ∷ 0 ∷ []
+-- the file shows a variable with this value and these attributes: its first four bytes are the attributes, and those after
+-- them the value
+abbrev pub ShowsVariable : List ℕ → Option (List ℕ) → Option (List ℕ) → Type 0
+ShowsVariable file value attributes = (value ≡ Some (drop 4 file)) × (attributes ≡ Some (take 4 file))
 
--- the file shows this value, after four bytes of attributes
-pub record ShowsValue (file value : List ℕ) : Type 0 where
-  pub long : 4 ≤ length file
-  pub rest : drop 4 file ≡ value
+-- the attributes of the file of a variable: those that it has, and those of the boot manager's variables if it is new
+abbrev pub attributes_for : Variables → List ℕ → List ℕ
+attributes_for attributes name = unwrap_or (get attributes name) boot_attributes
+
+-- what is at the path of a variable's file is as it is to be: a file with these bytes, or nothing
+abbrev pub IsAsWanted : Found → Option (List ℕ) → Type 0
+IsAsWanted found.Nothing None = ⊤
+IsAsWanted (found.Bytes bytes) (Some kept) = bytes.items ≡ kept
+IsAsWanted _ _ = ⊥

@@ -1,3 +1,4 @@
 pub mod Failure
 pub mod FileKind
 pub mod Folder
+pub mod Machine

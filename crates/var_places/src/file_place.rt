@@ -4,7 +4,8 @@ use crate::failure::Failure;
 use crate::file_kinds::{FileKind, file_kind, other_kind};
 use crate::folder::{KEEP_STATE, LeftOut};
 use crate::input::{STANDARD, read_file};
-use crate::notes::{Shortened, note};
+use crate::notes::{DamageWords, Shortened, note};
+use crate::place_vars::PlaceVars;
 use crate::reason::Reason;
 use boot_commands::LIMIT;
 use std::alloc::{AllocError, Global};
@@ -15,10 +16,12 @@ use uefi_option::description_text;
 use uefi_path::read_units;
 use uefi_vars::{Changes, DATA_MAX, PutFault, SetFault, Vars, read_set, write_set};
 use var_stores::{
-    BootChange, Record, StoreFault, WriteFault, left_out, read_store, store_vars, write_boot_vars,
+    BootChange, Record, StoreFault, VariableStore, WriteFault, is_boot_name, left_out, read_store,
+    store_attributes, store_vars, write_boot_vars,
 };
 
-/// The variables of the file of this name, which has these bytes. Tells on standard error what is left out.
+/// The variables of the file of this name, which has these bytes. Tells on standard error what is left out, and damage,
+/// as [`variable_file`] does.
 ///
 /// # Errors
 ///
@@ -31,7 +34,7 @@ pub fn file_vars<R: Eprint + AllocGlobal>(
 ) -> Result<Vars, Failure> {
     match file_kind(bytes) {
         FileKind::Set => set_vars(rt.alloc(), name, bytes),
-        FileKind::VariableFile => variable_file_vars(rt, name, bytes),
+        FileKind::VariableFile => Ok(variable_file(rt, name, bytes)?.vars),
         FileKind::Other => Err(no_place(rt.alloc(), name, bytes)),
     }
 }
@@ -84,26 +87,83 @@ fn regular_bytes<R: Files + AllocGlobal>(rt: &R, path: &str) -> io::Result<Optio
     read_file(rt, path, LIMIT)
 }
 
-/// The variables of the emulator's variable file of this name, except BootKeepState.
-fn variable_file_vars<R: Eprint + AllocGlobal>(
+/// The variables of the emulator's variable file of this name, which has these bytes. Tells on standard error what is
+/// left out, and whether something behind the last record isn't erased: then the file is damaged, and there may have
+/// been more variables.
+///
+/// # Errors
+///
+/// [`Failure::Refused`] if it is no variable file, or is damaged so that it can't be read, and [`Failure::Memory`] if
+/// memory was refused.
+pub fn variable_file<R: Eprint + AllocGlobal>(
     rt: &R,
     name: &str,
     bytes: &[u8],
-) -> Result<Vars, Failure> {
+) -> Result<PlaceVars, Failure> {
     let alloc = rt.alloc();
-    let store = read_store(alloc, bytes).map_err(|fault| of_store(alloc, name, fault))?;
-    for record in &left_out(alloc, &store)? {
-        let variable = record_name(alloc, record)?;
-        let variable = Shortened(variable.as_str());
-        let why = why_left_out(record);
-        note(rt, name, format_args!("{variable} is left out: {why}"));
+    let store = store_of(alloc, name, bytes)?;
+    if let Some(damage) = store.damage() {
+        note(rt, name, DamageWords(&damage));
     }
-    let mut vars = store_vars(alloc, &store)?;
-    if vars.remove(KEEP_STATE) {
+    let mut found = PlaceVars {
+        vars: store_vars(alloc, &store)?,
+        attributes: store_attributes(alloc, &store)?,
+        left_out: tell_left_out(rt, name, &store)?,
+    };
+    if found.vars.remove(KEEP_STATE) {
+        found.attributes.remove(KEEP_STATE);
         let why = LeftOut::KeepState;
         note(rt, name, format_args!("{KEEP_STATE} is left out: {why}"));
     }
-    Ok(vars)
+    Ok(found)
+}
+
+/// Tells on standard error which variables of the file of this name no set can hold, and gives the names of those of
+/// them that are the boot manager's.
+fn tell_left_out<R: Eprint + AllocGlobal>(
+    rt: &R,
+    name: &str,
+    store: &VariableStore<'_>,
+) -> Result<Vec<String>, AllocError> {
+    let alloc = rt.alloc();
+    let mut boot_names = Vec::new(alloc);
+    for record in &left_out(alloc, store)? {
+        let variable = record_name(alloc, record)?;
+        let shown = Shortened(variable.as_str());
+        let why = why_left_out(record);
+        note(rt, name, format_args!("{shown} is left out: {why}"));
+        if is_boot_record(record, &variable) {
+            boot_names.push(variable)?;
+        }
+    }
+    Ok(boot_names)
+}
+
+/// Whether the record, whose name is shown so, is one of a variable of the boot manager. Each character of such a name
+/// is two bytes, and so is the zero unit at its end.
+fn is_boot_record(record: &Record<'_>, shown: &str) -> bool {
+    is_boot_name(shown) && record.name.len() == 2 * (shown.len() + 1)
+}
+
+/// Refuses the file of this name, which has these bytes, if it is an emulator's variable file in which something behind
+/// the last record isn't erased, since a change would be written over it. A file of another kind passes.
+///
+/// # Errors
+///
+/// [`Failure::Refused`] if that is so, or its records can't be read, and [`Failure::Memory`] if memory was refused.
+pub fn check_damage(alloc: Global, name: &str, bytes: &[u8]) -> Result<(), Failure> {
+    if file_kind(bytes) != FileKind::VariableFile {
+        return Ok(());
+    }
+    match store_of(alloc, name, bytes)?.damage() {
+        Some(damage) => Err(Failure::refused(alloc, name, Reason::Damage(damage))),
+        None => Ok(()),
+    }
+}
+
+/// The store of the emulator's variable file of this name, which has these bytes.
+fn store_of<'a>(alloc: Global, name: &str, bytes: &'a [u8]) -> Result<VariableStore<'a>, Failure> {
+    read_store(alloc, bytes).map_err(|fault| of_store(alloc, name, fault))
 }
 
 /// What it is to the program that the variable file of this name has this fault.
@@ -165,7 +225,10 @@ fn of_put(_fault: PutFault) -> Failure {
     Failure::Memory
 }
 
-/// The bytes of the emulator's variable file of this name, which has these bytes, with the boot variables of a set.
+/// The bytes of the emulator's variable file of this name, which has these bytes, with the boot variables of a set. A
+/// variable that changes gets the first four bytes of what `attributes` has under its name, or those that it has in the
+/// file if there are none, or [`BOOT_ATTRIBUTES`](var_stores::BOOT_ATTRIBUTES) if it is new. What no set can hold stays
+/// as it is, unless the set has a variable of its name.
 ///
 /// # Errors
 ///
@@ -175,8 +238,9 @@ pub fn changed_variable_file(
     name: &str,
     bytes: &[u8],
     to: &Vars,
+    attributes: &Vars,
 ) -> Result<Vec<u8>, Failure> {
-    write_boot_vars(alloc, bytes, to).map_err(|fault| match fault {
+    write_boot_vars(alloc, bytes, to, attributes).map_err(|fault| match fault {
         WriteFault::Store(fault) => of_store(alloc, name, fault),
         WriteFault::Full => Failure::refused(alloc, name, Reason::Full),
         WriteFault::OutOfMemory => Failure::Memory,

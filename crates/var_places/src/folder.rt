@@ -1,13 +1,15 @@
 //! Folders in which Linux shows variables, each as a file: its name, a hyphen and its vendor's GUID are the file's name,
 //! and the file has four bytes of attributes and then the value.
 
-ghost use Rattle.std.specs.Prelude.{IfSome};
-ghost use Rattle.var_places.specs.Folder.{IsFileName};
+ghost use Rattle.std.specs.Prelude.{◌≡◌, Some, None, IfSome, IfOk, take, drop};
+ghost use Rattle.std.specs.FinMap as map;
+ghost use Rattle.var_places.specs.Folder.{IsFileName, ShowsVariable};
 
 use crate::failure::Failure;
 use crate::input::read_file;
 use crate::mounts::is_on_efivarfs;
 use crate::notes::{Quoted, Shortened, note};
+use crate::place_vars::PlaceVars;
 use crate::reason::Reason;
 use std::alloc::{AllocError, Global};
 use std::collections::BTreeMap;
@@ -35,12 +37,13 @@ pub(crate) const ATTRIBUTES_LEN: usize = 4;
 /// The variable in which `bootkeep run` keeps which requests were applied. Firmware refuses it.
 pub const KEEP_STATE: &str = "BootKeepState";
 
-/// The variables that a folder shows.
+/// What a folder shows of a machine's variables.
 #[derive(Drop)]
 pub struct Folder {
-    /// The variables of the standard's vendor, except BootKeepState.
-    pub vars: Vars,
-    /// The name of the file of each of them, by the variable's name.
+    /// The variables that were found in it.
+    pub found: PlaceVars,
+    /// The name of the file of each variable of the standard's vendor, by the variable's name: also of those that are
+    /// left out.
     files: BTreeMap<String, String>,
 }
 
@@ -69,7 +72,7 @@ pub enum LeftOut {
 /// variable twice, or no file of a variable and isn't on an efivarfs, and [`Failure::Memory`] if memory was refused.
 pub fn read_folder<R: Files + Eprint + AllocGlobal>(rt: &R, path: &str) -> Result<Folder, Failure> {
     let mut folder = Folder {
-        vars: Vars::new(rt.alloc()),
+        found: PlaceVars::new(rt.alloc()),
         files: BTreeMap::new(rt.alloc()),
     };
     let files = file_names(rt, path)?;
@@ -129,22 +132,28 @@ fn add_variable<R: Files + Eprint + AllocGlobal>(
         let (first, second) = (first.clone()?, String::from_str(alloc, file)?);
         return Err(Failure::refused(alloc, path, Reason::Twice { first, second }));
     }
-    let whole = Path::new(path).join(alloc, file)?;
-    let whole = whole.as_path().as_str();
-    match read_file(rt, whole, ATTRIBUTES_LEN + DATA_MAX) {
-        Ok(bytes) => match keep(folder, name, bytes.as_deref())? {
-            None => {
-                let name = String::from_str(alloc, name)?;
-                folder.files.insert(name, String::from_str(alloc, file)?)?;
-            }
-            Some(why) => {
-                let file = Quoted(file);
-                note(rt, path, format_args!("{file} is left out: {why}"));
-            }
-        },
-        Err(error) => return Err(of_file(alloc, path, file, error)),
+    let bytes = file_of(rt, path, file)?;
+    folder.add_file(alloc, name, file)?;
+    if let Some(why) = keep(&mut folder.found, name, bytes.as_deref())? {
+        folder.found.leave_out(alloc, name)?;
+        let file = Quoted(file);
+        note(rt, path, format_args!("{file} is left out: {why}"));
     }
     Ok(())
+}
+
+/// The bytes of the file of this name in the folder at this path: `None` if they are more than attributes and a value
+/// that a set can hold.
+fn file_of<R: Files + AllocGlobal>(
+    rt: &R,
+    path: &str,
+    file: &str,
+) -> Result<Option<Vec<u8>>, Failure> {
+    let alloc = rt.alloc();
+    let whole = Path::new(path).join(alloc, file)?;
+    read_file(rt, whole.as_path().as_str(), ATTRIBUTES_LEN + DATA_MAX).map_err(|error| of_file(
+        alloc, path, file, error,
+    ))
 }
 
 /// What it is to the program that the file of this name in the folder at this path can't be read.
@@ -161,20 +170,44 @@ fn path_with_front(alloc: Global, path: &str, file: &str) -> Result<PathBuf, All
     Path::new(path).join(alloc, front.as_str())
 }
 
-/// Stores the value of a file under this name, or says why that can't be.
+/// Stores the value and the attributes of a file under this name, or says why that can't be.
 fn keep(
-    folder: &mut Folder,
+    found: &mut PlaceVars,
     name: &str,
     bytes: Option<&[u8]>,
-) -> Result<Option<LeftOut>, AllocError> {
+) -> Result<Option<LeftOut>, AllocError>
+    ensures { IfOk result (λ why. why ≡ None → IfSome bytes (λ file.
+        ShowsVariable file.now (map.get found.new.vars name.now) (map.get found.new.attributes name.now))) }
+{
     if name == KEEP_STATE {
         return Ok(Some(LeftOut::KeepState));
     }
     let Some(bytes) = bytes else {
         return Ok(Some(LeftOut::LongValue));
     };
-    let value = bytes.get(ATTRIBUTES_LEN..).unwrap_or(&[]);
-    match folder.vars.put(name, value) {
+    let (attributes, value) = parts(bytes);
+    match put(&mut found.vars, name, value)? {
+        // There is a value, and so there are four bytes of attributes, which a set can hold.
+        None => put(&mut found.attributes, name, attributes),
+        why => Ok(why),
+    }
+}
+
+/// The attributes at the front of a file, and the value after them.
+fn parts(bytes: &[u8]) -> (&[u8], &[u8])
+    ensures attributes { result.0.now ≡ take 4 bytes.now }
+    ensures value { result.1.now ≡ drop 4 bytes.now }
+{
+    bytes
+        .split_at_checked(ATTRIBUTES_LEN)
+        .unwrap_or((bytes, &[]))
+}
+
+/// Stores the bytes under this name, or says why a set can't hold them.
+fn put(vars: &mut Vars, name: &str, bytes: &[u8]) -> Result<Option<LeftOut>, AllocError>
+    ensures { IfOk result (λ why. why ≡ None → map.get vars.new name.now ≡ Some bytes.now) }
+{
+    match vars.put(name, bytes) {
         Ok(()) => Ok(None),
         Err(PutFault::BadName) => Ok(Some(LeftOut::Name)),
         Err(PutFault::EmptyData) => Ok(Some(LeftOut::NoValue)),
@@ -184,6 +217,18 @@ fn keep(
 }
 
 impl Folder {
+    /// Keeps in mind which file shows the variable of this name.
+    fn add_file(&mut self, alloc: Global, name: &str, file: &str) -> Result<(), AllocError> {
+        let name = String::from_str(alloc, name)?;
+        self.files.insert(name, String::from_str(alloc, file)?)?;
+        Ok(())
+    }
+
+    /// Whether a file shows the variable of this name, also one that is left out.
+    pub(crate) fn has_file(&self, name: &str) -> bool {
+        self.files.contains_key(name)
+    }
+
     /// The path of the file of the variable of this name in the folder at this path: the file that shows it, or the one
     /// that is to.
     pub(crate) fn path_of(

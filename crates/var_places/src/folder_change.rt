@@ -1,8 +1,8 @@
 //! Changes of the variables that a folder shows.
 
-ghost use Rattle.std.specs.Prelude.{◌≡◌, ◌++◌, ◌↔◌, IsTrue, IfOk, OnOk};
-ghost use Rattle.std.specs.Io.KnownBytes.{Appends};
-ghost use Rattle.var_places.specs.Folder.{ShowsValue, stored_attributes};
+ghost use Rattle.std.specs.Prelude.{◌≡◌, ◌++◌, ◌↔◌, IsTrue, IfOk};
+ghost use Rattle.std.specs.Option.{option_map};
+ghost use Rattle.var_places.specs.Folder.{IsAsWanted, attributes_for};
 
 use crate::folder::{ATTRIBUTES_LEN, Folder};
 use crate::input::read_file;
@@ -11,67 +11,68 @@ use std::fs::{self, File, OpenFile, OpenOptions};
 use std::io::{self, ErrorKind, Write};
 use std::path::Path;
 use std::rt::Files;
-use uefi_vars::DATA_MAX;
-use var_stores::BootChange;
+use uefi_vars::{DATA_MAX, Vars};
+use var_stores::{BOOT_ATTRIBUTES, BootChange, laws as stores_laws};
 
-/// The attributes of Boot####, BootOrder and BootNext, little-endian: they are kept without power, and can be read while
-/// firmware starts a system and after it (UEFI 2.10, 3.3 and 8.2).
-const ATTRIBUTES: [u8; 4] = [7, 0, 0, 0];
-
-/// Makes one change in the folder at this path, which shows these variables: by one write of the attributes and the
-/// value, as efivarfs wants it, to a file that isn't cut before, or by removing the file. Then it is brought to the disk,
-/// if the folder is on one: firmware keeps what efivarfs has.
+/// Makes one change in the folder at this path, of which this was read: by one write of the attributes and the value,
+/// as efivarfs wants it, to a file that isn't cut before, or by removing the file. A variable that is replaced keeps
+/// the attributes that its file had, and one that is new, or had been left out, gets [`BOOT_ATTRIBUTES`]. Then it is
+/// brought to the disk, if the folder is on one: firmware keeps what efivarfs has.
 ///
 /// # Errors
 ///
-/// The system's, if the file can't be opened, written or removed, and that memory was refused. The variable is as it was
-/// then, and a file that was to be made is gone. The system's too, if the change can't be brought to the disk: it is made
-/// then, and a cut may undo it.
+/// The system's, if the file can't be opened, written or removed, and that memory was refused. The variable is as it
+/// was then, and a file that was to be made is gone. The system's too, if the change can't be brought to the disk: it
+/// is made then, and a cut may undo it.
 pub fn make_change<R: Files + AllocGlobal>(
     rt: &R,
     folder: &Folder,
     path: &str,
     change: &BootChange<'_>,
 ) -> io::Result<()> {
-    let file = folder.path_of(rt.alloc(), path, change.name)?;
+    let name = change.name;
+    let file = folder.path_of(rt.alloc(), path, name)?;
     match change.after {
-        Some(value) => store(rt, file.as_path(), value, change.before.is_none())?,
+        Some(value) => {
+            let bytes = file_bytes(rt.alloc(), &folder.found.attributes, name, value)?;
+            store(rt, file.as_path(), &bytes, !folder.has_file(name))?;
+        }
         None => fs::remove_file(rt, file.as_path())?,
     }
     sync_folder(rt, path)
 }
 
-/// Sets the variable of this name to this value, or takes it out if the value is `None`, whatever is there. Nothing is
-/// written if it is so already. Either way it is brought to the disk, as by [`make_change`]. The folder is what was read of
-/// this path, and the name has no slash.
+/// Sets the variable of this name to what is to be kept of it, which is its attributes in four bytes and then its
+/// value, or takes it out if that is `None`, whatever is there. Nothing is written if it is so already. Either way it
+/// is brought to the disk, as by [`make_change`]. The folder is what was read of this path, and the name has no slash.
 ///
 /// # Errors
 ///
-/// The system's, if the file can't be opened, read, written or removed, and that memory was refused. The variable is as it
-/// was then, and a file that was to be made is gone. The system's too, if the change can't be brought to the disk, as of
-/// [`make_change`].
+/// The system's, if the file can't be opened, read, written or removed, and that memory was refused. The variable is as
+/// it was then, and a file that was to be made is gone. The system's too, if the change can't be brought to the disk,
+/// as of [`make_change`].
 pub fn set_variable<R: Files + AllocGlobal>(
     rt: &R,
     folder: &Folder,
     path: &str,
     name: &str,
-    value: Option<&[u8]>,
+    kept: Option<&[u8]>,
 ) -> io::Result<()> {
     let file = folder.path_of(rt.alloc(), path, name)?;
     let found = find(rt, file.as_path())?;
-    match value {
+    match kept {
         // Whoever wrote it may have been killed before it was on the disk.
-        Some(_) if found.has(value) => sync(&File::open(rt, file.as_path())?)?,
-        None if found.has(value) => {}
-        Some(value) => store(rt, file.as_path(), value, matches!(found, Found::Nothing))?,
+        Some(_) if found.is(kept) => sync(&File::open(rt, file.as_path())?)?,
+        None if found.is(kept) => {}
+        Some(bytes) => store(rt, file.as_path(), bytes, matches!(found, Found::Nothing))?,
         None => fs::remove_file(rt, file.as_path())?,
     }
     sync_folder(rt, path)
 }
 
-/// Whether the variable of this name has this value, or isn't there if the value is `None`. A variable with more than
-/// [`DATA_MAX`] bytes has another value, whichever is asked for. The folder is what was read of this path, and the name has
-/// no slash.
+/// Whether this is kept of the variable of this name, its attributes in four bytes and then its value, or it isn't
+/// there if that is `None`. Of a variable with more than [`DATA_MAX`] bytes something else is kept, whatever is asked
+/// for. The folder is what was read of this path, and the name has no slash.
 ///
 /// # Errors
 ///
@@ -81,10 +82,10 @@ pub fn has_value<R: Files + AllocGlobal>(
     folder: &Folder,
     path: &str,
     name: &str,
-    value: Option<&[u8]>,
+    kept: Option<&[u8]>,
 ) -> io::Result<bool> {
     let file = folder.path_of(rt.alloc(), path, name)?;
-    Ok(find(rt, file.as_path())?.has(value))
+    Ok(find(rt, file.as_path())?.is(kept))
 }
 
 /// What is at the path of a variable's file.
@@ -99,11 +100,13 @@ enum Found {
 }
 
 impl Found {
-    /// Whether the variable has this value, or isn't there if the value is `None`.
-    fn has(&self, value: Option<&[u8]>) -> bool {
-        match (self, value) {
+    /// Whether it is what is to be kept of the variable: a file with these bytes, or no file if there are none.
+    fn is(&self, kept: Option<&[u8]>) -> bool
+        ensures { IsTrue result ↔ IsAsWanted self.now (option_map (λ bytes. bytes.now) kept) }
+    {
+        match (self, kept) {
             (Found::Nothing, None) => true,
-            (Found::Bytes(bytes), Some(value)) => shows_value(bytes, value),
+            (Found::Bytes(bytes), Some(kept)) => bytes.as_slice() == kept,
             _ => false,
         }
     }
@@ -119,24 +122,11 @@ fn find<R: Files + AllocGlobal>(rt: &R, path: Path<'_>) -> io::Result<Found> {
     }
 }
 
-/// Whether a file with these bytes shows this value.
-fn shows_value(bytes: &[u8], value: &[u8]) -> bool
-    ensures { IsTrue result ↔ ShowsValue bytes.now value.now }
-{
-    bytes.len() >= ATTRIBUTES_LEN && &bytes[ATTRIBUTES_LEN..] == value
-}
-
-/// Stores the value in the file at this path, which is made if the variable is new, and brings it to the disk.
-fn store<R: Files + AllocGlobal>(
-    rt: &R,
-    path: Path<'_>,
-    value: &[u8],
-    is_new: bool,
-) -> io::Result<()> {
-    let bytes = file_bytes(rt.alloc(), value)?;
+/// Stores the bytes in the file at this path, which is made if it is new, and brings it to the disk.
+fn store<R: Files>(rt: &R, path: Path<'_>, bytes: &[u8], is_new: bool) -> io::Result<()> {
     let mut how = OpenOptions::new();
     let mut file = how.write(true).create(is_new).open(rt, path)?;
-    let written = write_once(&mut file, &bytes);
+    let written = write_once(&mut file, bytes);
     if written.is_err() && is_new && file.metadata()?.len() == 0 {
         fs::remove_file(rt, path)?;
     }
@@ -144,11 +134,18 @@ fn store<R: Files + AllocGlobal>(
     sync(&file)
 }
 
-/// The bytes of the file that shows this value.
-fn file_bytes(alloc: Global, value: &[u8]) -> Result<Vec<u8>, AllocError>
-    ensures { IfOk result (λ bytes. bytes.items ≡ stored_attributes ++ value.now) }
+/// The bytes of the file that is to show this value of the variable of this name.
+fn file_bytes(
+    alloc: Global,
+    attributes: &Vars,
+    name: &str,
+    value: &[u8],
+) -> Result<Vec<u8>, AllocError>
+    ensures { IfOk result (λ bytes. bytes.items ≡ attributes_for attributes.now name.now ++ value.now) }
 {
-    let mut bytes = Vec::from_slice(alloc, &ATTRIBUTES)?;
+    stores_laws::constants_are_those_of_the_definitions();
+    let front = attributes.get(name).unwrap_or(&BOOT_ATTRIBUTES);
+    let mut bytes = Vec::from_slice(alloc, front)?;
     bytes.extend_from_slice(value)?;
     Ok(bytes)
 }

@@ -1,11 +1,13 @@
-//! The places where a machine's variables are: a set file, a folder as Linux shows variables, and an emulator's variable
-//! file (UEFI specification, version 2.10, chapters 3 and 8).
+//! The places where a machine's variables are: a set file, a folder as Linux shows variables, and an emulator's
+//! variable file (UEFI specification, version 2.10, chapters 3 and 8).
 //!
 //! [`read_place`] reads the variables of whatever is at a path, [`file_kind`] tells files apart by their bytes, and
-//! [`read_folder`] and [`file_vars`] read folders and files. A folder is changed one variable at a time, by
-//! [`make_change`] and [`set_variable`]. A file is replaced as a whole: [`changed_set`] and [`changed_variable_file`] give
-//! its bytes, [`lock()`] locks it and [`write()`] replaces it. What goes wrong is a [`Failure`], which has a message and the
-//! status of a program that ends with it.
+//! [`read_folder`], [`variable_file`] and [`file_vars`] read folders and files; a [`PlaceVars`] has the attributes too.
+//! A folder is changed one variable at a time, by [`make_change`] and [`set_variable`]. A file is replaced as a whole:
+//! [`changed_set`] and [`changed_variable_file`] give its bytes, [`check_damage`] refuses one that is damaged,
+//! [`lock()`] locks it and [`write()`] replaces it, and [`lock_file`] and [`rewrite`] do so for several changes
+//! under one lock. [`machine_name`] tells the machine of a place from others. What goes wrong is a [`Failure`], which
+//! has a message and the status of a program that ends with it.
 #![tactic(auto)]
 
 mod failure;
@@ -14,21 +16,26 @@ mod file_place;
 mod folder;
 mod folder_change;
 mod input;
+mod machine;
 mod mounts;
 mod notes;
 mod output;
 mod place;
+mod place_vars;
 mod reason;
 
 pub use failure::Failure;
 pub use file_kinds::{FileKind, NoOption, OtherKind, file_kind, no_option, other_kind};
 pub use file_place::{
-    changed_set, changed_variable_file, file_vars, has_keep_state, no_place, of_store, set_vars,
+    changed_set, changed_variable_file, check_damage, file_vars, has_keep_state, no_place,
+    of_store, set_vars, variable_file,
 };
 pub use folder::{Folder, KEEP_STATE, LeftOut, read_folder};
 pub use folder_change::{has_value, make_change, set_variable};
 pub use input::{STANDARD, name_of, read, read_file};
+pub use machine::machine_name;
 pub use notes::{Quoted, SHOWN_MAX, Shortened, note, shown};
-pub use output::{Output, lock, print, write};
+pub use output::{Output, lock, lock_file, print, rewrite, write};
 pub use place::{is_folder, read_place};
+pub use place_vars::PlaceVars;
 pub use reason::Reason;

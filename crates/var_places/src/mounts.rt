@@ -52,7 +52,11 @@ fn find_efivarfs<R: Files + AllocGlobal>(rt: &R, path: &str) -> io::Result<bool>
 }
 
 /// The path from the root on, without links: as it is given, if the system resolves none.
-fn resolved<R: Files + AllocGlobal>(rt: &R, path: &str) -> io::Result<PathBuf> {
+///
+/// # Errors
+///
+/// The system's, if nothing is there, or a folder on the way may not be passed, and that memory was refused.
+pub(crate) fn resolved<R: Files + AllocGlobal>(rt: &R, path: &str) -> io::Result<PathBuf> {
     match fs::canonicalize(rt, path) {
         Err(error) if error.kind() == ErrorKind::Unsupported => {
             Ok(PathBuf::from_str(rt.alloc(), path)?)

@@ -2,6 +2,7 @@
 
 use std::alloc::{AllocError, Global};
 use std::fmt::{self, Display};
+use var_stores::Damage;
 
 /// How many characters messages show of a text that isn't the user's path.
 pub const SHOWN_MAX: usize = 60;
@@ -38,6 +39,22 @@ impl Display for Length<'_> {
             write!(f, "... ({count} characters)")
         } else {
             Ok(())
+        }
+    }
+}
+
+/// What is damaged of an emulator's variable file, in words that go on from what the file is called.
+#[derive(Clone, Copy)]
+pub(crate) struct DamageWords<'a>(pub(crate) &'a Damage);
+
+impl Display for DamageWords<'_> {
+    fn fmt<W: fmt::Write>(&self, f: &mut fmt::Formatter<W>) -> fmt::Result {
+        let Damage { place, records } = self.0;
+        write!(f, "its store of variables is damaged at byte {place}: ")?;
+        match records {
+            0 => f.write_str("no record can be read behind it"),
+            1 => f.write_str("1 record can be read behind it"),
+            _ => write!(f, "{records} records can be read behind it"),
         }
     }
 }

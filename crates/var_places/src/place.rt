@@ -35,7 +35,7 @@ pub fn read_place<R: Files + Input + Eprint + AllocGlobal>(
     path: &str,
 ) -> Result<Vars, Failure> {
     if is_folder(rt, path)? {
-        return Ok(read_folder(rt, path)?.vars);
+        return Ok(read_folder(rt, path)?.found.vars);
     }
     let bytes = read(rt, path)?;
     file_vars(rt, name_of(path), &bytes)

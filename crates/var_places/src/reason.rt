@@ -1,10 +1,10 @@
 //! Why an input is refused, in words for a person.
 
 use crate::file_kinds::{NoOption, OtherKind};
-use crate::notes::Quoted;
+use crate::notes::{DamageWords, Quoted};
 use thiserror::Error;
 use uefi_vars::SetFault;
-use var_stores::StoreFault;
+use var_stores::{Damage, StoreFault};
 
 /// Why a file, a place or a word is refused. Its `Display` goes on from what that is called.
 #[derive(Debug, Drop, Error)]
@@ -34,6 +34,9 @@ pub enum Reason {
     /// A journal has a fault, in words.
     #[error("the journal is damaged: {0}")]
     DamagedJournal(String),
+    /// The path of a place is too long for the name of a machine.
+    #[error("its path from the root on has more than {0} bytes, and can't name its machine")]
+    LongPath(usize),
     /// A folder is given where a set file has to be.
     #[error("it is a folder: make a set of it by `bootvars read`")]
     Folder,
@@ -67,6 +70,9 @@ pub enum Reason {
     /// A record of a store, at this offset, ends after the store.
     #[error("its store of variables is damaged: the record at byte {0} ends after the store")]
     RecordCut(usize),
+    /// A store of variables has something behind its last record that isn't erased, and is to be written.
+    #[error("{words}; nothing is changed, and --force writes over it", words = DamageWords(.0))]
+    Damage(Damage),
     /// A store has no room for what is to be written.
     #[error("its store of variables has no room for the changes, and nothing is changed")]
     Full,
