@@ -1,11 +1,20 @@
 -- What isn't erased behind the records of a store.
-use Rattle.std.specs.Prelude.{◌≡◌, ◌≢◌, ℕ, suc, ◌+◌, ◌^◌, ◌<◌, ◌==◌, not, List, [], ◌++◌, drop, Option, Some}
+use Rattle.std.specs.Prelude.{◌≡◌, ◌≢◌, ◌⊎◌, ℕ, suc, ◌+◌, ◌^◌, ◌<◌, ◌==◌, not, List, [], ◌∷◌, ◌++◌, drop, Option, Some}
 use Rattle.std.specs.List.{AllByRecursion, position}
 use Rattle.var_stores.specs.Record.{RecordParts, IsRecord, record_bytes}
 
 -- all bytes are what erased memory reads as
 abbrev pub AreErased : List ℕ → Type 0
 AreErased bytes = AllByRecursion (λ byte. byte ≡ 0xFF) bytes
+
+-- the first byte of a record was written, and nothing after it
+abbrev pub HasBegun : List ℕ → Type 0
+HasBegun [] = ⊥
+HasBegun (first ∷ rest) = (first ≡ 0xAA) × AreErased rest
+
+-- nothing was written, or no more than the first byte of a record
+abbrev pub IsUnwritten : List ℕ → Type 0
+IsUnwritten bytes = AreErased bytes ⊎ HasBegun bytes
 
 -- the index of the first byte that isn't, if there is one
 abbrev pub first_written : List ℕ → Option ℕ

@@ -1,8 +1,8 @@
 //! What isn't erased behind the records of a store.
 
-ghost use Rattle.std.specs.Prelude.{◌≡◌, ◌==◌, not, ◌↔◌, None, drop, IfSome, MatchOption};
+ghost use Rattle.std.specs.Prelude.{◌≡◌, ◌==◌, not, ◌↔◌, None, drop, IfSome, IsTrue, MatchOption};
 ghost use Rattle.std.specs.List.{position};
-ghost use Rattle.var_stores.specs.Damage.{AreErased, IsAfterRecord, BeginsNone, CountsRecords, IsDamage};
+ghost use Rattle.var_stores.specs.Damage.{AreErased, HasBegun, IsUnwritten, IsAfterRecord, BeginsNone, CountsRecords, IsDamage};
 
 use crate::record::{begins_record, split_record};
 use crate::store::VariableStore;
@@ -20,25 +20,46 @@ pub struct Damage {
 }
 
 impl VariableStore<'_> {
-    /// What isn't erased behind the last record of a store that was read: `None` exactly if all bytes of `free` are 0xFF.
+    /// What isn't erased behind the last record of a store that was read: `None` exactly if all bytes of `free` are 0xFF,
+    /// or all but the first, which is the one by which a record begins, 0xAA.
     ///
     /// Records are looked for at offsets that are multiples of four from the first byte after the store's header. One that
     /// begins there and ends in the store is counted, and reading goes on right after it; where none begins, or where it
     /// ends after the store, reading goes on four bytes later. If there are some, then a record before them has lost its
     /// start or its lengths, and what is written after the last record goes over them.
     ///
-    /// edk2 leaves no such byte if it is cut off while it writes a record, but for one: the first of the two by which the
-    /// record begins, if the other wasn't written. No record is behind that.
+    /// That one byte is all that edk2 leaves behind the records if it is cut off while it writes one: from the second on a
+    /// record that isn't finished is there.
     pub fn damage(&self) -> Option<Damage>
-        ensures none { (result ≡ None) ↔ AreErased self.now.free.now }
+        ensures none { (result ≡ None) ↔ IsUnwritten self.now.free.now }
         ensures some { IfSome result (λ damage. IsDamage self.now.free_at self.now.free.now damage.place damage.records) }
     {
+        if has_begun(self.free) {
+            return None;
+        }
         let erased = first_written(self.free)?;
         Some(Damage {
             place: self.free_at.saturating_add(erased),
             records: count_records(self.free),
         })
     }
+}
+
+/// Whether the first byte of a record was written, and nothing after it.
+fn has_begun(bytes: &[u8]) -> bool
+    ensures { IsTrue result ↔ HasBegun bytes.now }
+{
+    match bytes {
+        [0xAA, rest @ ..] => are_erased(rest),
+        _ => false,
+    }
+}
+
+/// Whether all bytes are erased.
+fn are_erased(bytes: &[u8]) -> bool
+    ensures { IsTrue result ↔ AreErased bytes.now }
+{
+    bytes.iter().all(|byte| *byte == ERASED)
 }
 
 /// The index of the first byte that isn't erased.
