@@ -36,8 +36,8 @@ WAITS = ["cases"]
 WRONG = "wrong_"
 """How the name of a file begins whose cases all state something wrong."""
 
-PAGE, TABLE = ROOT / "docs" / "formats.md", CASES / "node_table.md"
-"""The page that has the table of nodes, and the table."""
+TABLE = CASES / "node_table.md"
+"""The table of nodes."""
 
 SHARE = 24
 """How many cases a process has at least where several share a file."""
@@ -161,7 +161,6 @@ def all_jobs(programs: Programs, quick: bool) -> List[Job]:
     jobs.append(text_job(programs.case_runner, ["checks"], "checks.txt"))
     jobs.append(text_job(programs.case_runner, ["node-table", str(TABLE)], "node-table.txt"))
     jobs.append(text_job(programs.case_runner, ["examples"], "examples.txt"))
-    jobs.append(Job(PAGE.name, page_has_table))
     return jobs
 
 
@@ -284,11 +283,3 @@ def run_wrong(program: Path, cases: List[Case], expected: Path) -> Outcome:
     calls = {case.call for case in cases}
     known = expected.read_text(encoding="utf-8").splitlines()
     return compared(found, [line for line in known if line.split(" ")[0] in calls], len(cases))
-
-
-def page_has_table() -> Outcome:
-    """Whether the page has the table that case_runner compares with the library's rows."""
-    page, table = PAGE.read_text(encoding="utf-8"), TABLE.read_text(encoding="utf-8").rstrip("\n")
-    if f"\n\n{table}\n\n" in page:
-        return Outcome(1, 0, [])
-    return Outcome(0, 1, [f"it has another table of nodes than {TABLE.name}"])

@@ -221,13 +221,6 @@ class Runs(WithPrograms):
         self.assertEqual(runner.run_wrong(self.program("true"), [case], expected), (1, 0, []))
         self.assertEqual(runner.run_wrong(self.program("exit 1"), [case], expected)[:2], (0, 1))
 
-    def test_the_page_is_compared(self) -> None:
-        self.assertEqual(runner.page_has_table(), (1, 0, []))
-        table = self.folder / "table.md"
-        table.write_text(runner.TABLE.read_text(encoding="utf-8") + "| 9 |\n", encoding="utf-8")
-        with mock.patch.object(runner, "TABLE", table):
-            self.assertEqual(runner.page_has_table()[:2], (0, 1))
-
 
 class Files(WithPrograms):
     """What files of cases state."""
