@@ -1,5 +1,5 @@
 -- Folders in which Linux shows variables.
-use Rattle.std.specs.Prelude.{◌≡◌, ◌++◌, ◌∷◌, [], ℕ, List, take, drop, Option, Some, None, ⊤}
+use Rattle.std.specs.Prelude.{◌≡◌, ◌++◌, ◌∷◌, [], ℕ, List, Option, Some, None, ⊤}
 use Rattle.std.specs.Option.{unwrap_or}
 use Rattle.std.specs.FinMap.{get}
 use Rattle.uefi_text.specs.Guid.{IsGuid}
@@ -15,11 +15,6 @@ global_vendor = 0x61 ∷ 0xDF ∷ 0xE4 ∷ 0x8B ∷ 0xCA ∷ 0x93 ∷ 0xD2 ∷ 0
 -- the name of the file that shows the global vendor's variable of this name: the name, a hyphen and the vendor's GUID
 abbrev pub IsFileName : List ℕ → List ℕ → Type 0
 IsFileName file name = (vendor : List ℕ) × (file ≡ name ++ 0x2D ∷ vendor) × IsGuid vendor global_vendor
-
--- the file shows a variable with this value and these attributes: its first four bytes are the attributes, and those after
--- them the value
-abbrev pub ShowsVariable : List ℕ → Option (List ℕ) → Option (List ℕ) → Type 0
-ShowsVariable file value attributes = (value ≡ Some (drop 4 file)) × (attributes ≡ Some (take 4 file))
 
 -- the attributes of the file of a variable: those that it has, and those of the boot manager's variables if it is new
 abbrev pub attributes_for : Variables → List ℕ → List ℕ

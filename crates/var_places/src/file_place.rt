@@ -142,7 +142,8 @@ fn tell_left_out<R: Eprint + AllocGlobal>(
 /// Whether the record, whose name is shown so, is one of a variable of the boot manager. Each character of such a name
 /// is two bytes, and so is the zero unit at its end.
 fn is_boot_record(record: &Record<'_>, shown: &str) -> bool {
-    is_boot_name(shown) && record.name.len() == 2 * (shown.len() + 1)
+    let len = record.name.len();
+    is_boot_name(shown) && len % 2 == 0 && len / 2 == shown.len() + 1
 }
 
 /// Refuses the file of this name, which has these bytes, if it is an emulator's variable file in which something behind

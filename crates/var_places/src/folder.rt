@@ -1,9 +1,9 @@
 //! Folders in which Linux shows variables, each as a file: its name, a hyphen and its vendor's GUID are the file's name,
 //! and the file has four bytes of attributes and then the value.
 
-ghost use Rattle.std.specs.Prelude.{◌≡◌, Some, None, IfSome, IfOk, take, drop};
+ghost use Rattle.std.specs.Prelude.{◌≡◌, None, IfSome, IfOk, take, drop};
 ghost use Rattle.std.specs.FinMap as map;
-ghost use Rattle.var_places.specs.Folder.{IsFileName, ShowsVariable};
+ghost use Rattle.var_places.specs.Folder.{IsFileName};
 
 use crate::failure::Failure;
 use crate::input::read_file;
@@ -176,8 +176,9 @@ fn keep(
     name: &str,
     bytes: Option<&[u8]>,
 ) -> Result<Option<LeftOut>, AllocError>
-    ensures { IfOk result (λ why. why ≡ None → IfSome bytes (λ file.
-        ShowsVariable file.now (map.get found.new.vars name.now) (map.get found.new.attributes name.now))) }
+    ensures { IfOk result (λ why. why ≡ None → IfSome bytes.entry (λ file.
+        (found.new.vars ≡ map.insert found.old.vars name.now (drop 4 file.now))
+        × (found.new.attributes ≡ map.insert found.old.attributes name.now (take 4 file.now)))) }
 {
     if name == KEEP_STATE {
         return Ok(Some(LeftOut::KeepState));
@@ -205,7 +206,7 @@ fn parts(bytes: &[u8]) -> (&[u8], &[u8])
 
 /// Stores the bytes under this name, or says why a set can't hold them.
 fn put(vars: &mut Vars, name: &str, bytes: &[u8]) -> Result<Option<LeftOut>, AllocError>
-    ensures { IfOk result (λ why. why ≡ None → map.get vars.new name.now ≡ Some bytes.now) }
+    ensures { IfOk result (λ why. why ≡ None → vars.new ≡ map.insert vars.old name.now bytes.now) }
 {
     match vars.put(name, bytes) {
         Ok(()) => Ok(None),

@@ -102,7 +102,7 @@ enum Found {
 impl Found {
     /// Whether it is what is to be kept of the variable: a file with these bytes, or no file if there are none.
     fn is(&self, kept: Option<&[u8]>) -> bool
-        ensures { IsTrue result ↔ IsAsWanted self.now (option_map (λ bytes. bytes.now) kept) }
+        ensures { IsTrue result ↔ IsAsWanted self.now (option_map (λ bytes. bytes.now) kept.entry) }
     {
         match (self, kept) {
             (Found::Nothing, None) => true,

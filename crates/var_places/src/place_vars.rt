@@ -38,7 +38,6 @@ impl PlaceVars {
     pub fn copy(&self, alloc: Global) -> Result<PlaceVars, AllocError>
         ensures vars { IfOk result (λ copy. copy.vars ≡ self.now.vars) }
         ensures attributes { IfOk result (λ copy. copy.attributes ≡ self.now.attributes) }
-        ensures left_out { IfOk result (λ copy. copy.left_out.items ≡ self.now.left_out.items) }
     {
         Ok(PlaceVars {
             vars: self.vars.copy(alloc)?,
