@@ -1,6 +1,7 @@
 -- Runs of updates by requests.
 use Rattle.std.proofs.Common.{◌≡◌, ◌≢◌, ◌⊎◌, ◌↔◌, ◌<◌, ◌^◌, inl, inr, ⊎_elim, ℕ, ◌||◌, Bool, true, false, cond, List, [], ◌∷◌, Option, Some, None, IfSome, refl, sym, ap, subst, ◌∙◌}
 use Rattle.std.specs.FinMap.{empty, get, remove, get-remove}
+use Rattle.std.specs.Option.{option_map}
 use Rattle.std.specs.Cmp.{Equal-is}
 use Rattle.std.proofs.lemmas.Bool.{true≢false}
 use Rattle.uefi_vars.specs.Name.{entry_text, order_text, next_text}
@@ -21,7 +22,8 @@ use Rattle.boot_requests.specs.Keeper.{AreRead, StandsFor}
 use Rattle.boot_requests.specs.Run.{run_followed_by, state_at, history}
 use Rattle.boot_requests.specs.Seen.{Seen, Came, Malformed, Prepare, Hand, Restart}
 use Rattle.boot_requests.specs.State.{State, IsState, IsImage, keep_text, IsBootName}
-use Rattle.boot_journal.specs.Requests.{IsUpdateBy, IsRunOf, IsOfAnother, AgreesButForNext}
+use Rattle.boot_journal.specs.Attributes.{data_in, data_of}
+use Rattle.boot_journal.specs.Requests.{KeepsState, IsUpdateBy, IsRunOf, IsOfAnother, AgreesButForNext}
 use Rattle.std.proofs.lemmas.Cmp.{nat_list_cmp_total}
 use Rattle.boot_requests.specs.declared.reply.Reply.{Reply}
 use Rattle.boot_requests.specs.declared.reply.Reply.TheVariants as reply
@@ -33,6 +35,7 @@ use Rattle.boot_journal.specs.Store.{brought}
 use Rattle.boot_journal.specs.Events.{without_next}
 use Rattle.boot_journal.specs.Turns as Turns
 use Rattle.boot_journal.specs.Turns.{after_turns}
+use Rattle.boot_journal.proofs.WithAttributes.{get-data_of, all_elsewhere, data_of-with_data, data_of-remove}
 use Rattle.boot_journal.proofs.Making.{same_self, get-state, state_of_seen}
 use Rattle.boot_journal.proofs.Single.{Single, over, one_name, same_variables, get-with_data, get-each}
 
@@ -225,7 +228,7 @@ marked_without state v q other =
     get-marked state (remove v next_text) q ∙ ap (cond (same_name q keep_text) state) (get-remove nat_list_cmp_total v next_text q)
     ∙ none_or (same_name q keep_text) (same_name q next_text) state (get v q) other ∙ sym (get-marked state v q)
 
-unlike : (name q : List ℕ) → (name ≡ q → ⊥) → same_name name q ≡ false
+pub unlike : (name q : List ℕ) → (name ≡ q → ⊥) → same_name name q ≡ false
 unlike name q other = by (same_name name q) refl
   where
     by : (b : Bool) → same_name name q ≡ b → b ≡ false
@@ -288,20 +291,26 @@ no_boot_name names name out no_keep is = ⊎_elim
 module _ (boot : (from to : Variables) (name : List ℕ) → is_boot_name name ≡ true → get (made (changes_from from to) from) name ≡ get to name)
     (others : (from to : Variables) (name : List ℕ) → is_boot_name name ≡ false → get (made (changes_from from to) from) name ≡ get from name)
     (names : (name : List ℕ) → (is_entry_name name ≡ true) ↔ ((number : ℕ) × (number < 2 ^ 16) × (name ≡ entry_text number))) where
-  -- it is the variables that the requests lead to
-  pub brought_is : (v to : Variables) (m n : State) → OpensAs v m → IsImage n to → n.others ≡ m.others → brought v to ≡ to
+  -- without attributes it is the set that the requests lead to
+  pub brought_is : (v to : Variables) (m n : State) → KeepsState v m → IsImage n (data_of to) → n.others ≡ m.others → data_of (brought v to) ≡ data_of to
   brought_is v to m n opens image same = same_variables _ _ (λ q.
-      get-state (get to keep_text) (made (changes_from v to) v) q ∙ at q (same_name q keep_text) (is_boot_name q) refl refl)
+      get-data_of (brought v to) q
+      ∙ ap (option_map (data_in q)) (get-state (get to keep_text) (made (changes_from v to) v) q)
+      ∙ at q (same_name q keep_text) (is_boot_name q) refl refl
+      ∙ sym (get-data_of to q))
     where
-      at : (q : List ℕ) (keep boots : Bool) → same_name q keep_text ≡ keep → is_boot_name q ≡ boots → cond keep (get to keep_text) (get (made (changes_from v to) v) q) ≡ get to q
-      at q true boots is out = ap (get to) (sym (one_name q keep_text ((Equal-is _).0 is)))
-      at q false true is out = boot v to q out
+      at : (q : List ℕ) (keep boots : Bool) → same_name q keep_text ≡ keep → is_boot_name q ≡ boots →
+          option_map (data_in q) (cond keep (get to keep_text) (get (made (changes_from v to) v) q)) ≡ option_map (data_in q) (get to q)
+      at q true boots is out = ap (λ n. option_map (data_in q) (get to n)) (sym (one_name q keep_text ((Equal-is _).0 is)))
+      at q false true is out = ap (option_map (data_in q)) (boot v to q out)
       at q false false is out =
-          others v to q out
-          ∙ sym (get-marked (stored_mark m.next_number m.kept) v q ∙ ap (λ b. cond b (stored_mark m.next_number m.kept) (get v q)) is)
+          ap (option_map (data_in q)) (others v to q out)
+          ∙ sym (get-data_of v q)
+          ∙ sym (get-marked (stored_mark m.next_number m.kept) (data_of v) q ∙ ap (λ b. cond b (stored_mark m.next_number m.kept) (get (data_of v) q)) is)
           ∙ opens.image.other q (no_boot_name names q out is)
           ∙ ap (λ x. get x q) (sym same)
           ∙ sym (image.other q (no_boot_name names q out is))
+          ∙ get-data_of to q
 
 -- ---- firmware changes other variables
 
@@ -358,6 +367,18 @@ module _ (names : (name : List ℕ) → (is_entry_name name ≡ true) ↔ ((numb
   abbrev meddled : Variables → List Single → Variables
   meddled v cs = with_state (get v keep_text) (after_each v cs)
 
+  -- it changes the set alike
+  data_of-each : (v : Variables) (cs : List Single) → AllByRecursion IsOfAnother cs → data_of (after_each v cs) ≡ after_each (data_of v) cs
+  data_of-each v [] are = refl
+  data_of-each v (c ∷ cs) are =
+      data_of-each (with_data v c.0 c.1) cs are.1
+      ∙ ap (λ (d : Variables). after_each d cs) (data_of-with_data v c.0 c.1 ∙ ap (with_data (data_of v) c.0) (all_elsewhere c.0 c.1 are.0.boot))
+
+  pub data_of-meddled : (v : Variables) (cs : List Single) → AllByRecursion IsOfAnother cs → data_of (meddled v cs) ≡ meddled (data_of v) cs
+  data_of-meddled v cs are =
+      data_of-with_data (after_each v cs) keep_text (get v keep_text)
+      ∙ (λ i. with_data (data_of-each v cs are i) keep_text (sym (get-data_of v keep_text) i))
+
   get-meddled : (v : Variables) (cs : List Single) (q : List ℕ) → same_name q keep_text ≡ false → get (meddled v cs) q ≡ over cs q (get v q)
   get-meddled v cs q other = get-state (get v keep_text) (after_each v cs) q ∙ ap (λ b. cond b (get v keep_text) (get (after_each v cs) q)) other ∙ get-each cs v q
 
@@ -396,7 +417,7 @@ module _ (names : (name : List ℕ) → (is_entry_name name ≡ true) ↔ ((numb
 
 pub record Applied (vars : Variables) (start : State) (run : List Seen) : Type 0 where
   pub now : State
-  pub opens : OpensAs vars now
+  pub opens : KeepsState vars now
   pub alike : Alike now (state_at start run)
   pub read : AreRead run
 
@@ -416,7 +437,7 @@ module _ (leads : (start : State) (run : List Seen) → IsState start → AreRea
       let image = by.leads so_far.now so_far.opens in
       let same = brought_is boot others names vars to so_far.now n so_far.opens image (changes_others so_far.now (history so_far.now.next_number (run_followed_by [] seen))) in record {
         now = n;
-        opens = subst (λ (v : Variables). OpensAs v n) (sym same) (images_open n to (leads so_far.now (run_followed_by [] seen) so_far.opens.is by.read) image);
+        opens = subst (λ (v : Variables). OpensAs v n) (sym same) (images_open n (data_of to) (leads so_far.now (run_followed_by [] seen) so_far.opens.is by.read) image);
         alike =
             subst (λ (s : State). Alike n s) (sym (after_restart leads turns goes_on starts start earlier seen is so_far.read by.read) ∙ ap (state_at start) (sym goes))
             (run_alike so_far.now (state_at start earlier) (run_followed_by [] seen) so_far.alike);
@@ -426,13 +447,13 @@ module _ (leads : (start : State) (run : List Seen) → IsState start → AreRea
   boots : (deletes : Bool) (vars : Variables) (start : State) (run : List Seen) → Applied vars start run → Applied (without_next deletes vars) start run
   boots true vars start run so_far = record {
     now = after_boot so_far.now;
-    opens = opens_without_next no_next vars so_far.now so_far.opens;
+    opens = subst (λ (v : Variables). OpensAs v (after_boot so_far.now)) (sym (data_of-remove vars next_text)) (opens_without_next no_next (data_of vars) so_far.now so_far.opens);
     alike = record { bares = so_far.alike.bares; next = inl refl };
     read = so_far.read;
   }
   boots false vars start run so_far = so_far
 
-  pub all_applied : (vars : Variables) (ts : List Turns.Turn) (start : State) (run : List Seen) → OpensAs vars start → IsRunOf vars ts run → Applied (after_turns vars ts) start run
+  pub all_applied : (vars : Variables) (ts : List Turns.Turn) (start : State) (run : List Seen) → KeepsState vars start → IsRunOf vars ts run → Applied (after_turns vars ts) start run
   all_applied vars [] start run opens is = record {
     now = start;
     opens = opens;
@@ -443,9 +464,11 @@ module _ (leads : (start : State) (run : List Seen) → IsState start → AreRea
       brings (after_turns vars before) to start is.0 is.1 run opens.is (all_applied vars before start is.0 opens is.2) is.3 is.4
   all_applied vars (Turns.Boots deletes ∷ before) start run opens is = boots deletes (after_turns vars before) start run (all_applied vars before start run opens is)
   all_applied vars (Turns.Meddles changes ∷ before) start run opens is =
-      let so_far = all_applied vars before start run opens is.1 in record {
-        now = record so_far.now { others = after_each so_far.now.others changes };
-        opens = opens_meddled names no_keep (after_turns vars before) so_far.now changes is.0 so_far.opens;
+      let so_far = all_applied vars before start run opens is.1 in
+      let now = record so_far.now { others = after_each so_far.now.others changes } in record {
+        now = now;
+        opens = subst (λ (v : Variables). OpensAs v now) (sym (data_of-meddled names (after_turns vars before) changes is.0))
+            (opens_meddled names no_keep (data_of (after_turns vars before)) so_far.now changes is.0 so_far.opens);
         alike = record { bares = so_far.alike.bares; next = so_far.alike.next };
         read = so_far.read;
       }

@@ -1,19 +1,25 @@
 -- What BootOrder and BootNext name between the moves of an update.
-use Rattle.std.proofs.Common.{◌≡◌, ◌≢◌, ◌⊎◌, ◌<◌, ◌^◌, map, inl, inr, ⊎_elim, ℕ, ◌&&◌, Bool, true, false, cond, List, [], ◌∷◌, take, length, Option, None, is_some, Contains, refl, sym, ap, subst, ◌∙◌, arith}
+use Rattle.std.proofs.Common.{◌≡◌, ◌≢◌, ◌⊎◌, ◌<◌, ◌^◌, map, inl, inr, ⊎_elim, ℕ, ◌&&◌, Bool, true, false, cond, List, [], ◌∷◌, take, length, Option, Some, None, is_some, Contains, refl, sym, ap, subst, ◌∙◌, arith}
 use Rattle.std.specs.List.{AllByRecursion, IsDistinct}
 use Rattle.std.specs.FinMap.{get}
+use Rattle.std.specs.Option.{option_map}
 use Rattle.std.specs.Cmp.{Equal-is}
 use Rattle.std.proofs.lemmas.Bool.{true≢false}
+use Rattle.std.proofs.lemmas.List.{take-map}
 use Rattle.uefi_vars.specs.Name.{entry_text, order_text, next_text}
 use Rattle.uefi_vars.specs.Vars.{Variables}
 use Rattle.uefi_vars.specs.NameChanges.{after_each}
-use Rattle.var_stores.specs.BootChange.{ChangeParts, same_name, new_data, changes_from, is_boot_name, IsNeeded, order_in, DanglesInOrder, DanglesAsNext}
+use Rattle.var_stores.specs.BootChange.{ChangeParts, same_name, new_data, changed_names, change_under, changes_from, is_boot_name, IsNeeded, order_in, DanglesInOrder, DanglesAsNext}
+use Rattle.var_stores.proofs.Afterwards.{get_after}
+use Rattle.var_stores.proofs.Fronts.{now_under, order_alike, next_alike}
 use Rattle.boot_requests.specs.State.{keep_text}
+use Rattle.boot_journal.specs.Attributes.{data_in, data_of}
 use Rattle.boot_journal.specs.Changes.{made, IsFront}
 use Rattle.boot_journal.specs.Store.{Store, IsIdle, seen, with_state}
 use Rattle.boot_journal.specs.Moves.{settled}
 use Rattle.boot_journal.specs.Events.{Event, Settles, Undoes, Updates, Fails, Starts, Firmware, world, happens, all_happen, without_next, IsUpdateTo, AreSettlings, AreSettlingsOrStarts, failing}
 use Rattle.boot_journal.proofs.Single.{one_name, over, get-each}
+use Rattle.boot_journal.proofs.WithAttributes.{get-data_of}
 use Rattle.boot_journal.proofs.Boot.{get-without_next}
 use Rattle.boot_journal.proofs.Between.{IsOf, Keeps, apart, own_onwards, own_backwards, settlings_keep, updating_keeps, settled_same, starts_keep}
 use Rattle.boot_journal.proofs.Making.{get-state}
@@ -73,6 +79,16 @@ module _ (needed : (from to : Variables) → AllByRecursion (IsNeeded from to) (
 record Agree (number : ℕ) (v w : Variables) : Type 0 where
   order : get v order_text ≡ get w order_text
   entry : get v (entry_text number) ≡ get w (entry_text number)
+
+-- so do their sets
+data_same : (v w : Variables) (q : List ℕ) → get v q ≡ get w q → get (data_of v) q ≡ get (data_of w) q
+data_same v w q same = get-data_of v q ∙ ap (option_map (data_in q)) same ∙ sym (get-data_of w q)
+
+data_agree : (number : ℕ) (v w : Variables) → Agree number v w → Agree number (data_of v) (data_of w)
+data_agree number v w agree = record {
+  order = data_same v w order_text agree.order;
+  entry = data_same v w (entry_text number) agree.entry;
+}
 
 order_over : (number : ℕ) (v w : Variables) → Agree number v w → DanglesInOrder v number → DanglesInOrder w number
 order_over number v w agree dangles = (
@@ -138,27 +154,80 @@ module _ (len : (number : ℕ) → length (entry_text number) ≡ 8) (no_next : 
   -- ---- the laws
 
   pub order_law :
-      ((from to : Variables) (made number : ℕ) → number < 2 ^ 16 → DanglesInOrder (after_each from (new_data (take made (changes_from from to)))) number → DanglesInOrder from number ⊎ DanglesInOrder to number)
-      → (s : Store) (to front : Variables) (gone : Bool) (number : ℕ) → number < 2 ^ 16 → IsFront (changes_from (seen s) to) s.variables front → DanglesInOrder (without_next gone front) number →
-      DanglesInOrder s.variables number ⊎ DanglesInOrder to number
+      ((from to : Variables) (made number : ℕ) → number < 2 ^ 16 → DanglesInOrder (data_of (after_each from (new_data (take made (changes_from from to))))) number →
+      DanglesInOrder (data_of from) number ⊎ DanglesInOrder (data_of to) number)
+      → (s : Store) (to front : Variables) (gone : Bool) (number : ℕ) → number < 2 ^ 16 → IsFront (changes_from (seen s) to) s.variables front → DanglesInOrder (data_of (without_next gone front)) number →
+      DanglesInOrder (data_of s.variables) number ⊎ DanglesInOrder (data_of to) number
   order_law law s to front gone number bound is dangles =
       let cs = take is.0 (changes_from (seen s) to) in
-      let at_front = order_over number (without_next gone front) front (without_agrees gone front number) dangles in
-      let at_made = subst (λ (m : Variables). DanglesInOrder m number) is.1 at_front in
-      let at_seen = order_over number (made cs s.variables) (made cs (seen s)) (made_agrees s.journal.state cs s.variables number) at_made in
-      either_order number (seen s) s.variables to (back_agrees s.journal.state s.variables number) (law (seen s) to is.0 number bound at_seen)
+      let at_front = order_over number (data_of (without_next gone front)) (data_of front) (data_agree number (without_next gone front) front (without_agrees gone front number)) dangles in
+      let at_made = subst (λ (m : Variables). DanglesInOrder (data_of m) number) is.1 at_front in
+      let at_seen = order_over number (data_of (made cs s.variables)) (data_of (made cs (seen s)))
+      (data_agree number (made cs s.variables) (made cs (seen s)) (made_agrees s.journal.state cs s.variables number)) at_made in
+      either_order number (data_of (seen s)) (data_of s.variables) (data_of to)
+      (data_agree number (seen s) s.variables (back_agrees s.journal.state s.variables number)) (law (seen s) to is.0 number bound at_seen)
 
-  next_kept : (gone : Bool) (m : Variables) (number : ℕ) → DanglesAsNext (without_next gone m) number → DanglesAsNext m number
-  next_kept true m number dangles = absurd (true≢false (ap is_some (sym dangles.1 ∙ get-without_next true m next_text)))
+  next_gone : (m : Variables) (number : ℕ) → DanglesAsNext (data_of (without_next true m)) number → ⊥
+  next_gone m number dangles = true≢false (ap is_some
+      (sym dangles.1 ∙ get-data_of (without_next true m) next_text ∙ ap (option_map (data_in next_text)) (get-without_next true m next_text)))
+
+  next_kept : (gone : Bool) (m : Variables) (number : ℕ) → DanglesAsNext (data_of (without_next gone m)) number → DanglesAsNext (data_of m) number
+  next_kept true m number dangles = absurd (next_gone m number dangles)
   next_kept false m number dangles = dangles
 
   pub next_law :
-      ((from to : Variables) (made number : ℕ) → number < 2 ^ 16 → DanglesAsNext (after_each from (new_data (take made (changes_from from to)))) number → DanglesAsNext from number ⊎ DanglesAsNext to number)
-      → (s : Store) (to front : Variables) (gone : Bool) (number : ℕ) → number < 2 ^ 16 → IsFront (changes_from (seen s) to) s.variables front → DanglesAsNext (without_next gone front) number →
-      DanglesAsNext s.variables number ⊎ DanglesAsNext to number
+      ((from to : Variables) (made number : ℕ) → number < 2 ^ 16 → DanglesAsNext (data_of (after_each from (new_data (take made (changes_from from to))))) number →
+      DanglesAsNext (data_of from) number ⊎ DanglesAsNext (data_of to) number)
+      → (s : Store) (to front : Variables) (gone : Bool) (number : ℕ) → number < 2 ^ 16 → IsFront (changes_from (seen s) to) s.variables front → DanglesAsNext (data_of (without_next gone front)) number →
+      DanglesAsNext (data_of s.variables) number ⊎ DanglesAsNext (data_of to) number
   next_law law s to front gone number bound is dangles =
       let cs = take is.0 (changes_from (seen s) to) in
       let at_front = next_kept gone front number dangles in
-      let at_made = subst (λ (m : Variables). DanglesAsNext m number) is.1 at_front in
-      let at_seen = next_over number (made cs s.variables) (made cs (seen s)) (made_agrees s.journal.state cs s.variables number) (state_apart s.journal.state cs s.variables next_text refl) at_made in
-      either_next number (seen s) s.variables to (back_agrees s.journal.state s.variables number) (sym (state_apart s.journal.state [] s.variables next_text refl)) (law (seen s) to is.0 number bound at_seen)
+      let at_made = subst (λ (m : Variables). DanglesAsNext (data_of m) number) is.1 at_front in
+      let at_seen = next_over number (data_of (made cs s.variables)) (data_of (made cs (seen s)))
+      (data_agree number (made cs s.variables) (made cs (seen s)) (made_agrees s.journal.state cs s.variables number))
+      (data_same (made cs s.variables) (made cs (seen s)) next_text (state_apart s.journal.state cs s.variables next_text refl)) at_made in
+      either_next number (data_of (seen s)) (data_of s.variables) (data_of to)
+      (data_agree number (seen s) s.variables (back_agrees s.journal.state s.variables number))
+      (data_same (seen s) s.variables next_text (sym (state_apart s.journal.state [] s.variables next_text refl))) (law (seen s) to is.0 number bound at_seen)
+
+-- ---- what is named after some of the changes
+
+-- a set names what the variables do, and has none that they don't have
+none_there : (q : List ℕ) (x : Option (List ℕ)) → option_map (data_in q) x ≡ None → x ≡ None
+none_there q None none = refl
+none_there q (Some kept) none = cc
+
+gone_too : (v : Variables) (q : List ℕ) → get (data_of v) q ≡ None → get v q ≡ None
+gone_too v q none = none_there q (get v q) (sym (get-data_of v q) ∙ none)
+
+none_either : (v : Variables) (q : List ℕ) → get v q ≡ None → get (data_of v) q ≡ None
+none_either v q none = get-data_of v q ∙ ap (option_map (data_in q)) none
+
+after_some : (from to : Variables) (made : ℕ) (q : List ℕ) → get (after_each from (new_data (take made (changes_from from to)))) q ≡ now_under from to (take made (changed_names from to)) q
+after_some from to made q =
+    ap (λ (changes : List ChangeParts). get (after_each from (new_data changes)) q) (take-map (change_under from to) made (changed_names from to))
+    ∙ get_after from to (take made (changed_names from to)) from q
+
+module _ (no_order : (number : ℕ) → entry_text number ≢ order_text) (no_next : (number : ℕ) → entry_text number ≢ next_text) (apart_names : order_text ≢ next_text)
+    (from to : Variables) (made number : ℕ) (below : number < 2 ^ 16) where
+  abbrev now : Variables
+  now = after_each from (new_data (take made (changes_from from to)))
+
+  pub order_in_data : DanglesInOrder (data_of now) number → DanglesInOrder (data_of from) number ⊎ DanglesInOrder (data_of to) number
+  order_in_data h = elim (order_alike from to no_order no_next apart_names made number below (sym (after_some from to made (entry_text number)) ∙ gone_too now (entry_text number) h.1)) [
+    | inl before ↦ inl (
+      subst (λ (x : Option (List ℕ)). Contains (order_in x) number) (data_same now from order_text (after_some from to made order_text ∙ before.0)) h.0,
+      none_either from (entry_text number) before.1,
+    )
+    | inr after ↦ inr (
+      subst (λ (x : Option (List ℕ)). Contains (order_in x) number) (data_same now to order_text (after_some from to made order_text ∙ after.0)) h.0,
+      none_either to (entry_text number) after.1,
+    )
+  ]
+
+  pub next_in_data : DanglesAsNext (data_of now) number → DanglesAsNext (data_of from) number ⊎ DanglesAsNext (data_of to) number
+  next_in_data h = elim (next_alike from to no_order no_next apart_names made number below (sym (after_some from to made (entry_text number)) ∙ gone_too now (entry_text number) h.3)) [
+    | inl before ↦ inl (h.0, sym (data_same now from next_text (after_some from to made next_text ∙ before.0)) ∙ h.1, h.2, none_either from (entry_text number) before.1)
+    | inr after ↦ inr (h.0, sym (data_same now to next_text (after_some from to made next_text ∙ after.0)) ∙ h.1, h.2, none_either to (entry_text number) after.1)
+  ]

@@ -10,7 +10,9 @@ pub mod Whole
 pub mod Firmware
 pub mod Own
 pub mod Dangling
+pub mod WithAttributes
 pub mod Applied
+pub mod KeptAttributes
 pub mod Restarts
 pub mod Once
 pub mod Followers

@@ -5,7 +5,7 @@ use Rattle.std.proofs.lemmas.Cmp.{nat_list_cmp_total}
 use Rattle.uefi_vars.specs.Name.{next_text}
 use Rattle.uefi_vars.specs.Vars.{Variables}
 use Rattle.uefi_vars.specs.NameChanges.{after_each}
-use Rattle.var_stores.specs.BootChange.{changes_from}
+use Rattle.var_stores.specs.BootChange.{is_boot_name, changes_from}
 use Rattle.boot_requests.specs.Changes.{numbers_in, numbers_from}
 use Rattle.boot_requests.specs.Keeper.{AreRead}
 use Rattle.boot_requests.specs.Marks.{mark_of, mark_in}
@@ -16,6 +16,7 @@ use Rattle.boot_requests.specs.StoredState.{HasMark}
 use Rattle.boot_requests.proofs.Variables.Images.{one_mark}
 use Rattle.boot_requests.proofs.WholeRuns.Histories.{history_numbers}
 use Rattle.boot_requests.proofs.WholeRuns.NextNumbers.{gap_of_none, state_number}
+use Rattle.boot_journal.specs.Attributes.{data_of}
 use Rattle.boot_journal.specs.Changes.{made}
 use Rattle.boot_journal.specs.Events.{without_next}
 use Rattle.boot_journal.specs.Once.{Update, state_after, IsUpdateFrom, AreUpdatesIn, GoOn, changes_by, run_of, AreAppliedOnce}
@@ -23,6 +24,7 @@ use Rattle.boot_journal.specs.Store.{brought}
 use Rattle.boot_journal.specs.Turns as Turns
 use Rattle.boot_journal.specs.Turns.{after_turn, after_turns}
 use Rattle.boot_journal.proofs.Applied.{mark_over}
+use Rattle.boot_journal.proofs.WithAttributes.{get_elsewhere}
 use Rattle.boot_journal.proofs.Making.{state_of_seen}
 use Rattle.boot_journal.proofs.Restarts.{after_restart}
 
@@ -45,16 +47,17 @@ stays v w first updates same marked = record {
   on = marked.on;
 }
 
-module _ (leads : (start : State) (run : List Seen) → IsState start → AreRead run → IsState (state_at start run)) where
+module _ (leads : (start : State) (run : List Seen) → IsState start → AreRead run → IsState (state_at start run)) (no_keep : is_boot_name keep_text ≡ false) where
   brings : (vars to : Variables) (first : MarkParts) (update : Update) (earlier : List Update) → IsUpdateFrom vars update to → Marked vars first earlier →
       Marked (brought vars to) first (update ∷ earlier)
   brings vars to first update earlier from marked =
-      let same = one_mark vars update.before.next_number marked.last.next_number update.before.kept marked.last.kept from.opens.mark marked.has in
+      let opened = mark_over (data_of vars) vars update.before.next_number update.before.kept (sym (get_elsewhere vars keep_text no_keep)) from.opens.mark in
+      let same = one_mark vars update.before.next_number marked.last.next_number update.before.kept marked.last.kept opened marked.has in
       let is = leads update.before (run_followed_by [] update.seen) from.opens.is from.by.read in
       let image = from.by.leads update.before from.opens in record {
         last = mark_in (state_after update);
-        has = mark_over to (brought vars to) (state_after update).next_number (state_after update).kept
-            (state_of_seen (get to keep_text) (made (changes_from vars to) vars)) (inl (record { is = is.mark; stored = image.mark }));
+        has = mark_over (data_of to) (brought vars to) (state_after update).next_number (state_after update).kept
+            (state_of_seen (get to keep_text) (made (changes_from vars to) vars) ∙ sym (get_elsewhere to keep_text no_keep)) (inl (record { is = is.mark; stored = image.mark }));
         on = (subst (GoOn first earlier) (sym (λ i. mark_of (same.0 i) (same.1 i))) marked.on, refl);
       }
 

@@ -1,5 +1,5 @@
 -- Runs of events over variables, one by one.
-use Rattle.std.proofs.Common.{◌≡◌, ◌≢◌, ◌+◌, ◌<◌, ◌≤◌, ℕ, Bool, true, false, List, [], ◌∷◌, ◌++◌, length, take, drop, get_or, refl, sym, ap, subst, ◌∙◌, arith}
+use Rattle.std.proofs.Common.{◌≡◌, ◌≢◌, ◌+◌, ◌<◌, ◌≤◌, ℕ, Bool, true, false, List, [], ◌∷◌, ◌++◌, length, take, drop, get_or, Result, Ok, Err, IfErr, IsErrAnd, refl, sym, ap, subst, ◌∙◌, arith}
 use Rattle.std.proofs.lemmas.List.{take_more, map-append, length-append}
 use Rattle.uefi_vars.specs.Vars.{Variables}
 use Rattle.boot_requests.specs.declared.event.Event.{Event}
@@ -14,18 +14,55 @@ use Rattle.boot_requests.specs.Seen.{Seen, Came, Malformed, Prepare, Hand, Resta
 use Rattle.boot_requests.specs.State.{State, IsImage}
 use Rattle.boot_requests.specs.StoredState.{OpensAs, IsOpenFault}
 use Rattle.boot_requests.specs.Turn.{Plain, plain_start, Turn, Turns}
+use Rattle.boot_journal.specs.declared.attributes.AttributesFault.{AttributesFault}
+use Rattle.boot_journal.specs.declared.attributes.AttributesFault.TheVariants as attributes
 use Rattle.boot_journal.specs.declared.machine.CallError.{CallError}
 use Rattle.boot_journal.specs.declared.machine.CallError.TheVariants.{OutOfMemory, Refused}
 use Rattle.boot_journal.specs.declared.requests.Answer.{Answer}
+use Rattle.boot_journal.specs.declared.requests.RunFault.{RunFault}
+use Rattle.boot_journal.specs.declared.requests.RunFault.TheVariants as refusal
+use Rattle.boot_journal.specs.Attributes.{data_of, with_attributes, KeepAttributes, HasLongData, IsFaultWithout, IsFaultWith}
 use Rattle.boot_journal.specs.Answering.{IsTaken, AreTaken}
 use Rattle.boot_journal.specs.Cause.{IfRefused}
 use Rattle.boot_journal.specs.Followers.{AreFollowers, TellFollowers}
-use Rattle.boot_journal.specs.Requests.{replies_of, IsAnswered}
+use Rattle.boot_journal.specs.Requests.{KeepsState, replies_of, IsAnswered}
+use Rattle.boot_journal.specs.RunFault.{LeadsTooFar, IsRunFault, IsOpenRefusal, error_of}
+use Rattle.boot_journal.proofs.WithAttributes.{data_back, attributes_kept}
 
-pub refused_then : (error : CallError OpenFault) (fault : OpenFault) (vars : Variables) → IfRefused error (λ reason. (reason ≡ fault) × (fault ≢ opening.OutOfMemory)) →
-    (fault ≢ opening.OutOfMemory → IsOpenFault vars fault) → IfRefused error (IsOpenFault vars)
-refused_then OutOfMemory fault vars is then = tt
-refused_then (Refused reason) fault vars is then = subst (IsOpenFault vars) (sym is.0) (then is.1)
+-- ---- refusals
+
+-- what is so of each error that a result may be is so of the result
+pub err_then : {A E : Type 0} (r : Result A E) (Q P : E → Type 0) → IsErrAnd r Q → ((e : E) → Q e → P e) → IfErr r P
+err_then (Ok a) Q P is then = tt
+err_then (Err e) Q P is then = then e is
+
+pub refused_then : (error : CallError RunFault) (fault : OpenFault) (vars set : Variables) → set ≡ data_of vars → IfRefused error (λ reason. (reason ≡ refusal.Open fault) × (fault ≢ opening.OutOfMemory)) →
+    (fault ≢ opening.OutOfMemory → IsOpenFault set fault) → IfRefused error (IsOpenRefusal vars)
+refused_then OutOfMemory fault vars set same is then = tt
+refused_then (Refused reason) fault vars set same is then = subst (IsOpenRefusal vars) (sym is.0) (subst (λ (v : Variables). IsOpenFault v fault) same (then is.1))
+
+pub refused_without : (error : CallError RunFault) (fault : AttributesFault) (vars : Variables) → error ≡ error_of fault → IsFaultWithout vars fault → IfRefused error (IsOpenRefusal vars)
+refused_without error fault vars is why = subst (λ (e : CallError RunFault). IfRefused e (IsOpenRefusal vars)) (sym is) (by fault why)
+  where
+    by : (fault : AttributesFault) → IsFaultWithout vars fault → IfRefused (error_of fault) (IsOpenRefusal vars)
+    by attributes.NoData why = why
+    by attributes.TooLong why = absurd why
+    by attributes.OutOfMemory why = tt
+
+pub refused_open : (error : CallError RunFault) (events : List Event) (vars : Variables) → IfRefused error (IsOpenRefusal vars) → IfRefused error (IsRunFault events vars)
+refused_open OutOfMemory events vars why = tt
+refused_open (Refused (refusal.Open fault)) events vars why = why
+refused_open (Refused refusal.NoData) events vars why = why
+refused_open (Refused refusal.TooLong) events vars why = absurd why
+
+pub refused_with : (error : CallError RunFault) (fault : AttributesFault) (events : List Event) (vars set : Variables) → error ≡ error_of fault → IsFaultWith set fault →
+    (HasLongData set → LeadsTooFar events vars) → IfRefused error (IsRunFault events vars)
+refused_with error fault events vars set is why far = subst (λ (e : CallError RunFault). IfRefused e (IsRunFault events vars)) (sym is) (by fault why)
+  where
+    by : (fault : AttributesFault) → IsFaultWith set fault → IfRefused (error_of fault) (IsRunFault events vars)
+    by attributes.NoData why = absurd why
+    by attributes.TooLong why = far why
+    by attributes.OutOfMemory why = tt
 
 -- what is seen of events was read off frames
 read_seen : (e : Event) (s : Seen) (before : List Seen) → IsSeen e s → AreRead before → AreRead (s ∷ before)
@@ -143,22 +180,39 @@ next_taken from mid to events index event answers answer below here before then 
 
 -- ---- all of them
 
-module _ (starts : (start : State) → StandsFor (plain_start start) start [])
-    (one : (m n : State) (vars : Variables) → OpensAs vars m → OpensAs vars n → m ≡ n) where
-  pub answered : (vars to : Variables) (first last : Plain) (events : List Event) (answers : List Answer) → first ≡ plain_start first.state → OpensAs vars first.state →
-      AreTaken first events last answers → IsImage last.state to → IsAnswered events vars to answers
-  answered vars to first last events answers is opens taken image =
+module _ (starts : (start : State) → StandsFor (plain_start start) start []) where
+  -- what they lead to may be too much for attributes
+  pub too_far : (vars set : Variables) (first last : Plain) (events : List Event) (answers : List Answer) → first ≡ plain_start first.state → KeepsState vars first.state →
+      AreTaken first events last answers → IsImage last.state set → HasLongData set → LeadsTooFar events vars
+  too_far vars set first last events answers is opens taken image long =
       let stands : StandsFor first first.state [] = subst (λ (k : Plain). StandsFor k first.state []) (sym is) (starts first.state) in
-      let done = taken first.state stands in (
-        done.seen,
-        done.are,
-        record {
-          read = all_read events done.seen [] done.are tt;
-          leads = λ m opened.
-              subst (λ (n : State). IsImage (state_at n (run_followed_by [] done.seen)) to) (one first.state m vars opens opened)
-              (subst (λ (n : State). IsImage n to) done.stands.state image);
-        },
-        λ m opened. subst (λ (n : State). AreAnswers n [] done.seen (replies_of answers) × TellFollowers n [] done.seen answers) (one first.state m vars opens opened)
-            (done.replies, done.followers),
-        (first.state, opens),
-      )
+      let done = taken first.state stands in record {
+        seen = done.seen;
+        are = done.are;
+        state = first.state;
+        keeps = opens;
+        to = set;
+        leads = subst (λ (n : State). IsImage n set) done.stands.state image;
+        long = long;
+      }
+
+  module _ (one : (m n : State) (vars : Variables) → OpensAs vars m → OpensAs vars n → m ≡ n) where
+    pub answered : (vars set to : Variables) (first last : Plain) (events : List Event) (answers : List Answer) → first ≡ plain_start first.state → KeepsState vars first.state →
+        AreTaken first events last answers → IsImage last.state set → to ≡ with_attributes vars set → IsAnswered events vars to answers
+    answered vars set to first last events answers is opens taken image kept =
+        let stands : StandsFor first first.state [] = subst (λ (k : Plain). StandsFor k first.state []) (sym is) (starts first.state) in
+        let done = taken first.state stands in
+        let leads : IsImage (state_at first.state (run_followed_by [] done.seen)) (data_of to) =
+        subst (λ (v : Variables). IsImage (state_at first.state (run_followed_by [] done.seen)) v) (sym (ap data_of kept ∙ data_back vars set))
+        (subst (λ (n : State). IsImage n set) done.stands.state image) in (
+          done.seen,
+          done.are,
+          record {
+            read = all_read events done.seen [] done.are tt;
+            leads = λ m opened. subst (λ (n : State). IsImage (state_at n (run_followed_by [] done.seen)) (data_of to)) (one first.state m (data_of vars) opens opened) leads;
+            attributes = subst (KeepAttributes vars) (sym kept) (attributes_kept vars set);
+          },
+          λ m opened. subst (λ (n : State). AreAnswers n [] done.seen (replies_of answers) × TellFollowers n [] done.seen answers) (one first.state m (data_of vars) opens opened)
+              (done.replies, done.followers),
+          (first.state, opens),
+        )

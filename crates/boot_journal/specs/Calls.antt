@@ -6,7 +6,6 @@ use Rattle.uefi_vars.specs.Vars.{Variables}
 use Rattle.var_stores.specs.BootChange.{changes_from}
 use Rattle.boot_requests.specs.declared.event.Event.{Event}
 use Rattle.boot_requests.specs.Seen.{AreSeen}
-use Rattle.boot_requests.specs.StoredState.{OpensAs}
 use Rattle.boot_journal.specs.declared.requests.Answer.{Answer}
 use Rattle.boot_journal.specs.Changes.{LeaveAlone}
 use Rattle.boot_journal.specs.Commands.{IsCommanding}
@@ -14,7 +13,7 @@ use Rattle.boot_journal.specs.Events.{World, happens}
 use Rattle.boot_journal.specs.Events as event
 use Rattle.boot_journal.specs.Moves.{IsSettling}
 use Rattle.boot_journal.specs.Once.{Update}
-use Rattle.boot_journal.specs.Requests.{IsAnswered}
+use Rattle.boot_journal.specs.Requests.{KeepsState, IsAnswered}
 use Rattle.boot_journal.specs.Store.{IsIdle, stands_for, brought}
 use Rattle.boot_journal.specs.Turns.{is_known}
 
@@ -143,7 +142,7 @@ CallsLeaveAlone name w (step ∷ before) = CallLeavesAlone name (world_after w b
 abbrev pub NewestIsBy : World → List Event → (List Update → Type 0) → List Update → Type 0
 NewestIsBy w events AreBefore [] = ⊥
 NewestIsBy w events AreBefore (update ∷ earlier) =
-    OpensAs (stands_for w.boot w.store) update.before × AreSeen events update.seen × AreBefore earlier
+    KeepsState (stands_for w.boot w.store) update.before × AreSeen events update.seen × AreBefore earlier
 
 -- with those before it: a command that is done made an update, one that says that nothing changed or that nothing was run
 -- didn't, and each other may have

@@ -10,7 +10,9 @@ pub mod JournalValue
 pub mod Cause
 pub mod Working
 pub mod Followers
+pub mod Attributes
 pub mod Requests
+pub mod RunFault
 pub mod Once
 pub mod Answering
 pub mod Commands

@@ -6,11 +6,10 @@ use Rattle.boot_requests.specs.Marks.{mark_in}
 use Rattle.boot_requests.specs.Run.{run_followed_by, gap_at, history, state_at}
 use Rattle.boot_requests.specs.Seen.{Seen, Restart}
 use Rattle.boot_requests.specs.State.{State, MarkParts}
-use Rattle.boot_requests.specs.StoredState.{OpensAs}
-use Rattle.boot_journal.specs.Requests.{IsUpdateBy}
+use Rattle.boot_journal.specs.Requests.{KeepsState, IsUpdateBy}
 use Rattle.boot_journal.specs.Turns.{Turn, Brings, Boots, Meddles, after_turns}
 
--- an update: as which state the variables opened, and what happened then
+-- an update: as which state the variables opened without their attributes, and what happened then
 pub record Update : Type 0 where
   pub before : State
   pub seen : List Seen
@@ -21,7 +20,7 @@ state_after update = state_at update.before (run_followed_by [] update.seen)
 
 -- it led from the one set to the other, by events that were read
 pub record IsUpdateFrom (from : Variables) (update : Update) (to : Variables) : Type 0 where
-  pub opens : OpensAs from update.before
+  pub opens : KeepsState from update.before
   pub by : IsUpdateBy from update.seen to
 
 -- These are the updates among the turns, of both of which the newest is the first. Between two of them firmware changed

@@ -11,8 +11,9 @@ use std::marker::Model;
 use uefi_vars::{BOOT_NEXT, laws as vars_laws};
 use var_stores::BootChange;
 
-/// A change of one variable of the boot manager: Boot####, BootOrder or BootNext (UEFI 2.10, 3.3). It owns its bytes, where
-/// a [`BootChange`] borrows them.
+/// A change of one variable of the boot manager: Boot####, BootOrder or BootNext (UEFI 2.10, 3.3). What is there before
+/// and after it is what a machine keeps: the variable's attributes, in [`ATTRIBUTES_LEN`](crate::ATTRIBUTES_LEN) bytes,
+/// and then its data. It owns its bytes, where a [`BootChange`] borrows them.
 #[derive(Debug, Drop)]
 pub struct Change {
     name: String,
@@ -68,7 +69,7 @@ impl Change {
         self.name.as_str()
     }
 
-    /// Its data before the change: `None` if it wasn't there.
+    /// Its attributes and its data before the change: `None` if it wasn't there.
     pub fn before(&self) -> Option<&[u8]>
         ensures value { option_map (λ bytes. bytes.now) result ≡ self.now.before }
         ensures valid { IsBootChange self.now }
@@ -76,7 +77,7 @@ impl Change {
         self.before.as_deref()
     }
 
-    /// Its data after the change: `None` if it is taken out.
+    /// Its attributes and its data after the change: `None` if it is taken out.
     pub fn after(&self) -> Option<&[u8]>
         ensures value { option_map (λ bytes. bytes.now) result ≡ self.now.after }
         ensures valid { IsBootChange self.now }

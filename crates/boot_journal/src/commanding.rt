@@ -16,7 +16,8 @@ use std::alloc::Global;
 use uefi_vars::{Vars, laws as vars_laws};
 use var_stores::laws as store_laws;
 
-/// What is run over a machine's variables.
+/// What is run over a machine's variables. It sees them, and gives them, as a machine keeps them: those of the boot
+/// manager with their attributes.
 pub trait Run {
     /// What it answers.
     type Answer: Drop;

@@ -1,33 +1,38 @@
 //! The laws of the definitions. Each is a function that does nothing, and whose contract is the law.
 
-ghost use Rattle.std.specs.Prelude.{◌≡◌, ◌⊎◌, ℕ, ◌^◌, ◌<◌, Bool, false, List, [], ◌∷◌, Option, None, take, ◌↔◌, IsTrue};
+ghost use Rattle.std.specs.Prelude.{◌≡◌, ◌⊎◌, ℕ, ◌^◌, ◌<◌, Bool, true, false, List, [], ◌∷◌, Option, None, take, ◌↔◌, IsTrue};
 ghost use Rattle.std.specs.List.{AllByRecursion};
 ghost use Rattle.std.specs.FinMap as map;
 ghost use Rattle.uefi_path.specs.Row.{IsByte};
 ghost use Rattle.uefi_vars.specs.Name.{next_text};
 ghost use Rattle.uefi_vars.specs.Vars.{Variables};
 ghost use Rattle.uefi_vars.specs.NameChanges.{after_each};
-ghost use Rattle.var_stores.specs.BootChange.{ChangeParts, same_name, changes_from, DanglesInOrder, DanglesAsNext};
+ghost use Rattle.var_stores.specs.BootChange.{ChangeParts, same_name, is_boot_name, changes_from, DanglesInOrder, DanglesAsNext};
 ghost use Rattle.boot_requests.specs.Run.{state_at};
 ghost use Rattle.boot_requests.specs.Seen.{Seen};
 ghost use Rattle.boot_requests.specs.State.{State, MarkParts, keep_text};
-ghost use Rattle.boot_requests.specs.StoredState.{HasMark, OpensAs};
+ghost use Rattle.boot_requests.specs.StoredState.{HasMark};
+ghost use Rattle.boot_journal.specs.Attributes.{attributes_len, attributes_in, data_of, with_attributes, KeepAttributes, HaveAttributes};
 ghost use Rattle.boot_journal.specs.Calls.{Step, world_after, AreSteps, HaveNewStarts, FirmwareDid, did_by_firmware, CallsLeaveAlone, AreByCalls};
 ghost use Rattle.boot_journal.specs.Changes.{made, IsFront, LeaveAlone};
 ghost use Rattle.boot_journal.specs.Events.{Event, Starts, World, world, all_happen, without_next, with_variables, IsUpdateTo, AreSettlings, AreSettlingsOrStarts, AreNoUpdates, by_firmware, UpdatesLeaveAlone};
 ghost use Rattle.boot_journal.specs.Journal.{BeganUnderAnother, JournalParts, changes_of, due};
 ghost use Rattle.boot_journal.specs.Moves.{cut_undoing};
 ghost use Rattle.boot_journal.specs.Once.{Update, AreUpdatesIn, run_of, AreAppliedOnce};
-ghost use Rattle.boot_journal.specs.Store.{Store, IsIdle, seen, stands_for, falls_back_to};
-ghost use Rattle.boot_journal.specs.Turns.{after_turns, happened, StartsAreNew};
-ghost use Rattle.boot_journal.specs.Requests.{IsOfAnother, IsRunOf, AgreesButForNext};
+ghost use Rattle.boot_journal.specs.Store.{Store, IsIdle, seen, stands_for, falls_back_to, brought};
+ghost use Rattle.boot_journal.specs.Turns.{Turn, after_turns, happened, StartsAreNew};
+ghost use Rattle.boot_journal.specs.Requests.{KeepsState, IsUpdateBy, IsOfAnother, IsRunOf, StaysThere, AgreesButForNext};
+ghost use Rattle.boot_journal.specs.declared.attributes.AttributesFault.{AttributesFault};
+ghost use Rattle.boot_journal.specs.declared.requests.RunFault.{RunFault};
 ghost use Rattle.boot_journal.specs.declared.fault.JournalFault.{JournalFault};
 ghost use Rattle.boot_journal.specs.JournalValue.{IsJournal};
 ghost use Rattle.boot_journal.specs.Bytes.{SpellsJournal};
 ghost use Rattle.boot_journal.specs.Fault.{IsJournalFault};
 
+use crate::attributes::{ATTRIBUTES_LEN, AttributesFault};
 use crate::fault::JournalFault;
 use crate::journal::KEEP_STATE;
+use crate::requests::RunFault;
 use boot_requests::laws as request_laws;
 use uefi_vars::laws as vars_laws;
 use var_stores::laws as store_laws;
@@ -82,17 +87,17 @@ pub fn variables_are_those_after_some_changes()
     vars_laws::order_and_next_are_no_entries();
 }
 
-/// Nothing dangles. Where the variables are those after some changes of an update, from the first one on, with BootNext or
-/// without, a missing entry that BootOrder or BootNext names was missing and named before the update, or is so after it.
+/// Nothing dangles. Where the variables are those after some changes of an update, from the first one on, with BootNext
+/// or without, a missing entry that BootOrder or BootNext names was missing and named before the update, or is so after
+/// it. What they name is in their data, without their attributes.
 pub fn nothing_dangles_in_between()
     ensures order { (s : Store) (to front : Variables) (gone : Bool) (number : ℕ) → number < 2 ^ 16 →
-        IsFront (changes_from (seen s) to) s.variables front → DanglesInOrder (without_next gone front) number →
-        DanglesInOrder s.variables number ⊎ DanglesInOrder to number }
+        IsFront (changes_from (seen s) to) s.variables front → DanglesInOrder (data_of (without_next gone front)) number →
+        DanglesInOrder (data_of s.variables) number ⊎ DanglesInOrder (data_of to) number }
     ensures next { (s : Store) (to front : Variables) (gone : Bool) (number : ℕ) → number < 2 ^ 16 →
-        IsFront (changes_from (seen s) to) s.variables front → DanglesAsNext (without_next gone front) number →
-        DanglesAsNext s.variables number ⊎ DanglesAsNext to number }
+        IsFront (changes_from (seen s) to) s.variables front → DanglesAsNext (data_of (without_next gone front)) number →
+        DanglesAsNext (data_of s.variables) number ⊎ DanglesAsNext (data_of to) number }
 {
-    store_laws::nothing_dangles_in_between();
     vars_laws::order_and_next_are_no_entries();
 }
 
@@ -134,14 +139,15 @@ pub fn calls_keep_what_firmware_did()
         map.get (world_after w steps).store.variables name ≡ map.get (after_each w.store.variables (did_by_firmware steps)) name }
 {}
 
-/// Exactly once. If the updates that happened are by requests, and firmware did nothing to the boot manager's variables but
-/// start the machine and delete BootNext, then the machine stands for variables that open as a state with the entries, the
-/// order, the next number and the outcomes of the run of all their events, with a restart between two updates: each
-/// accepted request is applied once, in the order of the numbers. BootNext is that of the run, or is gone.
+/// Exactly once. If the updates that happened are by requests, and firmware did nothing to the boot manager's variables
+/// but start the machine and delete BootNext, then the machine stands for variables that, without their attributes,
+/// open as a state with the entries, the order, the next number and the outcomes of the run of all their events, with a
+/// restart between two updates: each accepted request is applied once, in the order of the numbers. BootNext is that of
+/// the run, or is gone.
 pub fn each_request_is_applied_once()
     ensures { (w : World) (events : List Event) (start : State) (run : List Seen) → IsIdle w.store → StartsAreNew (w.boot ∷ []) events →
-        OpensAs (stands_for w.boot w.store) start → IsRunOf (stands_for w.boot w.store) (happened w events) run →
-        (now : State) × OpensAs (stands_for (all_happen w events).boot (all_happen w events).store) now
+        KeepsState (stands_for w.boot w.store) start → IsRunOf (stands_for w.boot w.store) (happened w events) run →
+        (now : State) × KeepsState (stands_for (all_happen w events).boot (all_happen w events).store) now
         × AgreesButForNext now (state_at start run) }
 {
     store_laws::each_change_is_needed();
@@ -156,10 +162,10 @@ pub fn each_request_is_applied_once()
 }
 
 /// Exactly once, whatever firmware does. If the updates that happened are by requests, each of variables that open as a
-/// state, then what the machine stands for has a next number and outcomes, each update began with those that the one before
-/// it left, and what all of them applied is what their run as a whole applies, with a restart between two updates: each
-/// number from the first one to below the next one once, in order. Firmware may have changed any variable in between:
-/// BootKeepState, which has the two, is in the journal.
+/// state without their attributes, then what the machine stands for has a next number and outcomes, each update began
+/// with those that the one before it left, and what all of them applied is what their run as a whole applies, with a
+/// restart between two updates: each number from the first one to below the next one once, in order. Firmware may have
+/// changed any variable in between: BootKeepState, which has the two, is in the journal.
 pub fn each_number_is_applied_once_whatever_firmware_does()
     ensures { (w : World) (events : List Event) (first : MarkParts) (updates : List Update) → IsIdle w.store → StartsAreNew (w.boot ∷ []) events →
         HasMark (stands_for w.boot w.store) first.next_number first.kept →
@@ -173,13 +179,13 @@ pub fn each_number_is_applied_once_whatever_firmware_does()
     request_laws::a_run_leads_to_a_state();
 }
 
-/// Exactly once, over a list of calls. A machine is settled at first; then [`command`] is called for lists of events, and
-/// [`settle`], one after the other, each cut off anywhere or refused anything; in between the machine is started, each time
-/// under a new identity, and firmware changes whatever variables it likes. Then some updates happened: one by each call that
-/// was done, none by a call that says that nothing changed or that nothing was run, and at most one by each other call, in
-/// the order of the calls, and each of the state as which opened what the machine stood for at the call.
-/// What they applied is what their run as a whole applies: each number once, in order, from the first one to below the one
-/// that is the next then.
+/// Exactly once, over a list of calls. A machine is settled at first; then [`command`] is called for lists of events,
+/// and [`settle`], one after the other, each cut off anywhere or refused anything; in between the machine is started,
+/// each time under a new identity, and firmware changes whatever variables it likes. Then some updates happened: one by
+/// each call that was done, none by a call that says that nothing changed or that nothing was run, and at most one by
+/// each other call, in the order of the calls, and each of the state as which opened what the machine stood for at the
+/// call, without attributes. What they applied is what their run as a whole applies: each number once, in order, from
+/// the first one to below the one that is the next then.
 ///
 /// [`command`]: crate::command
 /// [`settle`]: crate::settle
@@ -196,15 +202,15 @@ pub fn calls_apply_each_number_once()
     request_laws::a_run_leads_to_a_state();
 }
 
-/// Exactly once, over a list of calls, and with all that requests change. If over such a list firmware did nothing to the
-/// boot manager's variables but start the machine and delete BootNext, then the machine stands for variables that open as a
-/// state with the entries, the order, the next number and the outcomes of the run of the updates that happened, with a
-/// restart between two of them. BootNext is that of the run, or is gone.
+/// Exactly once, over a list of calls, and with all that requests change. If over such a list firmware did nothing to
+/// the boot manager's variables but start the machine and delete BootNext, then the machine stands for variables that,
+/// without their attributes, open as a state with the entries, the order, the next number and the outcomes of the run
+/// of the updates that happened, with a restart between two of them. BootNext is that of the run, or is gone.
 pub fn calls_apply_each_request_once()
     ensures { (w : World) (steps : List Step) (start : State) → IsIdle w.store → AreSteps w steps → HaveNewStarts w.boot steps →
-        FirmwareDid (AllByRecursion IsOfAnother) steps → OpensAs (stands_for w.boot w.store) start →
+        FirmwareDid (AllByRecursion IsOfAnother) steps → KeepsState (stands_for w.boot w.store) start →
         (updates : List Update) × AreByCalls w steps updates
-        × (now : State) × OpensAs (stands_for (world_after w steps).boot (world_after w steps).store) now
+        × (now : State) × KeepsState (stands_for (world_after w steps).boot (world_after w steps).store) now
         × AgreesButForNext now (state_at start (run_of updates)) }
 {
     store_laws::each_change_is_needed();
@@ -218,9 +224,51 @@ pub fn calls_apply_each_request_once()
     request_laws::an_image_is_migrated_to_itself();
 }
 
-/// The public constant is the name that the definitions state.
+/// Attributes outlive updates by requests. What an update leaves under the name of a variable of the boot manager, if
+/// anything, has the attributes of what was there before it, or those of a new variable if nothing was. So a variable
+/// that is there after each update and each start, and that firmware doesn't change, has the attributes at the end that
+/// it had first, or those of a new variable if it wasn't there first: whatever updates replaced it, over whatever
+/// turns, and over every list of events, of which an update may be cut off or taken back anywhere.
+pub fn updates_keep_attributes()
+    ensures update { (from to : Variables) (seen : List Seen) → IsUpdateBy from seen to → KeepAttributes from (brought from to) }
+    ensures turns { (start : Variables) (turns : List Turn) (updates : List Update) (name : List ℕ) → is_boot_name name ≡ true →
+        AreUpdatesIn start turns updates → StaysThere name start turns →
+        attributes_in (map.get (after_turns start turns) name) ≡ attributes_in (map.get start name) }
+    ensures events { (w : World) (events : List Event) (updates : List Update) (name : List ℕ) → IsIdle w.store →
+        StartsAreNew (w.boot ∷ []) events → is_boot_name name ≡ true →
+        AreUpdatesIn (stands_for w.boot w.store) (happened w events) updates →
+        StaysThere name (stands_for w.boot w.store) (happened w events) →
+        attributes_in (map.get (stands_for (all_happen w events).boot (all_happen w events).store) name)
+        ≡ attributes_in (map.get (stands_for w.boot w.store) name) }
+{
+    store_laws::each_change_is_needed();
+    store_laws::all_changes_lead_to_the_other_set();
+    store_laws::entry_names_are_those_of_numbers();
+    vars_laws::order_and_next_are_no_entries();
+}
+
+/// What a machine keeps is attributes and data. A set that attributes were put on is the same without them, and has the
+/// attributes of what was there. Variables that have attributes are the set of their data with these attributes.
+pub fn attributes_and_data_are_what_is_kept()
+    ensures set { (there vars : Variables) → data_of (with_attributes there vars) ≡ vars }
+    ensures attributes { (there vars : Variables) → KeepAttributes there (with_attributes there vars) }
+    ensures kept { (vars : Variables) → HaveAttributes vars → with_attributes vars (data_of vars) ≡ vars }
+{}
+
+/// The public constants are what the definitions state.
 pub fn constants_are_those_of_the_definitions()
-    ensures { KEEP_STATE.now ≡ keep_text }
+    ensures name { KEEP_STATE.now ≡ keep_text }
+    ensures len { ATTRIBUTES_LEN ≡ attributes_len }
+{}
+
+/// `==` on the faults of attributes tells whether they are equal.
+pub fn attributes_faults_compare_as_values()
+    ensures { (a b : AttributesFault) → IsTrue (⟦<AttributesFault as PartialEq>⟧.eq a b) ↔ (a ≡ b) }
+{}
+
+/// `==` on the faults of a run of requests tells whether they are equal.
+pub fn run_faults_compare_as_values()
+    ensures { (a b : RunFault) → IsTrue (⟦<RunFault as PartialEq>⟧.eq a b) ↔ (a ≡ b) }
 {}
 
 /// A journal has a spelling, of bytes.

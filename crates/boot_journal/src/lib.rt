@@ -6,8 +6,15 @@
 //! or takes it back if the machine refuses a move. [`command`] settles, runs something over the variables, such as
 //! [`Requests`], and updates. [`Recorded`] makes a machine of a [`Device`]. [`read_journal`] reads a journal from the bytes of
 //! its file, all of them, and [`write_journal`] gives its one spelling.
+//!
+//! What a machine keeps under the name of a variable of the boot manager, Boot####, BootOrder or BootNext, is the
+//! variable's attributes, in [`ATTRIBUTES_LEN`] bytes, and then its data, as a file of Linux's efivarfs has the two. So
+//! the changes of a journal have attributes too, and what is taken back has those that it had. Under every other name a
+//! machine keeps data alone, and so does a journal of BootKeepState. [`with_attributes`] makes of a set what a machine
+//! keeps, and [`without_attributes`] the set again.
 #![tactic(auto)]
 
+mod attributes;
 mod boot_id;
 mod change;
 mod commanding;
@@ -22,6 +29,7 @@ mod updating;
 mod work;
 mod writer;
 
+pub use attributes::{ATTRIBUTES_LEN, AttributesFault, with_attributes, without_attributes};
 pub use boot_id::BootId;
 pub use change::Change;
 pub use commanding::{Run, command};
@@ -30,6 +38,6 @@ pub use journal::{Journal, KEEP_STATE};
 pub use machine::{CallError, CommandError, Machine, UpdateError};
 pub use reader::read_journal;
 pub use recorded::{Device, Recorded};
-pub use requests::{Answer, Requests};
+pub use requests::{Answer, Requests, RunFault};
 pub use updating::{settle, update};
 pub use writer::write_journal;

@@ -78,8 +78,10 @@ impl<E> From<AllocError> for CallError<E> {
     }
 }
 
-/// A machine: the variables of its firmware, and its journal. Each change of a variable is whole or isn't made, and so is
-/// each replacement of the journal.
+/// A machine: the variables of its firmware, and its journal. Under the name of a variable of the boot manager
+/// (Boot####, BootOrder or BootNext) it keeps the variable's attributes, in [`ATTRIBUTES_LEN`](crate::ATTRIBUTES_LEN)
+/// bytes, and then its data, and under another name data alone. Each change of a variable is whole or isn't made, and
+/// so is each replacement of the journal.
 pub trait Machine {
     /// Why the machine refuses something.
     type Refusal: Drop;
@@ -94,7 +96,8 @@ pub trait Machine {
     /// How often the machine refused a move.
     ghost refusals: { Self → ℕ };
 
-    /// The variables of the firmware, and BootKeepState, which the journal keeps. This fails only if memory is refused.
+    /// The variables of the firmware, those of the boot manager with their attributes, and BootKeepState, which the
+    /// journal keeps. This fails only if memory is refused.
     fn read_vars(&self, alloc: Global) -> Result<Vars, AllocError>
         ensures { IfOk result (λ vars. vars ≡ seen (store self.now)) };
 
@@ -106,7 +109,7 @@ pub trait Machine {
     fn is_idle(&self) -> bool
         ensures { IsTrue result ↔ ((store self.now).journal.pending ≡ None) };
 
-    /// Makes the change of one variable.
+    /// Makes the change of one variable, with its attributes.
     fn make(&mut self, change: &Change) -> Result<(), CallError<Self::Refusal>>
         ensures cause { HasCause (refusals self.old) (refusals self.new) result }
         ensures made { OnOk result (store self.new ≡ with_made (change.now ∷ []) (store self.old)) }

@@ -29,11 +29,12 @@ pub trait Device: Drop {
     /// What it was asked, each with whether it answered that it did or has that, the first call first, if it tells that.
     ghost asked: { Self → Option (List Ask) } = { λ _. None };
 
-    /// Sets the variable to its data after the change, or takes it out.
+    /// Sets the variable to its attributes and its data after the change, or takes it out.
     fn make(&mut self, change: &Change) -> Result<(), CallError<Self::Refusal>>
         ensures { asked self.new ≡ and_then (asked self.old) (ToMake change.now (is_ok result) ∷ []) };
 
-    /// Whether the variable has its data after the change, although `make` failed.
+    /// Whether the variable has its attributes and its data after the change, or is out if it is taken out, although
+    /// `make` failed.
     fn has_made(&mut self, change: &Change) -> bool
         ensures { asked self.new ≡ and_then (asked self.old) (HasMade change.now result ∷ []) };
 
@@ -81,8 +82,9 @@ pub struct Recorded<D: Device> {
 }
 
 impl<D: Device> Recorded<D> {
-    /// The machine over this device, which has these variables and this journal. A BootKeepState among the variables doesn't
-    /// count: the journal has it. This fails only if memory is refused.
+    /// The machine over this device, which has these variables and this journal. Those of the boot manager are given
+    /// with their attributes, as [`with_attributes`](crate::with_attributes) makes them of a set. A BootKeepState among
+    /// the variables doesn't count: the journal has it. This fails only if memory is refused.
     pub fn new(
         alloc: Global,
         device: D,

@@ -4,17 +4,20 @@ ghost use Rattle.std.specs.Prelude.{◌≡◌, IfOk, IfErr, ◌≢◌, ◌+◌, 
 ghost use Rattle.boot_requests.specs.declared.fault.OpenFault.{OpenFault};
 ghost use Rattle.boot_requests.specs.Answer.{kept_outcome};
 ghost use Rattle.boot_requests.specs.Seen.{Seen, IsEvent, IsSeen};
-ghost use Rattle.boot_requests.specs.StoredState.{OpensAs, IsOpenFault};
 ghost use Rattle.boot_requests.specs.Turn.{Turn, plain_start};
 ghost use Rattle.boot_journal.specs.Answering.{AreThere, IsTaken, AreTaken};
 ghost use Rattle.boot_journal.specs.Cause.{IfRefused};
 ghost use Rattle.boot_journal.specs.Followers.{AreOutcomes, AreFollowers};
+ghost use Rattle.boot_journal.specs.Requests.{KeepsState};
+ghost use Rattle.boot_journal.specs.RunFault.{IsOpenRefusal};
 
+use crate::attributes::{AttributesFault, with_attributes, without_attributes};
 use crate::commanding::Run;
 use crate::machine::CallError;
 use boot_requests::{Event, Keeper, OpenFault, Outcome, Reply, laws, run};
 use std::alloc::{AllocError, Global};
 use std::slice;
+use thiserror::Error;
 use uefi_vars::Vars;
 
 /// Events that are run over a machine's variables, as by [`boot_requests::run`]. The answer has one [`Answer`] to each.
@@ -35,46 +38,82 @@ pub struct Answer {
     pub followers: Vec<Outcome>,
 }
 
+/// Why a run of requests refuses what a machine keeps.
+#[derive(Clone, Copy, Debug, PartialEq, Eq, Hash, Error)]
+pub enum RunFault {
+    /// The variables, without their attributes, can't be kept. The fault is never [`OpenFault::OutOfMemory`].
+    #[error("Open {0}")]
+    Open(OpenFault),
+    /// Under the name of a variable of the boot manager there is no byte after its attributes.
+    #[error("NoData")]
+    NoData,
+    /// With its attributes, the data that a variable of the boot manager would have after the run has more than
+    /// [`DATA_MAX`](uefi_vars::DATA_MAX) bytes.
+    #[error("TooLong")]
+    TooLong,
+}
+
+impl From<AttributesFault> for CallError<RunFault> {
+    ghost use Rattle.std.specs.Prelude.{◌≡◌};
+    ghost use Rattle.boot_journal.specs.RunFault.{error_of};
+
+    ghost from_gives = { λ fault made. made ≡ error_of fault };
+
+    fn from(fault: AttributesFault) -> CallError<RunFault> {
+        match fault {
+            AttributesFault::NoData => CallError::Refused(RunFault::NoData),
+            AttributesFault::TooLong => CallError::Refused(RunFault::TooLong),
+            AttributesFault::OutOfMemory => CallError::OutOfMemory,
+        }
+    }
+}
+
 impl Run for Requests<'_> {
-    ghost use Rattle.boot_requests.specs.StoredState.{IsOpenFault};
     ghost use Rattle.boot_journal.specs.Requests.{IsAnswered};
+    ghost use Rattle.boot_journal.specs.RunFault.{IsRunFault};
 
     type Answer = Vec<Answer>;
 
-    type Fault = OpenFault;
+    type Fault = RunFault;
 
     ghost leads = { λ requests from to answers. IsAnswered requests.events.now from to answers.items };
 
-    ghost refuses = { λ requests from fault. IsOpenFault from fault };
+    ghost refuses = { λ requests from fault. IsRunFault requests.events.now from fault };
 
-    /// Opens the variables, and runs the events over them.
-    fn run(&self, alloc: Global, vars: &Vars) -> Result<(Vars, Vec<Answer>), CallError<OpenFault>> {
+    /// Takes the attributes off the variables of the boot manager, opens what is left, runs the events over it, and
+    /// puts the attributes on again: a variable that is replaced has those that it had, and a new one has
+    /// [`BOOT_ATTRIBUTES`](var_stores::BOOT_ATTRIBUTES).
+    fn run(&self, alloc: Global, vars: &Vars) -> Result<(Vars, Vec<Answer>), CallError<RunFault>> {
         laws::a_start_stands_for_no_events();
         laws::variables_open_as_one_state();
         let keeper = open(alloc, vars)?;
         let (keeper, answers) = take_events(alloc, keeper, self.events)?;
-        Ok((keeper.into_vars(), answers))
+        let to = with_attributes(alloc, &keeper.into_vars(), vars)?;
+        Ok((to, answers))
     }
 }
 
-/// What keeps these variables, which are copied.
-fn open(alloc: Global, vars: &Vars) -> Result<Keeper, CallError<OpenFault>>
-    ensures opened { IfOk result (λ keeper. (keeper ≡ plain_start keeper.state) × OpensAs vars.now keeper.state) }
-    ensures refused { IfErr result (λ error. IfRefused error (IsOpenFault vars.now)) }
+/// What keeps the variables of a machine, without their attributes.
+fn open(alloc: Global, vars: &Vars) -> Result<Keeper, CallError<RunFault>>
+    ensures opened { IfOk result (λ keeper. (keeper ≡ plain_start keeper.state) × KeepsState vars.now keeper.state) }
+    ensures refused { IfErr result (λ error. IfRefused error (IsOpenRefusal vars.now)) }
 {
-    match Keeper::open(alloc, vars.copy(alloc)?) {
+    let set = without_attributes(alloc, vars)?;
+    match Keeper::open(alloc, set) {
         Ok(keeper) => Ok(keeper),
         Err(refused) => Err(open_error(refused.fault)),
     }
 }
 
 /// What it is to a run that variables can't be kept.
-fn open_error(fault: OpenFault) -> CallError<OpenFault>
-    ensures { IfRefused result (λ reason. (reason ≡ fault) × (fault ≢ OpenFault.OutOfMemory)) }
+fn open_error(fault: OpenFault) -> CallError<RunFault>
+    ensures { IfRefused result (λ reason. (reason ≡ RunFault.Open fault) × (fault ≢ OpenFault.OutOfMemory)) }
 {
     match fault {
         OpenFault::OutOfMemory => CallError::OutOfMemory,
-        OpenFault::BadOrder | OpenFault::BadNext | OpenFault::BadState => CallError::Refused(fault),
+        OpenFault::BadOrder | OpenFault::BadNext | OpenFault::BadState => {
+            CallError::Refused(RunFault::Open(fault))
+        }
     }
 }
 

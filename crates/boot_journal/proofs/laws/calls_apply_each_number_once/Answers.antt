@@ -11,7 +11,7 @@ pub returns : goal.returns
 returns c = λ w steps first none lead new has.
     let no_keep = keep_is_none c.entry_names_are_those_of_numbers.ensures c.order_and_next_are_no_entries.ensures.len in
     let stand = all_stand (λ changes. Unit {0}) (λ over changes is. tt) c.each_change_is_needed.ensures no_keep w none steps lead new (anything steps) in
-    let marked = all_marked c.a_run_leads_to_a_state.ensures (stands_for w.boot w.store) stand.told.now first stand.now.updates has stand.now.are in (
+    let marked = all_marked c.a_run_leads_to_a_state.ensures no_keep (stands_for w.boot w.store) stand.told.now first stand.now.updates has stand.now.are in (
       stand.now.updates,
       stand.now.by,
       marked.last,

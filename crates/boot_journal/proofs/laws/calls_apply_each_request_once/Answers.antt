@@ -1,12 +1,11 @@
 use Rattle.std.proofs.Common.{sym, subst}
 use Rattle.std.specs.List.{AllByRecursion}
 use Rattle.uefi_vars.specs.Vars.{Variables}
-use Rattle.boot_requests.specs.StoredState.{OpensAs}
 use Rattle.boot_journal.proofs.Applied.{all_applied, agrees}
 use Rattle.boot_journal.proofs.Calls.{all_stand, others_stay, run_of_turns}
 use Rattle.boot_journal.proofs.Updates.{keep_is_none}
 use Rattle.boot_journal.specs.Once.{run_of}
-use Rattle.boot_journal.specs.Requests.{IsOfAnother}
+use Rattle.boot_journal.specs.Requests.{KeepsState, IsOfAnother}
 use Rattle.boot_journal.specs.Store.{stands_for}
 use Rattle.boot_journal.proofs.laws.calls_apply_each_request_once.Goals as goal
 
@@ -22,6 +21,6 @@ returns c = λ w steps start none lead new others opens.
       stand.now.updates,
       stand.now.by,
       applied.now,
-      subst (λ (v : Variables). OpensAs v applied.now) (sym stand.fits.now) applied.opens,
+      subst (λ (v : Variables). KeepsState v applied.now) (sym stand.fits.now) applied.opens,
       agrees applied.now _ applied.alike,
     )

@@ -11,6 +11,6 @@ use Rattle.boot_journal.proofs.laws.each_number_is_applied_once_whatever_firmwar
 pub returns : goal.returns
 returns c = λ w events first updates none new has are.
     let no_keep = keep_is_none c.entry_names_are_those_of_numbers.ensures c.order_and_next_are_no_entries.ensures.len in
-    let marked = all_marked c.a_run_leads_to_a_state.ensures (stands_for w.boot w.store) (happened w events) first updates has are in
+    let marked = all_marked c.a_run_leads_to_a_state.ensures no_keep (stands_for w.boot w.store) (happened w events) first updates has are in
     let whole = all_whole c.each_change_is_needed.ensures no_keep w events none new in
     (marked.last, subst (λ (v : Variables). HasMark v marked.last.next_number marked.last.kept) (sym whole) marked.has, all_once first marked.last updates marked.on)

@@ -1,10 +1,13 @@
-use Rattle.std.proofs.Common.{subst}
-use Rattle.uefi_vars.specs.Vars.{Variables}
-use Rattle.boot_requests.specs.StoredState.{IsOpenFault}
-use Rattle.boot_journal.proofs.Running.{refused_then}
+use Rattle.boot_journal.specs.Cause.{IfRefused}
+use Rattle.boot_journal.specs.RunFault.{IsOpenRefusal}
+use Rattle.boot_journal.proofs.Running.{err_then, refused_then, refused_without}
 use Rattle.boot_journal.proofs.requests.open.Goals as goal
+
+pub returns-in_err-set-clause-refused : goal.returns-in_err-set-clause-refused
+returns-in_err-set-clause-refused c =
+    err_then c.from_residual.result _ (λ error. IfRefused error (IsOpenRefusal c.args.vars.now)) c.from_residual.ensures.1
+    (λ error is. refused_without error c.in_err-set.field-0.0 c.args.vars.now is c.in_err-set.ensures.fault)
 
 pub returns-in-Err-clause-refused : goal.returns-in-Err-clause-refused
 returns-in-Err-clause-refused c =
-    refused_then c.open_error.result c.in-Err.refused.fault c.args.vars.now c.open_error.ensures
-    (λ some. subst (λ (v : Variables). IsOpenFault v c.in-Err.refused.fault) c.in_ok-copy.ensures.equal (c.in-Err.ensures.fault some))
+    refused_then c.open_error.result c.in-Err.refused.fault c.args.vars.now c.in_ok-set.set c.in_ok-set.ensures.set c.open_error.ensures c.in-Err.ensures.fault

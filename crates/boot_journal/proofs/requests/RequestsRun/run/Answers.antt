@@ -1,8 +1,19 @@
-use Rattle.boot_journal.proofs.Running.{answered}
+use Rattle.boot_journal.specs.Cause.{IfRefused}
+use Rattle.boot_journal.specs.RunFault.{IsRunFault}
+use Rattle.boot_journal.proofs.Running.{err_then, refused_with, too_far, answered}
 use Rattle.boot_journal.proofs.requests.RequestsRun.run.Goals as goal
 
 pub returns-clause-done : goal.returns-clause-done
 returns-clause-done c =
     let opened = c.in_ok-keeper.ensures.opened in
-    answered c.a_start_stands_for_no_events.ensures c.variables_open_as_one_state.ensures c.args.vars.now c.into_vars.result c.in_ok-keeper.keeper c.in_ok-keeper-2.keeper
-    c.args.self.now.events.now c.in_ok-keeper-2.answers.items opened.0 opened.1 c.in_ok-keeper-2.ensures c.into_vars.ensures.image
+    answered c.a_start_stands_for_no_events.ensures c.variables_open_as_one_state.ensures c.args.vars.now c.into_vars.result c.in_ok-to.to c.in_ok-keeper.keeper c.in_ok-keeper-2.keeper
+    c.args.self.now.events.now c.in_ok-keeper-2.answers.items opened.0 opened.1 c.in_ok-keeper-2.ensures c.into_vars.ensures.image c.in_ok-to.ensures.kept
+
+pub returns-in_err-to-clause-refused : goal.returns-in_err-to-clause-refused
+returns-in_err-to-clause-refused c =
+    let opened = c.in_ok-keeper.ensures.opened in
+    let events = c.args.self.now.events.now in
+    err_then c.from_residual-in_err-to.result _ (λ error. IfRefused error (IsRunFault events c.args.vars.now)) c.from_residual-in_err-to.ensures.1
+    (λ error is. refused_with error c.in_err-to.field-0.0 events c.args.vars.now c.into_vars.result is c.in_err-to.ensures.fault
+    (too_far c.a_start_stands_for_no_events.ensures c.args.vars.now c.into_vars.result c.in_ok-keeper.keeper c.in_ok-keeper-2.keeper events c.in_ok-keeper-2.answers.items
+    opened.0 opened.1 c.in_ok-keeper-2.ensures c.into_vars.ensures.image))

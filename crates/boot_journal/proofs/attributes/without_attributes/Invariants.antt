@@ -1,0 +1,13 @@
+use Rattle.std.proofs.Common.{◌≡◌}
+use Rattle.uefi_vars.specs.Iter.{variables_left}
+use Rattle.uefi_vars.specs.NameChanges.{after_each}
+use Rattle.boot_journal.specs.Attributes.{data_in, data_of}
+use Rattle.boot_journal.proofs.WithAttributes.{AreIn, rewritten}
+use Rattle.boot_journal.proofs.attributes.without_attributes.Given as goal
+
+-- what is there, with what is still to be set, and what is still to come
+abbrev pub invariant-loop-name : goal.invariant-loop-name
+invariant-loop-name l = record {
+  all : AreIn l.vars (variables_left l.name-iterator);
+  is : after_each l.set (rewritten data_in (variables_left l.name-iterator)) ≡ data_of l.vars;
+}

@@ -1,0 +1,44 @@
+-- Why a run of requests refuses what a machine keeps.
+use Rattle.std.specs.Prelude.{List, []}
+use Rattle.uefi_vars.specs.Vars.{Variables}
+use Rattle.boot_requests.specs.declared.event.Event.{Event}
+use Rattle.boot_requests.specs.Run.{run_followed_by, state_at}
+use Rattle.boot_requests.specs.Seen.{Seen, AreSeen}
+use Rattle.boot_requests.specs.State.{State, IsImage}
+use Rattle.boot_requests.specs.StoredState.{IsOpenFault}
+use Rattle.boot_journal.specs.declared.attributes.AttributesFault.{AttributesFault}
+use Rattle.boot_journal.specs.declared.attributes.AttributesFault.TheVariants as attributes
+use Rattle.boot_journal.specs.declared.machine.CallError.{CallError}
+use Rattle.boot_journal.specs.declared.machine.CallError.TheVariants.{OutOfMemory, Refused}
+use Rattle.boot_journal.specs.declared.requests.RunFault.{RunFault}
+use Rattle.boot_journal.specs.declared.requests.RunFault.TheVariants.{Open, NoData, TooLong}
+use Rattle.boot_journal.specs.Attributes.{data_of, HasNoData, HasLongData}
+use Rattle.boot_journal.specs.Requests.{KeepsState}
+
+-- the events lead from what is kept to a set that has too much data for attributes
+pub record LeadsTooFar (events : List Event) (from : Variables) : Type 0 where
+  pub seen : List Seen
+  pub are : AreSeen events seen
+  pub state : State
+  pub keeps : KeepsState from state
+  pub to : Variables
+  pub leads : IsImage (state_at state (run_followed_by [] seen)) to
+  pub long : HasLongData to
+
+-- why a run of these events refuses these variables
+abbrev pub IsRunFault : List Event → Variables → RunFault → Type 0
+IsRunFault events from (Open fault) = IsOpenFault (data_of from) fault
+IsRunFault events from NoData = HasNoData from
+IsRunFault events from TooLong = LeadsTooFar events from
+
+-- for private functions: why no run is begun over these variables
+abbrev pub IsOpenRefusal : Variables → RunFault → Type 0
+IsOpenRefusal from (Open fault) = IsOpenFault (data_of from) fault
+IsOpenRefusal from NoData = HasNoData from
+IsOpenRefusal from TooLong = ⊥
+
+-- what a fault of attributes is to a run
+abbrev pub error_of : AttributesFault → CallError RunFault
+error_of attributes.NoData = Refused NoData
+error_of attributes.TooLong = Refused TooLong
+error_of attributes.OutOfMemory = OutOfMemory

@@ -1,0 +1,128 @@
+//! Attributes of a machine's variables.
+
+ghost use Rattle.std.specs.Prelude.{◌≡◌, ◌++◌, drop, IfOk, IfErr, OnOk};
+ghost use Rattle.std.specs.FinMap as map;
+ghost use Rattle.std.specs.Option.{option_map};
+ghost use Rattle.uefi_vars.specs.Name.{IsName};
+ghost use Rattle.boot_journal.specs.Attributes.{attributes_len, attributes_in, data_of, with_attributes, IsFaultWithout, IsFaultWith, IsFaultOf};
+ghost use Rattle.boot_journal.specs.declared.attributes.AttributesFault.TheVariants as fault;
+
+use std::alloc::{AllocError, Global};
+use thiserror::Error;
+use uefi_vars::{PutFault, Vars};
+use var_stores::{BOOT_ATTRIBUTES, is_boot_name, laws as store_laws};
+
+/// How many bytes the attributes of a variable have (UEFI 2.10, 8.2).
+pub const ATTRIBUTES_LEN: usize = 4;
+
+/// Why attributes can't be taken off variables, or put on them.
+#[derive(Clone, Copy, Debug, PartialEq, Eq, Hash, Error)]
+pub enum AttributesFault {
+    /// Under the name of a variable of the boot manager there is no byte after its attributes.
+    #[error("NoData")]
+    NoData,
+    /// With its attributes, the data of a variable of the boot manager has more than [`DATA_MAX`](uefi_vars::DATA_MAX)
+    /// bytes.
+    #[error("TooLong")]
+    TooLong,
+    /// Memory was refused.
+    #[error("OutOfMemory")]
+    OutOfMemory,
+}
+
+impl From<AllocError> for AttributesFault {
+    ghost from_gives = { λ _ made. made ≡ fault.OutOfMemory };
+
+    fn from(_refusal: AllocError) -> AttributesFault {
+        AttributesFault::OutOfMemory
+    }
+}
+
+/// What a machine is to keep of a set: under the name of a variable of the boot manager (Boot####, BootOrder or
+/// BootNext; UEFI 2.10, 3.3) its attributes, in [`ATTRIBUTES_LEN`] bytes, and then its data, and under another name its
+/// data alone. The attributes are the first bytes of what `there` has under the name, or [`BOOT_ATTRIBUTES`] if it has
+/// nothing there, or fewer bytes. So `there` may be what the machine has kept so far, or attributes alone.
+///
+/// # Errors
+///
+/// [`AttributesFault::TooLong`] if the data of a variable of the boot manager has more than
+/// [`DATA_MAX`](uefi_vars::DATA_MAX) bytes together with its attributes, and [`AttributesFault::OutOfMemory`] if memory
+/// was refused.
+pub fn with_attributes(alloc: Global, vars: &Vars, there: &Vars) -> Result<Vars, AttributesFault>
+    ensures kept { IfOk result (λ kept. kept ≡ with_attributes there.now vars.now) }
+    ensures fault { IfErr result (IsFaultWith vars.now) }
+{
+    let mut kept = vars.copy(alloc)?;
+    for (name, value) in vars.iter() {
+        if is_boot_name(name) {
+            let bytes = joined(alloc, there.get(name), value)?;
+            store(&mut kept, name, bytes)?;
+        }
+    }
+    Ok(kept)
+}
+
+/// The set of what a machine keeps: of each variable of the boot manager (Boot####, BootOrder or BootNext; UEFI 2.10,
+/// 3.3) what comes after the [`ATTRIBUTES_LEN`] bytes of its attributes, and of another one all bytes.
+///
+/// # Errors
+///
+/// [`AttributesFault::NoData`] if a variable of the boot manager has no byte after its attributes, and
+/// [`AttributesFault::OutOfMemory`] if memory was refused.
+pub fn without_attributes(alloc: Global, vars: &Vars) -> Result<Vars, AttributesFault>
+    ensures set { IfOk result (λ set. set ≡ data_of vars.now) }
+    ensures fault { IfErr result (IsFaultWithout vars.now) }
+{
+    let mut set = vars.copy(alloc)?;
+    for (name, kept) in vars.iter() {
+        if is_boot_name(name) {
+            let bytes = Vec::from_slice(alloc, data_in(kept))?;
+            store(&mut set, name, bytes)?;
+        }
+    }
+    Ok(set)
+}
+
+/// The attributes of what is there, and then this value.
+fn joined(alloc: Global, there: Option<&[u8]>, value: &[u8]) -> Result<Vec<u8>, AllocError>
+    ensures { IfOk result (λ bytes. bytes.items ≡ attributes_in (option_map (λ b. b.now) there.entry) ++ value.now) }
+{
+    let mut bytes = Vec::from_slice(alloc, attributes_in(there))?;
+    bytes.extend_from_slice(value)?;
+    Ok(bytes)
+}
+
+/// The attributes of what is there.
+fn attributes_in(there: Option<&[u8]>) -> &[u8]
+    ensures { result.now ≡ attributes_in (option_map (λ b. b.now) there.entry) }
+{
+    store_laws::constants_are_those_of_the_definitions();
+    match there {
+        Some(kept) if kept.len() >= ATTRIBUTES_LEN => &kept[..ATTRIBUTES_LEN],
+        _ => &BOOT_ATTRIBUTES,
+    }
+}
+
+/// The data after the attributes in what is kept.
+fn data_in(kept: &[u8]) -> &[u8]
+    ensures { result.now ≡ drop attributes_len kept.now }
+{
+    kept.get(ATTRIBUTES_LEN..).unwrap_or(&[])
+}
+
+/// Sets the variable of this name to these bytes.
+fn store(vars: &mut Vars, name: &str, bytes: Vec<u8>) -> Result<(), AttributesFault>
+    requires { IsName name.now }
+    ensures stored { OnOk result (vars.new ≡ map.insert vars.old name.now bytes.items) }
+    ensures fault { IfErr result (IsFaultOf bytes.items) }
+{
+    match vars.put_vec(name, bytes) {
+        Ok(()) => Ok(()),
+        Err(refusal) => match refusal.fault {
+            PutFault::EmptyData => Err(AttributesFault::NoData),
+            PutFault::DataTooLong => Err(AttributesFault::TooLong),
+            PutFault::OutOfMemory => Err(AttributesFault::OutOfMemory),
+            PutFault::BadName => unreachable!(),
+        },
+    }
+}
