@@ -61,6 +61,7 @@ stops_at end (byte ∷ bytes) front f total (suc count, fits, is) some read = is
 
 pub fails : (f : JournalFault) (end : ℕ) (rest : List ℕ) (front : Changes) (total : Result Changes JournalFault) → IsOnTheWay end rest front total → 0 < length rest → Fails f (change_at end rest) → Fails f total
 fails fault.BadMagic end rest front total on some read = stops_at end rest front fault.BadMagic total on some read
+fails (fault.BadMachine place) end rest front total on some read = stops_at end rest front (fault.BadMachine place) total on some read
 fails (fault.Truncated place) end rest front total on some read = stops_at end rest front (fault.Truncated place) total on some read
 fails (fault.ValueTooLong place) end rest front total on some read = stops_at end rest front (fault.ValueTooLong place) total on some read
 fails (fault.BadCourse place) end rest front total on some read = stops_at end rest front (fault.BadCourse place) total on some read

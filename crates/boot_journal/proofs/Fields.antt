@@ -10,14 +10,15 @@ use Rattle.uefi_vars.specs.Name.{IsNameByte, name_max, IsName}
 use Rattle.uefi_vars.specs.Vars.{data_max, IsData}
 use Rattle.uefi_vars.specs.Set.{name_bytes, data_bytes}
 use Rattle.uefi_vars.specs.Fault.{StatesLength}
-use Rattle.uefi_vars.proofs.Bytes.{AllByRecursion-first, AllByRecursion-behind}
+use Rattle.uefi_vars.proofs.Bytes.{IsBytes, recursion_from_bytes, AllByRecursion-first, AllByRecursion-behind}
 use Rattle.uefi_vars.proofs.Faults.{four_state}
 use Rattle.var_stores.specs.BootChange.{is_boot_name}
 use Rattle.boot_journal.specs.declared.fault.JournalFault.{JournalFault}
 use Rattle.boot_journal.specs.declared.fault.JournalFault.TheVariants as fault
+use Rattle.boot_journal.specs.MachineName.{machine_name_max, IsMachineName}
 use Rattle.boot_journal.specs.Bytes.{contents, value_bytes}
-use Rattle.boot_journal.specs.Fault.{IsCutValue, HasLongValue, HasCutIdentity, HasBadIdentityLength, HasBadCharacter, HasCutName, HasBadName}
-use Rattle.boot_journal.specs.Reader.{place_of, stored, value_of, value_at, is_printing, identity_of, identity_at, name_of, name_at}
+use Rattle.boot_journal.specs.Fault.{HasBadMachineLength, IsCutMachine, IsMachineFault, IsCutValue, HasLongValue, HasCutIdentity, HasBadIdentityLength, HasBadCharacter, HasCutName, HasBadName}
+use Rattle.boot_journal.specs.Reader.{place_of, len_at, stored, value_of, value_at, machine_of, machine_at, is_printing, identity_of, identity_at, name_of, name_at}
 
 -- what is read at the start of the bytes, and is spelled so there
 pub record Takes {A : Type 0} (read : Result (A × List ℕ) JournalFault) (spelling : A → List ℕ) (Is : A → Type 0) (bytes : List ℕ) : Type 0 where
@@ -32,6 +33,45 @@ pub record Stops {A : Type 0} (read : Result A JournalFault) (P : JournalFault �
   pub fault_is : JournalFault
   pub read_is : read ≡ Err fault_is
   pub here : P fault_is
+
+-- ---- a length of four bytes
+
+four_at : (end : ℕ) (four behind : List ℕ) → length four ≡ 4 → len_at end (four ++ behind) ≡ Ok (from_le_bytes w32 four, behind)
+unfolding len_at
+four_at end four behind size =
+    let enough : ltb (length (four ++ behind)) 4 ≡ false = le-ltb _ _ (omega (arith, size, length-append four behind)) in
+    rw (enough, take_at four behind 4 size, drop_at four behind 4 size) refl
+
+-- a length that is stated is read
+len_stated : (end : ℕ) (bytes : List ℕ) (len : ℕ) (behind : List ℕ) → StatesLength bytes len behind → len_at end bytes ≡ Ok (len, behind)
+len_stated end bytes len behind stated =
+    ap (len_at end) stated.parts ∙ four_at end (to_le_bytes w32 len) behind refl
+    ∙ ap (λ (n : ℕ). Ok (n, behind)) (from_le_bytes-to_le_bytes_4 len stated.four_bytes)
+
+len_short : (end : ℕ) (bytes : List ℕ) → length bytes < 4 → len_at end bytes ≡ Err (fault.Truncated (place_of end bytes))
+unfolding len_at
+len_short end bytes short =
+    let few : ltb (length bytes) 4 ≡ true = lt-ltb _ _ short in
+    rw few refl
+
+-- what is at the start of what follows the four bytes has bytes
+pub first_fits : (bytes behind first rest : List ℕ) → IsBytes bytes → behind ≡ drop 4 bytes → behind ≡ first ++ rest → AllByRecursion IsByte first
+first_fits bytes behind first rest fits is parts =
+    let all = subst (AllByRecursion IsByte) (sym (take-append-drop 4 bytes)) (recursion_from_bytes bytes fits) in
+    AllByRecursion-first IsByte first rest (subst (AllByRecursion IsByte) (sym is ∙ parts) (AllByRecursion-behind IsByte (take 4 bytes) (drop 4 bytes) all))
+
+-- there are fewer than four bytes, or they state a length
+pub record HasLength (bytes : List ℕ) : Type 0 where
+  pub len : ℕ
+  pub behind : List ℕ
+  pub stated : StatesLength bytes len behind
+
+len_ends : (bytes : List ℕ) → AllByRecursion IsByte bytes → (length bytes < 4) ⊎ HasLength bytes
+len_ends [] fits = inl (omega arith)
+len_ends (a ∷ []) fits = inl (omega arith)
+len_ends (a ∷ b ∷ []) fits = inl (omega arith)
+len_ends (a ∷ b ∷ c ∷ []) fits = inl (omega arith)
+len_ends (a ∷ b ∷ c ∷ d ∷ rest) fits = inr (record { len = from_le_bytes w32 (a ∷ b ∷ c ∷ d ∷ []); behind = rest; stated = four_state a b c d rest fits })
 
 -- ---- a value
 
@@ -52,17 +92,12 @@ stored-contents None is = refl
 stored-contents (Some []) is = absurd (is.some refl)
 stored-contents (Some (byte ∷ bytes)) is = refl
 
-four_at : (end : ℕ) (four behind : List ℕ) → length four ≡ 4 → value_at end (four ++ behind) ≡ value_of (place_of end (four ++ behind)) (from_le_bytes w32 four) behind
-unfolding value_at
-four_at end four behind size =
-    let enough : ltb (length (four ++ behind)) 4 ≡ false = le-ltb _ _ (omega (arith, size, length-append four behind)) in
-    rw (enough, take_at four behind 4 size, drop_at four behind 4 size) refl
-
 -- a value whose length is stated is read by that length
 stated_at : (end : ℕ) (bytes : List ℕ) (len : ℕ) (behind : List ℕ) → StatesLength bytes len behind → value_at end bytes ≡ value_of (place_of end bytes) len behind
+unfolding value_at
 stated_at end bytes len behind stated =
-    subst (λ (b : List ℕ). value_at end b ≡ value_of (place_of end b) len behind) (sym stated.parts)
-    (four_at end (to_le_bytes w32 len) behind refl ∙ ap (λ (n : ℕ). value_of (place_of end (to_le_bytes w32 len ++ behind)) n behind) (from_le_bytes-to_le_bytes_4 len stated.four_bytes))
+    let read = len_stated end bytes len behind stated in
+    rw read refl
 
 value_good : (place len : ℕ) (behind : List ℕ) → len ≤ data_max → len ≤ length behind → value_of place len behind ≡ Ok (stored (take len behind), drop len behind)
 value_good place len behind short within =
@@ -84,8 +119,8 @@ value_long place len behind long =
 short_fails : (end : ℕ) (bytes : List ℕ) → length bytes < 4 → value_at end bytes ≡ Err (fault.Truncated (place_of end bytes))
 unfolding value_at
 short_fails end bytes short =
-    let few : ltb (length bytes) 4 ≡ true = lt-ltb _ _ short in
-    rw few refl
+    let read = len_short end bytes short in
+    rw read refl
 
 pub cut_value_fails : (end : ℕ) (bytes : List ℕ) → IsCutValue bytes → value_at end bytes ≡ Err (fault.Truncated (place_of end bytes))
 cut_value_fails end bytes (inl short) = short_fails end bytes short
@@ -148,15 +183,126 @@ stated_ends end bytes len behind fits stated =
       ]
     ]
 
-short_ends : (end : ℕ) (bytes : List ℕ) → length bytes < 4 → ValueEnds end bytes
-short_ends end bytes short = inr (record { fault_is = fault.Truncated (place_of end bytes); read_is = short_fails end bytes short; here = inl (refl, inl short) })
-
 pub value_ends : (end : ℕ) (bytes : List ℕ) → AllByRecursion IsByte bytes → ValueEnds end bytes
-value_ends end [] fits = short_ends end [] (omega arith)
-value_ends end (a ∷ []) fits = short_ends end (a ∷ []) (omega arith)
-value_ends end (a ∷ b ∷ []) fits = short_ends end (a ∷ b ∷ []) (omega arith)
-value_ends end (a ∷ b ∷ c ∷ []) fits = short_ends end (a ∷ b ∷ c ∷ []) (omega arith)
-value_ends end (a ∷ b ∷ c ∷ d ∷ rest) fits = stated_ends end (a ∷ b ∷ c ∷ d ∷ rest) _ rest fits (four_state a b c d rest fits)
+value_ends end bytes fits =
+    elim (len_ends bytes fits) [
+      | inl short ↦ inr (record { fault_is = fault.Truncated (place_of end bytes); read_is = short_fails end bytes short; here = inl (refl, inl short) })
+      | inr h ↦ stated_ends end bytes h.len h.behind fits h.stated
+    ]
+
+-- ---- the name of a machine
+
+machine_stated : (end : ℕ) (bytes : List ℕ) (len : ℕ) (behind : List ℕ) → StatesLength bytes len behind → machine_at end bytes ≡ machine_of (place_of end bytes) len behind
+unfolding machine_at
+machine_stated end bytes len behind stated =
+    let read = len_stated end bytes len behind stated in
+    rw read refl
+
+machine_short : (end : ℕ) (bytes : List ℕ) → length bytes < 4 → machine_at end bytes ≡ Err (fault.Truncated (place_of end bytes))
+unfolding machine_at
+machine_short end bytes short =
+    let read = len_short end bytes short in
+    rw read refl
+
+-- a length that isn't 0 nor too large
+machine_len : (len : ℕ) → (0 < len) × (len ≤ machine_name_max) → (eqb len 0 ≡ false) × (ltb machine_name_max len ≡ false)
+machine_len len good = (ne_eqb len 0 (λ e. omega (arith, e, good)), le-ltb _ _ good.1)
+
+machine_good : (place len : ℕ) (behind : List ℕ) → (0 < len) × (len ≤ machine_name_max) → len ≤ length behind → machine_of place len behind ≡ Ok (take len behind, drop len behind)
+machine_good place len behind good within =
+    let tests = machine_len len good in
+    let some = tests.0 in
+    let short = tests.1 in
+    let enough : ltb (length behind) len ≡ false = le-ltb _ _ within in
+    rw (some, short, enough) refl
+
+machine_cut : (place len : ℕ) (behind : List ℕ) → (0 < len) × (len ≤ machine_name_max) → length behind < len → machine_of place len behind ≡ Err (fault.Truncated place)
+machine_cut place len behind good cut =
+    let tests = machine_len len good in
+    let some = tests.0 in
+    let short = tests.1 in
+    let few : ltb (length behind) len ≡ true = lt-ltb _ _ cut in
+    rw (some, short, few) refl
+
+machine_bad : (place len : ℕ) (behind : List ℕ) → (len ≡ 0) ⊎ (machine_name_max < len) → machine_of place len behind ≡ Err (fault.BadMachine place)
+machine_bad place len behind (inl none) =
+    let test : eqb len 0 ≡ true = eq-eqb len 0 none in
+    rw test refl
+machine_bad place len behind (inr long) =
+    let some : eqb len 0 ≡ false = ne_eqb len 0 (λ e. omega (arith, e, long)) in
+    let test : ltb machine_name_max len ≡ true = lt-ltb _ _ long in
+    rw (some, test) refl
+
+cut_machine_fails : (end : ℕ) (bytes : List ℕ) → IsCutMachine bytes → machine_at end bytes ≡ Err (fault.Truncated (place_of end bytes))
+cut_machine_fails end bytes (inl short) = machine_short end bytes short
+cut_machine_fails end bytes (inr h) = machine_stated end bytes h.len h.behind h.stated ∙ machine_cut (place_of end bytes) h.len h.behind h.good h.cut
+
+bad_machine_fails : (end : ℕ) (bytes : List ℕ) → HasBadMachineLength bytes → machine_at end bytes ≡ Err (fault.BadMachine (place_of end bytes))
+bad_machine_fails end bytes h = machine_stated end bytes h.len h.behind h.stated ∙ machine_bad (place_of end bytes) h.len h.behind h.bad
+
+pub machine_fails : (end : ℕ) (bytes : List ℕ) (f : JournalFault) → IsMachineFault (place_of end bytes) bytes f → machine_at end bytes ≡ Err f
+machine_fails end bytes f (inl h) = cut_machine_fails end bytes h.1 ∙ ap (λ (g : JournalFault). Err g) (sym h.0)
+machine_fails end bytes f (inr h) = bad_machine_fails end bytes h.1 ∙ ap (λ (g : JournalFault). Err g) (sym h.0)
+
+pub machine_again : (end : ℕ) (name rest : List ℕ) → IsMachineName name → machine_at end (data_bytes name ++ rest) ≡ Ok (name, rest)
+machine_again end name rest is =
+    let some : length name ≢ 0 = λ none. is.some (nil_from_length name none) in
+    let short : length name ≤ machine_name_max = is.len in
+    let good : (0 < length name) × (length name ≤ machine_name_max) = (omega (arith, some), short) in
+    let stated : StatesLength (data_bytes name ++ rest) (length name) (name ++ rest) = record {
+      four_bytes = omega (arith, short);
+      parts = append_assoc (to_le_bytes w32 (length name)) name rest;
+    } in
+    machine_stated end (data_bytes name ++ rest) (length name) (name ++ rest) stated
+    ∙ machine_good (place_of end (data_bytes name ++ rest)) (length name) (name ++ rest) good (omega (arith, length-append name rest))
+    ∙ rw (take_at name rest (length name) refl, drop_at name rest (length name) refl) refl
+
+abbrev pub MachineEnds : ℕ → List ℕ → Type 0
+MachineEnds end bytes =
+    Takes (machine_at end bytes) data_bytes IsMachineName bytes ⊎ Stops (machine_at end bytes) (IsMachineFault (place_of end bytes) bytes)
+
+machine_stops : (end : ℕ) (bytes : List ℕ) (f : JournalFault) → IsMachineFault (place_of end bytes) bytes f → MachineEnds end bytes
+machine_stops end bytes f h = inr (record { fault_is = f; read_is = machine_fails end bytes f h; here = h })
+
+machine_takes : (end : ℕ) (bytes : List ℕ) (len : ℕ) (behind : List ℕ) → AllByRecursion IsByte bytes → StatesLength bytes len behind → (0 < len) × (len ≤ machine_name_max) → len ≤ length behind → MachineEnds end bytes
+machine_takes end bytes len behind fits stated good within =
+    let name = take len behind in
+    let size : length name ≡ len = length-take-le len behind within in
+    let behind_fits = AllByRecursion-behind IsByte (to_le_bytes w32 len) behind (subst (AllByRecursion IsByte) stated.parts fits) in
+    inl (record {
+      value = name;
+      rest = drop len behind;
+      read_is = machine_stated end bytes len behind stated ∙ machine_good (place_of end bytes) len behind good within;
+      is = record {
+        some = λ none. let empty : length name ≡ 0 = ap length none in omega (arith, good, size, empty);
+        len = omega (arith, good, size);
+        bytes = AllByRecursion-first IsByte name (drop len behind) (subst (AllByRecursion IsByte) (sym (take-append-drop len behind)) behind_fits);
+      };
+      parts = stated.parts ∙ ap (λ (t : List ℕ). to_le_bytes w32 len ++ t) (sym (take-append-drop len behind)) ∙ sym (append_assoc (to_le_bytes w32 len) name (drop len behind))
+          ∙ ap (λ (n : ℕ). (to_le_bytes w32 n ++ name) ++ drop len behind) (sym size);
+    })
+
+machine_by : (end : ℕ) (bytes : List ℕ) (len : ℕ) (behind : List ℕ) → AllByRecursion IsByte bytes → StatesLength bytes len behind → MachineEnds end bytes
+machine_by end bytes len behind fits stated =
+    elim (cases_eq len 0) [
+      | inl none ↦ machine_stops end bytes (fault.BadMachine (place_of end bytes)) (inr (refl, record { len = len; behind = behind; stated = stated; bad = inl none }))
+      | inr some ↦ elim (cases_lt machine_name_max len) [
+        | inl long ↦ machine_stops end bytes (fault.BadMachine (place_of end bytes)) (inr (refl, record { len = len; behind = behind; stated = stated; bad = inr long }))
+        | inr short ↦
+            let good : (0 < len) × (len ≤ machine_name_max) = (omega (arith, some), short) in
+            elim (cases_lt (length behind) len) [
+              | inl cut ↦ machine_stops end bytes (fault.Truncated (place_of end bytes)) (inl (refl, inr (record { len = len; behind = behind; stated = stated; good = good; cut = cut })))
+              | inr within ↦ machine_takes end bytes len behind fits stated good within
+            ]
+      ]
+    ]
+
+pub machine_ends : (end : ℕ) (bytes : List ℕ) → AllByRecursion IsByte bytes → MachineEnds end bytes
+machine_ends end bytes fits =
+    elim (len_ends bytes fits) [
+      | inl short ↦ machine_stops end bytes (fault.Truncated (place_of end bytes)) (inl (refl, inl short))
+      | inr h ↦ machine_by end bytes h.len h.behind fits h.stated
+    ]
 
 -- ---- an identity
 

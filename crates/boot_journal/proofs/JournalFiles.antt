@@ -1,5 +1,5 @@
 -- What journal files spell, and what the reader's answer says of the bytes.
-use Rattle.std.proofs.Common.{◌≡◌, ◌≢◌, ◌⊎◌, ℕ, Bool, true, eqb, List, [], ◌∷◌, ◌++◌, drop, Option, Some, None, IfSome, Result, Ok, Err, refl, sym, ap, subst, ◌∙◌, inl, inr, arith}
+use Rattle.std.proofs.Common.{◌≡◌, ◌≢◌, ◌⊎◌, ℕ, Bool, true, eqb, List, [], ◌∷◌, ◌++◌, length, drop, Option, Some, None, IfSome, Result, Ok, Err, refl, sym, ap, subst, ◌∙◌, inl, inr, arith}
 use Rattle.std.specs.Prelude.{IfOk, IfErr}
 use Rattle.std.specs.List.{AllByRecursion, starts_with}
 use Rattle.std.proofs.lemmas.Bool.Decides.{Decides-eqb}
@@ -13,41 +13,46 @@ use Rattle.uefi_vars.proofs.Bytes.{AllByRecursion-append}
 use Rattle.var_stores.specs.BootChange.{ChangeParts, is_boot_name}
 use Rattle.boot_journal.specs.declared.fault.JournalFault.{JournalFault}
 use Rattle.boot_journal.specs.declared.fault.JournalFault.TheVariants as fault
+use Rattle.boot_journal.specs.declared.journal_file.JournalFile.{JournalFile}
 use Rattle.boot_journal.specs.Journal.{JournalParts, PendingParts, Makes, TakesBack}
 use Rattle.boot_journal.specs.JournalValue.{IsPending, IsJournal}
 use Rattle.boot_journal.specs.Values.{IsBootChange}
-use Rattle.boot_journal.specs.Bytes.{journal_magic, value_bytes, change_bytes, changes_bytes, pending_bytes, journal_bytes, SpellsJournal}
-use Rattle.boot_journal.specs.Fault.{HasNoMagic, IsJournalFault}
-use Rattle.boot_journal.specs.Reader.{Fails, Gives, journal_at}
-use Rattle.boot_journal.proofs.Readings.{journal_ends}
-use Rattle.boot_journal.proofs.Spellings.{journal_again, fault_again}
+use Rattle.boot_journal.specs.MachineName.{IsMachineName}
+use Rattle.boot_journal.specs.Bytes.{magic_1, magic_2, value_bytes, change_bytes, changes_bytes, pending_bytes, body_bytes, head_bytes, file_bytes, IsJournalFile, SpellsJournalFile}
+use Rattle.boot_journal.specs.Fault.{IsJournalFault}
+use Rattle.boot_journal.specs.Reader.{Fails, Gives, file_at}
+use Rattle.boot_journal.proofs.Readings.{file_ends}
+use Rattle.boot_journal.proofs.Spellings.{file_again, fault_again}
+
+abbrev Answer : Type 0
+Answer = Result JournalFile JournalFault
 
 -- ---- laws
 
-pub one_spelling : (journal : JournalParts) (a b : List ℕ) → SpellsJournal a journal → SpellsJournal b journal → a ≡ b
-one_spelling journal a b p q = p.1 ∙ sym q.1
+pub one_spelling : (file : JournalFile) (a b : List ℕ) → SpellsJournalFile a file → SpellsJournalFile b file → a ≡ b
+one_spelling file a b p q = p.1 ∙ sym q.1
 
-same_value : (read : Result JournalParts JournalFault) (a b : JournalParts) → read ≡ Ok a → read ≡ Ok b → a ≡ b
+same_value : (read : Answer) (a b : JournalFile) → read ≡ Ok a → read ≡ Ok b → a ≡ b
 same_value read a b p q = cc
 
-same_fault : (read : Result JournalParts JournalFault) (f g : JournalFault) → read ≡ Err f → read ≡ Err g → f ≡ g
+same_fault : (read : Answer) (f g : JournalFault) → read ≡ Err f → read ≡ Err g → f ≡ g
 same_fault read f g p q = cc
 
-not_both : (read : Result JournalParts JournalFault) (a : JournalParts) (f : JournalFault) → read ≡ Ok a → read ≡ Err f → ⊥
+not_both : (read : Answer) (a : JournalFile) (f : JournalFault) → read ≡ Ok a → read ≡ Err f → ⊥
 not_both read a f p q = cc
 
-pub one_journal : (bytes : List ℕ) (a b : JournalParts) → SpellsJournal bytes a → SpellsJournal bytes b → a ≡ b
-one_journal bytes a b p q = same_value (journal_at bytes) a b (journal_again bytes a p) (journal_again bytes b q)
+pub one_journal : (bytes : List ℕ) (a b : JournalFile) → SpellsJournalFile bytes a → SpellsJournalFile bytes b → a ≡ b
+one_journal bytes a b p q = same_value (file_at bytes) a b (file_again bytes a p) (file_again bytes b q)
 
 pub one_fault : (bytes : List ℕ) (f g : JournalFault) → IsJournalFault bytes f → IsJournalFault bytes g → f ≡ g
-one_fault bytes f g p q = same_fault (journal_at bytes) f g (fault_again bytes f p) (fault_again bytes g q)
+one_fault bytes f g p q = same_fault (file_at bytes) f g (fault_again bytes f p) (fault_again bytes g q)
 
-pub no_journal : (bytes : List ℕ) (f : JournalFault) (journal : JournalParts) → IsJournalFault bytes f → SpellsJournal bytes journal → ⊥
-no_journal bytes f journal p q = not_both (journal_at bytes) journal f (journal_again bytes journal q) (fault_again bytes f p)
+pub no_journal : (bytes : List ℕ) (f : JournalFault) (file : JournalFile) → IsJournalFault bytes f → SpellsJournalFile bytes file → ⊥
+no_journal bytes f file p q = not_both (file_at bytes) file f (file_again bytes file q) (fault_again bytes f p)
 
-pub either : (bytes : List ℕ) → AllByRecursion IsByte bytes → ((journal : JournalParts) × SpellsJournal bytes journal) ⊎ ((f : JournalFault) × IsJournalFault bytes f)
+pub either : (bytes : List ℕ) → AllByRecursion IsByte bytes → ((file : JournalFile) × SpellsJournalFile bytes file) ⊎ ((f : JournalFault) × IsJournalFault bytes f)
 either bytes fits =
-    elim (journal_ends bytes fits) [ inl journal ↦ inl (journal.value, (journal.is, journal.parts)) | inr stop ↦ inr (stop.fault_is, stop.here) ]
+    elim (file_ends bytes fits) [ inl file ↦ inl (file.value, (file.is, file.parts)) | inr stop ↦ inr (stop.fault_is, stop.here) ]
 
 -- ---- a spelling has bytes
 
@@ -85,22 +90,26 @@ pending_fits names (Some (Makes former changes boot)) is = (
 pending_fits names (Some (TakesBack changes boot)) is =
     (omega arith, AllByRecursion-append IsByte (name_bytes boot) (changes_bytes changes) (name_fits boot is.0) (changes_fit names changes is.1))
 
-pub journal_fits : AreNames → (journal : JournalParts) → IsJournal journal → AllByRecursion IsByte (journal_bytes journal)
-journal_fits names journal is =
-    let behind = AllByRecursion-append IsByte (value_bytes journal.state) (pending_bytes journal.pending) (value_fits journal.state is.state) (pending_fits names journal.pending is.pending) in
-    (omega arith, (omega arith, (omega arith, (omega arith, behind))))
+body_fits : AreNames → (journal : JournalParts) → IsJournal journal → AllByRecursion IsByte (body_bytes journal)
+body_fits names journal is =
+    AllByRecursion-append IsByte (value_bytes journal.state) (pending_bytes journal.pending) (value_fits journal.state is.state) (pending_fits names journal.pending is.pending)
+
+head_fits : (machine : Option (List ℕ)) → IfSome machine IsMachineName → AllByRecursion IsByte (head_bytes machine)
+head_fits None named = (omega arith, (omega arith, (omega arith, (omega arith, tt))))
+head_fits (Some name) named = (omega arith, (omega arith, (omega arith, (omega arith, (omega arith, (omega arith, (omega arith, (omega arith, named.bytes))))))))
+
+pub file_fits : AreNames → (file : JournalFile) → IsJournalFile file → AllByRecursion IsByte (file_bytes file)
+file_fits names file is = AllByRecursion-append IsByte (head_bytes file.machine) (body_bytes file.journal) (head_fits file.machine is.machine) (body_fits names file.journal is.journal)
 
 -- ---- the reader's answer
 
-pub begins_so : (file : List ℕ) (r : Bool) → r ≡ starts_with eqb file journal_magic → r ≡ true → HasNoMagic file → ⊥
-begins_so file r is h none = none (drop 4 file) ((starts_is Decides-eqb file journal_magic r is).0 h)
-
-abbrev Answer : Type 0
-Answer = Result JournalParts JournalFault
+pub begins_so : (bytes magic : List ℕ) (r : Bool) → r ≡ starts_with eqb bytes magic → r ≡ true → ((rest : List ℕ) → bytes ≢ magic ++ rest) → ⊥
+begins_so bytes magic r is h none = none (drop (length magic) bytes) ((starts_is Decides-eqb bytes magic r is).0 h)
 
 -- what reading gives if the answer is this fault
 failed_as : (f : JournalFault) (read : Answer) → Fails f read → (f ≡ fault.OutOfMemory) ⊎ (read ≡ Err f)
 failed_as fault.BadMagic read h = inr h
+failed_as (fault.BadMachine place) read h = inr h
 failed_as (fault.Truncated place) read h = inr h
 failed_as (fault.ValueTooLong place) read h = inr h
 failed_as (fault.BadCourse place) read h = inr h
@@ -108,40 +117,40 @@ failed_as (fault.BadIdentity place) read h = inr h
 failed_as (fault.BadName place) read h = inr h
 failed_as fault.OutOfMemory read h = inl refl
 
--- the file is read as this journal
-pub read_journal_is : (file : List ℕ) (journal : JournalParts) → AllByRecursion IsByte file → journal_at file ≡ Ok journal → SpellsJournal file journal
-read_journal_is file journal fits read =
-    elim (journal_ends file fits) [
-      | inl found ↦ subst (SpellsJournal file) (same_value (journal_at file) found.value journal found.read_is read) (found.is, found.parts)
-      | inr stop ↦ absurd (not_both (journal_at file) journal stop.fault_is read stop.read_is)
+-- the bytes are read as this file
+pub read_file_is : (bytes : List ℕ) (file : JournalFile) → AllByRecursion IsByte bytes → file_at bytes ≡ Ok file → SpellsJournalFile bytes file
+read_file_is bytes file fits read =
+    elim (file_ends bytes fits) [
+      | inl found ↦ subst (SpellsJournalFile bytes) (same_value (file_at bytes) found.value file found.read_is read) (found.is, found.parts)
+      | inr stop ↦ absurd (not_both (file_at bytes) file stop.fault_is read stop.read_is)
     ]
 
-pub read_fault_is : (file : List ℕ) (f : JournalFault) → AllByRecursion IsByte file → journal_at file ≡ Err f → IsJournalFault file f
-read_fault_is file f fits read =
-    elim (journal_ends file fits) [
-      | inl found ↦ absurd (not_both (journal_at file) found.value f found.read_is read)
-      | inr stop ↦ subst (IsJournalFault file) (same_fault (journal_at file) stop.fault_is f stop.read_is read) stop.here
+pub read_fault_is : (bytes : List ℕ) (f : JournalFault) → AllByRecursion IsByte bytes → file_at bytes ≡ Err f → IsJournalFault bytes f
+read_fault_is bytes f fits read =
+    elim (file_ends bytes fits) [
+      | inl found ↦ absurd (not_both (file_at bytes) found.value f found.read_is read)
+      | inr stop ↦ subst (IsJournalFault bytes) (same_fault (file_at bytes) stop.fault_is f stop.read_is read) stop.here
     ]
 
 abbrev IsAnswer : Answer → List ℕ → Type 0
-IsAnswer answer file = Gives {X = JournalParts} (λ journal. journal) answer (journal_at file)
+IsAnswer answer bytes = Gives {X = JournalFile} (λ value. value) answer (file_at bytes)
 
-pub found : (answer : Answer) (file : List ℕ) → AllByRecursion IsByte file → IsAnswer answer file → IfOk answer (λ journal. SpellsJournal file journal)
-found (Ok journal) file fits is = read_journal_is file journal fits is
-found (Err f) file fits is = tt
+pub found : (answer : Answer) (bytes : List ℕ) → AllByRecursion IsByte bytes → IsAnswer answer bytes → IfOk answer (λ value. SpellsJournalFile bytes value)
+found (Ok value) bytes fits is = read_file_is bytes value fits is
+found (Err f) bytes fits is = tt
 
-fault_found : (f : JournalFault) (file : List ℕ) → AllByRecursion IsByte file → (f ≡ fault.OutOfMemory) ⊎ (journal_at file ≡ Err f) → f ≢ fault.OutOfMemory → IsJournalFault file f
-fault_found f file fits (inl refused) other = absurd (other refused)
-fault_found f file fits (inr read) other = read_fault_is file f fits read
+fault_found : (f : JournalFault) (bytes : List ℕ) → AllByRecursion IsByte bytes → (f ≡ fault.OutOfMemory) ⊎ (file_at bytes ≡ Err f) → f ≢ fault.OutOfMemory → IsJournalFault bytes f
+fault_found f bytes fits (inl refused) other = absurd (other refused)
+fault_found f bytes fits (inr read) other = read_fault_is bytes f fits read
 
-pub faulty : (answer : Answer) (file : List ℕ) → AllByRecursion IsByte file → IsAnswer answer file → IfErr answer (λ f. f ≢ fault.OutOfMemory → IsJournalFault file f)
-faulty (Ok journal) file fits is = tt
-faulty (Err f) file fits is = fault_found f file fits (failed_as f (journal_at file) is)
+pub faulty : (answer : Answer) (bytes : List ℕ) → AllByRecursion IsByte bytes → IsAnswer answer bytes → IfErr answer (λ f. f ≢ fault.OutOfMemory → IsJournalFault bytes f)
+faulty (Ok value) bytes fits is = tt
+faulty (Err f) bytes fits is = fault_found f bytes fits (failed_as f (file_at bytes) is)
 
 refused_or : (f : JournalFault) (read answer : Answer) → (f ≡ fault.OutOfMemory) ⊎ (read ≡ Err f) → read ≡ answer → IsUnless (Err f) answer fault.OutOfMemory
 refused_or f read answer (inl refused) is = inr (ap (λ (g : JournalFault). Err g) refused)
 refused_or f read answer (inr same) is = inl (sym same ∙ is)
 
-pub only : (answer : Answer) (file : List ℕ) (expected : Answer) → IsAnswer answer file → journal_at file ≡ expected → IsUnless answer expected fault.OutOfMemory
-only (Ok journal) file expected is read = inl (sym is ∙ read)
-only (Err f) file expected is read = refused_or f (journal_at file) expected (failed_as f (journal_at file) is) read
+pub only : (answer : Answer) (bytes : List ℕ) (expected : Answer) → IsAnswer answer bytes → file_at bytes ≡ expected → IsUnless answer expected fault.OutOfMemory
+only (Ok value) bytes expected is read = inl (sym is ∙ read)
+only (Err f) bytes expected is read = refused_or f (file_at bytes) expected (failed_as f (file_at bytes) is) read

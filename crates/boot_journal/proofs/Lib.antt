@@ -25,6 +25,7 @@ pub mod Errors
 pub mod Between
 pub mod Next
 pub mod Valid
+pub mod KeptChanges
 pub mod Moments
 pub mod Fields
 pub mod ChangeLoop

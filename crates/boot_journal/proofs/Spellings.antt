@@ -1,5 +1,5 @@
 -- What spells a journal is read as that, and what has a first fault stops being read there.
-use Rattle.std.proofs.Common.{◌≡◌, ℕ, zero, suc, ◌<◌, ◌≤◌, List, [], ◌∷◌, ◌++◌, length, Option, Some, None, IfSome, Result, Ok, Err, refl, sym, ap, subst, ◌∙◌, inl, inr, arith, append_assoc}
+use Rattle.std.proofs.Common.{◌≡◌, ℕ, zero, suc, ◌+◌, ◌<◌, ◌≤◌, List, [], ◌∷◌, ◌++◌, length, Option, Some, None, IfSome, Result, Ok, Err, refl, sym, ap, subst, ◌∙◌, inl, inr, arith, append_assoc}
 use Rattle.std.specs.List.{AllByRecursion}
 use Rattle.std.proofs.lemmas.List.{length-append, append-nil}
 use Rattle.uefi_vars.specs.Name.{IsName}
@@ -8,15 +8,16 @@ use Rattle.uefi_vars.specs.Set.{name_bytes}
 use Rattle.var_stores.specs.BootChange.{ChangeParts}
 use Rattle.boot_journal.specs.declared.fault.JournalFault.{JournalFault}
 use Rattle.boot_journal.specs.declared.fault.JournalFault.TheVariants as fault
+use Rattle.boot_journal.specs.declared.journal_file.JournalFile.{JournalFile}
 use Rattle.boot_journal.specs.Journal.{JournalParts, PendingParts, Makes, TakesBack}
 use Rattle.boot_journal.specs.JournalValue.{IsPending}
 use Rattle.boot_journal.specs.Values.{IsBootChange}
-use Rattle.boot_journal.specs.Bytes.{journal_magic, making, taking_back, value_bytes, change_bytes, changes_bytes, pending_bytes, journal_bytes, SpellsJournal}
-use Rattle.boot_journal.specs.Fault.{Field, State, Course, Identity, Former, Name, Before, After, IsBegunJournal, IsBefore, HasAt, IsCut, IsTooLong, HasBadCourse, IsJournalFault}
-use Rattle.boot_journal.specs.Reader.{◌>>=◌, place_of, value_at, identity_at, name_at, change_at, changes_within, changes_at, making_at, taking_back_at, pending_at, parts_at, journal_at}
+use Rattle.boot_journal.specs.Bytes.{making, taking_back, value_bytes, change_bytes, changes_bytes, pending_bytes, body_bytes, head_bytes, SpellsJournalFile}
+use Rattle.boot_journal.specs.Fault.{Field, State, Course, Identity, Former, Name, Before, After, IsBegunJournal, IsBefore, HasAt, IsCut, IsTooLong, HasBadCourse, IsBodyFault, IsJournalFault}
+use Rattle.boot_journal.specs.Reader.{◌>>=◌, place_of, value_at, identity_at, name_at, change_at, changes_within, changes_at, making_at, taking_back_at, pending_at, parts_at, file_at}
 use Rattle.boot_journal.proofs.Fields.{value_again, cut_value_fails, long_value_fails, identity_again, cut_identity_fails, bad_identity_fails, name_again, cut_name_fails, bad_name_fails}
 use Rattle.boot_journal.proofs.ChangeLoop.{with_front, none_within, first_within, fault_within}
-use Rattle.boot_journal.proofs.Readings.{more_of, begun_by, change_err_name, change_err_before, change_err_after, taking_back_err_boot, making_err_boot, making_err_former, pending_making, pending_taking_back, pending_bad, pending_none, parts_err_state, journal_front, no_magic_fails}
+use Rattle.boot_journal.proofs.Readings.{end_of, more_of, begun_by, change_err_name, change_err_before, change_err_after, taking_back_err_boot, making_err_boot, making_err_former, pending_making, pending_taking_back, pending_bad, pending_none, parts_err_state, of_file, body_is, machine_fault_again, no_magic_fails}
 
 -- ---- changes
 
@@ -68,7 +69,7 @@ changes_again (suc count) end (change ∷ changes) rest all few =
     subst (λ (t : List ℕ). GoesOn (suc count) end (change ∷ changes) t rest) (sym regrouped)
     (one_again count end change changes (changes_bytes changes ++ rest) rest all.0 (changes_again count end changes rest all.1 fewer))
 
--- ---- the file, up to some field
+-- ---- the body, up to some field
 
 parts_of_read : (end : ℕ) (bytes : List ℕ) (state : Option (List ℕ)) (behind : List ℕ) → value_at end bytes ≡ Ok (state, behind) → parts_at end bytes ≡ (pending_at end behind >>= λ pending. Ok (record { state = state; pending = pending }))
 unfolding parts_at
@@ -77,28 +78,28 @@ parts_of_read end bytes state behind p = rw p refl
 after_value : (end : ℕ) (state : Option (List ℕ)) (behind : List ℕ) → IfSome state IsData → parts_at end (value_bytes state ++ behind) ≡ (pending_at end behind >>= λ pending. Ok (record { state = state; pending = pending }))
 after_value end state behind valid = parts_of_read end (value_bytes state ++ behind) state behind (value_again end state behind valid)
 
-after_state : (file : List ℕ) (state : Option (List ℕ)) (behind : List ℕ) → IfSome state IsData → file ≡ journal_magic ++ (value_bytes state ++ behind) → journal_at file ≡ (pending_at (length file) behind >>= λ pending. Ok (record { state = state; pending = pending }))
-after_state file state behind valid parts = journal_front file (value_bytes state ++ behind) parts ∙ after_value (length file) state behind valid
+after_state : (end : ℕ) (body : List ℕ) (state : Option (List ℕ)) (behind : List ℕ) → IfSome state IsData → body ≡ value_bytes state ++ behind → parts_at end body ≡ (pending_at end behind >>= λ pending. Ok (record { state = state; pending = pending }))
+after_state end body state behind valid parts = ap (parts_at end) parts ∙ after_value end state behind valid
 
 at_some : (state : Option (List ℕ)) (read : Result PendingParts JournalFault) → ((read >>= λ pending. Ok (Some pending)) >>= λ pending. Ok (record { state = state; pending = pending })) ≡ (read >>= λ pending. Ok (begun_by state pending))
 at_some state (Ok pending) = refl
 at_some state (Err f) = refl
 
 -- the journal of what is read so behind the byte that says the course
-abbrev BegunSo : List ℕ → Option (List ℕ) → Result PendingParts JournalFault → Type 0
-BegunSo file state read = journal_at file ≡ (read >>= λ pending. Ok (begun_by state pending))
+abbrev BegunSo : ℕ → List ℕ → Option (List ℕ) → Result PendingParts JournalFault → Type 0
+BegunSo end body state read = parts_at end body ≡ (read >>= λ pending. Ok (begun_by state pending))
 
-after_making : (file : List ℕ) (state : Option (List ℕ)) (behind : List ℕ) → IfSome state IsData → file ≡ journal_magic ++ (value_bytes state ++ making ∷ behind) → BegunSo file state (making_at (length file) behind)
-after_making file state behind valid parts =
-    after_state file state (making ∷ behind) valid parts
-    ∙ ap (λ (r : Result (Option PendingParts) JournalFault). r >>= λ pending. Ok (record { state = state; pending = pending })) (pending_making (length file) behind)
-    ∙ at_some state (making_at (length file) behind)
+after_making : (end : ℕ) (body : List ℕ) (state : Option (List ℕ)) (behind : List ℕ) → IfSome state IsData → body ≡ value_bytes state ++ making ∷ behind → BegunSo end body state (making_at end behind)
+after_making end body state behind valid parts =
+    after_state end body state (making ∷ behind) valid parts
+    ∙ ap (λ (r : Result (Option PendingParts) JournalFault). r >>= λ pending. Ok (record { state = state; pending = pending })) (pending_making end behind)
+    ∙ at_some state (making_at end behind)
 
-after_taking_back : (file : List ℕ) (state : Option (List ℕ)) (behind : List ℕ) → IfSome state IsData → file ≡ journal_magic ++ (value_bytes state ++ taking_back ∷ behind) → BegunSo file state (taking_back_at (length file) behind)
-after_taking_back file state behind valid parts =
-    after_state file state (taking_back ∷ behind) valid parts
-    ∙ ap (λ (r : Result (Option PendingParts) JournalFault). r >>= λ pending. Ok (record { state = state; pending = pending })) (pending_taking_back (length file) behind)
-    ∙ at_some state (taking_back_at (length file) behind)
+after_taking_back : (end : ℕ) (body : List ℕ) (state : Option (List ℕ)) (behind : List ℕ) → IfSome state IsData → body ≡ value_bytes state ++ taking_back ∷ behind → BegunSo end body state (taking_back_at end behind)
+after_taking_back end body state behind valid parts =
+    after_state end body state (taking_back ∷ behind) valid parts
+    ∙ ap (λ (r : Result (Option PendingParts) JournalFault). r >>= λ pending. Ok (record { state = state; pending = pending })) (pending_taking_back end behind)
+    ∙ at_some state (taking_back_at end behind)
 
 -- ---- begun journals
 
@@ -118,8 +119,8 @@ taking_back_again : (end : ℕ) (boot behind : List ℕ) → IsName boot → tak
 taking_back_again end boot behind named = taking_back_of_read end (name_bytes boot ++ behind) boot behind (identity_again end boot behind named)
 
 -- what is read after the bytes of a begun journal are more of its changes
-abbrev IsBegunOn : List ℕ → Option (List ℕ) → PendingParts → List ℕ → Type 0
-IsBegunOn file state pending rest = (left : ℕ) × (length rest ≤ left) × (journal_at file ≡ (changes_within left (length file) rest >>= λ more. Ok (begun_by state (more_of pending more))))
+abbrev IsBegunOn : ℕ → List ℕ → Option (List ℕ) → PendingParts → List ℕ → Type 0
+IsBegunOn end body state pending rest = (left : ℕ) × (length rest ≤ left) × (parts_at end body ≡ (changes_within left end rest >>= λ more. Ok (begun_by state (more_of pending more))))
 
 made_on : (state former : Option (List ℕ)) (boot : List ℕ) (changes : List ChangeParts) (read : Result (List ChangeParts) JournalFault)
     → ((with_front changes read >>= λ all. Ok (Makes former all boot)) >>= λ pending. Ok (begun_by state pending)) ≡ (read >>= λ more. Ok (begun_by state (more_of (Makes former changes boot) more)))
@@ -138,34 +139,34 @@ making_bytes boot former changes rest =
 taking_back_bytes : (boot changes rest : List ℕ) → (taking_back ∷ (boot ++ changes)) ++ rest ≡ taking_back ∷ (boot ++ (changes ++ rest))
 taking_back_bytes boot changes rest = ap (λ (t : List ℕ). taking_back ∷ t) (append_assoc boot changes rest)
 
--- the file, from the course on
-begun_parts : (file : List ℕ) (state : Option (List ℕ)) (text rest : List ℕ) → file ≡ (journal_magic ++ (value_bytes state ++ text)) ++ rest → file ≡ journal_magic ++ (value_bytes state ++ (text ++ rest))
-begun_parts file state text rest parts = parts ∙ ap (λ (t : List ℕ). journal_magic ++ t) (append_assoc (value_bytes state) text rest)
+-- the body, from the course on
+begun_parts : (body : List ℕ) (state : Option (List ℕ)) (text rest : List ℕ) → body ≡ (value_bytes state ++ text) ++ rest → body ≡ value_bytes state ++ (text ++ rest)
+begun_parts body state text rest parts = parts ∙ append_assoc (value_bytes state) text rest
 
-begun_on : (file : List ℕ) (state : Option (List ℕ)) (pending : PendingParts) (rest : List ℕ) → IfSome state IsData → IsPending pending → file ≡ journal_bytes (begun_by state pending) ++ rest → IsBegunOn file state pending rest
-begun_on file state (Makes former changes boot) rest valid is parts =
+begun_on : (end : ℕ) (body : List ℕ) (state : Option (List ℕ)) (pending : PendingParts) (rest : List ℕ) → IfSome state IsData → IsPending pending → body ≡ body_bytes (begun_by state pending) ++ rest → IsBegunOn end body state pending rest
+begun_on end body state (Makes former changes boot) rest valid is parts =
     let behind = changes_bytes changes ++ rest in
-    let on = changes_again (length behind) (length file) changes rest is.2 (omega arith) in
-    let split = begun_parts file state (pending_bytes (Some (Makes former changes boot))) rest parts
-    ∙ ap (λ (t : List ℕ). journal_magic ++ (value_bytes state ++ t)) (making_bytes (name_bytes boot) (value_bytes former) (changes_bytes changes) rest) in (
+    let on = changes_again (length behind) end changes rest is.2 (omega arith) in
+    let split = begun_parts body state (pending_bytes (Some (Makes former changes boot))) rest parts
+    ∙ ap (λ (t : List ℕ). value_bytes state ++ t) (making_bytes (name_bytes boot) (value_bytes former) (changes_bytes changes) rest) in (
       on.0,
       on.1,
-      after_making file state (name_bytes boot ++ (value_bytes former ++ behind)) valid split
+      after_making end body state (name_bytes boot ++ (value_bytes former ++ behind)) valid split
           ∙ ap (λ (r : Result PendingParts JournalFault). r >>= λ pending. Ok (begun_by state pending))
-          (making_again (length file) boot former behind is.0 is.1 ∙ ap (λ (r : Result (List ChangeParts) JournalFault). r >>= λ all. Ok (Makes former all boot)) on.2)
-          ∙ made_on state former boot changes (changes_within on.0 (length file) rest),
+          (making_again end boot former behind is.0 is.1 ∙ ap (λ (r : Result (List ChangeParts) JournalFault). r >>= λ all. Ok (Makes former all boot)) on.2)
+          ∙ made_on state former boot changes (changes_within on.0 end rest),
     )
-begun_on file state (TakesBack changes boot) rest valid is parts =
+begun_on end body state (TakesBack changes boot) rest valid is parts =
     let behind = changes_bytes changes ++ rest in
-    let on = changes_again (length behind) (length file) changes rest is.1 (omega arith) in
-    let split = begun_parts file state (pending_bytes (Some (TakesBack changes boot))) rest parts
-    ∙ ap (λ (t : List ℕ). journal_magic ++ (value_bytes state ++ t)) (taking_back_bytes (name_bytes boot) (changes_bytes changes) rest) in (
+    let on = changes_again (length behind) end changes rest is.1 (omega arith) in
+    let split = begun_parts body state (pending_bytes (Some (TakesBack changes boot))) rest parts
+    ∙ ap (λ (t : List ℕ). value_bytes state ++ t) (taking_back_bytes (name_bytes boot) (changes_bytes changes) rest) in (
       on.0,
       on.1,
-      after_taking_back file state (name_bytes boot ++ behind) valid split
+      after_taking_back end body state (name_bytes boot ++ behind) valid split
           ∙ ap (λ (r : Result PendingParts JournalFault). r >>= λ pending. Ok (begun_by state pending))
-          (taking_back_again (length file) boot behind is.0 ∙ ap (λ (r : Result (List ChangeParts) JournalFault). r >>= λ all. Ok (TakesBack all boot)) on.2)
-          ∙ back_on state boot changes (changes_within on.0 (length file) rest),
+          (taking_back_again end boot behind is.0 ∙ ap (λ (r : Result (List ChangeParts) JournalFault). r >>= λ all. Ok (TakesBack all boot)) on.2)
+          ∙ back_on state boot changes (changes_within on.0 end rest),
     )
 
 -- ---- a whole journal
@@ -174,29 +175,32 @@ no_more : (pending : PendingParts) → more_of pending [] ≡ pending
 no_more (Makes former changes boot) = ap (λ (cs : List ChangeParts). Makes former cs boot) (append-nil changes)
 no_more (TakesBack changes boot) = ap (λ (cs : List ChangeParts). TakesBack cs boot) (append-nil changes)
 
-parts_again : (file : List ℕ) (state : Option (List ℕ)) (pending : Option PendingParts) → IfSome state IsData → IfSome pending IsPending → file ≡ journal_bytes (record { state = state; pending = pending }) → journal_at file ≡ Ok (record { state = state; pending = pending })
-parts_again file state None valid is parts =
-    after_state file state [] valid parts ∙ ap (λ (r : Result (Option PendingParts) JournalFault). r >>= λ pending. Ok (record { state = state; pending = pending })) (pending_none (length file))
-parts_again file state (Some pending) valid is parts =
-    let on = begun_on file state pending [] valid is (parts ∙ sym (append-nil (journal_bytes (begun_by state pending)))) in
-    on.2 ∙ ap (λ (r : Result (List ChangeParts) JournalFault). r >>= λ more. Ok (begun_by state (more_of pending more))) (none_within on.0 (length file))
+parts_again : (end : ℕ) (body : List ℕ) (state : Option (List ℕ)) (pending : Option PendingParts) → IfSome state IsData → IfSome pending IsPending → body ≡ body_bytes (record { state = state; pending = pending }) → parts_at end body ≡ Ok (record { state = state; pending = pending })
+parts_again end body state None valid is parts =
+    after_state end body state [] valid parts ∙ ap (λ (r : Result (Option PendingParts) JournalFault). r >>= λ pending. Ok (record { state = state; pending = pending })) (pending_none end)
+parts_again end body state (Some pending) valid is parts =
+    let on = begun_on end body state pending [] valid is (parts ∙ sym (append-nil (body_bytes (begun_by state pending)))) in
+    on.2 ∙ ap (λ (r : Result (List ChangeParts) JournalFault). r >>= λ more. Ok (begun_by state (more_of pending more))) (none_within on.0 end)
     ∙ ap (λ (p : PendingParts). Ok (begun_by state p)) (no_more pending)
 
-pub journal_again : (file : List ℕ) (journal : JournalParts) → SpellsJournal file journal → journal_at file ≡ Ok journal
-journal_again file journal spells = parts_again file journal.state journal.pending spells.0.state spells.0.pending spells.1
+pub file_again : (bytes : List ℕ) (file : JournalFile) → SpellsJournalFile bytes file → file_at bytes ≡ Ok file
+file_again bytes file spells =
+    let body = body_bytes file.journal in
+    body_is file.machine bytes body spells.0.machine spells.1
+    ∙ ap (of_file file.machine) (parts_again (end_of (length (head_bytes file.machine)) body) body file.journal.state file.journal.pending spells.0.journal.state spells.0.journal.pending refl)
 
 -- ---- a fault
 
-more_fails : (file : List ℕ) (state : Option (List ℕ)) (pending : PendingParts) (rest : List ℕ) (f : JournalFault) → IsBegunOn file state pending rest → 0 < length rest → change_at (length file) rest ≡ Err f → journal_at file ≡ Err f
-more_fails file state pending [] f on some failed = absurd (omega (arith, some))
-more_fails file state pending (byte ∷ bytes) f (zero, few, read) some failed = absurd (omega (arith, few))
-more_fails file state pending (byte ∷ bytes) f (suc left, few, read) some failed =
-    read ∙ ap (λ (r : Result (List ChangeParts) JournalFault). r >>= λ more. Ok (begun_by state (more_of pending more))) (fault_within left (length file) byte bytes f failed)
+more_fails : (end : ℕ) (body : List ℕ) (state : Option (List ℕ)) (pending : PendingParts) (rest : List ℕ) (f : JournalFault) → IsBegunOn end body state pending rest → 0 < length rest → change_at end rest ≡ Err f → parts_at end body ≡ Err f
+more_fails end body state pending [] f on some failed = absurd (omega (arith, some))
+more_fails end body state pending (byte ∷ bytes) f (zero, few, read) some failed = absurd (omega (arith, few))
+more_fails end body state pending (byte ∷ bytes) f (suc left, few, read) some failed =
+    read ∙ ap (λ (r : Result (List ChangeParts) JournalFault). r >>= λ more. Ok (begun_by state (more_of pending more))) (fault_within left end byte bytes f failed)
 
-begun_fails : (file : List ℕ) (state : Option (List ℕ)) (pending : Option PendingParts) (rest : List ℕ) (f : JournalFault) → IsBegunJournal (record { state = state; pending = pending }) → file ≡ journal_bytes (record { state = state; pending = pending }) ++ rest → 0 < length rest → change_at (length file) rest ≡ Err f → journal_at file ≡ Err f
-begun_fails file state None rest f begun parts some failed = absurd (begun.1 refl)
-begun_fails file state (Some pending) rest f begun parts some failed =
-    more_fails file state pending rest f (begun_on file state pending rest begun.0.state begun.0.pending parts) some failed
+begun_fails : (end : ℕ) (body : List ℕ) (state : Option (List ℕ)) (pending : Option PendingParts) (rest : List ℕ) (f : JournalFault) → IsBegunJournal (record { state = state; pending = pending }) → body ≡ body_bytes (record { state = state; pending = pending }) ++ rest → 0 < length rest → change_at end rest ≡ Err f → parts_at end body ≡ Err f
+begun_fails end body state None rest f begun parts some failed = absurd (begun.1 refl)
+begun_fails end body state (Some pending) rest f begun parts some failed =
+    more_fails end body state pending rest f (begun_on end body state pending rest begun.0.state begun.0.pending parts) some failed
 
 -- the field isn't read, by this fault
 abbrev FailsAt : Field → ℕ → List ℕ → JournalFault → Type 0
@@ -208,37 +212,37 @@ FailsAt Name end rest f = (0 < length rest) × (name_at end rest ≡ Err f)
 FailsAt Before end rest f = value_at end rest ≡ Err f
 FailsAt After end rest f = value_at end rest ≡ Err f
 
-begun_so_fails : (file : List ℕ) (state : Option (List ℕ)) (read : Result PendingParts JournalFault) (f : JournalFault) → BegunSo file state read → read ≡ Err f → journal_at file ≡ Err f
-begun_so_fails file state read f so failed = so ∙ ap (λ (r : Result PendingParts JournalFault). r >>= λ pending. Ok (begun_by state pending)) failed
+begun_so_fails : (end : ℕ) (body : List ℕ) (state : Option (List ℕ)) (read : Result PendingParts JournalFault) (f : JournalFault) → BegunSo end body state read → read ≡ Err f → parts_at end body ≡ Err f
+begun_so_fails end body state read f so failed = so ∙ ap (λ (r : Result PendingParts JournalFault). r >>= λ pending. Ok (begun_by state pending)) failed
 
-carried : (field : Field) (file front rest : List ℕ) (f : JournalFault) → IsBefore field front → file ≡ front ++ rest → FailsAt field (length file) rest f → journal_at file ≡ Err f
-carried State file front rest f whole parts failed =
-    journal_front file rest (parts ∙ ap (λ (t : List ℕ). t ++ rest) whole) ∙ parts_err_state (length file) rest f failed
-carried Course file front rest f (state, valid, is) parts failed =
-    after_state file state rest valid (parts ∙ ap (λ (t : List ℕ). t ++ rest) is) ∙ ap (λ (r : Result (Option PendingParts) JournalFault). r >>= λ pending. Ok (record { state = state; pending = pending })) failed
-carried Identity file front rest f (state, valid, course, inl one, is) parts failed =
-    let split = begun_parts file state (making ∷ []) rest (parts ∙ ap (λ (t : List ℕ). t ++ rest) is ∙ ap (λ (n : ℕ). (journal_magic ++ (value_bytes state ++ n ∷ [])) ++ rest) one) in
-    begun_so_fails file state (making_at (length file) rest) f (after_making file state rest valid split) (making_err_boot (length file) rest f failed)
-carried Identity file front rest f (state, valid, course, inr two, is) parts failed =
-    let split = begun_parts file state (taking_back ∷ []) rest (parts ∙ ap (λ (t : List ℕ). t ++ rest) is ∙ ap (λ (n : ℕ). (journal_magic ++ (value_bytes state ++ n ∷ [])) ++ rest) two) in
-    begun_so_fails file state (taking_back_at (length file) rest) f (after_taking_back file state rest valid split) (taking_back_err_boot (length file) rest f failed)
-carried Former file front rest f (state, valid, boot, named, is) parts failed =
-    let split = begun_parts file state (making ∷ name_bytes boot) rest (parts ∙ ap (λ (t : List ℕ). t ++ rest) is) in
-    begun_so_fails file state (making_at (length file) (name_bytes boot ++ rest)) f (after_making file state (name_bytes boot ++ rest) valid split)
-    (making_err_former (length file) (name_bytes boot ++ rest) boot rest f (identity_again (length file) boot rest named) failed)
-carried Name file front rest f (journal, begun, is) parts (some, failed) =
-    begun_fails file journal.state journal.pending rest f begun (parts ∙ ap (λ (t : List ℕ). t ++ rest) is) some (change_err_name (length file) rest f failed)
-carried Before file front rest f (journal, begun, name, boot, is) parts failed =
-    let split = parts ∙ ap (λ (t : List ℕ). t ++ rest) is ∙ append_assoc (journal_bytes journal) (name_bytes name) rest in
-    begun_fails file journal.state journal.pending (name_bytes name ++ rest) f begun split (omega arith)
-    (change_err_before (length file) (name_bytes name ++ rest) name rest f (name_again (length file) name rest boot) failed)
-carried After file front rest f (journal, begun, name, boot, before, valid, is) parts failed =
+carried : (field : Field) (end : ℕ) (body front rest : List ℕ) (f : JournalFault) → IsBefore field front → body ≡ front ++ rest → FailsAt field end rest f → parts_at end body ≡ Err f
+carried State end body front rest f whole parts failed =
+    ap (parts_at end) (parts ∙ ap (λ (t : List ℕ). t ++ rest) whole) ∙ parts_err_state end rest f failed
+carried Course end body front rest f (state, valid, is) parts failed =
+    after_state end body state rest valid (parts ∙ ap (λ (t : List ℕ). t ++ rest) is) ∙ ap (λ (r : Result (Option PendingParts) JournalFault). r >>= λ pending. Ok (record { state = state; pending = pending })) failed
+carried Identity end body front rest f (state, valid, course, inl one, is) parts failed =
+    let split = begun_parts body state (making ∷ []) rest (parts ∙ ap (λ (t : List ℕ). t ++ rest) is ∙ ap (λ (n : ℕ). (value_bytes state ++ n ∷ []) ++ rest) one) in
+    begun_so_fails end body state (making_at end rest) f (after_making end body state rest valid split) (making_err_boot end rest f failed)
+carried Identity end body front rest f (state, valid, course, inr two, is) parts failed =
+    let split = begun_parts body state (taking_back ∷ []) rest (parts ∙ ap (λ (t : List ℕ). t ++ rest) is ∙ ap (λ (n : ℕ). (value_bytes state ++ n ∷ []) ++ rest) two) in
+    begun_so_fails end body state (taking_back_at end rest) f (after_taking_back end body state rest valid split) (taking_back_err_boot end rest f failed)
+carried Former end body front rest f (state, valid, boot, named, is) parts failed =
+    let split = begun_parts body state (making ∷ name_bytes boot) rest (parts ∙ ap (λ (t : List ℕ). t ++ rest) is) in
+    begun_so_fails end body state (making_at end (name_bytes boot ++ rest)) f (after_making end body state (name_bytes boot ++ rest) valid split)
+    (making_err_former end (name_bytes boot ++ rest) boot rest f (identity_again end boot rest named) failed)
+carried Name end body front rest f (journal, begun, is) parts (some, failed) =
+    begun_fails end body journal.state journal.pending rest f begun (parts ∙ ap (λ (t : List ℕ). t ++ rest) is) some (change_err_name end rest f failed)
+carried Before end body front rest f (journal, begun, name, boot, is) parts failed =
+    let split = parts ∙ ap (λ (t : List ℕ). t ++ rest) is ∙ append_assoc (body_bytes journal) (name_bytes name) rest in
+    begun_fails end body journal.state journal.pending (name_bytes name ++ rest) f begun split (omega arith)
+    (change_err_before end (name_bytes name ++ rest) name rest f (name_again end name rest boot) failed)
+carried After end body front rest f (journal, begun, name, boot, before, valid, is) parts failed =
     let text = name_bytes name ++ (value_bytes before ++ rest) in
-    let split : file ≡ journal_bytes journal ++ text =
-    parts ∙ ap (λ (t : List ℕ). t ++ rest) is ∙ append_assoc (journal_bytes journal) (name_bytes name ++ value_bytes before) rest
-    ∙ ap (λ (t : List ℕ). journal_bytes journal ++ t) (append_assoc (name_bytes name) (value_bytes before) rest) in
-    begun_fails file journal.state journal.pending text f begun split (omega arith)
-    (change_err_after (length file) text name (value_bytes before ++ rest) before rest f (name_again (length file) name (value_bytes before ++ rest) boot) (value_again (length file) before rest valid) failed)
+    let split : body ≡ body_bytes journal ++ text =
+    parts ∙ ap (λ (t : List ℕ). t ++ rest) is ∙ append_assoc (body_bytes journal) (name_bytes name ++ value_bytes before) rest
+    ∙ ap (λ (t : List ℕ). body_bytes journal ++ t) (append_assoc (name_bytes name) (value_bytes before) rest) in
+    begun_fails end body journal.state journal.pending text f begun split (omega arith)
+    (change_err_after end text name (value_bytes before ++ rest) before rest f (name_again end name (value_bytes before ++ rest) boot) (value_again end before rest valid) failed)
 
 cut_fails : (field : Field) (end : ℕ) (rest : List ℕ) → IsCut field rest → FailsAt field end rest (fault.Truncated (place_of end rest))
 cut_fails State end rest h = cut_value_fails end rest h
@@ -262,20 +266,27 @@ bad_course_fails : (end : ℕ) (rest : List ℕ) → HasBadCourse rest → pendi
 bad_course_fails end rest h =
     subst (λ (t : List ℕ). pending_at end t ≡ Err (fault.BadCourse (place_of end t))) (sym h.parts) (pending_bad end h.course h.behind h.bad.0 h.bad.1)
 
-place_at : (file front rest : List ℕ) (place : ℕ) → file ≡ front ++ rest → place ≡ length front → place_of (length file) rest ≡ place
-place_at file front rest place parts at = omega (arith, ap length parts, length-append front rest, at)
+place_at : (start : ℕ) (body front rest : List ℕ) (place : ℕ) → body ≡ front ++ rest → place ≡ start + length front → place_of (end_of start body) rest ≡ place
+place_at start body front rest place parts at = omega (arith, ap length parts, length-append front rest, at)
 
 -- what is at fault there isn't read, by a fault of that place
-fails_there : (P : List ℕ → Type 0) (file : List ℕ) (place : ℕ) (field : Field) (f : ℕ → JournalFault) (at : HasAt file place field P) → ((end : ℕ) → FailsAt field end at.rest (f (place_of end at.rest))) → journal_at file ≡ Err (f place)
-fails_there P file place field f at failed =
-    carried field file at.front at.rest (f (place_of (length file) at.rest)) at.whole at.parts (failed (length file))
-    ∙ ap (λ (n : ℕ). Err (f n)) (place_at file at.front at.rest place at.parts at.at)
+fails_there : (P : List ℕ → Type 0) (start : ℕ) (body : List ℕ) (place : ℕ) (field : Field) (f : ℕ → JournalFault) (at : HasAt start body place field P) → ((end : ℕ) → FailsAt field end at.rest (f (place_of end at.rest))) → parts_at (end_of start body) body ≡ Err (f place)
+fails_there P start body place field f at failed =
+    carried field (end_of start body) body at.front at.rest (f (place_of (end_of start body) at.rest)) at.whole at.parts (failed (end_of start body))
+    ∙ ap (λ (n : ℕ). Err (f n)) (place_at start body at.front at.rest place at.parts at.at)
 
-pub fault_again : (file : List ℕ) (f : JournalFault) → IsJournalFault file f → journal_at file ≡ Err f
-fault_again file fault.BadMagic h = no_magic_fails file h
-fault_again file (fault.Truncated place) (field, at) = fails_there (IsCut field) file place field (λ n. fault.Truncated n) at (λ end. cut_fails field end at.rest at.here)
-fault_again file (fault.ValueTooLong place) (field, at) = fails_there (IsTooLong field) file place field (λ n. fault.ValueTooLong n) at (λ end. long_fails field end at.rest at.here)
-fault_again file (fault.BadCourse place) at = fails_there _ file place Course (λ n. fault.BadCourse n) at (λ end. bad_course_fails end at.rest at.here)
-fault_again file (fault.BadIdentity place) at = fails_there _ file place Identity (λ n. fault.BadIdentity n) at (λ end. bad_identity_fails end at.rest at.here)
-fault_again file (fault.BadName place) at = fails_there _ file place Name (λ n. fault.BadName n) at (λ end. (let here = at.here in omega (arith, ap length here.parts), bad_name_fails end at.rest at.here))
-fault_again file fault.OutOfMemory h = absurd h
+body_fault_again : (start : ℕ) (body : List ℕ) (f : JournalFault) → IsBodyFault start body f → parts_at (end_of start body) body ≡ Err f
+body_fault_again start body fault.BadMagic h = absurd h
+body_fault_again start body (fault.BadMachine place) h = absurd h
+body_fault_again start body (fault.Truncated place) (field, at) = fails_there (IsCut field) start body place field (λ n. fault.Truncated n) at (λ end. cut_fails field end at.rest at.here)
+body_fault_again start body (fault.ValueTooLong place) (field, at) = fails_there (IsTooLong field) start body place field (λ n. fault.ValueTooLong n) at (λ end. long_fails field end at.rest at.here)
+body_fault_again start body (fault.BadCourse place) at = fails_there _ start body place Course (λ n. fault.BadCourse n) at (λ end. bad_course_fails end at.rest at.here)
+body_fault_again start body (fault.BadIdentity place) at = fails_there _ start body place Identity (λ n. fault.BadIdentity n) at (λ end. bad_identity_fails end at.rest at.here)
+body_fault_again start body (fault.BadName place) at = fails_there _ start body place Name (λ n. fault.BadName n) at (λ end. (let here = at.here in omega (arith, ap length here.parts), bad_name_fails end at.rest at.here))
+body_fault_again start body fault.OutOfMemory h = absurd h
+
+pub fault_again : (bytes : List ℕ) (f : JournalFault) → IsJournalFault bytes f → file_at bytes ≡ Err f
+fault_again bytes f (inl h) = no_magic_fails bytes h.1 ∙ ap (λ (g : JournalFault). Err g) (sym h.0)
+fault_again bytes f (inr (inl h)) = machine_fault_again bytes f h
+fault_again bytes f (inr (inr h)) =
+    body_is h.machine bytes h.body h.named h.parts ∙ ap (of_file h.machine) (body_fault_again (length (head_bytes h.machine)) h.body f h.here)

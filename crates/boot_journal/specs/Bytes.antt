@@ -1,14 +1,19 @@
--- The journal file: a journal as bytes.
-use Rattle.std.specs.Prelude.{◌≡◌, ℕ, List, [], ◌∷◌, ◌++◌, Option, Some, None}
+-- The journal file: a journal, and the name of its machine, as bytes.
+use Rattle.std.specs.Prelude.{◌≡◌, ℕ, List, [], ◌∷◌, ◌++◌, Option, Some, None, IfSome}
 use Rattle.std.specs.List.{flat_map}
 use Rattle.uefi_vars.specs.Set.{name_bytes, data_bytes}
 use Rattle.var_stores.specs.BootChange.{ChangeParts}
+use Rattle.boot_journal.specs.declared.journal_file.JournalFile.{JournalFile}
 use Rattle.boot_journal.specs.Journal.{JournalParts, PendingParts, Makes, TakesBack}
 use Rattle.boot_journal.specs.JournalValue.{IsJournal}
+use Rattle.boot_journal.specs.MachineName.{IsMachineName}
 
--- the four bytes at the start: BKJ1
-abbrev pub journal_magic : List ℕ
-journal_magic = 0x42 ∷ 0x4B ∷ 0x4A ∷ 0x31 ∷ []
+-- the four bytes at the start of a file of version 1, and of one of version 2: BKJ1, BKJ2
+abbrev pub magic_1 : List ℕ
+magic_1 = 0x42 ∷ 0x4B ∷ 0x4A ∷ 0x31 ∷ []
+
+abbrev pub magic_2 : List ℕ
+magic_2 = 0x42 ∷ 0x4B ∷ 0x4A ∷ 0x32 ∷ []
 
 -- the byte that says that changes are being made, and the one that says that they are taken back
 abbrev pub making : ℕ
@@ -40,10 +45,29 @@ pending_bytes None = []
 pending_bytes (Some (Makes former changes boot)) = making ∷ (name_bytes boot ++ (value_bytes former ++ changes_bytes changes))
 pending_bytes (Some (TakesBack changes boot)) = taking_back ∷ (name_bytes boot ++ changes_bytes changes)
 
--- the spelling of a journal
-abbrev pub journal_bytes : JournalParts → List ℕ
-journal_bytes journal = journal_magic ++ (value_bytes journal.state ++ pending_bytes journal.pending)
+-- the body of the file: BootKeepState, and what is still to be done
+abbrev pub body_bytes : JournalParts → List ℕ
+body_bytes journal = value_bytes journal.state ++ pending_bytes journal.pending
 
--- the bytes, all of them, spell the journal
-abbrev pub SpellsJournal : List ℕ → JournalParts → Type 0
-SpellsJournal bytes journal = IsJournal journal × (bytes ≡ journal_bytes journal)
+-- What is before the body: the magic of version 1; or that of version 2 and the machine's name, its length in four bytes
+-- before it.
+abbrev pub head_bytes : Option (List ℕ) → List ℕ
+head_bytes None = magic_1
+head_bytes (Some name) = magic_2 ++ data_bytes name
+
+-- the spelling of a journal with the name of its machine, or without one
+abbrev pub file_bytes : JournalFile → List ℕ
+file_bytes file = head_bytes file.machine ++ body_bytes file.journal
+
+-- the journal can be one, and the name too
+pub record IsJournalFile (file : JournalFile) : Type 0 where
+  pub machine : IfSome file.machine IsMachineName
+  pub journal : IsJournal file.journal
+
+-- the bytes, all of them, spell the journal and the name
+abbrev pub SpellsJournalFile : List ℕ → JournalFile → Type 0
+SpellsJournalFile bytes file = IsJournalFile file × (bytes ≡ file_bytes file)
+
+-- the journal of the machine of this name
+abbrev pub of_machine : List ℕ → JournalParts → JournalFile
+of_machine name journal = record { machine = Some name; journal = journal }

@@ -1,5 +1,5 @@
 -- The first fault of the bytes of a journal file.
-use Rattle.std.specs.Prelude.{◌≡◌, ◌≢◌, ◌⊎◌, ℕ, ◌<◌, ◌≤◌, List, [], ◌∷◌, ◌++◌, length, Option, None, IfSome, false, true}
+use Rattle.std.specs.Prelude.{◌≡◌, ◌≢◌, ◌⊎◌, ℕ, ◌+◌, ◌<◌, ◌≤◌, List, [], ◌∷◌, ◌++◌, length, Option, None, IfSome, false, true}
 use Rattle.std.specs.List.{AllByRecursion}
 use Rattle.uefi_vars.specs.Name.{IsNameByte, name_max, IsName}
 use Rattle.uefi_vars.specs.Vars.{data_max, IsData}
@@ -10,15 +10,48 @@ use Rattle.boot_journal.specs.declared.fault.JournalFault.{JournalFault}
 use Rattle.boot_journal.specs.declared.fault.JournalFault.TheVariants as fault
 use Rattle.boot_journal.specs.Journal.{JournalParts}
 use Rattle.boot_journal.specs.JournalValue.{IsJournal}
-use Rattle.boot_journal.specs.Bytes.{journal_magic, making, taking_back, value_bytes, journal_bytes}
+use Rattle.boot_journal.specs.MachineName.{machine_name_max, IsMachineName}
+use Rattle.boot_journal.specs.Bytes.{magic_1, magic_2, making, taking_back, value_bytes, body_bytes, head_bytes}
 
--- the magic isn't at the start
+-- neither magic is at the start
 abbrev pub HasNoMagic : List ℕ → Type 0
-HasNoMagic bytes = (rest : List ℕ) → bytes ≢ journal_magic ++ rest
+HasNoMagic bytes = (rest : List ℕ) → (bytes ≢ magic_1 ++ rest) × (bytes ≢ magic_2 ++ rest)
 
--- ---- where a fault can be
+-- ---- the name of the machine
 
--- the fields of a journal file
+-- fewer bytes than the name is to have
+pub record HasCutMachine (rest : List ℕ) : Type 0 where
+  pub len : ℕ
+  pub behind : List ℕ
+  pub stated : StatesLength rest len behind
+  pub good : (0 < len) × (len ≤ machine_name_max)
+  pub cut : length behind < len
+
+-- a length that no name has
+pub record HasBadMachineLength (rest : List ℕ) : Type 0 where
+  pub len : ℕ
+  pub behind : List ℕ
+  pub stated : StatesLength rest len behind
+  pub bad : (len ≡ 0) ⊎ (machine_name_max < len)
+
+-- fewer than the four bytes of its length, or than it is to have
+abbrev pub IsCutMachine : List ℕ → Type 0
+IsCutMachine rest = (length rest < 4) ⊎ HasCutMachine rest
+
+-- At this place a name is to be, and that is its fault.
+abbrev pub IsMachineFault : ℕ → List ℕ → JournalFault → Type 0
+IsMachineFault place rest f =
+    ((f ≡ fault.Truncated place) × IsCutMachine rest) ⊎ ((f ≡ fault.BadMachine place) × HasBadMachineLength rest)
+
+-- The magic of version 2 is at the start, and that is the fault of the name after it.
+pub record HasMachineFault (bytes : List ℕ) (f : JournalFault) : Type 0 where
+  pub rest : List ℕ
+  pub parts : bytes ≡ magic_2 ++ rest
+  pub here : IsMachineFault 4 rest f
+
+-- ---- where a fault of the body can be
+
+-- the fields of the body
 pub data Field : Type 0 where
   -- BootKeepState
   State : Field
@@ -39,36 +72,36 @@ pub data Field : Type 0 where
 abbrev pub IsBegunJournal : JournalParts → Type 0
 IsBegunJournal journal = IsJournal journal × (journal.pending ≢ None)
 
--- These bytes are what is before such a field: whole fields, of which none is at fault.
+-- These bytes are what is in the body before such a field: whole fields, of which none is at fault.
 abbrev pub IsBefore : Field → List ℕ → Type 0
-IsBefore State front = front ≡ journal_magic
-IsBefore Course front = (state : Option (List ℕ)) × IfSome state IsData × (front ≡ journal_magic ++ value_bytes state)
+IsBefore State front = front ≡ []
+IsBefore Course front = (state : Option (List ℕ)) × IfSome state IsData × (front ≡ value_bytes state)
 IsBefore Identity front =
     (state : Option (List ℕ)) × IfSome state IsData
     × (course : ℕ) × ((course ≡ making) ⊎ (course ≡ taking_back))
-    × (front ≡ journal_magic ++ (value_bytes state ++ course ∷ []))
+    × (front ≡ value_bytes state ++ course ∷ [])
 IsBefore Former front =
     (state : Option (List ℕ)) × IfSome state IsData
     × (boot : List ℕ) × IsName boot
-    × (front ≡ journal_magic ++ (value_bytes state ++ (making ∷ name_bytes boot)))
-IsBefore Name front = (journal : JournalParts) × IsBegunJournal journal × (front ≡ journal_bytes journal)
+    × (front ≡ value_bytes state ++ (making ∷ name_bytes boot))
+IsBefore Name front = (journal : JournalParts) × IsBegunJournal journal × (front ≡ body_bytes journal)
 IsBefore Before front =
     (journal : JournalParts) × IsBegunJournal journal
     × (name : List ℕ) × (is_boot_name name ≡ true)
-    × (front ≡ journal_bytes journal ++ name_bytes name)
+    × (front ≡ body_bytes journal ++ name_bytes name)
 IsBefore After front =
     (journal : JournalParts) × IsBegunJournal journal
     × (name : List ℕ) × (is_boot_name name ≡ true)
     × (before : Option (List ℕ)) × IfSome before IsData
-    × (front ≡ journal_bytes journal ++ (name_bytes name ++ value_bytes before))
+    × (front ≡ body_bytes journal ++ (name_bytes name ++ value_bytes before))
 
--- At this place of the bytes such a field is to be, of which this holds.
-pub record HasAt (bytes : List ℕ) (place : ℕ) (field : Field) (P : List ℕ → Type 0) : Type 0 where
+-- At this place such a field of the body is to be, of which this holds. The body has so many bytes before it.
+pub record HasAt (start : ℕ) (body : List ℕ) (place : ℕ) (field : Field) (P : List ℕ → Type 0) : Type 0 where
   pub front : List ℕ
   pub rest : List ℕ
   pub whole : IsBefore field front
-  pub parts : bytes ≡ front ++ rest
-  pub at : place ≡ length front
+  pub parts : body ≡ front ++ rest
+  pub at : place ≡ start + length front
   pub here : P rest
 
 -- ---- what may be at fault there
@@ -158,13 +191,26 @@ IsTooLong After rest = HasLongValue rest
 
 -- ---- the first fault
 
--- The fault is the first of the bytes, by cases.
+-- The fault is the first of the body, which has so many bytes before it, by cases.
+abbrev pub IsBodyFault : ℕ → List ℕ → JournalFault → Type 0
+IsBodyFault start body fault.BadMagic = ⊥
+IsBodyFault start body (fault.BadMachine place) = ⊥
+IsBodyFault start body (fault.Truncated place) = (field : Field) × HasAt start body place field (IsCut field)
+IsBodyFault start body (fault.ValueTooLong place) = (field : Field) × HasAt start body place field (IsTooLong field)
+IsBodyFault start body (fault.BadCourse place) = HasAt start body place Course HasBadCourse
+IsBodyFault start body (fault.BadIdentity place) =
+    HasAt start body place Identity (λ rest. HasBadIdentityLength rest ⊎ HasBadCharacter rest)
+IsBodyFault start body (fault.BadName place) = HasAt start body place Name HasBadName
+IsBodyFault start body fault.OutOfMemory = ⊥
+
+-- What is before the body is whole, and not at fault, and that is the first fault of the body.
+pub record HasBodyFault (bytes : List ℕ) (f : JournalFault) : Type 0 where
+  pub machine : Option (List ℕ)
+  pub named : IfSome machine IsMachineName
+  pub body : List ℕ
+  pub parts : bytes ≡ head_bytes machine ++ body
+  pub here : IsBodyFault (length (head_bytes machine)) body f
+
+-- The fault is the first of the bytes: of the magic, of the name of the machine or of the body.
 abbrev pub IsJournalFault : List ℕ → JournalFault → Type 0
-IsJournalFault bytes fault.BadMagic = HasNoMagic bytes
-IsJournalFault bytes (fault.Truncated place) = (field : Field) × HasAt bytes place field (IsCut field)
-IsJournalFault bytes (fault.ValueTooLong place) = (field : Field) × HasAt bytes place field (IsTooLong field)
-IsJournalFault bytes (fault.BadCourse place) = HasAt bytes place Course HasBadCourse
-IsJournalFault bytes (fault.BadIdentity place) =
-    HasAt bytes place Identity (λ rest. HasBadIdentityLength rest ⊎ HasBadCharacter rest)
-IsJournalFault bytes (fault.BadName place) = HasAt bytes place Name HasBadName
-IsJournalFault bytes fault.OutOfMemory = ⊥
+IsJournalFault bytes f = ((f ≡ fault.BadMagic) × HasNoMagic bytes) ⊎ (HasMachineFault bytes f ⊎ HasBodyFault bytes f)

@@ -20,6 +20,8 @@ pub mod Calls
 pub mod Asked
 pub mod Recorded
 pub mod RecordedValue
+pub mod JournalAttributes
+pub mod MachineName
 pub mod Bytes
 pub mod Fault
 pub mod Words

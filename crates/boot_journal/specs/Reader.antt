@@ -8,8 +8,10 @@ use Rattle.uefi_vars.specs.Vars.{data_max}
 use Rattle.var_stores.specs.BootChange.{ChangeParts, is_boot_name}
 use Rattle.boot_journal.specs.declared.fault.JournalFault.{JournalFault}
 use Rattle.boot_journal.specs.declared.fault.JournalFault.TheVariants as fault
+use Rattle.boot_journal.specs.declared.journal_file.JournalFile.{JournalFile}
 use Rattle.boot_journal.specs.Journal.{JournalParts, PendingParts, Makes, TakesBack}
-use Rattle.boot_journal.specs.Bytes.{journal_magic, making, taking_back}
+use Rattle.boot_journal.specs.MachineName.{machine_name_max}
+use Rattle.boot_journal.specs.Bytes.{magic_1, magic_2, making, taking_back, of_machine}
 
 infixl 10 ◌>>=◌
 abbrev pub ◌>>=◌ : {A B : Type 0} → Result A JournalFault → (A → Result B JournalFault) → Result B JournalFault
@@ -19,6 +21,7 @@ abbrev pub ◌>>=◌ : {A B : Type 0} → Result A JournalFault → (A → Resul
 -- What a function returned, seen so, is what reading gives, unless memory was refused.
 abbrev pub Fails : {Y : Type 0} → JournalFault → Result Y JournalFault → Type 0
 Fails fault.BadMagic read = read ≡ Err fault.BadMagic
+Fails (fault.BadMachine place) read = read ≡ Err (fault.BadMachine place)
 Fails (fault.Truncated place) read = read ≡ Err (fault.Truncated place)
 Fails (fault.ValueTooLong place) read = read ≡ Err (fault.ValueTooLong place)
 Fails (fault.BadCourse place) read = read ≡ Err (fault.BadCourse place)
@@ -34,6 +37,14 @@ Gives view (Err e) read = Fails e read
 abbrev pub place_of : ℕ → List ℕ → ℕ
 place_of end bytes = end - length bytes
 
+-- ---- a length of four bytes
+
+-- the length, and the bytes after it
+unfoldable pub len_at : ℕ → List ℕ → Result (ℕ × List ℕ) JournalFault
+len_at end bytes =
+    if nat_lt (length bytes) 4 then Err (fault.Truncated (place_of end bytes))
+    else Ok (from_le_bytes w32 (take 4 bytes), drop 4 bytes)
+
 -- ---- a value
 
 abbrev pub stored : List ℕ → Option (List ℕ)
@@ -48,9 +59,20 @@ value_of place len behind =
     else Ok (stored (take len behind), drop len behind))
 
 unfoldable pub value_at : ℕ → List ℕ → Result (Option (List ℕ) × List ℕ) JournalFault
-value_at end bytes =
-    if nat_lt (length bytes) 4 then Err (fault.Truncated (place_of end bytes))
-    else value_of (place_of end bytes) (from_le_bytes w32 (take 4 bytes)) (drop 4 bytes)
+value_at end bytes = len_at end bytes >>= λ len. value_of (place_of end bytes) len.0 len.1
+
+-- ---- the name of a machine
+
+-- its bytes, of which there are to be this many; the place is that of the name
+abbrev pub machine_of : ℕ → ℕ → List ℕ → Result (List ℕ × List ℕ) JournalFault
+machine_of place len behind =
+    if len == 0 then Err (fault.BadMachine place)
+    else (if nat_lt machine_name_max len then Err (fault.BadMachine place)
+    else (if nat_lt (length behind) len then Err (fault.Truncated place)
+    else Ok (take len behind, drop len behind)))
+
+unfoldable pub machine_at : ℕ → List ℕ → Result (List ℕ × List ℕ) JournalFault
+machine_at end bytes = len_at end bytes >>= λ len. machine_of (place_of end bytes) len.0 len.1
 
 -- ---- an identity
 
@@ -128,7 +150,7 @@ unfoldable pub pending_at : ℕ → List ℕ → Result (Option PendingParts) Jo
 pending_at end [] = Ok None
 pending_at end (course ∷ behind) = begun_at end (place_of end (course ∷ behind)) course behind >>= λ pending. Ok (Some pending)
 
--- ---- the file
+-- ---- the body
 
 unfoldable pub parts_at : ℕ → List ℕ → Result JournalParts JournalFault
 parts_at end bytes = do
@@ -136,6 +158,21 @@ parts_at end bytes = do
   pending ← pending_at end state.1
   Ok (record { state = state.0; pending = pending })
 
-unfoldable pub journal_at : List ℕ → Result JournalParts JournalFault
-journal_at bytes =
-    if starts_with ◌==◌ bytes journal_magic then parts_at (length bytes) (drop 4 bytes) else Err fault.BadMagic
+-- ---- the file
+
+-- what follows the magic of version 1
+unfoldable pub unnamed_at : ℕ → List ℕ → Result JournalFile JournalFault
+unnamed_at end bytes = parts_at end bytes >>= λ journal. Ok (record { machine = None; journal = journal })
+
+-- what follows the magic of version 2
+unfoldable pub named_at : ℕ → List ℕ → Result JournalFile JournalFault
+named_at end bytes = do
+  machine ← machine_at end bytes
+  journal ← parts_at end machine.1
+  Ok (of_machine machine.0 journal)
+
+unfoldable pub file_at : List ℕ → Result JournalFile JournalFault
+file_at bytes =
+    if starts_with ◌==◌ bytes magic_2 then named_at (length bytes) (drop 4 bytes)
+    else (if starts_with ◌==◌ bytes magic_1 then unnamed_at (length bytes) (drop 4 bytes)
+    else Err fault.BadMagic)

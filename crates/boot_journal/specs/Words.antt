@@ -6,6 +6,7 @@ use Rattle.boot_journal.specs.declared.fault.JournalFault.TheVariants as fault
 
 abbrev pub journal_fault_words : JournalFault → List ℕ
 journal_fault_words fault.BadMagic = codes "BadMagic"
+journal_fault_words (fault.BadMachine place) = codes "BadMachine " ++ decimal place
 journal_fault_words (fault.Truncated place) = codes "Truncated " ++ decimal place
 journal_fault_words (fault.ValueTooLong place) = codes "ValueTooLong " ++ decimal place
 journal_fault_words (fault.BadCourse place) = codes "BadCourse " ++ decimal place
@@ -15,6 +16,7 @@ journal_fault_words fault.OutOfMemory = codes "OutOfMemory"
 
 abbrev pub journal_fault_place : JournalFault → Option ℕ
 journal_fault_place fault.BadMagic = None
+journal_fault_place (fault.BadMachine place) = Some place
 journal_fault_place (fault.Truncated place) = Some place
 journal_fault_place (fault.ValueTooLong place) = Some place
 journal_fault_place (fault.BadCourse place) = Some place

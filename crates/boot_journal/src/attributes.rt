@@ -7,7 +7,7 @@ ghost use Rattle.uefi_vars.specs.Name.{IsName};
 ghost use Rattle.boot_journal.specs.Attributes.{attributes_len, attributes_in, data_of, with_attributes, IsFaultWithout, IsFaultWith, IsFaultOf};
 ghost use Rattle.boot_journal.specs.declared.attributes.AttributesFault.TheVariants as fault;
 
-use std::alloc::{AllocError, Global};
+use std::alloc::{AllocError, AllocFailed, Global};
 use thiserror::Error;
 use uefi_vars::{PutFault, Vars};
 use var_stores::{BOOT_ATTRIBUTES, is_boot_name, laws as store_laws};
@@ -34,6 +34,14 @@ impl From<AllocError> for AttributesFault {
     ghost from_gives = { λ _ made. made ≡ fault.OutOfMemory };
 
     fn from(_refusal: AllocError) -> AttributesFault {
+        AttributesFault::OutOfMemory
+    }
+}
+
+impl<T: Drop> From<AllocFailed<T>> for AttributesFault {
+    ghost from_gives = { λ _ made. made ≡ fault.OutOfMemory };
+
+    fn from(_refusal: AllocFailed<T>) -> AttributesFault {
         AttributesFault::OutOfMemory
     }
 }
@@ -84,7 +92,11 @@ pub fn without_attributes(alloc: Global, vars: &Vars) -> Result<Vars, Attributes
 }
 
 /// The attributes of what is there, and then this value.
-fn joined(alloc: Global, there: Option<&[u8]>, value: &[u8]) -> Result<Vec<u8>, AllocError>
+pub(crate) fn joined(
+    alloc: Global,
+    there: Option<&[u8]>,
+    value: &[u8],
+) -> Result<Vec<u8>, AllocError>
     ensures { IfOk result (λ bytes. bytes.items ≡ attributes_in (option_map (λ b. b.now) there.entry) ++ value.now) }
 {
     let mut bytes = Vec::from_slice(alloc, attributes_in(there))?;

@@ -1,14 +1,20 @@
 //! Changes of single variables that outlive a cut.
 
-ghost use Rattle.std.specs.Prelude.{◌≡◌, ◌↔◌, IsTrue, IfOk};
+ghost use Rattle.std.specs.Prelude.{◌≡◌, ◌↔◌, ◌∷◌, ◌++◌, [], IsTrue, IfOk, IfErr, IfSome, Some};
+ghost use Rattle.std.specs.List.{AllByRecursion};
 ghost use Rattle.std.specs.Option.{option_map};
+ghost use Rattle.uefi_path.specs.Row.{IsByte};
+ghost use Rattle.uefi_vars.specs.Vars.{IsData};
 ghost use Rattle.var_stores.specs.BootChange.{change_parts, same_name};
+ghost use Rattle.boot_journal.specs.Attributes.{attributes_in};
 ghost use Rattle.boot_journal.specs.Changes.{undone, spent};
-ghost use Rattle.boot_journal.specs.Values.{change_of, IsBootChange};
+ghost use Rattle.boot_journal.specs.JournalAttributes.{change_kept, IsFaultOfChanges, IsFaultOfData};
+ghost use Rattle.boot_journal.specs.Values.{bytes_of, change_of, IsBootChange};
 
+use crate::attributes::{ATTRIBUTES_LEN, AttributesFault, joined};
 use std::alloc::{AllocError, Global};
 use std::marker::Model;
-use uefi_vars::{BOOT_NEXT, laws as vars_laws};
+use uefi_vars::{BOOT_NEXT, DATA_MAX, Vars, laws as vars_laws};
 use var_stores::BootChange;
 
 /// A change of one variable of the boot manager: Boot####, BootOrder or BootNext (UEFI 2.10, 3.3). What is there before
@@ -96,6 +102,32 @@ impl Change {
         })
     }
 
+    /// The change of what is kept: the same change, with the attributes of what is there under its name.
+    ///
+    /// # Errors
+    ///
+    /// [`AttributesFault::TooLong`] if its data before or after has more than [`DATA_MAX`] bytes then, and
+    /// [`AttributesFault::OutOfMemory`] if memory was refused.
+    #[tactic(auto, using(crate::proofs::KeptChanges::value_is, crate::proofs::KeptChanges::before_fails, crate::proofs::KeptChanges::after_fails))]
+    pub(crate) fn with_attributes(
+        &self,
+        alloc: Global,
+        there: &Vars,
+    ) -> Result<Change, AttributesFault>
+        ensures value { IfOk result (λ change. change ≡ change_kept there.now self.now) }
+        ensures valid { IfOk result (λ change. IsBootChange change) }
+        ensures fault { IfErr result (IsFaultOfChanges (self.now ∷ [])) }
+    {
+        let there = there.get(self.name());
+        let before = kept_with(alloc, there, self.before())?;
+        let after = kept_with(alloc, there, self.after())?;
+        Ok(Change {
+            name: self.name.clone()?,
+            before,
+            after,
+        })
+    }
+
     /// The change that takes this one back.
     pub(crate) fn undone(self) -> Change
         ensures { result ≡ undone self }
@@ -136,6 +168,45 @@ pub(crate) fn is_same_data(value: Option<&[u8]>, other: Option<&[u8]>) -> bool
     ensures { IsTrue result ↔ (option_map (λ b. b.now) value.entry ≡ option_map (λ b. b.now) other.entry) }
 {
     value == other
+}
+
+/// The value, if it is there, with the attributes of what is there before it.
+fn kept_with(
+    alloc: Global,
+    there: Option<&[u8]>,
+    value: Option<&[u8]>,
+) -> Result<Option<Vec<u8>>, AttributesFault>
+    requires { IfSome (option_map (λ b. b.now) value) IsData }
+    ensures value { IfOk result (λ kept. bytes_of kept ≡ option_map (λ v. attributes_in (option_map (λ b. b.now) there.entry) ++ v) (option_map (λ b. b.now) value.entry)) }
+    ensures valid { IfOk result (λ kept. IfSome (bytes_of kept) IsData) }
+    ensures fault { IfErr result (IsFaultOfData (option_map (λ b. b.now) value.entry)) }
+{
+    match value {
+        Some(value) => Ok(Some(data_with(alloc, there, value)?)),
+        None => Ok(None),
+    }
+}
+
+/// The data with the attributes of what is there before it.
+fn data_with(alloc: Global, there: Option<&[u8]>, value: &[u8]) -> Result<Vec<u8>, AttributesFault>
+    requires { IsData value.now }
+    ensures value { IfOk result (λ kept. kept.items ≡ attributes_in (option_map (λ b. b.now) there.entry) ++ value.now) }
+    ensures valid { IfOk result (λ kept. IsData kept.items) }
+    ensures fault { IfErr result (IsFaultOfData (Some value.now)) }
+{
+    if value.len() > DATA_MAX - ATTRIBUTES_LEN {
+        return Err(AttributesFault::TooLong);
+    }
+    let bytes = joined(alloc, there, value)?;
+    prove_bytes(&bytes);
+    Ok(bytes)
+}
+
+/// Looks at the bytes, for the contract alone: each of them is one.
+fn prove_bytes(bytes: &[u8])
+    ensures { AllByRecursion IsByte bytes.now }
+{
+    let _ = bytes.len();
 }
 
 /// The bytes, copied. This fails only if memory is refused.

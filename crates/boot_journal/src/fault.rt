@@ -12,11 +12,15 @@ use thiserror::Error;
 /// the file.
 #[derive(Clone, Copy, Debug, PartialEq, Eq, Hash, Error)]
 pub enum JournalFault {
-    /// The file doesn't begin with the four bytes `BKJ1`.
+    /// The file begins neither with the four bytes `BKJ1` nor with `BKJ2`.
     #[error("BadMagic")]
     BadMagic,
-    /// The file ends in the field that begins at this place. A value begins with the four bytes of its length, and an
-    /// identity or a name with the byte of its own.
+    /// The name of the machine that begins at this place, with the four bytes of its length, is to have no byte or more than
+    /// [`MACHINE_NAME_MAX`](crate::MACHINE_NAME_MAX).
+    #[error("BadMachine {0}")]
+    BadMachine(usize),
+    /// The file ends in the field that begins at this place. A value and the name of the machine begin with the four bytes
+    /// of their length, and an identity or the name of a variable with the byte of its own.
     #[error("Truncated {0}")]
     Truncated(usize),
     /// The value that begins at this place, with the four bytes of its length, is to have more than
@@ -41,12 +45,13 @@ pub enum JournalFault {
 
 impl JournalFault {
     /// The place of the field with the fault, in bytes from the first byte of the file: `None` if the file doesn't begin
-    /// with the magic, or memory was refused.
+    /// with a magic, or memory was refused.
     pub fn place(&self) -> Option<usize>
         ensures { result ≡ journal_fault_place self.now }
     {
         match self {
-            JournalFault::Truncated(place)
+            JournalFault::BadMachine(place)
+            | JournalFault::Truncated(place)
             | JournalFault::ValueTooLong(place)
             | JournalFault::BadCourse(place)
             | JournalFault::BadIdentity(place)
@@ -61,6 +66,7 @@ impl JournalFault {
     {
         match self {
             JournalFault::BadMagic => String::from_str(alloc, "BadMagic"),
+            JournalFault::BadMachine(place) => format!(in alloc; "BadMachine {place}"),
             JournalFault::Truncated(place) => format!(in alloc; "Truncated {place}"),
             JournalFault::ValueTooLong(place) => format!(in alloc; "ValueTooLong {place}"),
             JournalFault::BadCourse(place) => format!(in alloc; "BadCourse {place}"),

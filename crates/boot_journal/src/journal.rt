@@ -1,6 +1,6 @@
 //! Journals: what a machine keeps beside its variables.
 
-ghost use Rattle.std.specs.Prelude.{◌≡◌, ◌↔◌, IfOk, IfSome, IsTrue, Some, None, map as list_map};
+ghost use Rattle.std.specs.Prelude.{◌≡◌, ◌↔◌, IfOk, IfErr, IfSome, IsTrue, Some, None, map as list_map};
 ghost use Rattle.std.specs.Option.{option_map};
 ghost use Rattle.std.specs.List.{AllByRecursion};
 ghost use Rattle.std.specs.FinMap as map;
@@ -9,9 +9,11 @@ ghost use Rattle.var_stores.specs.BootChange.{change_parts, changes_from};
 ghost use Rattle.boot_requests.specs.State.{keep_text};
 ghost use Rattle.boot_journal.specs.Changes.{taken_back, spent};
 ghost use Rattle.boot_journal.specs.Journal.{JournalParts, idle, begun, due, turned, is_making, began_under, ChangesNothing};
-ghost use Rattle.boot_journal.specs.JournalValue.{IsJournal, pending_of, state_turned, pending_turned, in_order, IsAlike};
+ghost use Rattle.boot_journal.specs.JournalAttributes.{change_kept, pending_kept, journal_kept, IsFaultOfChanges, IsFaultOfJournal};
+ghost use Rattle.boot_journal.specs.JournalValue.{IsJournal, IsPending, pending_of, state_turned, pending_turned, in_order, IsAlike};
 ghost use Rattle.boot_journal.specs.Values.{bytes_of, IsBootChange};
 
+use crate::attributes::AttributesFault;
 use crate::boot_id::BootId;
 use crate::change::{Change, copied, is_same, is_same_data};
 use std::alloc::{AllocError, Global};
@@ -52,7 +54,8 @@ pub struct Journal {
 
 impl Model for Journal {
     ghost use Rattle.boot_journal.specs.Journal.{JournalParts};
-    ghost use Rattle.boot_journal.specs.JournalValue.{IsJournal, journal_of};
+    ghost use Rattle.boot_journal.specs.JournalAttributes.{change_kept, pending_kept, journal_kept, IsFaultOfChanges, IsFaultOfJournal};
+    ghost use Rattle.boot_journal.specs.JournalValue.{IsJournal, IsPending, journal_of};
 
     ghost Value = { JournalParts };
 
@@ -159,6 +162,32 @@ impl Journal {
         }
     }
 
+    /// The journal of a file of version 1 as one of version 2 has it: what each of its changes has before and after has the
+    /// attributes of what `there` has under the variable's name before its data. These are the first four bytes there, or
+    /// [`BOOT_ATTRIBUTES`](var_stores::BOOT_ATTRIBUTES) if it has nothing there, or fewer bytes. BootKeepState stays as it
+    /// is.
+    ///
+    /// # Errors
+    ///
+    /// [`AttributesFault::TooLong`] if what a change has before or after has more than [`DATA_MAX`](uefi_vars::DATA_MAX)
+    /// bytes then, and [`AttributesFault::OutOfMemory`] if memory was refused.
+    pub fn with_attributes(&self, alloc: Global, there: &Vars) -> Result<Journal, AttributesFault>
+        ensures value { IfOk result (λ journal. journal ≡ journal_kept there.now self.now) }
+        ensures fault { IfErr result (IsFaultOfJournal self.now) }
+    {
+        let state = copied(alloc, self.state.as_deref())?;
+        match &self.pending {
+            Some(pending) => Ok(Journal {
+                state,
+                pending: Some(pending.with_attributes(alloc, there)?),
+            }),
+            None => Ok(Journal {
+                state,
+                pending: None,
+            }),
+        }
+    }
+
     /// An equal journal. This fails only if memory is refused.
     pub(crate) fn copy(&self, alloc: Global) -> Result<Journal, AllocError>
         ensures { IfOk result (λ copy. copy ≡ self.now) }
@@ -224,6 +253,21 @@ impl Pending {
     {
         Ok(Pending {
             changes: copy_all(alloc, &self.changes)?,
+            course: self.course.copy(alloc)?,
+            boot: self.boot.copy()?,
+        })
+    }
+
+    /// The same with changes of what is kept, whose attributes are those of what is there.
+    fn with_attributes(&self, alloc: Global, there: &Vars) -> Result<Pending, AttributesFault>
+        requires { IsPending (pending_of self.now) }
+        ensures value { IfOk result (λ pending. pending_of pending ≡ pending_kept there.now (pending_of self.now)) }
+        ensures valid { IfOk result (λ pending. IsPending (pending_of pending)) }
+        ensures fault { IfErr result (IsFaultOfChanges self.now.changes.items) }
+    {
+        let changes = all_with_attributes(alloc, &self.changes, there)?;
+        Ok(Pending {
+            changes,
             course: self.course.copy(alloc)?,
             boot: self.boot.copy()?,
         })
@@ -324,6 +368,25 @@ fn copy_all(alloc: Global, changes: &[Change]) -> Result<Vec<Change>, AllocError
         copies.push(change.copy(alloc)?)?;
     }
     Ok(copies)
+}
+
+/// The changes of what is kept, whose attributes are those of what is there.
+#[tactic(auto, using(crate::proofs::ChangeLoop::one_more, crate::proofs::KeptChanges::one_fails))]
+fn all_with_attributes(
+    alloc: Global,
+    changes: &[Change],
+    there: &Vars,
+) -> Result<Vec<Change>, AttributesFault>
+    ensures value { IfOk result (λ kept. kept.items ≡ list_map (change_kept there.now) changes.now) }
+    ensures valid { IfOk result (λ kept. AllByRecursion IsBootChange kept.items) }
+    ensures fault { IfErr result (IsFaultOfChanges changes.now) }
+{
+    let mut kept = Vec::new(alloc);
+    for change in changes {
+        let made = change.with_attributes(alloc, there)?;
+        kept.push(made)?;
+    }
+    Ok(kept)
 }
 
 /// The changes that take these back, the last of them first.

@@ -16,7 +16,7 @@ ghost use Rattle.boot_journal.specs.Attributes.{attributes_len, attributes_in, d
 ghost use Rattle.boot_journal.specs.Calls.{Step, world_after, AreSteps, HaveNewStarts, FirmwareDid, did_by_firmware, CallsLeaveAlone, AreByCalls};
 ghost use Rattle.boot_journal.specs.Changes.{made, IsFront, LeaveAlone};
 ghost use Rattle.boot_journal.specs.Events.{Event, Starts, World, world, all_happen, without_next, with_variables, IsUpdateTo, AreSettlings, AreSettlingsOrStarts, AreNoUpdates, by_firmware, UpdatesLeaveAlone};
-ghost use Rattle.boot_journal.specs.Journal.{BeganUnderAnother, JournalParts, changes_of, due};
+ghost use Rattle.boot_journal.specs.Journal.{BeganUnderAnother, changes_of, due};
 ghost use Rattle.boot_journal.specs.Moves.{cut_undoing};
 ghost use Rattle.boot_journal.specs.Once.{Update, AreUpdatesIn, run_of, AreAppliedOnce};
 ghost use Rattle.boot_journal.specs.Store.{Store, IsIdle, seen, stands_for, falls_back_to, brought};
@@ -25,13 +25,15 @@ ghost use Rattle.boot_journal.specs.Requests.{KeepsState, IsUpdateBy, IsOfAnothe
 ghost use Rattle.boot_journal.specs.declared.attributes.AttributesFault.{AttributesFault};
 ghost use Rattle.boot_journal.specs.declared.requests.RunFault.{RunFault};
 ghost use Rattle.boot_journal.specs.declared.fault.JournalFault.{JournalFault};
-ghost use Rattle.boot_journal.specs.JournalValue.{IsJournal};
-ghost use Rattle.boot_journal.specs.Bytes.{SpellsJournal};
+ghost use Rattle.boot_journal.specs.declared.journal_file.JournalFile.{JournalFile};
+ghost use Rattle.boot_journal.specs.MachineName.{machine_name_max};
+ghost use Rattle.boot_journal.specs.Bytes.{IsJournalFile, SpellsJournalFile};
 ghost use Rattle.boot_journal.specs.Fault.{IsJournalFault};
 
 use crate::attributes::{ATTRIBUTES_LEN, AttributesFault};
 use crate::fault::JournalFault;
 use crate::journal::KEEP_STATE;
+use crate::machine_name::MACHINE_NAME_MAX;
 use crate::requests::RunFault;
 use boot_requests::laws as request_laws;
 use uefi_vars::laws as vars_laws;
@@ -259,6 +261,7 @@ pub fn attributes_and_data_are_what_is_kept()
 pub fn constants_are_those_of_the_definitions()
     ensures name { KEEP_STATE.now ≡ keep_text }
     ensures len { ATTRIBUTES_LEN ≡ attributes_len }
+    ensures machine_name_max { MACHINE_NAME_MAX ≡ machine_name_max }
 {}
 
 /// `==` on the faults of attributes tells whether they are equal.
@@ -271,35 +274,35 @@ pub fn run_faults_compare_as_values()
     ensures { (a b : RunFault) → IsTrue (⟦<RunFault as PartialEq>⟧.eq a b) ↔ (a ≡ b) }
 {}
 
-/// A journal has a spelling, of bytes.
+/// A journal has a spelling, of bytes, with the name of its machine and without one.
 pub fn each_journal_is_spelled()
-    ensures { (journal : JournalParts) → IsJournal journal →
-        (bytes : List ℕ) × SpellsJournal bytes journal × AllByRecursion IsByte bytes }
+    ensures { (file : JournalFile) → IsJournalFile file →
+        (bytes : List ℕ) × SpellsJournalFile bytes file × AllByRecursion IsByte bytes }
 {
     vars_laws::boot_names_are_names();
 }
 
-/// A journal has at most one spelling.
+/// A journal with the name of its machine, or without one, has at most one spelling.
 pub fn a_journal_has_one_spelling()
-    ensures { (journal : JournalParts) (a b : List ℕ) → SpellsJournal a journal → SpellsJournal b journal → a ≡ b }
+    ensures { (file : JournalFile) (a b : List ℕ) → SpellsJournalFile a file → SpellsJournalFile b file → a ≡ b }
 {}
 
-/// Bytes spell at most one journal.
+/// Bytes spell at most one journal, with at most one name of a machine.
 pub fn bytes_spell_one_journal()
-    ensures { (bytes : List ℕ) (a b : JournalParts) → SpellsJournal bytes a → SpellsJournal bytes b → a ≡ b }
+    ensures { (bytes : List ℕ) (a b : JournalFile) → SpellsJournalFile bytes a → SpellsJournalFile bytes b → a ≡ b }
 {}
 
 /// Bytes spell a journal, or have a first fault.
 pub fn bytes_spell_a_journal_or_have_a_fault()
     ensures { (bytes : List ℕ) → AllByRecursion IsByte bytes →
-        ((journal : JournalParts) × SpellsJournal bytes journal)
+        ((file : JournalFile) × SpellsJournalFile bytes file)
         ⊎ ((fault : JournalFault) × IsJournalFault bytes fault) }
 {}
 
 /// Bytes that have a first fault spell no journal.
 pub fn a_fault_leaves_no_journal()
-    ensures { (bytes : List ℕ) (fault : JournalFault) (journal : JournalParts) →
-        IsJournalFault bytes fault → SpellsJournal bytes journal → ⊥ }
+    ensures { (bytes : List ℕ) (fault : JournalFault) (file : JournalFile) →
+        IsJournalFault bytes fault → SpellsJournalFile bytes file → ⊥ }
 {}
 
 /// Bytes have at most one first fault.

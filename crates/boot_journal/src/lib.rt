@@ -4,8 +4,8 @@
 //! Firmware stores one variable at a time, and power may fail between two of them. So a [`Machine`] has a [`Journal`] beside
 //! its variables: [`update`] first writes there what it is about to change, and [`settle`] does what a journal is left with,
 //! or takes it back if the machine refuses a move. [`command`] settles, runs something over the variables, such as
-//! [`Requests`], and updates. [`Recorded`] makes a machine of a [`Device`]. [`read_journal`] reads a journal from the bytes of
-//! its file, all of them, and [`write_journal`] gives its one spelling.
+//! [`Requests`], and updates. [`Recorded`] makes a machine of a [`Device`]. [`read_journal`] reads a journal, and the
+//! [`MachineName`] of the machine that it is of, from the bytes of a file, all of them, and [`write_journal`] writes them.
 //!
 //! What a machine keeps under the name of a variable of the boot manager, Boot####, BootOrder or BootNext, is the
 //! variable's attributes, in [`ATTRIBUTES_LEN`] bytes, and then its data, as a file of Linux's efivarfs has the two. So
@@ -20,8 +20,10 @@ mod change;
 mod commanding;
 mod fault;
 mod journal;
+mod journal_file;
 pub mod laws;
 mod machine;
+mod machine_name;
 mod reader;
 mod recorded;
 mod requests;
@@ -35,7 +37,9 @@ pub use change::Change;
 pub use commanding::{Run, command};
 pub use fault::JournalFault;
 pub use journal::{Journal, KEEP_STATE};
+pub use journal_file::JournalFile;
 pub use machine::{CallError, CommandError, Machine, UpdateError};
+pub use machine_name::{MACHINE_NAME_MAX, MachineName};
 pub use reader::read_journal;
 pub use recorded::{Device, Recorded};
 pub use requests::{Answer, Requests, RunFault};

@@ -1,6 +1,6 @@
 //! Bytes to journals.
 
-ghost use Rattle.std.specs.Prelude.{◌≡◌, ◌≢◌, ◌<◌, ◌≤◌, length, IfOk, IfErr, IfSome, None, Ok, Err, true, false};
+ghost use Rattle.std.specs.Prelude.{◌≡◌, ◌≢◌, ◌<◌, ◌≤◌, length, drop, IfOk, IfErr, IfSome, None, Ok, Err, true, false};
 ghost use Rattle.std.specs.List.{AllByRecursion};
 ghost use Rattle.std.specs.Option.{option_map};
 ghost use Rattle.uefi_path.specs.Answer.{IsUnless};
@@ -8,18 +8,21 @@ ghost use Rattle.uefi_vars.specs.Name.{IsName};
 ghost use Rattle.uefi_vars.specs.Vars.{IsData};
 ghost use Rattle.var_stores.specs.BootChange.{is_boot_name};
 ghost use Rattle.boot_journal.specs.declared.fault.JournalFault.{JournalFault};
-ghost use Rattle.boot_journal.specs.Journal.{JournalParts};
+ghost use Rattle.boot_journal.specs.declared.journal_file.JournalFile.{JournalFile};
 ghost use Rattle.boot_journal.specs.JournalValue.{pending_of, IsPending};
+ghost use Rattle.boot_journal.specs.MachineName.{IsMachineName};
 ghost use Rattle.boot_journal.specs.Values.{IsBootChange};
-ghost use Rattle.boot_journal.specs.Bytes.{SpellsJournal};
+ghost use Rattle.boot_journal.specs.Bytes.{SpellsJournalFile};
 ghost use Rattle.boot_journal.specs.Fault.{HasNoMagic, IsJournalFault};
-ghost use Rattle.boot_journal.specs.Reader.{Gives, place_of, stored, is_printing, value_at, identity_at, name_at, change_at, changes_at, making_at, taking_back_at, pending_at, parts_at, journal_at};
+ghost use Rattle.boot_journal.specs.Reader.{Gives, place_of, stored, is_printing, len_at, value_at, machine_at, identity_at, name_at, change_at, changes_at, making_at, taking_back_at, pending_at, parts_at, unnamed_at, named_at, file_at};
 
 use crate::boot_id::BootId;
 use crate::change::{Change, copied};
 use crate::fault::JournalFault;
 use crate::journal::{Course, Journal, Pending};
-use crate::writer::{MAGIC, MAKING, TAKING_BACK};
+use crate::journal_file::JournalFile;
+use crate::machine_name::{MACHINE_NAME_MAX, MachineName};
+use crate::writer::{MAGIC_1, MAGIC_2, MAKING, TAKING_BACK};
 use std::alloc::Global;
 use uefi_vars::{DATA_MAX, NAME_MAX, laws as vars_laws};
 use var_stores::is_boot_name;
@@ -38,6 +41,19 @@ fn stored(bytes: &[u8]) -> Option<&[u8]>
     if bytes.is_empty() { None } else { Some(bytes) }
 }
 
+/// The length in four bytes at the start of the bytes, with which a file of this length ends, and the bytes after it.
+#[tactic(auto, unfolding(crate::specs::Reader::len_at))]
+fn split_len(end: usize, bytes: &[u8]) -> Result<(usize, &[u8]), JournalFault>
+    ensures value { Gives (λ split. (split.0, split.1.now)) result (len_at end bytes.now) }
+    ensures behind { IfOk result (λ split. split.1.now ≡ drop 4 bytes.now) }
+    ensures shorter { IfOk result (λ split. length split.1.now < length bytes.now) }
+{
+    match bytes.split_first_chunk::<4>() {
+        Some((len, behind)) => Ok((u32::from_le_bytes(*len) as usize, behind)),
+        None => Err(JournalFault::Truncated(place_of(end, bytes))),
+    }
+}
+
 /// The value at the start of the bytes, with which a file of this length ends, and the bytes after it.
 #[tactic(auto, unfolding(crate::specs::Reader::value_at))]
 fn split_value(end: usize, bytes: &[u8]) -> Result<(Option<&[u8]>, &[u8]), JournalFault>
@@ -45,10 +61,7 @@ fn split_value(end: usize, bytes: &[u8]) -> Result<(Option<&[u8]>, &[u8]), Journ
     ensures valid { IfOk result (λ split. IfSome (option_map (λ b. b.now) split.0) IsData) }
     ensures shorter { IfOk result (λ split. length split.1.now ≤ length bytes.now) }
 {
-    let Some((len, behind)) = bytes.split_first_chunk::<4>() else {
-        return Err(JournalFault::Truncated(place_of(end, bytes)));
-    };
-    let len = u32::from_le_bytes(*len) as usize;
+    let (len, behind) = split_len(end, bytes)?;
     if len > DATA_MAX {
         return Err(JournalFault::ValueTooLong(place_of(end, bytes)));
     }
@@ -57,6 +70,23 @@ fn split_value(end: usize, bytes: &[u8]) -> Result<(Option<&[u8]>, &[u8]), Journ
     }
     let (value, behind) = behind.split_at(len);
     Ok((stored(value), behind))
+}
+
+/// The name of a machine at the start of the bytes, with which a file of this length ends, and the bytes after it.
+#[tactic(auto, unfolding(crate::specs::Reader::machine_at))]
+fn split_machine(end: usize, bytes: &[u8]) -> Result<(&[u8], &[u8]), JournalFault>
+    ensures value { Gives (λ split. (split.0.now, split.1.now)) result (machine_at end bytes.now) }
+    ensures valid { IfOk result (λ split. IsMachineName split.0.now) }
+{
+    let (len, behind) = split_len(end, bytes)?;
+    if len == 0 || len > MACHINE_NAME_MAX {
+        return Err(JournalFault::BadMachine(place_of(end, bytes)));
+    }
+    if len > behind.len() {
+        return Err(JournalFault::Truncated(place_of(end, bytes)));
+    }
+    let (name, behind) = behind.split_at(len);
+    Ok((name, behind))
 }
 
 /// Whether each of the bytes is a character from 0x21 to 0x7E.
@@ -201,7 +231,7 @@ fn read_pending(alloc: Global, end: usize, bytes: &[u8]) -> Result<Option<Pendin
     }
 }
 
-/// The journal of what follows the magic, with which a file of this length ends.
+/// The journal of the body of a file of this length.
 #[tactic(auto, unfolding(crate::specs::Reader::parts_at))]
 fn read_parts(alloc: Global, end: usize, bytes: &[u8]) -> Result<Journal, JournalFault>
     ensures { Gives (λ journal. journal) result (parts_at end bytes.now) }
@@ -214,30 +244,63 @@ fn read_parts(alloc: Global, end: usize, bytes: &[u8]) -> Result<Journal, Journa
     })
 }
 
-/// Reads a journal, and says of its answer what reading gives.
-#[tactic(auto, unfolding(crate::specs::Reader::journal_at))]
-fn read_whole(alloc: Global, bytes: &[u8]) -> Result<Journal, JournalFault>
-    ensures value { Gives (λ journal. journal) result (journal_at bytes.now) }
-    ensures bad_magic { HasNoMagic bytes.now → result ≡ Err JournalFault.BadMagic }
+/// What follows the magic of version 1 in a file of this length.
+#[tactic(auto, unfolding(crate::specs::Reader::unnamed_at))]
+fn read_unnamed(alloc: Global, end: usize, bytes: &[u8]) -> Result<JournalFile, JournalFault>
+    ensures { Gives (λ file. file) result (unnamed_at end bytes.now) }
 {
-    if !bytes.starts_with(&MAGIC) {
-        return Err(JournalFault::BadMagic);
-    }
-    read_parts(alloc, bytes.len(), &bytes[MAGIC.len()..])
+    let journal = read_parts(alloc, end, bytes)?;
+    Ok(JournalFile {
+        machine: None,
+        journal,
+    })
 }
 
-/// Reads the journal from the bytes of a journal file, all of them. The file has this crate's own format, as
-/// [`write_journal`](crate::write_journal) writes it. A length that the bytes state takes no more memory than there are
-/// bytes.
+/// What follows the magic of version 2 in a file of this length.
+#[tactic(auto, unfolding(crate::specs::Reader::named_at))]
+fn read_named(alloc: Global, end: usize, bytes: &[u8]) -> Result<JournalFile, JournalFault>
+    ensures { Gives (λ file. file) result (named_at end bytes.now) }
+{
+    let (name, behind) = split_machine(end, bytes)?;
+    let machine = MachineName::from_slice(alloc, name)?;
+    let journal = read_parts(alloc, end, behind)?;
+    Ok(JournalFile {
+        machine: Some(machine),
+        journal,
+    })
+}
+
+/// Reads a file, and says of its answer what reading gives.
+#[tactic(auto, unfolding(crate::specs::Reader::file_at))]
+fn read_whole(alloc: Global, bytes: &[u8]) -> Result<JournalFile, JournalFault>
+    ensures value { Gives (λ file. file) result (file_at bytes.now) }
+    ensures bad_magic { HasNoMagic bytes.now → result ≡ Err JournalFault.BadMagic }
+{
+    if bytes.starts_with(&MAGIC_2) {
+        return read_named(alloc, bytes.len(), &bytes[MAGIC_2.len()..]);
+    }
+    if bytes.starts_with(&MAGIC_1) {
+        return read_unnamed(alloc, bytes.len(), &bytes[MAGIC_1.len()..]);
+    }
+    Err(JournalFault::BadMagic)
+}
+
+/// Reads a journal, and the name of the machine that it is of, from the bytes of a journal file, all of them. The file has
+/// this crate's own format, in version 2, as [`write_journal`](crate::write_journal) writes it, or in version 1. That begins
+/// with `BKJ1`, tells of no machine, and has all else as version 2; in it what a change has before and after is data
+/// without attributes. A length that the bytes state takes no more memory than there are bytes.
 ///
 /// # Errors
 ///
-/// The first of these faults. [`JournalFault::BadMagic`] if the file doesn't begin with `BKJ1`. Then for each field, in the
-/// order in which they are in the file:
+/// The first of these faults. [`JournalFault::BadMagic`] if the file begins neither with `BKJ1` nor with `BKJ2`. Then for
+/// each field, in the order in which they are in the file:
 ///
-/// - for a value, as BootKeepState and the data of a change, [`JournalFault::Truncated`] if the file ends in the four bytes
-///   of its length, [`JournalFault::ValueTooLong`] if that is above [`DATA_MAX`], and [`JournalFault::Truncated`] if the
-///   file ends in its bytes;
+/// - for the name of the machine, [`JournalFault::Truncated`] if the file ends in the four bytes of its length,
+///   [`JournalFault::BadMachine`] if that is 0 or above [`MACHINE_NAME_MAX`], however far above, and
+///   [`JournalFault::Truncated`] if the file ends in its bytes;
+/// - for a value, as BootKeepState and what a change has before and after, [`JournalFault::Truncated`] if the file ends in
+///   the four bytes of its length, [`JournalFault::ValueTooLong`] if that is above [`DATA_MAX`], and
+///   [`JournalFault::Truncated`] if the file ends in its bytes;
 /// - for the byte after BootKeepState, [`JournalFault::BadCourse`] if it is neither 1 nor 2;
 /// - for the identity, [`JournalFault::Truncated`] if the file ends before it, [`JournalFault::BadIdentity`] if it is to have
 ///   no character or more than [`NAME_MAX`], [`JournalFault::Truncated`] if the file ends in it, and
@@ -246,13 +309,13 @@ fn read_whole(alloc: Global, bytes: &[u8]) -> Result<Journal, JournalFault>
 ///   that of one of the boot manager's variables.
 ///
 /// Each but the first has the place of its field. [`JournalFault::OutOfMemory`] comes if memory was refused, also before a
-/// fault of a later field, and never if the file doesn't begin with `BKJ1`.
-pub fn read_journal(alloc: Global, bytes: &[u8]) -> Result<Journal, JournalFault>
+/// fault of a later field, and never if the file begins neither with `BKJ1` nor with `BKJ2`.
+pub fn read_journal(alloc: Global, bytes: &[u8]) -> Result<JournalFile, JournalFault>
     // What is read is spelled so.
-    ensures found { IfOk result (λ journal. SpellsJournal bytes.now journal) }
+    ensures found { IfOk result (λ file. SpellsJournalFile bytes.now file) }
     // What is spelled so is read.
-    ensures only { (journal : JournalParts) → SpellsJournal bytes.now journal →
-        IsUnless result (Ok journal) JournalFault.OutOfMemory }
+    ensures only { (file : JournalFile) → SpellsJournalFile bytes.now file →
+        IsUnless result (Ok file) JournalFault.OutOfMemory }
 
     ensures fault { IfErr result (λ fault.
         fault ≢ JournalFault.OutOfMemory → IsJournalFault bytes.now fault) }

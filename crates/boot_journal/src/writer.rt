@@ -3,19 +3,23 @@
 ghost use Rattle.std.specs.Prelude.{◌≡◌, ◌≤◌, ◌∷◌, ◌++◌, length, Some, IfOk, IfSome, OnOk};
 ghost use Rattle.std.specs.Option.{option_map};
 ghost use Rattle.uefi_vars.specs.Name.{name_max};
-ghost use Rattle.uefi_vars.specs.Set.{name_bytes};
+ghost use Rattle.uefi_vars.specs.Set.{name_bytes, data_bytes};
 ghost use Rattle.uefi_vars.specs.Vars.{data_max, IsData};
-ghost use Rattle.boot_journal.specs.Bytes.{contents, value_bytes, change_bytes, changes_bytes, pending_bytes, SpellsJournal};
-ghost use Rattle.boot_journal.specs.JournalValue.{pending_of, IsPending};
+ghost use Rattle.boot_journal.specs.Bytes.{contents, value_bytes, change_bytes, changes_bytes, pending_bytes, body_bytes, of_machine, SpellsJournalFile};
+ghost use Rattle.boot_journal.specs.JournalValue.{IsJournal, pending_of, IsPending};
 
 use crate::boot_id::BootId;
 use crate::change::Change;
 use crate::journal::{Course, Journal, Pending};
+use crate::machine_name::MachineName;
 use std::alloc::{AllocError, Global};
 use uefi_vars::laws as vars_laws;
 
-/// What a journal file begins with: `BKJ1`.
-pub(crate) const MAGIC: [u8; 4] = [0x42, 0x4B, 0x4A, 0x31];
+/// What a journal file of version 1 begins with: `BKJ1`.
+pub(crate) const MAGIC_1: [u8; 4] = [0x42, 0x4B, 0x4A, 0x31];
+
+/// What a journal file of version 2 begins with: `BKJ2`.
+pub(crate) const MAGIC_2: [u8; 4] = [0x42, 0x4B, 0x4A, 0x32];
 
 /// The byte that says that changes are being made.
 pub(crate) const MAKING: u8 = 1;
@@ -23,22 +27,36 @@ pub(crate) const MAKING: u8 = 1;
 /// The byte that says that changes are being taken back.
 pub(crate) const TAKING_BACK: u8 = 2;
 
-/// The journal file of a journal, its one spelling, in this crate's own format: the four bytes `BKJ1`, and BootKeepState. If
-/// nothing is to be done, that is all. Otherwise one byte follows, 1 if changes are being made and 2 if they are taken
-/// back, and then: the identity of the machine's start under which that began, its length in one byte before it; if they
-/// are being made, BootKeepState before them; and each change, in the order in which they are made, as the length of its
-/// variable's name in one byte, the name, its data before, and its data after. BootKeepState and data are each the length in
-/// four bytes, little-endian, and the bytes: the length 0 says that there is none. This fails only when out of memory.
-pub fn write_journal(alloc: Global, journal: &Journal) -> Result<Vec<u8>, AllocError>
-    ensures { IfOk result (λ bytes. SpellsJournal bytes.items journal.now) }
+/// The journal file of a journal of this machine, its one spelling, in this crate's own format: the four bytes `BKJ2`, the
+/// machine's name, and BootKeepState. If nothing is to be done, that is all. Otherwise one byte follows, 1 if changes are
+/// being made and 2 if they are taken back, and then: the identity of the machine's start under which that began, its length
+/// in one byte before it; if they are being made, BootKeepState before them; and each change, in the order in which they are
+/// made, as the length of its variable's name in one byte, the name, what it has before, and what it has after. The
+/// machine's name, BootKeepState and what a change has are each the length in four bytes, little-endian, and the bytes: the
+/// length 0 says that there is none. This fails only when out of memory.
+pub fn write_journal(
+    alloc: Global,
+    machine: &MachineName,
+    journal: &Journal,
+) -> Result<Vec<u8>, AllocError>
+    ensures { IfOk result (λ bytes. SpellsJournalFile bytes.items (of_machine machine.now journal.now)) }
 {
-    let mut out = Vec::from_slice(alloc, &MAGIC)?;
-    append_value(journal.state.as_deref(), &mut out)?;
-    match &journal.pending {
-        Some(pending) => append_pending(pending, &mut out)?,
-        None => {}
-    }
+    let mut out = Vec::from_slice(alloc, &MAGIC_2)?;
+    append_data(machine.as_bytes(), &mut out)?;
+    append_body(journal, &mut out)?;
     Ok(out)
+}
+
+/// Appends the body of the file: BootKeepState, and what is still to be done.
+fn append_body(journal: &Journal, out: &mut Vec<u8>) -> Result<(), AllocError>
+    ensures value { OnOk result (out.new.items ≡ out.old.items ++ body_bytes journal.now) }
+    ensures valid { IsJournal journal.now }
+{
+    append_value(journal.state.as_deref(), out)?;
+    match &journal.pending {
+        Some(pending) => append_pending(pending, out),
+        None => Ok(()),
+    }
 }
 
 /// Appends what is still to be done.
@@ -102,8 +120,14 @@ fn append_value(value: Option<&[u8]>, out: &mut Vec<u8>) -> Result<(), AllocErro
     requires { IfSome (option_map (λ bytes. bytes.now) value) IsData }
     ensures { OnOk result (out.new.items ≡ out.old.items ++ value_bytes (option_map (λ bytes. bytes.now) value.entry)) }
 {
-    let bytes = contents(value);
-    // It has at most DATA_MAX bytes.
+    append_data(contents(value), out)
+}
+
+/// Appends these bytes, of which there are at most [`DATA_MAX`](uefi_vars::DATA_MAX), after their length in four bytes.
+fn append_data(bytes: &[u8], out: &mut Vec<u8>) -> Result<(), AllocError>
+    requires { length bytes.now ≤ data_max }
+    ensures { OnOk result (out.new.items ≡ out.old.items ++ data_bytes bytes.now) }
+{
     let len = bytes.len() as u32;
     out.extend_from_slice(&len.to_le_bytes())?;
     out.extend_from_slice(bytes)
