@@ -62,7 +62,10 @@ impl From<io::Error> for InputFault {
 /// # Errors
 ///
 /// Those of [`read_input`]; [`InputFault::Read`] also if the file can't be opened.
-pub fn read_file<R: Files + AllocGlobal>(rt: &R, path: &str) -> Result<Vec<u8>, InputFault> {
+pub fn read_file<R: Files + AllocGlobal>(rt: &R, path: &str) -> Result<Vec<u8>, InputFault>
+    // What is there can't be said: the system's files are no value.
+    ensures limit { IfOk result (λ bytes. vec_len bytes ≤ LIMIT) }
+{
     let file = fs::open(rt, path)?;
     read_input(rt.alloc(), file)
 }

@@ -1,8 +1,8 @@
 //! A place and a journal, as what a machine's updates are made in.
 
 use crate::variable_file::{is_in_file, set_in_file};
-use boot_commands::{LIMIT, OutputFile, replace_file};
-use boot_journal::{CallError, Change, Device, Journal, write_journal};
+use boot_commands::{FileLock, LIMIT, OutputFile, replace_file};
+use boot_journal::{CallError, Change, Device, Journal, MachineName, write_journal};
 use std::alloc::{AllocError, Global};
 use std::io::{self, ErrorKind};
 use std::rt::Files;
@@ -10,7 +10,7 @@ use var_places::{Failure, Folder, has_value, read_file, set_variable};
 
 /// Where the variables of a machine are.
 #[derive(Drop)]
-pub(crate) enum Place {
+pub(crate) enum Place<F> {
     /// In a folder as Linux shows them.
     Folder {
         /// The path of the folder.
@@ -22,16 +22,20 @@ pub(crate) enum Place {
     File {
         /// The path of the file.
         path: String,
+        /// Its lock, which is held from before the file is read until the update ends.
+        lock: FileLock<F>,
     },
 }
 
 /// A place, and the file of its journal.
 #[derive(Drop)]
-pub(crate) struct PlaceDevice<'a, R> {
+pub(crate) struct PlaceDevice<'a, R: Files> {
     /// What reaches them.
     pub(crate) rt: &'a R,
     /// The place.
-    pub(crate) place: Place,
+    pub(crate) place: Place<R::File>,
+    /// What its machine is called.
+    pub(crate) machine: MachineName,
     /// The path of the journal.
     pub(crate) journal: String,
 }
@@ -40,7 +44,7 @@ impl<R: Files<File: OutputFile> + Input + Print + AllocGlobal> Device for PlaceD
     type Refusal = Failure;
 
     fn make(&mut self, change: &Change) -> Result<(), CallError<Failure>> {
-        make_in(self.rt, &self.place, change).map_err(call_error)
+        make_in(self.rt, &mut self.place, change).map_err(call_error)
     }
 
     fn has_made(&mut self, change: &Change) -> bool {
@@ -48,55 +52,76 @@ impl<R: Files<File: OutputFile> + Input + Print + AllocGlobal> Device for PlaceD
     }
 
     fn replace_journal(&mut self, journal: &Journal) -> Result<(), CallError<Failure>> {
-        replace(self.rt, self.journal.as_str(), journal).map_err(call_error)
+        self.replace(journal).map_err(call_error)
     }
 
     fn has_replaced(&mut self, journal: &Journal) -> bool {
-        may_be(self.rt, self.journal.as_str(), journal)
+        self.may_have(journal)
+    }
+}
+
+impl<R: Files<File: OutputFile> + AllocGlobal> PlaceDevice<'_, R> {
+    /// Replaces the journal's file by that of this journal, unless it would be longer than what is read of one.
+    ///
+    /// # Errors
+    ///
+    /// [`Failure::Refused`] if it would be too long, [`Failure::Write`] with the system's reason, and [`Failure::Memory`] if
+    /// memory was refused.
+    pub(crate) fn replace(&self, journal: &Journal) -> Result<(), Failure> {
+        let alloc = self.rt.alloc();
+        let path = self.journal.as_str();
+        let bytes = write_journal(alloc, &self.machine, journal)?;
+        if bytes.len() > LIMIT {
+            return Err(too_long(alloc, path, bytes.len()));
+        }
+        match replace_file(self.rt, path, &bytes) {
+            Ok(()) => Ok(()),
+            Err(error) => Err(Failure::of_write(alloc, path, error)),
+        }
+    }
+
+    /// Whether the journal's file is that of this journal, or that can't be told: then it may be so, and is to be taken
+    /// back.
+    fn may_have(&self, journal: &Journal) -> bool {
+        let Ok(bytes) = write_journal(self.rt.alloc(), &self.machine, journal) else {
+            return true;
+        };
+        match read_file(self.rt, self.journal.as_str(), LIMIT) {
+            Ok(Some(stored)) => stored == bytes,
+            Ok(None) => false,
+            Err(error) => error.kind() != ErrorKind::NotFound,
+        }
     }
 }
 
 /// Makes the change in the place.
 fn make_in<R: Files<File: OutputFile> + Input + Print + AllocGlobal>(
     rt: &R,
-    place: &Place,
+    place: &mut Place<R::File>,
     change: &Change,
 ) -> Result<(), Failure> {
-    let (name, value) = (change.name(), change.after());
+    let (name, kept) = (change.name(), change.after());
     match place {
-        Place::Folder { path, folder } => match set_variable(rt, folder, path, name, value) {
+        Place::Folder { path, folder } => match set_variable(rt, folder, path, name, kept) {
             Ok(()) => Ok(()),
             Err(error) => Err(of_change(rt.alloc(), path, name, error)),
         },
-        Place::File { path } => set_in_file(rt, path, name, value),
+        Place::File { path, lock } => set_in_file(rt, path, lock, name, kept),
     }
 }
 
 /// Whether the change is made in the place. What can't be read counts as not made.
-fn is_made_in<R: Files + Input + AllocGlobal>(rt: &R, place: &Place, change: &Change) -> bool {
-    let (name, value) = (change.name(), change.after());
+fn is_made_in<R: Files + Input + AllocGlobal>(
+    rt: &R,
+    place: &Place<R::File>,
+    change: &Change,
+) -> bool {
+    let (name, kept) = (change.name(), change.after());
     match place {
         Place::Folder { path, folder } => {
-            has_value(rt, folder, path, name, value).unwrap_or(false)
+            has_value(rt, folder, path, name, kept).unwrap_or(false)
         }
-        Place::File { path } => is_in_file(rt, path, name, value).unwrap_or(false),
-    }
-}
-
-/// Replaces the journal at this path, unless it would be longer than what is read of one.
-fn replace<R: Files<File: OutputFile> + AllocGlobal>(
-    rt: &R,
-    path: &str,
-    journal: &Journal,
-) -> Result<(), Failure> {
-    let alloc = rt.alloc();
-    let bytes = write_journal(alloc, journal)?;
-    if bytes.len() > LIMIT {
-        return Err(too_long(alloc, path, bytes.len()));
-    }
-    match replace_file(rt, path, &bytes) {
-        Ok(()) => Ok(()),
-        Err(error) => Err(Failure::of_write(alloc, path, error)),
+        Place::File { path, .. } => is_in_file(rt, path, name, kept).unwrap_or(false),
     }
 }
 
@@ -107,18 +132,6 @@ fn too_long(alloc: Global, path: &str, len: usize) -> Failure {
         path,
         format_args!("the update takes a journal of {len} bytes, and at most {LIMIT} are read"),
     )
-}
-
-/// Whether the journal at this path is this one, or that can't be told: then it may be so, and is to be taken back.
-fn may_be<R: Files + AllocGlobal>(rt: &R, path: &str, journal: &Journal) -> bool {
-    let Ok(bytes) = write_journal(rt.alloc(), journal) else {
-        return true;
-    };
-    match read_file(rt, path, LIMIT) {
-        Ok(Some(stored)) => stored == bytes,
-        Ok(None) => false,
-        Err(error) => error.kind() != ErrorKind::NotFound,
-    }
 }
 
 /// What it is to an update that something failed.

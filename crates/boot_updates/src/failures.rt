@@ -2,7 +2,7 @@
 
 use crate::updates::UpdateWords;
 use boot_commands::ScriptFault;
-use boot_journal::{CallError, CommandError, UpdateError};
+use boot_journal::{CallError, CommandError, RunFault, UpdateError};
 use boot_requests::OpenFault;
 use std::alloc::{AllocError, Global};
 use std::fmt::{self, Display};
@@ -25,11 +25,11 @@ impl Display for Cause<'_> {
 pub(crate) fn of_command(
     alloc: Global,
     words: &UpdateWords<'_>,
-    error: CommandError<Failure, OpenFault>,
+    error: CommandError<Failure, RunFault>,
 ) -> Failure {
     match error {
         CommandError::OutOfMemory => Failure::Memory,
-        CommandError::Run(fault) => of_open(alloc, words, fault),
+        CommandError::Run(fault) => of_run(alloc, words, fault),
         CommandError::Settling(error) => of_settling(alloc, words, error),
         CommandError::Updating(error) => of_error(
             alloc,
@@ -37,6 +37,14 @@ pub(crate) fn of_command(
             error,
             "so the update is taken back, and the machine is as before it",
         ),
+    }
+}
+
+/// What it is to the program that the variables of the place, or those that the requests lead to, are refused.
+fn of_run(alloc: Global, words: &UpdateWords<'_>, fault: RunFault) -> Failure {
+    match fault {
+        RunFault::Open(fault) => of_open(alloc, words, fault),
+        fault => Failure::of_fault(alloc, words.place, fault),
     }
 }
 

@@ -8,6 +8,10 @@
 
 mod device;
 mod failures;
+mod kept_vars;
+mod left_out;
+mod opened;
+mod owner;
 mod replies;
 mod script;
 mod state_folder;

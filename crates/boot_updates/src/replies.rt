@@ -41,7 +41,7 @@ pub(crate) fn answer_lines(alloc: Global, answers: &[Answer]) -> Result<String, 
 /// [`AllocError`] if memory was refused.
 pub(crate) fn answers_json(
     alloc: Global,
-    script: &Script,
+    script: &Script<'_>,
     answers: &[Answer],
 ) -> Result<String, AllocError> {
     let mut text = String::new(alloc);

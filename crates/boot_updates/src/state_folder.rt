@@ -1,7 +1,7 @@
 //! The folder that has the journal of a machine.
 
 use boot_commands::{LIMIT, OutputFile, replace_file};
-use boot_journal::{Journal, JournalFault, read_journal};
+use boot_journal::{JournalFault, JournalFile, read_journal};
 use std::alloc::{AllocError, Global};
 use std::fs::{File, OpenFile};
 use std::io::{self, ErrorKind};
@@ -65,7 +65,7 @@ impl<F> StateFolder<F> {
     }
 }
 
-/// The journal at this path: a new one if there is none.
+/// The journal that is stored at this path, if there is one.
 ///
 /// # Errors
 ///
@@ -74,18 +74,18 @@ impl<F> StateFolder<F> {
 pub(crate) fn stored_journal<R: Files + AllocGlobal>(
     rt: &R,
     path: &str,
-) -> Result<Journal, Failure> {
+) -> Result<Option<JournalFile>, Failure> {
     let alloc = rt.alloc();
     match read_file(rt, path, LIMIT) {
-        Ok(Some(bytes)) => journal_of(alloc, path, &bytes),
+        Ok(Some(bytes)) => Ok(Some(journal_of(alloc, path, &bytes)?)),
         Ok(None) => Err(Failure::refused(alloc, path, Reason::TooMuch(LIMIT))),
-        Err(error) if error.kind() == ErrorKind::NotFound => Ok(Journal::new()),
+        Err(error) if error.kind() == ErrorKind::NotFound => Ok(None),
         Err(error) => Err(Failure::of_read(alloc, path, error)),
     }
 }
 
 /// The journal of these bytes of the file at this path.
-fn journal_of(alloc: Global, path: &str, bytes: &[u8]) -> Result<Journal, Failure> {
+fn journal_of(alloc: Global, path: &str, bytes: &[u8]) -> Result<JournalFile, Failure> {
     match read_journal(alloc, bytes) {
         Ok(journal) => Ok(journal),
         Err(JournalFault::OutOfMemory) => Err(Failure::Memory),

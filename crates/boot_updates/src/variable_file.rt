@@ -1,14 +1,15 @@
 //! Changes of single variables of an emulator's variable file.
 
-use boot_commands::OutputFile;
+use boot_commands::{FileLock, OutputFile};
+use boot_journal::ATTRIBUTES_LEN;
 use std::alloc::{AllocError, Global};
 use std::rt::Files;
 use uefi_vars::Vars;
-use var_places::{Failure, changed_variable_file, lock, of_store, read, write};
-use var_stores::{read_store, store_vars};
+use var_places::{Failure, changed_variable_file, of_store, read, rewrite};
+use var_stores::{read_store, store_attributes, store_vars};
 
-/// Sets the variable of this name in the file at this path to this value, or takes it out, whatever is there. The file is
-/// locked meanwhile, and replaced as a whole. Nothing is written if it is so already.
+/// Sets the variable of this name in the file at this path to the attributes and the data of what is to be kept of it, or
+/// takes it out, whatever is there. The file is locked, and is replaced as a whole. Nothing is written if it is so already.
 ///
 /// # Errors
 ///
@@ -17,34 +18,58 @@ use var_stores::{read_store, store_vars};
 pub(crate) fn set_in_file<R: Files<File: OutputFile> + Input + Print + AllocGlobal>(
     rt: &R,
     path: &str,
+    lock: &mut FileLock<R::File>,
     name: &str,
-    value: Option<&[u8]>,
+    kept: Option<&[u8]>,
 ) -> Result<(), Failure> {
-    let output = lock(rt, path)?;
-    match changed_file(rt, path, name, value)? {
-        Some(bytes) => write(rt, output, &bytes),
+    match changed_file(rt, path, name, kept)? {
+        Some(bytes) => rewrite(rt, path, lock, &bytes),
         None => Ok(()),
     }
 }
 
-/// What the file at this path is to be, for the variable to have this value: `None` if it has it.
+/// What the file at this path is to be, for the variable to be kept so: `None` if it is.
 fn changed_file<R: Files + Input + AllocGlobal>(
     rt: &R,
     path: &str,
     name: &str,
-    value: Option<&[u8]>,
+    kept: Option<&[u8]>,
 ) -> Result<Option<Vec<u8>>, Failure> {
     let alloc = rt.alloc();
     let bytes = read(rt, path)?;
-    let mut vars = stored_variables(alloc, path, &bytes)?;
-    if vars.get(name) == value {
+    let stored = read_stored(alloc, path, &bytes)?;
+    if stored.keeps(name, kept) {
         return Ok(None);
     }
-    set(&mut vars, name, value)?;
-    Ok(Some(changed_variable_file(alloc, path, &bytes, &vars)?))
+    if stored.has_data(name, kept) {
+        // Its attributes are others, and a record with the same data isn't written anew.
+        let bytes = with_variable(alloc, path, &bytes, name, None)?;
+        return Ok(Some(with_variable(alloc, path, &bytes, name, kept)?));
+    }
+    Ok(Some(with_variable(alloc, path, &bytes, name, kept)?))
 }
 
-/// Whether the variable of this name has this value in the file at this path, or isn't there if the value is `None`.
+/// The file at this path, which has these bytes, with the variable kept so, or without it.
+fn with_variable(
+    alloc: Global,
+    path: &str,
+    bytes: &[u8],
+    name: &str,
+    kept: Option<&[u8]>,
+) -> Result<Vec<u8>, Failure> {
+    let Stored { mut vars, .. } = read_stored(alloc, path, bytes)?;
+    let mut attributes = Vars::new(alloc);
+    let kept = kept.and_then(|kept| kept.split_at_checked(ATTRIBUTES_LEN));
+    set(
+        &mut attributes,
+        name,
+        kept.map(|(attributes, _data)| attributes),
+    )?;
+    set(&mut vars, name, kept.map(|(_attributes, data)| data))?;
+    changed_variable_file(alloc, path, bytes, &vars, &attributes)
+}
+
+/// Whether the variable of this name is kept so in the file at this path, or isn't there if it is to be taken out.
 ///
 /// # Errors
 ///
@@ -53,17 +78,40 @@ pub(crate) fn is_in_file<R: Files + Input + AllocGlobal>(
     rt: &R,
     path: &str,
     name: &str,
-    value: Option<&[u8]>,
+    kept: Option<&[u8]>,
 ) -> Result<bool, Failure> {
     let bytes = read(rt, path)?;
-    let vars = stored_variables(rt.alloc(), path, &bytes)?;
-    Ok(vars.get(name) == value)
+    Ok(read_stored(rt.alloc(), path, &bytes)?.keeps(name, kept))
 }
 
-/// The variables of the file with these bytes.
-fn stored_variables(alloc: Global, path: &str, bytes: &[u8]) -> Result<Vars, Failure> {
+/// The variables of a file, and the attributes of each.
+#[derive(Drop)]
+struct Stored {
+    vars: Vars,
+    attributes: Vars,
+}
+
+impl Stored {
+    /// Whether the variable of this name has the attributes and the data of what is to be kept of it, or isn't there if it
+    /// is to be taken out.
+    fn keeps(&self, name: &str, kept: Option<&[u8]>) -> bool {
+        let attributes = kept.and_then(|kept| kept.get(..ATTRIBUTES_LEN));
+        self.has_data(name, kept) && self.attributes.get(name) == attributes
+    }
+
+    /// Whether it has that data, or isn't there if it is to be taken out.
+    fn has_data(&self, name: &str, kept: Option<&[u8]>) -> bool {
+        self.vars.get(name) == kept.and_then(|kept| kept.get(ATTRIBUTES_LEN..))
+    }
+}
+
+/// What is stored in the file with these bytes.
+fn read_stored(alloc: Global, path: &str, bytes: &[u8]) -> Result<Stored, Failure> {
     let store = read_store(alloc, bytes).map_err(|fault| of_store(alloc, path, fault))?;
-    Ok(store_vars(alloc, &store)?)
+    Ok(Stored {
+        vars: store_vars(alloc, &store)?,
+        attributes: store_attributes(alloc, &store)?,
+    })
 }
 
 /// Sets the variable to this value, or takes it out. Only memory can be refused: a journal has no name and no value that

@@ -75,6 +75,8 @@ pub struct WriteWords<'a> {
     pub dry_run: bool,
     /// Whether a set without an entry is written.
     pub empty: bool,
+    /// Whether a variable file is written that is damaged.
+    pub force: bool,
 }
 
 /// The words of `option`.

@@ -64,6 +64,7 @@ fn write_of<'a>(matches: &'a ArgMatches<'_>) -> Option<Action<'a>> {
         place: matches.get_str("PLACE")?,
         dry_run: matches.get_flag("dry-run"),
         empty: matches.get_flag("empty"),
+        force: matches.get_flag("force"),
     }))
 }
 
@@ -72,6 +73,9 @@ fn update_of<'a>(matches: &'a ArgMatches<'_>) -> Option<Action<'a>> {
         state: matches.get_str("state")?,
         place: matches.get_str("PLACE")?,
         boot_id: matches.get_str("boot-id"),
+        machine: matches.get_str("machine"),
+        adopt: matches.get_flag("adopt"),
+        force: matches.get_flag("force"),
         job: job_of(matches)?,
     }))
 }

@@ -151,6 +151,7 @@ static PLACE_COMMANDS: [CommandRow; 4] = [
                 help: "Takes a set without any entry, which takes out all entries of the place",
                 ..ArgRow::FLAG
             },
+            FORCE,
         ],
         ..CommandRow::EMPTY
     },
@@ -209,6 +210,18 @@ static UPDATE_COMMANDS: [CommandRow; 1] = [CommandRow {
             kind: ArgKind::Option("ID"),
             ..ArgRow::OPTION
         },
+        ArgRow {
+            name: "machine",
+            help: "What the machine is called, in place of its UUID or the path of PLACE",
+            kind: ArgKind::Option("ID"),
+            ..ArgRow::OPTION
+        },
+        ArgRow {
+            name: "adopt",
+            help: "Takes over what another machine's updates left in FOLDER, unless there is something left to do",
+            ..ArgRow::FLAG
+        },
+        FORCE,
     ],
     ..CommandRow::EMPTY
 }];
@@ -368,6 +381,13 @@ const OUT: ArgRow = ArgRow {
     kind: ArgKind::Option("FILE"),
     is_required: true,
     ..ArgRow::OPTION
+};
+
+/// The flag to write what is damaged.
+const FORCE: ArgRow = ArgRow {
+    name: "force",
+    help: "Writes a variable file that is damaged",
+    ..ArgRow::FLAG
 };
 
 /// The flag for JSON.

@@ -10,8 +10,8 @@ use uefi_option::{OptionFault, check_option};
 use uefi_vars::{BOOT_NEXT, BOOT_ORDER, Vars, entry_number};
 use var_places::{
     Failure, FileKind, Folder, KEEP_STATE, Reason, STANDARD, changed_set, changed_variable_file,
-    file_kind, file_vars, is_folder, lock, make_change, name_of, no_place, note, print, read,
-    read_folder, set_vars, shown, write,
+    check_damage, file_kind, file_vars, is_folder, lock, make_change, name_of, no_place, note,
+    print, read, read_folder, set_vars, shown, write,
 };
 use var_stores::{BootChange, boot_changes};
 
@@ -106,6 +106,9 @@ fn plan_file<R: Files + Input + Eprint + AllocGlobal>(
     to: &Vars,
 ) -> Result<PlannedFile, Failure> {
     let bytes = read(rt, words.place)?;
+    if !words.force {
+        check_damage(rt.alloc(), words.place, &bytes)?;
+    }
     let from = file_vars(rt, words.place, &bytes)?;
     let changes = boot_changes(rt.alloc(), &from, to)?;
     let bytes = changed_bytes(rt, words, &bytes, (&from, to), &changes)?;
@@ -136,7 +139,7 @@ fn changed_bytes<R: Eprint + AllocGlobal>(
         }
         _ => {
             note_keep_state(rt, words, to);
-            changed_variable_file(alloc, words.place, bytes, to)
+            changed_variable_file(alloc, words.place, bytes, to, &Vars::new(alloc))
         }
     }
 }
@@ -167,7 +170,7 @@ fn write_folder<R: Files + Print + Eprint + AllocGlobal>(
 ) -> Result<(), Failure> {
     let alloc = rt.alloc();
     let folder = read_folder(rt, words.place)?;
-    let changes = boot_changes(alloc, &folder.vars, to)?;
+    let changes = boot_changes(alloc, &folder.found.vars, to)?;
     check_changes(alloc, name_of(words.set), &changes)?;
     note_keep_state(rt, words, to);
     if words.dry_run {

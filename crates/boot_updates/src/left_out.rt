@@ -1,0 +1,80 @@
+//! Variables of a machine that no set can hold, and that requests so can't change.
+
+use crate::script::Script;
+use boot_requests::{Event, FrameFault, Request, read_frame};
+use std::alloc::{AllocError, Global};
+use uefi_vars::{BOOT_NEXT, BOOT_ORDER, entry_number};
+use var_places::Failure;
+
+/// Refuses the script if a request in it would change one of the variables of these names, which no set can hold. It is
+/// looked at before anything is run, so also a request is refused that was applied before.
+///
+/// # Errors
+///
+/// [`Failure::Run`] with the first such request, and [`Failure::Memory`] if memory was refused.
+pub(crate) fn check_requests(
+    alloc: Global,
+    script: &Script<'_>,
+    left_out: &[String],
+) -> Result<(), Failure> {
+    if left_out.is_empty() {
+        return Ok(());
+    }
+    for (event, place) in script.events.iter().zip(&script.places) {
+        if let Some(variable) = changed_by(alloc, event, left_out)? {
+            let fault = format!(in alloc;
+                "{place} would change {variable}, which has no value or too long a one, and stays as it is"
+            )?;
+            return Err(Failure::of_run(alloc, script.name, fault.as_str()));
+        }
+    }
+    Ok(())
+}
+
+/// The variable of these that the event would change, if it is a request.
+fn changed_by<'a>(
+    alloc: Global,
+    event: &Event,
+    left_out: &'a [String],
+) -> Result<Option<&'a str>, AllocError> {
+    let Event::Deliver(bytes) = event else {
+        return Ok(None);
+    };
+    match read_frame(alloc, bytes.bytes()) {
+        Ok((_number, request)) => Ok(changed_by_request(&request, left_out)),
+        Err(FrameFault::OutOfMemory) => Err(AllocError),
+        Err(_) => Ok(None),
+    }
+}
+
+/// The variable of these that the request would change. A request that makes an entry passes their numbers over.
+fn changed_by_request<'a>(request: &Request, left_out: &'a [String]) -> Option<&'a str> {
+    match request {
+        Request::Add(..) | Request::AddFree(_) => named(left_out, BOOT_ORDER),
+        Request::Replace(entry, _) | Request::Remove(entry) => entry_of(left_out, *entry),
+        Request::Next(entry) => {
+            entry_of(left_out, *entry).or_else(|| named(left_out, BOOT_NEXT))
+        }
+        Request::Order(order) => order
+            .numbers()
+            .iter()
+            .find_map(|entry| entry_of(left_out, *entry))
+            .or_else(|| named(left_out, BOOT_ORDER)),
+    }
+}
+
+/// The name of the entry of this number, if it is one of these.
+fn entry_of(left_out: &[String], entry: u16) -> Option<&str> {
+    left_out
+        .iter()
+        .map(String::as_str)
+        .find(|name| entry_number(name) == Some(entry))
+}
+
+/// This name, if it is one of these.
+fn named<'a>(left_out: &'a [String], name: &str) -> Option<&'a str> {
+    left_out
+        .iter()
+        .map(String::as_str)
+        .find(|left| *left == name)
+}
