@@ -18,7 +18,7 @@ use Rattle.boot_journal.specs.Journal.{JournalParts, PendingParts, Makes, TakesB
 use Rattle.boot_journal.specs.JournalValue.{IsPending, IsJournal}
 use Rattle.boot_journal.specs.Values.{IsBootChange}
 use Rattle.boot_journal.specs.MachineName.{IsMachineName}
-use Rattle.boot_journal.specs.Bytes.{magic_1, magic_2, value_bytes, change_bytes, changes_bytes, pending_bytes, body_bytes, head_bytes, file_bytes, IsJournalFile, SpellsJournalFile}
+use Rattle.boot_journal.specs.Bytes.{value_bytes, change_bytes, changes_bytes, pending_bytes, body_bytes, head_bytes, file_bytes, IsJournalFile, SpellsJournalFile}
 use Rattle.boot_journal.specs.Fault.{IsJournalFault}
 use Rattle.boot_journal.specs.Reader.{Fails, Gives, file_at}
 use Rattle.boot_journal.proofs.Readings.{file_ends}

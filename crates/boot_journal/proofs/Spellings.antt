@@ -9,7 +9,7 @@ use Rattle.var_stores.specs.BootChange.{ChangeParts}
 use Rattle.boot_journal.specs.declared.fault.JournalFault.{JournalFault}
 use Rattle.boot_journal.specs.declared.fault.JournalFault.TheVariants as fault
 use Rattle.boot_journal.specs.declared.journal_file.JournalFile.{JournalFile}
-use Rattle.boot_journal.specs.Journal.{JournalParts, PendingParts, Makes, TakesBack}
+use Rattle.boot_journal.specs.Journal.{PendingParts, Makes, TakesBack}
 use Rattle.boot_journal.specs.JournalValue.{IsPending}
 use Rattle.boot_journal.specs.Values.{IsBootChange}
 use Rattle.boot_journal.specs.Bytes.{making, taking_back, value_bytes, change_bytes, changes_bytes, pending_bytes, body_bytes, head_bytes, SpellsJournalFile}
