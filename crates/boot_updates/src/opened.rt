@@ -9,7 +9,7 @@ use crate::state_folder::stored_journal;
 use crate::told::tell_of_settling;
 use crate::updates::UpdateWords;
 use boot_commands::OutputFile;
-use boot_journal::{BootId, JournalFile, Recorded};
+use boot_journal::{BootId, Journal, Recorded};
 use std::alloc::Global;
 use std::rt::Files;
 use uefi_vars::Vars;
@@ -40,34 +40,66 @@ pub(crate) fn open_machine<'a, R: Files<File: OutputFile> + Input + Print + Epri
     journal_path: &str,
     script: &Script<'_>,
 ) -> Result<(Machine<'a, R>, BootId), Failure> {
-    let stored = stored_journal(rt, journal_path)?;
     let is_folder = is_folder(rt, words.place)?;
     let boot = boot_id(rt, words, is_folder)?;
-    let OpenedPlace { place, kept } = open_place(rt, words, is_folder)?;
-    let KeptVars { vars, left_out } = kept;
-    check_requests(rt.alloc(), script, &left_out)?;
-    let device = PlaceDevice {
-        rt,
-        place,
-        machine: name_of_machine(rt, words, is_folder)?,
-        journal: String::from_str(rt.alloc(), journal_path)?,
-    };
-    let machine = machine_of(words, device, vars, stored, &boot)?;
-    Ok((machine, boot))
+    let device = open_device(rt, words, journal_path, is_folder, script)?;
+    Ok((machine_over(words, device, &boot)?, boot))
 }
 
-/// The machine over this device, which keeps these variables, and whose journal is stored so.
-fn machine_of<'a, R: Files<File: OutputFile> + Input + Print + Eprint + AllocGlobal>(
+/// The place, with the journal at this path, and what its machine keeps, unless an event of the script is refused.
+fn open_device<'a, R: Files<File: OutputFile> + Input + Eprint + AllocGlobal>(
+    rt: &'a R,
     words: &UpdateWords<'_>,
-    device: PlaceDevice<'a, R>,
-    vars: Vars,
-    stored: Option<JournalFile>,
+    journal_path: &str,
+    is_folder: bool,
+    script: &Script<'_>,
+) -> Result<OpenedDevice<'a, R>, Failure> {
+    let opened = open_place(rt, words, is_folder)?;
+    check_requests(rt.alloc(), script, &opened.kept.left_out)?;
+    let machine = name_of_machine(rt, words, is_folder)?;
+    let journal = String::from_str(rt.alloc(), journal_path)?;
+    let OpenedPlace { place, kept } = opened;
+    Ok(OpenedDevice {
+        device: PlaceDevice {
+            rt,
+            place,
+            machine,
+            journal,
+        },
+        vars: kept.vars,
+    })
+}
+
+/// The machine over a device, with the journal that is stored there.
+fn machine_over<'a, R: Files<File: OutputFile> + Input + Print + Eprint + AllocGlobal>(
+    words: &UpdateWords<'_>,
+    opened: OpenedDevice<'a, R>,
     boot: &BootId,
 ) -> Result<Machine<'a, R>, Failure> {
-    let rt = device.rt;
-    let journal = own_journal(words, &device, stored, &vars)?;
-    tell_of_settling(rt, words.place, &vars, &journal, boot)?;
-    Ok(Recorded::new(rt.alloc(), device, vars, journal)?)
+    let journal = journal_for(words, &opened, boot)?;
+    let OpenedDevice { device, vars } = opened;
+    Ok(Recorded::new(device.rt.alloc(), device, vars, journal)?)
+}
+
+/// The journal that is stored for a device, as its machine's own. Tells what finishing an earlier update will do that wasn't
+/// meant.
+fn journal_for<R: Files<File: OutputFile> + Input + Print + Eprint + AllocGlobal>(
+    words: &UpdateWords<'_>,
+    opened: &OpenedDevice<'_, R>,
+    boot: &BootId,
+) -> Result<Journal, Failure> {
+    let OpenedDevice { device, vars } = opened;
+    let stored = stored_journal(device.rt, device.journal.as_str())?;
+    let journal = own_journal(words, device, stored, vars)?;
+    tell_of_settling(device.rt, words.place, vars, &journal, boot)?;
+    Ok(journal)
+}
+
+/// A device, and what its machine keeps of the variables.
+#[derive(Drop)]
+struct OpenedDevice<'a, R: Files> {
+    device: PlaceDevice<'a, R>,
+    vars: Vars,
 }
 
 /// A place, and what its machine keeps.

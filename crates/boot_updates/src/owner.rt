@@ -47,33 +47,50 @@ pub(crate) fn own_journal<R: Files<File: OutputFile> + Input + Print + AllocGlob
     stored: Option<JournalFile>,
     there: &Vars,
 ) -> Result<Journal, Failure> {
-    let alloc = device.rt.alloc();
     let Some(JournalFile { machine, journal }) = stored else {
         return Ok(Journal::new());
     };
     match machine {
         Some(machine) => {
-            if machine.as_bytes() != device.machine.as_bytes() {
-                check_adoption(alloc, words, device, (&machine, &journal))?;
-                device.replace(&journal)?;
-            }
+            make_own(words, device, &machine, &journal)?;
             Ok(journal)
         }
-        None => {
-            let journal = with_attributes(alloc, device, &journal, there)?;
-            device.replace(&journal)?;
-            Ok(journal)
-        }
+        None => name_journal(device, &journal, there),
     }
 }
 
-/// The journal of a file without a name, whose changes have no attributes, with those that the variables have.
-fn with_attributes<R: Files>(
-    alloc: Global,
+/// Makes the journal of the machine of this name the device's, if that is another machine.
+fn make_own<R: Files<File: OutputFile> + Input + Print + AllocGlobal>(
+    words: &UpdateWords<'_>,
+    device: &PlaceDevice<'_, R>,
+    machine: &MachineName,
+    journal: &Journal,
+) -> Result<(), Failure> {
+    if machine.as_bytes() == device.machine.as_bytes() {
+        return Ok(());
+    }
+    check_adoption(device.rt.alloc(), words, device, (machine, journal))?;
+    device.replace(journal)
+}
+
+/// The journal of a file without a name, as the device's: its changes have no attributes, and get those that are there.
+fn name_journal<R: Files<File: OutputFile> + Input + Print + AllocGlobal>(
     device: &PlaceDevice<'_, R>,
     journal: &Journal,
     there: &Vars,
 ) -> Result<Journal, Failure> {
+    let journal = with_attributes(device, journal, there)?;
+    device.replace(&journal)?;
+    Ok(journal)
+}
+
+/// The journal with the attributes that are there on its changes.
+fn with_attributes<R: Files + AllocGlobal>(
+    device: &PlaceDevice<'_, R>,
+    journal: &Journal,
+    there: &Vars,
+) -> Result<Journal, Failure> {
+    let alloc = device.rt.alloc();
     journal
         .with_attributes(alloc, there)
         .map_err(|fault| match fault {
