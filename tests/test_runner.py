@@ -212,7 +212,7 @@ class Runs(WithPrograms):
         programs = runner.Programs(self.program("echo '52 checks, 0 fail'"), {})
         with contextlib.redirect_stdout(io.StringIO()):
             self.assertEqual(runner.run(programs, True, ["checks"]), (52, 0))
-            self.assertEqual(runner.run(programs, True, ["checks", "none.json"]), (51, 1))
+            self.assertEqual(runner.run(programs, True, ["checks", "none.json"]), (52, 1))
 
     def test_wrong_answers_have_to_be_told(self) -> None:
         expected = self.folder / "expected"
