@@ -17,7 +17,7 @@ import file_list  # noqa: E402
 import repository  # noqa: E402
 
 FILES = {
-    "crates/low/src/lib.rt": "//! Low things (2.10): what\n//! they are. And more.\n//!\n//! No more.\nmod rows;\n",
+    "crates/low/src/lib.rt": "//! Low things (2.10): what\n//! they are. And more.\n//!\n//! No.\n",
     "crates/low/src/parts/rows.rt": "//! Rows.\n//!\n//! As they are\nuse low;\n",
     "crates/low/specs/Lib.antt": "pub mod Rows\n",
     "crates/low/specs/Rows.antt": "-- What a row is\nuse Rattle.std.specs.Prelude.{ℕ}\n",
