@@ -25,8 +25,8 @@ CRATE = "case_runner"
 """The program that makes calls. Its sources are in the folder `program`."""
 
 LIBRARIES = (
-    "uefi_path uefi_text uefi_names uefi_option uefi_vars var_stores boot_requests boot_commands "
-    "boot_texts var_commands serde_json hex anyhow"
+    "uefi_path uefi_text uefi_names uefi_option uefi_vars var_stores boot_requests whole_files "
+    "boot_commands boot_texts var_commands serde_json hex anyhow"
 )
 """What it stands on."""
 

@@ -1,7 +1,3 @@
-mod Lines
-mod Scripts
-mod Streams
 mod Transfers
-mod Happening
-mod Faults
-mod Texts
+mod Inputs
+mod Running

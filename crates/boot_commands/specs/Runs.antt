@@ -1,38 +1,27 @@
--- What a script or a stream does to variables, and what is written of it.
-use Rattle.std.specs.Prelude.{ℕ, List, [], ◌∷◌, ◌++◌}
-use Rattle.std.specs.List.{flat_map}
+-- What a script or a stream does to variables.
+use Rattle.std.specs.Prelude.{ℕ, List}
 use Rattle.uefi_vars.specs.Vars.{Variables}
 use Rattle.boot_requests.specs.declared.event.Event.{Event}
 use Rattle.boot_requests.specs.declared.reply.Reply.{Reply}
-use Rattle.boot_requests.specs.State.{State}
-use Rattle.boot_requests.specs.Seen.{Seen, AreSeen}
-use Rattle.boot_requests.specs.Run.{run_followed_by, state_at}
-use Rattle.boot_requests.specs.Reply.{AreAnswers}
-use Rattle.boot_requests.specs.StoredState.{OpensAs}
-use Rattle.boot_requests.specs.Keeper.{IsStateOf}
-use Rattle.boot_requests.specs.Words.{line_of}
-use Rattle.boot_commands.specs.Script.{line_feed, IsScript}
+use Rattle.boot_requests.specs.declared.script_fault.ScriptFault.{ScriptFault}
+use Rattle.boot_requests.specs.Script.{IsScript, IsLineFault}
+use Rattle.boot_requests.specs.EventStream.{IsStream, IsStreamFault}
+use Rattle.boot_requests.specs.Happens.{Happens}
+use Rattle.boot_commands.specs.declared.runs.InputFormat.{InputFormat}
+use Rattle.boot_commands.specs.declared.runs.InputFormat.TheVariants as format
 
--- a line for each answer, ended by a line feed
-abbrev pub answer_lines : List Reply → List ℕ
-answer_lines answers = flat_map (λ answer. line_of answer ++ line_feed ∷ []) answers
+-- the bytes are of this format, with these events
+abbrev pub ReadsIn : InputFormat → List ℕ → List Event → Type 0
+ReadsIn format.Script = IsScript
+ReadsIn format.Stream = IsStream
 
--- From variables that open as a state, these events lead to other variables, and have these answers, one each: the
--- events are read, the answers are those of the run of what was read, and the variables stand for the state after it.
-pub record Happens (before : Variables) (events : List Event) (after : Variables) (answers : List Reply) : Type 0 where
-  pub start : State
-  pub seen : List Seen
-  pub opened : OpensAs before start
-  pub read : AreSeen events seen
-  pub answered : AreAnswers start [] seen answers
-  pub left : IsStateOf (state_at start (run_followed_by [] seen)) after
+-- the fault is that of bytes of this format
+abbrev pub IsFaultIn : InputFormat → List ℕ → ScriptFault → Type 0
+IsFaultIn format.Script = IsLineFault
+IsFaultIn format.Stream = IsStreamFault
 
--- the bytes are read as events, which lead from the one variables to the others and are answered so
-pub record RunsBy (Reads : List ℕ → List Event → Type 0) (bytes : List ℕ) (before after : Variables) (answers : List Reply) : Type 0 where
+-- the bytes are of this format, and their events lead from the one variables to the others and are answered so
+pub record RunsIn (format : InputFormat) (bytes : List ℕ) (before after : Variables) (answers : List Reply) : Type 0 where
   pub events : List Event
-  pub read : Reads bytes events
+  pub read : ReadsIn format bytes events
   pub happens : Happens before events after answers
-
--- the text is a script, whose events lead from the one variables to the others and are answered so
-abbrev pub Runs : List ℕ → Variables → Variables → List Reply → Type 0
-Runs = RunsBy IsScript

@@ -1,26 +1,20 @@
-//! What scripts and streams are refused for.
+//! What runs of scripts and streams are refused for.
 
 ghost use Rattle.std.specs.Prelude.{◌≡◌, IfOk};
 ghost use Rattle.std.specs.String.{string_bytes};
-ghost use Rattle.boot_commands.specs.ScriptFault.{script_fault_of, script_fault_of_stream};
-ghost use Rattle.boot_commands.specs.declared.fault.ScriptFault.TheVariants as script;
+ghost use Rattle.boot_commands.specs.RunFault.{run_fault_of, run_fault_of_open};
+ghost use Rattle.boot_commands.specs.declared.fault.ScriptRunFault.TheVariants as running;
 
-use boot_requests::{FeedFault, OpenFault};
+use boot_requests::{OpenFault, ScriptFault};
 use std::alloc::{AllocError, AllocFailed, Global};
 use thiserror::Error;
 
 /// Why a script or a stream isn't run, or its answers aren't written.
 #[derive(Clone, Copy, Debug, PartialEq, Eq, Hash, Error)]
-pub enum ScriptFault {
-    /// The line of this number, counted from 1, isn't a line of a script.
-    #[error("BadLine {0}")]
-    BadLine(usize),
-    /// A header of the stream is at fault.
-    #[error("Stream {0}")]
-    Stream(FeedFault),
-    /// This many bytes are left of a frame that isn't whole.
-    #[error("Rest {0}")]
-    Rest(usize),
+pub enum ScriptRunFault {
+    /// The script or the stream has this fault, which is never [`ScriptFault::OutOfMemory`].
+    #[error("{0}")]
+    Script(ScriptFault),
     /// The variables can't be kept.
     #[error("Open {0}")]
     Open(OpenFault),
@@ -30,7 +24,7 @@ pub enum ScriptFault {
     /// A write failed, or took no byte.
     #[error("Write")]
     Write,
-    /// The script or the stream has more bytes than [`LIMIT`](crate::input::LIMIT).
+    /// The script or the stream has more bytes than [`LIMIT`](whole_files::LIMIT).
     #[error("TooMuch")]
     TooMuch,
     /// Memory was refused.
@@ -38,71 +32,66 @@ pub enum ScriptFault {
     OutOfMemory,
 }
 
-impl ScriptFault {
-    ghost use Rattle.boot_commands.specs.Words.{script_fault_words};
+impl ScriptRunFault {
+    ghost use Rattle.boot_commands.specs.Words.{script_run_fault_words};
 
-    /// The fault's name, and after a blank the number or the words of the fault that it holds. This fails only when out
-    /// of memory.
+    /// The words of the script's fault, or this fault's name, and after a blank the words of the fault that it holds.
+    /// This fails only when out of memory.
     pub fn words(&self, alloc: Global) -> Result<String, AllocError>
-        ensures { IfOk result (λ text. string_bytes text ≡ script_fault_words self.now) }
+        ensures { IfOk result (λ text. string_bytes text ≡ script_run_fault_words self.now) }
     {
         match self {
-            ScriptFault::BadLine(number) => format!(in alloc; "BadLine {number}"),
-            ScriptFault::Stream(fault) => {
-                let words = fault.words(alloc)?;
-                format!(in alloc; "Stream {words}")
-            }
-            ScriptFault::Rest(count) => format!(in alloc; "Rest {count}"),
-            ScriptFault::Open(fault) => {
+            ScriptRunFault::Script(fault) => fault.words(alloc),
+            ScriptRunFault::Open(fault) => {
                 let words = fault.words(alloc)?;
                 format!(in alloc; "Open {words}")
             }
-            ScriptFault::Read => String::from_str(alloc, "Read"),
-            ScriptFault::Write => String::from_str(alloc, "Write"),
-            ScriptFault::TooMuch => String::from_str(alloc, "TooMuch"),
-            ScriptFault::OutOfMemory => String::from_str(alloc, "OutOfMemory"),
+            ScriptRunFault::Read => String::from_str(alloc, "Read"),
+            ScriptRunFault::Write => String::from_str(alloc, "Write"),
+            ScriptRunFault::TooMuch => String::from_str(alloc, "TooMuch"),
+            ScriptRunFault::OutOfMemory => String::from_str(alloc, "OutOfMemory"),
         }
     }
 }
 
-impl From<FeedFault> for ScriptFault {
-    ghost from_gives = { λ fault made. made ≡ script_fault_of_stream fault };
+impl From<ScriptFault> for ScriptRunFault {
+    ghost from_gives = { λ fault made. made ≡ run_fault_of fault };
 
-    fn from(fault: FeedFault) -> ScriptFault {
+    fn from(fault: ScriptFault) -> ScriptRunFault {
         match fault {
-            FeedFault::OutOfMemory => ScriptFault::OutOfMemory,
-            FeedFault::BadMagic | FeedFault::BadVersion | FeedFault::TooLong => {
-                ScriptFault::Stream(fault)
+            ScriptFault::OutOfMemory => ScriptRunFault::OutOfMemory,
+            ScriptFault::BadLine(_) | ScriptFault::Stream(_) | ScriptFault::Rest(_) => {
+                ScriptRunFault::Script(fault)
             }
         }
     }
 }
 
-impl From<OpenFault> for ScriptFault {
-    ghost from_gives = { λ fault made. made ≡ script_fault_of fault };
+impl From<OpenFault> for ScriptRunFault {
+    ghost from_gives = { λ fault made. made ≡ run_fault_of_open fault };
 
-    fn from(fault: OpenFault) -> ScriptFault {
+    fn from(fault: OpenFault) -> ScriptRunFault {
         match fault {
-            OpenFault::OutOfMemory => ScriptFault::OutOfMemory,
-            OpenFault::BadOrder | OpenFault::BadNext | OpenFault::BadState => ScriptFault::Open(
-                fault,
-            ),
+            OpenFault::OutOfMemory => ScriptRunFault::OutOfMemory,
+            OpenFault::BadOrder | OpenFault::BadNext | OpenFault::BadState => {
+                ScriptRunFault::Open(fault)
+            }
         }
     }
 }
 
-impl From<AllocError> for ScriptFault {
-    ghost from_gives = { λ _ made. made ≡ script.OutOfMemory };
+impl From<AllocError> for ScriptRunFault {
+    ghost from_gives = { λ _ made. made ≡ running.OutOfMemory };
 
-    fn from(_refusal: AllocError) -> ScriptFault {
-        ScriptFault::OutOfMemory
+    fn from(_refusal: AllocError) -> ScriptRunFault {
+        ScriptRunFault::OutOfMemory
     }
 }
 
-impl<T: Drop> From<AllocFailed<T>> for ScriptFault {
-    ghost from_gives = { λ _ made. made ≡ script.OutOfMemory };
+impl<T: Drop> From<AllocFailed<T>> for ScriptRunFault {
+    ghost from_gives = { λ _ made. made ≡ running.OutOfMemory };
 
-    fn from(_refusal: AllocFailed<T>) -> ScriptFault {
-        ScriptFault::OutOfMemory
+    fn from(_refusal: AllocFailed<T>) -> ScriptRunFault {
+        ScriptRunFault::OutOfMemory
     }
 }

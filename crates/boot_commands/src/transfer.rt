@@ -2,14 +2,14 @@
 
 ghost use Rattle.std.specs.Prelude.{◌≡◌, ◌≢◌, ℕ, ◌+◌, ◌<◌, ◌≤◌, List, [], ◌++◌, length, vec_len, Err, IfOk, IfErr, OnOk, OnErr, IfSome, MatchBool, false};
 ghost use Rattle.std.specs.Io.KnownBytes.{Appends, Consumes, IsAtEnd};
-ghost use Rattle.boot_commands.specs.declared.fault.ScriptFault.{ScriptFault};
-ghost use Rattle.boot_commands.specs.ScriptFault.{script_max, failed_read, failed_write};
+ghost use Rattle.boot_commands.specs.declared.fault.ScriptRunFault.{ScriptRunFault};
+ghost use Rattle.boot_commands.specs.RunFault.{script_max, failed_read, failed_write};
 ghost use Rattle.boot_commands.specs.Source.{ReadsAll, Takes, TakesAtMost, AppendsFront};
 
-use crate::fault::ScriptFault;
-use crate::input::LIMIT;
+use crate::fault::ScriptRunFault;
 use crate::source::{Sink, Source};
 use std::alloc::Global;
+use whole_files::LIMIT;
 
 /// How many bytes are asked for at once.
 const CHUNK: usize = 16_384;
@@ -18,20 +18,20 @@ const CHUNK: usize = 16_384;
 ///
 /// # Errors
 ///
-/// [`ScriptFault::TooMuch`] if there are more than [`LIMIT`] bytes; exactly one byte past these is read.
-/// [`ScriptFault::Read`] if a read fails before that, and [`ScriptFault::OutOfMemory`] if memory was refused.
-pub fn read_all<R: Source>(alloc: Global, reader: &mut R) -> Result<Vec<u8>, ScriptFault>
+/// [`ScriptRunFault::TooMuch`] if there are more than [`LIMIT`] bytes; exactly one byte past these is read.
+/// [`ScriptRunFault::Read`] if a read fails before that, and [`ScriptRunFault::OutOfMemory`] if memory was refused.
+pub fn read_all<R: Source>(alloc: Global, reader: &mut R) -> Result<Vec<u8>, ScriptRunFault>
     requires { R.failed reader.old ≡ false }
     ensures all { IfOk result (λ bytes.
         ReadsAll (R.remaining reader.old) (R.remaining reader.new) bytes.items) }
     ensures limit { IfOk result (λ bytes. vec_len bytes ≤ script_max) }
-    ensures too_much { result ≡ Err ScriptFault.TooMuch →
+    ensures too_much { result ≡ Err ScriptRunFault.TooMuch →
         IfSome (R.remaining reader.old) (λ text. script_max < length text) }
-    ensures one_past { result ≡ Err ScriptFault.TooMuch →
+    ensures one_past { result ≡ Err ScriptRunFault.TooMuch →
         Takes (R.remaining reader.old) (R.remaining reader.new) (script_max + 1) }
     ensures taken { OnErr result (TakesAtMost (R.remaining reader.old) (R.remaining reader.new) (script_max + 1)) }
-    ensures fault { IfErr result (λ fault. fault ≢ ScriptFault.Read → fault ≢ ScriptFault.TooMuch →
-        fault ≡ ScriptFault.OutOfMemory) }
+    ensures fault { IfErr result (λ fault. fault ≢ ScriptRunFault.Read → fault ≢ ScriptRunFault.TooMuch →
+        fault ≡ ScriptRunFault.OutOfMemory) }
     ensures flag { R.failed reader.new ≡ failed_read result }
 {
     let mut bytes = Vec::new(alloc);
@@ -45,19 +45,19 @@ fn fill<R: Source>(
     reader: &mut R,
     buffer: &mut [u8],
     bytes: &mut Vec<u8>,
-) -> Result<(), ScriptFault>
+) -> Result<(), ScriptRunFault>
     requires works { R.failed reader.old ≡ false }
     requires empty { vec_len bytes.old ≡ 0 }
     requires room { 0 < length buffer.old }
     ensures all { OnOk result (ReadsAll (R.remaining reader.old) (R.remaining reader.new) bytes.new.items) }
     ensures limit { OnOk result (vec_len bytes.new ≤ script_max) }
-    ensures too_much { result ≡ Err ScriptFault.TooMuch →
+    ensures too_much { result ≡ Err ScriptRunFault.TooMuch →
         IfSome (R.remaining reader.old) (λ text. script_max < length text) }
-    ensures one_past { result ≡ Err ScriptFault.TooMuch →
+    ensures one_past { result ≡ Err ScriptRunFault.TooMuch →
         Takes (R.remaining reader.old) (R.remaining reader.new) (script_max + 1) }
     ensures taken { OnErr result (TakesAtMost (R.remaining reader.old) (R.remaining reader.new) (script_max + 1)) }
-    ensures fault { IfErr result (λ fault. fault ≢ ScriptFault.Read → fault ≢ ScriptFault.TooMuch →
-        fault ≡ ScriptFault.OutOfMemory) }
+    ensures fault { IfErr result (λ fault. fault ≢ ScriptRunFault.Read → fault ≢ ScriptRunFault.TooMuch →
+        fault ≡ ScriptRunFault.OutOfMemory) }
     ensures flag { R.failed reader.new ≡ failed_read result }
 {
     while bytes.len() <= LIMIT {
@@ -66,7 +66,7 @@ fn fill<R: Source>(
             return Ok(());
         }
     }
-    Err(ScriptFault::TooMuch)
+    Err(ScriptRunFault::TooMuch)
 }
 
 /// Appends the bytes of one read, and returns whether there were some.
@@ -74,7 +74,7 @@ fn read_some<R: Source>(
     reader: &mut R,
     buffer: &mut [u8],
     bytes: &mut Vec<u8>,
-) -> Result<bool, ScriptFault>
+) -> Result<bool, ScriptRunFault>
     requires works { R.failed reader.old ≡ false }
     requires room { 0 < length buffer.old }
     ensures piece { IfOk result (λ more. (piece : List ℕ) × (bytes.new.items ≡ bytes.old.items ++ piece)
@@ -82,11 +82,11 @@ fn read_some<R: Source>(
         × (length piece ≤ length buffer.old)
         × MatchBool more (0 < length piece) ((piece ≡ []) × IsAtEnd (R.remaining reader.new))) }
     ensures taken { OnErr result (TakesAtMost (R.remaining reader.old) (R.remaining reader.new) (length buffer.old)) }
-    ensures fault { IfErr result (λ fault. fault ≢ ScriptFault.Read → fault ≡ ScriptFault.OutOfMemory) }
+    ensures fault { IfErr result (λ fault. fault ≢ ScriptRunFault.Read → fault ≡ ScriptRunFault.OutOfMemory) }
     ensures flag { R.failed reader.new ≡ failed_read result }
 {
     let Some(count) = reader.read(buffer) else {
-        return Err(ScriptFault::Read);
+        return Err(ScriptRunFault::Read);
     };
     bytes.extend_from_slice(&buffer[..count])?;
     Ok(count > 0)
@@ -96,19 +96,19 @@ fn read_some<R: Source>(
 ///
 /// # Errors
 ///
-/// [`ScriptFault::Write`] if a write fails or takes no byte. What was written before it, a prefix of the bytes, stays
+/// [`ScriptRunFault::Write`] if a write fails or takes no byte. What was written before it, a prefix of the bytes, stays
 /// written.
-pub fn write_all<W: Sink>(writer: &mut W, bytes: &[u8]) -> Result<(), ScriptFault>
+pub fn write_all<W: Sink>(writer: &mut W, bytes: &[u8]) -> Result<(), ScriptRunFault>
     requires { W.failed writer.old ≡ false }
     ensures all { OnOk result (Appends (W.contents writer.old) (W.contents writer.new) bytes.now) }
     ensures front { OnErr result (AppendsFront (W.contents writer.old) (W.contents writer.new) bytes.now) }
-    ensures fault { IfErr result (λ fault. fault ≡ ScriptFault.Write) }
+    ensures fault { IfErr result (λ fault. fault ≡ ScriptRunFault.Write) }
     ensures flag { W.failed writer.new ≡ failed_write result }
 {
     let mut rest = bytes;
     while !rest.is_empty() {
         let Some(count) = writer.write(rest) else {
-            return Err(ScriptFault::Write);
+            return Err(ScriptRunFault::Write);
         };
         rest = &rest[count..];
     }

@@ -1,11 +1,16 @@
--- Runs of updates by requests.
-use Rattle.std.proofs.Common.{◌≡◌, ◌≢◌, ◌⊎◌, ◌↔◌, ◌<◌, ◌^◌, inl, inr, ⊎_elim, ℕ, ◌||◌, Bool, true, false, cond, List, [], ◌∷◌, Option, Some, None, IfSome, refl, sym, ap, subst, ◌∙◌}
+-- Updates by requests are what their run as a whole does, in three steps. What requests do to the rest of a state doesn't depend
+-- on BootNext nor on other variables, so states that agree but for these two still do after a run (`Alike`). A run after a restart
+-- is one that begins with the state then (`after_restart`). And what a turn leaves opens as that state, but for these two: an
+-- update by requests (`brings`), a start that deletes BootNext (`boots`), and firmware's changes of other variables
+-- (`opens_meddled`); so any number of turns does (`all_applied`).
+use Rattle.std.proofs.Common.{◌≡◌, ◌≢◌, ◌⊎◌, ◌↔◌, ◌<◌, ◌^◌, inl, inr, ⊎_elim, ℕ, ◌||◌, Bool, true, false, cond, List, [], ◌∷◌, Option, Some, None, IfSome}
+use Rattle.std.proofs.Common.{refl, sym, ap, subst, ◌∙◌}
 use Rattle.std.specs.FinMap.{empty, get, remove, get-remove}
 use Rattle.std.specs.Option.{option_map}
 use Rattle.std.specs.Cmp.{Equal-is}
-use Rattle.std.proofs.lemmas.Bool.{true≢false}
+use Rattle.std.proofs.lemmas.Bool.{true≢false, or_parts, or_left, or_right}
 use Rattle.uefi_vars.specs.Name.{entry_text, order_text, next_text}
-use Rattle.uefi_vars.specs.Vars.{Variables}
+use Rattle.uefi_vars.specs.Vars.{Variables, IsVariable}
 use Rattle.uefi_vars.specs.NameChanges.{with_data, after_each}
 use Rattle.var_stores.specs.BootChange.{same_name, is_entry_name, is_boot_name, changes_from}
 use Rattle.boot_requests.specs.declared.request.Request.{Request}
@@ -14,49 +19,60 @@ use Rattle.boot_requests.specs.declared.outcome.Code.{Code}
 use Rattle.boot_requests.specs.declared.outcome.Code.TheVariants.{Done, Exists, Missing, OrderRepeats, OrderUnknown, NoFree}
 use Rattle.boot_requests.specs.declared.outcome.Outcome.{Outcome}
 use Rattle.std.specs.List.{AllByRecursion}
-use Rattle.uefi_vars.specs.Vars.{IsVariable}
-use Rattle.boot_journal.specs.Store.{with_state}
+use Rattle.boot_journal.specs.Store.{with_state, brought}
 use Rattle.boot_requests.specs.Apply.{next_without, outcome_of, effect_by, effect, after_request, after_boot, with_outcome}
 use Rattle.boot_requests.specs.Changes.{Change, Applies, Boots as BootsChange, after_changes}
 use Rattle.boot_requests.specs.Keeper.{AreRead, StandsFor}
 use Rattle.boot_requests.specs.Run.{run_followed_by, state_at, history}
 use Rattle.boot_requests.specs.Seen.{Seen, Came, Malformed, Prepare, Hand, Restart}
-use Rattle.boot_requests.specs.State.{State, IsState, IsImage, keep_text, IsBootName}
+use Rattle.boot_requests.specs.State.{State, IsState, IsImage, keep_text, IsBootName, stored_mark}
 use Rattle.boot_journal.specs.Attributes.{data_in, data_of}
 use Rattle.boot_journal.specs.Requests.{KeepsState, IsUpdateBy, IsRunOf, IsOfAnother, AgreesButForNext}
 use Rattle.std.proofs.lemmas.Cmp.{nat_list_cmp_total}
 use Rattle.boot_requests.specs.declared.reply.Reply.{Reply}
 use Rattle.boot_requests.specs.declared.reply.Reply.TheVariants as reply
-use Rattle.boot_requests.specs.State.{stored_mark}
 use Rattle.boot_requests.specs.StoredState.{HasMark, OpensAs}
 use Rattle.boot_requests.specs.Turn.{Plain, plain_start, Turn}
 use Rattle.boot_journal.specs.Changes.{made}
-use Rattle.boot_journal.specs.Store.{brought}
 use Rattle.boot_journal.specs.Events.{without_next}
 use Rattle.boot_journal.specs.Turns as Turns
 use Rattle.boot_journal.specs.Turns.{after_turns}
 use Rattle.boot_journal.proofs.WithAttributes.{get-data_of, all_elsewhere, data_of-with_data, data_of-remove}
-use Rattle.boot_journal.proofs.Making.{same_self, get-state, state_of_seen}
-use Rattle.boot_journal.proofs.Single.{Single, over, one_name, same_variables, get-with_data, get-each}
+use Rattle.boot_journal.proofs.Making.{same_self, get-state, beside_state, not_keep, state_of_seen}
+use Rattle.boot_journal.proofs.Single.{Single, over, one_name, unlike, same_variables, get-with_data, get-each, passed_by}
 
 -- ---- BootNext and other variables decide nothing of the rest
 
 abbrev bare : State → State
 bare m = record m { boot_next = None; others = empty }
 
-effect_bare : (m : State) (r : Request) (code : Code) (told : Option ℕ) → bare (effect_by (bare m) r code told) ≡ bare (effect_by m r code told)
-effect_bare m (Add entry option) Done told = refl
-effect_bare m (Replace entry option) Done told = refl
-effect_bare m (Remove entry) Done told = refl
-effect_bare m (Order numbers) Done told = refl
-effect_bare m (Next entry) Done told = refl
-effect_bare m (AddFree option) Done None = refl
-effect_bare m (AddFree option) Done (Some entry) = refl
-effect_bare m r Exists told = refl
-effect_bare m r Missing told = refl
-effect_bare m r OrderRepeats told = refl
-effect_bare m r OrderUnknown told = refl
-effect_bare m r NoFree told = refl
+-- BootNext is that of the other state, or is gone
+abbrev IsNextOf : State → State → Type 0
+IsNextOf m n = (m.boot_next ≡ None) ⊎ (m.boot_next ≡ n.boot_next)
+
+-- an effect is the same on the rest, leaves other variables, and keeps that BootNext is that of another state or is gone
+abbrev DecidesNothing : State → Request → Code → Option ℕ → Type 0
+DecidesNothing m r code told =
+    (bare (effect_by (bare m) r code told) ≡ bare (effect_by m r code told)) × ((effect_by m r code told).others ≡ m.others)
+    × ((n : State) → IsNextOf m n → IsNextOf (effect_by m r code told) (effect_by n r code told))
+
+effects : (m : State) (r : Request) (code : Code) (told : Option ℕ) → DecidesNothing m r code told
+effects m (Add entry option) Done told = (refl, refl, λ n is. is)
+effects m (Replace entry option) Done told = (refl, refl, λ n is. is)
+effects m (Remove entry) Done told = (
+  refl,
+  refl,
+  λ n is. ⊎_elim (λ none. inl (ap (λ (x : Option ℕ). next_without x entry) none)) (λ same. inr (ap (λ (x : Option ℕ). next_without x entry) same)) is,
+)
+effects m (Order numbers) Done told = (refl, refl, λ n is. is)
+effects m (Next entry) Done told = (refl, refl, λ n is. inr refl)
+effects m (AddFree option) Done None = (refl, refl, λ n is. is)
+effects m (AddFree option) Done (Some entry) = (refl, refl, λ n is. is)
+effects m r Exists told = (refl, refl, λ n is. is)
+effects m r Missing told = (refl, refl, λ n is. is)
+effects m r OrderRepeats told = (refl, refl, λ n is. is)
+effects m r OrderUnknown told = (refl, refl, λ n is. is)
+effects m r NoFree told = (refl, refl, λ n is. is)
 
 outcome_bare : (m : State) (r : Request) → outcome_of (bare m) r ≡ outcome_of m r
 outcome_bare m (Add entry option) = refl
@@ -69,7 +85,7 @@ outcome_bare m (AddFree option) = refl
 request_bare : (m : State) (r : Request) → bare (after_request (bare m) r) ≡ bare (after_request m r)
 request_bare m r =
     ap (λ (o : Outcome). bare (with_outcome (effect (bare m) r o) o)) (outcome_bare m r)
-    ∙ ap (λ (s : State). with_outcome s (outcome_of m r)) (effect_bare m r (outcome_of m r).code (outcome_of m r).entry)
+    ∙ ap (λ (s : State). with_outcome s (outcome_of m r)) (effects m r (outcome_of m r).code (outcome_of m r).entry).0
 
 changes_bare : (m : State) (cs : List Change) → bare (after_changes (bare m) cs) ≡ bare (after_changes m cs)
 changes_bare m [] = refl
@@ -79,32 +95,11 @@ changes_bare m (Applies number r ∷ cs) =
     ∙ changes_bare (after_request m r) cs
 changes_bare m (BootsChange ∷ cs) = changes_bare (after_boot m) cs
 
--- BootNext is that of the other state, or is gone
-abbrev IsNextOf : State → State → Type 0
-IsNextOf m n = (m.boot_next ≡ None) ⊎ (m.boot_next ≡ n.boot_next)
-
-effect_next : (m n : State) (r : Request) (code : Code) (told : Option ℕ) → IsNextOf m n → IsNextOf (effect_by m r code told) (effect_by n r code told)
-effect_next m n (Add entry option) Done told is = is
-effect_next m n (Replace entry option) Done told is = is
-effect_next m n (Remove entry) Done told is =
-    ⊎_elim (λ none. inl (ap (λ (x : Option ℕ). next_without x entry) none)) (λ same. inr (ap (λ (x : Option ℕ). next_without x entry) same)) is
-effect_next m n (Order numbers) Done told is = is
-effect_next m n (Next entry) Done told is = inr refl
-effect_next m n (AddFree option) Done None is = is
-effect_next m n (AddFree option) Done (Some entry) is = is
-effect_next m n r Exists told is = is
-effect_next m n r Missing told is = is
-effect_next m n r OrderRepeats told is = is
-effect_next m n r OrderUnknown told is = is
-effect_next m n r NoFree told is = is
-
-same_outcome : (m n : State) (r : Request) → bare m ≡ bare n → outcome_of m r ≡ outcome_of n r
-same_outcome m n r alike = sym (outcome_bare m r) ∙ ap (λ (s : State). outcome_of s r) alike ∙ outcome_bare n r
-
 request_next : (m n : State) (r : Request) → bare m ≡ bare n → IsNextOf m n → IsNextOf (after_request m r) (after_request n r)
 request_next m n r alike is =
-    subst (λ (o : Outcome). IsNextOf (after_request m r) (with_outcome (effect n r o) o)) (same_outcome m n r alike)
-    (effect_next m n r (outcome_of m r).code (outcome_of m r).entry is)
+    subst (λ (o : Outcome). IsNextOf (after_request m r) (with_outcome (effect n r o) o))
+    (sym (outcome_bare m r) ∙ ap (λ (s : State). outcome_of s r) alike ∙ outcome_bare n r)
+    ((effects m r (outcome_of m r).code (outcome_of m r).entry).2 n is)
 
 request_alike : (m n : State) (r : Request) → bare m ≡ bare n → bare (after_request m r) ≡ bare (after_request n r)
 request_alike m n r alike = sym (request_bare m r) ∙ ap (λ (s : State). bare (after_request s r)) alike ∙ request_bare n r
@@ -140,26 +135,11 @@ agrees m n alike = record {
   next = alike.next;
 }
 
--- ---- other variables stay
-
-effect_others : (m : State) (r : Request) (code : Code) (told : Option ℕ) → (effect_by m r code told).others ≡ m.others
-effect_others m (Add entry option) Done told = refl
-effect_others m (Replace entry option) Done told = refl
-effect_others m (Remove entry) Done told = refl
-effect_others m (Order numbers) Done told = refl
-effect_others m (Next entry) Done told = refl
-effect_others m (AddFree option) Done None = refl
-effect_others m (AddFree option) Done (Some entry) = refl
-effect_others m r Exists told = refl
-effect_others m r Missing told = refl
-effect_others m r OrderRepeats told = refl
-effect_others m r OrderUnknown told = refl
-effect_others m r NoFree told = refl
-
+-- other variables stay
 changes_others : (m : State) (cs : List Change) → (after_changes m cs).others ≡ m.others
 changes_others m [] = refl
 changes_others m (Applies number r ∷ cs) =
-    changes_others (after_request m r) cs ∙ effect_others m r (outcome_of m r).code (outcome_of m r).entry
+    changes_others (after_request m r) cs ∙ (effects m r (outcome_of m r).code (outcome_of m r).entry).1
 changes_others m (BootsChange ∷ cs) = changes_others (after_boot m) cs
 
 -- ---- runs that go on
@@ -189,7 +169,8 @@ read_after (seen ∷ later) run other read also =
 
 module _ (leads : (start : State) (run : List Seen) → IsState start → AreRead run → IsState (state_at start run))
     (turns : (k : Plain) (seen : Seen) → IsState k.state → (to : Plain) × (answer : Reply) × Turn k seen to answer)
-    (goes_on : (k to : Plain) (start : State) (run : List Seen) (seen : Seen) (answer : Reply) → StandsFor k start run → Turn k seen to answer → StandsFor to start (seen ∷ run))
+    (goes_on : (k to : Plain) (start : State) (run : List Seen) (seen : Seen) (answer : Reply) → StandsFor k start run → Turn k seen to answer
+    → StandsFor to start (seen ∷ run))
     (starts : (start : State) → StandsFor (plain_start start) start []) where
   stand : (start : State) (run : List Seen) → IsState start → AreRead run → (k : Plain) × StandsFor k start run
   stand start [] is read = (plain_start start, starts start)
@@ -198,12 +179,14 @@ module _ (leads : (start : State) (run : List Seen) → IsState start → AreRea
       let turn = turns earlier.0 seen (subst IsState (sym earlier.1.state) (leads start before is (read_before seen before read))) in
       (turn.0, goes_on earlier.0 turn.0 start before seen turn.1 earlier.1 turn.2)
 
-  both_stand : (later : List Seen) (k : Plain) (start other : State) (run also : List Seen) → IsState start → AreRead (run_followed_by run later) → StandsFor k start run → StandsFor k other also →
-      (to : Plain) × StandsFor to start (run_followed_by run later) × StandsFor to other (run_followed_by also later)
+  both_stand : (later : List Seen) (k : Plain) (start other : State) (run also : List Seen)
+      → IsState start → AreRead (run_followed_by run later) → StandsFor k start run → StandsFor k other also
+      → (to : Plain) × StandsFor to start (run_followed_by run later) × StandsFor to other (run_followed_by also later)
   both_stand [] k start other run also is read a b = (k, a, b)
   both_stand (seen ∷ later) k start other run also is read a b =
       let turn = turns k seen (subst IsState (sym a.state) (leads start run is (read_first (seen ∷ later) run read))) in
-      both_stand later turn.0 start other (seen ∷ run) (seen ∷ also) is read (goes_on k turn.0 start run seen turn.1 a turn.2) (goes_on k turn.0 other also seen turn.1 b turn.2)
+      both_stand later turn.0 start other (seen ∷ run) (seen ∷ also) is read (goes_on k turn.0 start run seen turn.1 a turn.2)
+      (goes_on k turn.0 other also seen turn.1 b turn.2)
 
   -- a run after a restart is one that begins with the state then
   pub after_restart : (start : State) (earlier seen : List Seen) → IsState start → AreRead earlier → AreRead (run_followed_by [] seen) →
@@ -212,28 +195,19 @@ module _ (leads : (start : State) (run : List Seen) → IsState start → AreRea
       let k = stand start earlier is read in
       let again = goes_on k.0 (plain_start k.0.state) start earlier Restart (reply.Restarted k.0.state.next_number) k.1 (refl, refl) in
       let anew = subst (λ (m : State). StandsFor (plain_start k.0.state) m []) k.1.state (starts k.0.state) in
-      let both = both_stand seen (plain_start k.0.state) start (state_at start earlier) (Restart ∷ earlier) [] is (read_after seen [] (Restart ∷ earlier) also read) again anew in
+      let both =
+      both_stand seen (plain_start k.0.state) start (state_at start earlier) (Restart ∷ earlier) [] is
+      (read_after seen [] (Restart ∷ earlier) also read) again anew in
       sym both.1.state ∙ both.2.state
 
 -- ---- a start that deletes BootNext
 
-get-marked : (state : Option (List ℕ)) (v : Variables) (q : List ℕ) → get (with_data v keep_text state) q ≡ cond (same_name q keep_text) state (get v q)
-get-marked state v q = get-with_data v keep_text state q
-
-none_or : (b n : Bool) (state x : Option (List ℕ)) → (n ≡ false) → cond b state (cond n None x) ≡ cond b state x
-none_or b n state x is = ap (λ n. cond b state (cond n None x)) is
-
-marked_without : (state : Option (List ℕ)) (v : Variables) (q : List ℕ) → same_name q next_text ≡ false → get (with_data (remove v next_text) keep_text state) q ≡ get (with_data v keep_text state) q
+marked_without : (state : Option (List ℕ)) (v : Variables) (q : List ℕ) → same_name q next_text ≡ false
+    → get (with_data (remove v next_text) keep_text state) q ≡ get (with_data v keep_text state) q
 marked_without state v q other =
-    get-marked state (remove v next_text) q ∙ ap (cond (same_name q keep_text) state) (get-remove nat_list_cmp_total v next_text q)
-    ∙ none_or (same_name q keep_text) (same_name q next_text) state (get v q) other ∙ sym (get-marked state v q)
-
-pub unlike : (name q : List ℕ) → (name ≡ q → ⊥) → same_name name q ≡ false
-unlike name q other = by (same_name name q) refl
-  where
-    by : (b : Bool) → same_name name q ≡ b → b ≡ false
-    by true is = absurd (other (one_name name q ((Equal-is _).0 is)))
-    by false is = refl
+    get-state state (remove v next_text) q
+    ∙ ap (cond (same_name q keep_text) state) (get-remove nat_list_cmp_total v next_text q ∙ ap (λ n. cond n None (get v q)) other)
+    ∙ sym (get-state state v q)
 
 -- the next number and the outcomes are in BootKeepState alone
 pub mark_over : (v w : Variables) (number : ℕ) (kept : List Outcome) → get w keep_text ≡ get v keep_text → HasMark v number kept → HasMark w number kept
@@ -243,18 +217,17 @@ mark_over v w number kept same mark = ⊎_elim
     mark
 
 module _ (no_next : (number : ℕ) → entry_text number ≢ next_text) where
-  keep_of : (v : Variables) → get (remove v next_text) keep_text ≡ get v keep_text
-  keep_of v = get-remove nat_list_cmp_total v next_text keep_text
-
   pub opens_without_next : (v : Variables) (m : State) → OpensAs v m → OpensAs (remove v next_text) (after_boot m)
   opens_without_next v m opens =
       let mark = stored_mark m.next_number m.kept in record {
         is = record { entries = opens.is.entries; order = opens.is.order; next = tt; mark = opens.is.mark; others = opens.is.others };
-        mark = mark_over v (remove v next_text) m.next_number m.kept (keep_of v) opens.mark;
+        mark = mark_over v (remove v next_text) m.next_number m.kept (get-remove nat_list_cmp_total v next_text keep_text) opens.mark;
         image = record {
-          entry = λ number bound. marked_without mark v (entry_text number) (unlike (entry_text number) next_text (no_next number)) ∙ opens.image.entry number bound;
+          entry =
+              λ number bound. marked_without mark v (entry_text number) (unlike (entry_text number) next_text (no_next number))
+              ∙ opens.image.entry number bound;
           order = marked_without mark v order_text refl ∙ opens.image.order;
-          next = get-marked mark (remove v next_text) next_text ∙ get-remove nat_list_cmp_total v next_text next_text;
+          next = get-state mark (remove v next_text) next_text ∙ get-remove nat_list_cmp_total v next_text next_text;
           mark = marked_without mark v keep_text refl ∙ opens.image.mark;
           other = λ name none. marked_without mark v name (unlike name next_text (λ e. none (inr (inr (inl e))))) ∙ opens.image.other name none;
         };
@@ -262,29 +235,18 @@ module _ (no_next : (number : ℕ) → entry_text number ≢ next_text) where
 
 -- ---- names of other variables
 
-or_first : (a b c : Bool) → (a || (b || c)) ≡ false → a ≡ false
-or_first true b c e = e
-or_first false b c e = refl
-
-or_second : (a b c : Bool) → (a || (b || c)) ≡ false → b ≡ false
-or_second true b c e = absurd (true≢false e)
-or_second false true c e = e
-or_second false false c e = refl
-
-or_third : (a b c : Bool) → (a || (b || c)) ≡ false → c ≡ false
-or_third true b c e = absurd (true≢false e)
-or_third false true c e = absurd (true≢false e)
-or_third false false c e = e
-
-no_boot_name : ((name : List ℕ) → (is_entry_name name ≡ true) ↔ ((number : ℕ) × (number < 2 ^ 16) × (name ≡ entry_text number))) → (name : List ℕ) → is_boot_name name ≡ false → same_name name keep_text ≡ false → IsBootName name → ⊥
-no_boot_name names name out no_keep is = ⊎_elim
-    (λ entry. true≢false (sym ((names name).1 (entry.0, entry.1, entry.2)) ∙ or_first (is_entry_name name) (same_name name order_text) (same_name name next_text) out))
+no_boot_name : ((name : List ℕ) → (is_entry_name name ≡ true) ↔ ((number : ℕ) × (number < 2 ^ 16) × (name ≡ entry_text number)))
+    → (name : List ℕ) → is_boot_name name ≡ false → same_name name keep_text ≡ false → IsBootName name → ⊥
+no_boot_name names name out no_keep is =
+    let no_entry = or_parts (is_entry_name name) (same_name name order_text || same_name name next_text) out in
+    let no_other = or_parts (same_name name order_text) (same_name name next_text) no_entry.1 in
+    let isnt = λ (q : List ℕ) (e : name ≡ q) (no : same_name name q ≡ false). true≢false (sym (same_self q) ∙ ap (λ n. same_name n q) (sym e) ∙ no) in
+    ⊎_elim
+    (λ entry. true≢false (sym ((names name).1 (entry.0, entry.1, entry.2)) ∙ no_entry.0))
     (λ rest. ⊎_elim
-    (λ order. true≢false (sym (same_self order_text) ∙ ap (λ n. same_name n order_text) (sym order) ∙ or_second (is_entry_name name) (same_name name order_text) (same_name name next_text) out))
-    (λ rest. ⊎_elim
-    (λ next. true≢false (sym (same_self next_text) ∙ ap (λ n. same_name n next_text) (sym next) ∙ or_third (is_entry_name name) (same_name name order_text) (same_name name next_text) out))
-    (λ keep. true≢false (sym (same_self keep_text) ∙ ap (λ n. same_name n keep_text) (sym keep) ∙ no_keep))
-    rest) rest) is
+    (λ order. isnt order_text order no_other.0)
+    (λ rest. ⊎_elim (λ next. isnt next_text next no_other.1) (λ keep. isnt keep_text keep no_keep) rest)
+    rest) is
 
 -- ---- what an update by requests brings
 
@@ -306,7 +268,7 @@ module _ (boot : (from to : Variables) (name : List ℕ) → is_boot_name name �
       at q false false is out =
           ap (option_map (data_in q)) (others v to q out)
           ∙ sym (get-data_of v q)
-          ∙ sym (get-marked (stored_mark m.next_number m.kept) (data_of v) q ∙ ap (λ b. cond b (stored_mark m.next_number m.kept) (get (data_of v) q)) is)
+          ∙ sym (beside_state (stored_mark m.next_number m.kept) (data_of v) q is)
           ∙ opens.image.other q (no_boot_name names q out is)
           ∙ ap (λ x. get x q) (sym same)
           ∙ sym (image.other q (no_boot_name names q out is))
@@ -315,44 +277,31 @@ module _ (boot : (from to : Variables) (name : List ℕ) → is_boot_name name �
 -- ---- firmware changes other variables
 
 module _ (names : (name : List ℕ) → (is_entry_name name ≡ true) ↔ ((number : ℕ) × (number < 2 ^ 16) × (name ≡ entry_text number))) where
-  -- no change is of a name
-  passed_by : (cs : List Single) (q : List ℕ) (x : Option (List ℕ)) → AllByRecursion IsOfAnother cs → ((c : Single) → IsOfAnother c → same_name q c.0 ≡ false) → over cs q x ≡ x
-  passed_by [] q x are out = refl
-  passed_by (c ∷ cs) q x are out = ap (λ b. over cs q (cond b c.1 x)) (out c are.0) ∙ passed_by cs q x are.1 out
-
   not_boot : (q : List ℕ) → is_boot_name q ≡ true → (c : Single) → IsOfAnother c → same_name q c.0 ≡ false
   not_boot q boot c is = unlike q c.0 (λ e. true≢false (sym boot ∙ ap is_boot_name e ∙ is.boot))
-
-  not_keep_name : (c : Single) → IsOfAnother c → same_name keep_text c.0 ≡ false
-  not_keep_name c is = unlike keep_text c.0 (λ e. true≢false (sym (same_self keep_text) ∙ ap (λ n. same_name n keep_text) e ∙ is.keep))
-
-  or_right : (a b c : Bool) → (b || c) ≡ true → (a || (b || c)) ≡ true
-  or_right true b c e = refl
-  or_right false b c e = e
-
-  or_left : (a b : Bool) → a ≡ true → (a || b) ≡ true
-  or_left true b e = refl
-  or_left false b e = absurd (true≢false (sym e))
 
   entry_boot : (number : ℕ) → number < 2 ^ 16 → is_boot_name (entry_text number) ≡ true
   entry_boot number bound = or_left (is_entry_name (entry_text number)) _ ((names (entry_text number)).1 (number, bound, refl))
 
   order_boot : is_boot_name order_text ≡ true
-  order_boot = or_right (is_entry_name order_text) true (same_name order_text next_text) refl
+  order_boot = or_right (is_entry_name order_text) true refl
 
   next_boot : is_boot_name next_text ≡ true
-  next_boot = or_right (is_entry_name next_text) (same_name next_text order_text) true refl
+  next_boot = or_right (is_entry_name next_text) true refl
 
   -- other variables stay other variables
   abbrev AreOthers : Variables → Type 0
   AreOthers others = (name : List ℕ) → IfSome (get others name) (λ bytes. IsVariable (name, bytes) × (¬ IsBootName name))
 
-  other_value : (name : List ℕ) (value : Option (List ℕ)) → IfSome value (λ bytes. IsVariable (name, bytes)) → (IsBootName name → ⊥) → IfSome value (λ bytes. IsVariable (name, bytes) × (¬ IsBootName name))
+  other_value : (name : List ℕ) (value : Option (List ℕ)) → IfSome value (λ bytes. IsVariable (name, bytes)) → (IsBootName name → ⊥)
+      → IfSome value (λ bytes. IsVariable (name, bytes) × (¬ IsBootName name))
   other_value name None is other = tt
   other_value name (Some bytes) is other = (is, other)
 
   others_put : (others : Variables) (c : Single) → IsOfAnother c → AreOthers others → AreOthers (with_data others c.0 c.1)
-  others_put others c is are name = subst (λ (x : Option (List ℕ)). IfSome x (λ bytes. IsVariable (name, bytes) × (¬ IsBootName name))) (sym (get-with_data others c.0 c.1 name)) (by (same_name name c.0) refl)
+  others_put others c is are name =
+      subst (λ (x : Option (List ℕ)). IfSome x (λ bytes. IsVariable (name, bytes) × (¬ IsBootName name))) (sym (get-with_data others c.0 c.1 name))
+      (by (same_name name c.0) refl)
     where
       by : (b : Bool) → same_name name c.0 ≡ b → IfSome (cond b c.1 (get others name)) (λ bytes. IsVariable (name, bytes) × (¬ IsBootName name))
       by true same =
@@ -380,35 +329,41 @@ module _ (names : (name : List ℕ) → (is_entry_name name ≡ true) ↔ ((numb
       ∙ (λ i. with_data (data_of-each v cs are i) keep_text (sym (get-data_of v keep_text) i))
 
   get-meddled : (v : Variables) (cs : List Single) (q : List ℕ) → same_name q keep_text ≡ false → get (meddled v cs) q ≡ over cs q (get v q)
-  get-meddled v cs q other = get-state (get v keep_text) (after_each v cs) q ∙ ap (λ b. cond b (get v keep_text) (get (after_each v cs) q)) other ∙ get-each cs v q
+  get-meddled v cs q other = beside_state (get v keep_text) (after_each v cs) q other ∙ get-each cs v q
 
   marked_same : (mark : Option (List ℕ)) (v : Variables) (cs : List Single) (q : List ℕ) → same_name q keep_text ≡ false → over cs q (get v q) ≡ get v q →
       get (with_data (meddled v cs) keep_text mark) q ≡ get (with_data v keep_text mark) q
   marked_same mark v cs q other same =
-      get-marked mark (meddled v cs) q ∙ ap (λ b. cond b mark (get (meddled v cs) q)) other ∙ get-meddled v cs q other ∙ same
-      ∙ sym (get-marked mark v q ∙ ap (λ b. cond b mark (get v q)) other)
-
-  boot_not_keep : (q : List ℕ) → is_boot_name q ≡ true → is_boot_name keep_text ≡ false → same_name q keep_text ≡ false
-  boot_not_keep q boot no_keep = unlike q keep_text (λ e. true≢false (sym boot ∙ ap is_boot_name e ∙ no_keep))
+      beside_state mark (meddled v cs) q other ∙ get-meddled v cs q other ∙ same ∙ sym (beside_state mark v q other)
 
   pub opens_meddled : is_boot_name keep_text ≡ false → (v : Variables) (m : State) (cs : List Single) → AllByRecursion IsOfAnother cs → OpensAs v m →
       OpensAs (meddled v cs) (record m { others = after_each m.others cs })
   opens_meddled no_keep v m cs all opens =
-      let mark = stored_mark m.next_number m.kept in record {
-        is = record { entries = opens.is.entries; order = opens.is.order; next = opens.is.next; mark = opens.is.mark; others = others_stay m.others cs all opens.is.others };
+      let mark = stored_mark m.next_number m.kept in
+      let stays = λ (q : List ℕ) (boot : is_boot_name q ≡ true). passed_by IsOfAnother cs q (get v q) all (not_boot q boot) in
+      record {
+        is =
+            record {
+              entries = opens.is.entries;
+              order = opens.is.order;
+              next = opens.is.next;
+              mark = opens.is.mark;
+              others =
+                  others_stay m.others cs all opens.is.others;
+            };
         mark = mark_over v (meddled v cs) m.next_number m.kept (state_of_seen (get v keep_text) (after_each v cs)) opens.mark;
         image = record {
           entry = λ number bound.
               let boot = entry_boot number bound in
-              marked_same mark v cs (entry_text number) (boot_not_keep (entry_text number) boot no_keep) (passed_by cs (entry_text number) _ all (not_boot (entry_text number) boot)) ∙ opens.image.entry number bound;
-          order = marked_same mark v cs order_text refl (passed_by cs order_text _ all (not_boot order_text order_boot)) ∙ opens.image.order;
-          next = marked_same mark v cs next_text refl (passed_by cs next_text _ all (not_boot next_text next_boot)) ∙ opens.image.next;
-          mark = get-marked mark (meddled v cs) keep_text ∙ ap (λ b. cond b mark (get (meddled v cs) keep_text)) (same_self keep_text)
-              ∙ sym (get-marked mark v keep_text ∙ ap (λ b. cond b mark (get v keep_text)) (same_self keep_text)) ∙ opens.image.mark;
+              marked_same mark v cs (entry_text number) (not_keep no_keep (entry_text number) boot) (stays (entry_text number) boot)
+              ∙ opens.image.entry number bound;
+          order = marked_same mark v cs order_text refl (stays order_text order_boot) ∙ opens.image.order;
+          next = marked_same mark v cs next_text refl (stays next_text next_boot) ∙ opens.image.next;
+          mark = state_of_seen mark (meddled v cs) ∙ sym (state_of_seen mark v) ∙ opens.image.mark;
           other = λ name none.
               let apart = unlike name keep_text (λ e. none (inr (inr (inr e)))) in
-              get-marked mark (meddled v cs) name ∙ ap (λ b. cond b mark (get (meddled v cs) name)) apart ∙ get-meddled v cs name apart
-              ∙ ap (over cs name) (sym (get-marked mark v name ∙ ap (λ b. cond b mark (get v name)) apart) ∙ opens.image.other name none)
+              beside_state mark (meddled v cs) name apart ∙ get-meddled v cs name apart
+              ∙ ap (over cs name) (sym (beside_state mark v name apart) ∙ opens.image.other name none)
               ∙ sym (get-each cs m.others name);
         };
       }
@@ -423,23 +378,31 @@ pub record Applied (vars : Variables) (start : State) (run : List Seen) : Type 0
 
 module _ (leads : (start : State) (run : List Seen) → IsState start → AreRead run → IsState (state_at start run))
     (turns : (k : Plain) (seen : Seen) → IsState k.state → (to : Plain) × (answer : Reply) × Turn k seen to answer)
-    (goes_on : (k to : Plain) (start : State) (run : List Seen) (seen : Seen) (answer : Reply) → StandsFor k start run → Turn k seen to answer → StandsFor to start (seen ∷ run))
+    (goes_on : (k to : Plain) (start : State) (run : List Seen) (seen : Seen) (answer : Reply) → StandsFor k start run → Turn k seen to answer
+    → StandsFor to start (seen ∷ run))
     (starts : (start : State) → StandsFor (plain_start start) start [])
     (images_open : (m : State) (vars : Variables) → IsState m → IsImage m vars → OpensAs vars m)
     (no_next : (number : ℕ) → entry_text number ≢ next_text) (no_keep : is_boot_name keep_text ≡ false)
     (boot : (from to : Variables) (name : List ℕ) → is_boot_name name ≡ true → get (made (changes_from from to) from) name ≡ get to name)
     (others : (from to : Variables) (name : List ℕ) → is_boot_name name ≡ false → get (made (changes_from from to) from) name ≡ get from name)
     (names : (name : List ℕ) → (is_entry_name name ≡ true) ↔ ((number : ℕ) × (number < 2 ^ 16) × (name ≡ entry_text number))) where
-  brings : (vars to : Variables) (start : State) (earlier seen run : List Seen) → IsState start → Applied vars start earlier → IsUpdateBy vars seen to → run ≡ run_followed_by (Restart ∷ earlier) seen →
-      Applied (brought vars to) start run
+  brings : (vars to : Variables) (start : State) (earlier seen run : List Seen)
+      → IsState start → Applied vars start earlier → IsUpdateBy vars seen to → run ≡ run_followed_by (Restart ∷ earlier) seen
+      → Applied (brought vars to) start run
   brings vars to start earlier seen run is so_far by goes =
       let n = state_at so_far.now (run_followed_by [] seen) in
       let image = by.leads so_far.now so_far.opens in
-      let same = brought_is boot others names vars to so_far.now n so_far.opens image (changes_others so_far.now (history so_far.now.next_number (run_followed_by [] seen))) in record {
+      let same =
+      brought_is boot others names vars to so_far.now n so_far.opens image
+      (changes_others so_far.now (history so_far.now.next_number (run_followed_by [] seen))) in
+      record {
         now = n;
-        opens = subst (λ (v : Variables). OpensAs v n) (sym same) (images_open n (data_of to) (leads so_far.now (run_followed_by [] seen) so_far.opens.is by.read) image);
+        opens =
+            subst (λ (v : Variables). OpensAs v n) (sym same)
+            (images_open n (data_of to) (leads so_far.now (run_followed_by [] seen) so_far.opens.is by.read) image);
         alike =
-            subst (λ (s : State). Alike n s) (sym (after_restart leads turns goes_on starts start earlier seen is so_far.read by.read) ∙ ap (state_at start) (sym goes))
+            subst (λ (s : State). Alike n s)
+            (sym (after_restart leads turns goes_on starts start earlier seen is so_far.read by.read) ∙ ap (state_at start) (sym goes))
             (run_alike so_far.now (state_at start earlier) (run_followed_by [] seen) so_far.alike);
         read = subst AreRead (sym goes) (read_after seen [] (Restart ∷ earlier) by.read so_far.read);
       }
@@ -447,13 +410,16 @@ module _ (leads : (start : State) (run : List Seen) → IsState start → AreRea
   boots : (deletes : Bool) (vars : Variables) (start : State) (run : List Seen) → Applied vars start run → Applied (without_next deletes vars) start run
   boots true vars start run so_far = record {
     now = after_boot so_far.now;
-    opens = subst (λ (v : Variables). OpensAs v (after_boot so_far.now)) (sym (data_of-remove vars next_text)) (opens_without_next no_next (data_of vars) so_far.now so_far.opens);
+    opens =
+        subst (λ (v : Variables). OpensAs v (after_boot so_far.now)) (sym (data_of-remove vars next_text))
+        (opens_without_next no_next (data_of vars) so_far.now so_far.opens);
     alike = record { bares = so_far.alike.bares; next = inl refl };
     read = so_far.read;
   }
   boots false vars start run so_far = so_far
 
-  pub all_applied : (vars : Variables) (ts : List Turns.Turn) (start : State) (run : List Seen) → KeepsState vars start → IsRunOf vars ts run → Applied (after_turns vars ts) start run
+  pub all_applied : (vars : Variables) (ts : List Turns.Turn) (start : State) (run : List Seen) → KeepsState vars start → IsRunOf vars ts run
+      → Applied (after_turns vars ts) start run
   all_applied vars [] start run opens is = record {
     now = start;
     opens = opens;
@@ -462,7 +428,8 @@ module _ (leads : (start : State) (run : List Seen) → IsState start → AreRea
   }
   all_applied vars (Turns.Brings to ∷ before) start run opens is =
       brings (after_turns vars before) to start is.0 is.1 run opens.is (all_applied vars before start is.0 opens is.2) is.3 is.4
-  all_applied vars (Turns.Boots deletes ∷ before) start run opens is = boots deletes (after_turns vars before) start run (all_applied vars before start run opens is)
+  all_applied vars (Turns.Boots deletes ∷ before) start run opens is =
+      boots deletes (after_turns vars before) start run (all_applied vars before start run opens is)
   all_applied vars (Turns.Meddles changes ∷ before) start run opens is =
       let so_far = all_applied vars before start run opens is.1 in
       let now = record so_far.now { others = after_each so_far.now.others changes } in record {

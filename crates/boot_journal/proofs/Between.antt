@@ -1,5 +1,6 @@
--- The variables between two moves of an update, and of the settlings after it.
-use Rattle.std.proofs.Common.{◌≡◌, ⊎_elim, ℕ, zero, suc, ◌||◌, Bool, true, false, cond, List, [], ◌∷◌, map, take, length, Option, Some, None, refl, sym, ap, subst, ◌∙◌}
+-- The variables between two moves of an update, and of the settlings after it, are those after the first of its changes, also without
+-- BootNext once the machine was started. A property of variables that due changes keep holds throughout (`Keeps`), and this is one.
+use Rattle.std.proofs.Common.{◌≡◌, ℕ, zero, suc, ◌||◌, Bool, true, false, cond, List, [], ◌∷◌, map, take, Option, Some, None, refl, sym, ap, subst, ◌∙◌}
 use Rattle.std.specs.List.{AllByRecursion, IsDistinct}
 use Rattle.std.specs.FinMap.{get, remove, get-remove}
 use Rattle.std.proofs.lemmas.List.{take-map}
@@ -9,14 +10,16 @@ use Rattle.uefi_vars.specs.Vars.{Variables}
 use Rattle.uefi_vars.specs.NameChanges.{after_each}
 use Rattle.var_stores.specs.BootChange.{ChangeParts, same_name, new_data}
 use Rattle.boot_journal.specs.Changes.{made, taken_back, spent, TellWhatIsThere, IsFront, is_of_next}
-use Rattle.boot_journal.specs.Journal.{JournalParts, PendingParts, Makes, TakesBack, idle, begun, due, due_by, turned, turned_by}
-use Rattle.boot_journal.specs.Store.{Store, with_journal}
-use Rattle.boot_journal.specs.Moves.{cut_making, cut_carrying, cut_settling, cut_settling_by, cut_undoing, cut_undoing_by, cut_failing, settled, settled_by}
-use Rattle.boot_journal.specs.Events.{Event, Settles, Undoes, Updates, Fails, Starts, Firmware, World, happens, all_happen, AreSettlings, AreSettlingsOrStarts, without_next}
+use Rattle.boot_journal.specs.Journal.{JournalParts, PendingParts, Makes, TakesBack, begun, due, due_by, turned, turned_by}
+use Rattle.boot_journal.specs.Store.{Store}
+use Rattle.boot_journal.specs.Moves.{cut_carrying, cut_settling, cut_undoing, cut_failing}
+use Rattle.boot_journal.specs.Events.{Event, Settles, Undoes, Updates, Fails, Starts, Firmware, World, happens, all_happen, AreSettlings}
+use Rattle.boot_journal.specs.Events.{AreSettlingsOrStarts, without_next}
 use Rattle.boot_journal.proofs.Single.{Single, same_variables}
 use Rattle.boot_journal.proofs.Fronts.{IsNotIn, AreApart, IsFrontOf, again_front, back_fronts}
-use Rattle.boot_journal.proofs.Parts.{take_whole, new-back, start_due}
-use Rattle.boot_journal.proofs.Making.{making_is, own_due}
+use Rattle.boot_journal.proofs.Parts.{new-back, none_again, start_due}
+use Rattle.boot_journal.proofs.Making.{own_due}
+use Rattle.boot_journal.proofs.Throughout.{Holds, settling_holds, carrying_holds, undoing_holds}
 
 -- ---- what a property of variables needs to hold throughout
 
@@ -26,11 +29,12 @@ IsOf cs began None = Unit {0}
 IsOf cs began (Some (Makes former changes boot)) = (changes ≡ cs) × (boot ≡ began)
 IsOf cs began (Some (TakesBack changes boot)) = (changes ≡ cs) × (boot ≡ began)
 
-pub record Keeps (cs : List ChangeParts) (began : List ℕ) (P : Variables → Type 0) (s : Store) : Type 0 where
-  pub variables : P s.variables
-  pub journal : IsOf cs began s.journal.pending
+-- this holds of the variables, and what is to be done is of these changes
+abbrev pub Keeps : List ChangeParts → List ℕ → (Variables → Type 0) → Store → Type 0
+Keeps cs began P s = Holds P (IsOf cs began) s
 
-pub turned_is : (cs : List ChangeParts) (began : List ℕ) (state : Option (List ℕ)) (p : Option PendingParts) → IsOf cs began p → IsOf cs began (turned_by state p).pending
+turned_is : (cs : List ChangeParts) (began : List ℕ) (state : Option (List ℕ)) (p : Option PendingParts) → IsOf cs began p
+    → IsOf cs began (turned_by state p).pending
 turned_is cs began state None is = is
 turned_is cs began state (Some (Makes former changes boot)) is = is
 turned_is cs began state (Some (TakesBack changes boot)) is = is
@@ -49,42 +53,25 @@ module _ (cs : List ChangeParts) (began boot : List ℕ) (P : Variables → Type
   due_keeps (Some (TakesBack changes boot')) is m j here =
       subst (λ (l : List ChangeParts). P (made (take j l) m)) (sym (λ i. due_by boot (is.1 i) (taken_back (is.0 i)))) (backwards m j here)
 
-  making_keeps : (k : ℕ) (p : Option PendingParts) (state : Option (List ℕ)) (s : Store) → IsOf cs began p → Keeps cs began P s → Keeps cs began P (cut_making k (due boot p) (idle state) s)
-  making_keeps k p state s is keeps = ⊎_elim
-      (λ amid. subst (Keeps cs began P) (sym amid) (record { variables = due_keeps p is s.variables k keeps.variables; journal = keeps.journal }))
-      (λ done. subst (Keeps cs began P) (sym done) (record {
-        variables = subst (λ (l : List ChangeParts). P (made l s.variables)) (take_whole (due boot p)) (due_keeps p is s.variables (length (due boot p)) keeps.variables);
-        journal = tt;
-      }))
-      (making_is k (due boot p) (idle state) s)
-
-  settling_keeps_by : (p : Option PendingParts) (k : ℕ) (s : Store) → IsOf cs began p → Keeps cs began P s → Keeps cs began P (cut_settling_by p boot k s)
-  settling_keeps_by None k s is keeps = keeps
-  settling_keeps_by (Some pending) k s is keeps = making_keeps k (Some pending) s.journal.state s is keeps
-
   pub settling_keeps : (k : ℕ) (s : Store) → Keeps cs began P s → Keeps cs began P (cut_settling boot k s)
-  settling_keeps k s keeps = settling_keeps_by s.journal.pending k s keeps.journal keeps
+  settling_keeps k s keeps = settling_holds boot P (IsOf cs began) tt (turned_is cs began) due_keeps k s keeps
 
-  pub carrying_keeps : (journal : JournalParts) (k : ℕ) (s : Store) → IsOf cs began journal.pending → Keeps cs began P s → Keeps cs began P (cut_carrying boot journal k s)
-  carrying_keeps journal zero s is keeps = keeps
-  carrying_keeps journal (suc k) s is keeps =
-      making_keeps k journal.pending journal.state (with_journal journal s) is (record { variables = keeps.variables; journal = is })
-
-  undoing_keeps_by : (p : Option PendingParts) (k undone : ℕ) (s : Store) → Keeps cs began P s → Keeps cs began P (cut_undoing_by p boot k undone s)
-  undoing_keeps_by None k undone s keeps = keeps
-  undoing_keeps_by (Some (Makes former changes boot')) k undone s keeps =
-      carrying_keeps (turned s.journal) undone (cut_settling boot k s) (turned_is cs began s.journal.state s.journal.pending keeps.journal) (settling_keeps k s keeps)
-  undoing_keeps_by (Some (TakesBack changes boot')) k undone s keeps = settling_keeps k s keeps
+  pub carrying_keeps : (journal : JournalParts) (k : ℕ) (s : Store) → IsOf cs began journal.pending → Keeps cs began P s
+      → Keeps cs began P (cut_carrying boot journal k s)
+  carrying_keeps journal k s is keeps = carrying_holds boot P (IsOf cs began) tt (turned_is cs began) due_keeps journal k s is keeps
 
   pub undoing_keeps : (k undone : ℕ) (s : Store) → Keeps cs began P s → Keeps cs began P (cut_undoing boot k undone s)
-  undoing_keeps k undone s keeps = undoing_keeps_by s.journal.pending k undone s keeps
+  undoing_keeps k undone s keeps = undoing_holds boot P (IsOf cs began) tt (turned_is cs began) due_keeps k undone s keeps
 
-  pub settlings_keep : (w : World) (events : List Event) → w.boot ≡ boot → AreSettlings events → Keeps cs began P w.store → Keeps cs began P (all_happen w events).store
+  pub settlings_keep : (w : World) (events : List Event) → w.boot ≡ boot → AreSettlings events → Keeps cs began P w.store
+      → Keeps cs began P (all_happen w events).store
   settlings_keep w [] is settle keeps = keeps
   settlings_keep w (Settles k ∷ events) is settle keeps =
-      settlings_keep (happens w (Settles k)) events is settle (subst (λ (b : List ℕ). Keeps cs began P (cut_settling b k w.store)) (sym is) (settling_keeps k w.store keeps))
+      settlings_keep (happens w (Settles k)) events is settle
+      (subst (λ (b : List ℕ). Keeps cs began P (cut_settling b k w.store)) (sym is) (settling_keeps k w.store keeps))
   settlings_keep w (Undoes k undone ∷ events) is settle keeps =
-      settlings_keep (happens w (Undoes k undone)) events is settle (subst (λ (b : List ℕ). Keeps cs began P (cut_undoing b k undone w.store)) (sym is) (undoing_keeps k undone w.store keeps))
+      settlings_keep (happens w (Undoes k undone)) events is settle
+      (subst (λ (b : List ℕ). Keeps cs began P (cut_undoing b k undone w.store)) (sym is) (undoing_keeps k undone w.store keeps))
   settlings_keep w (Updates to k ∷ events) is settle keeps = elim settle [ ]
   settlings_keep w (Fails to k undone ∷ events) is settle keeps = elim settle [ ]
   settlings_keep w (Starts boot' deletes ∷ events) is settle keeps = elim settle [ ]
@@ -92,15 +79,11 @@ module _ (cs : List ChangeParts) (began boot : List ℕ) (P : Variables → Type
 
 -- ---- fronts
 
-none_twice : (b : Bool) (x : Option (List ℕ)) → cond b None (cond b None x) ≡ cond b None x
-none_twice true x = refl
-none_twice false x = refl
-
 remove_twice : (m : Variables) → remove (remove m next_text) next_text ≡ remove m next_text
 remove_twice m = same_variables _ _ (λ q.
     get-remove nat_list_cmp_total (remove m next_text) next_text q
     ∙ ap (cond (same_name q next_text) None) (get-remove nat_list_cmp_total m next_text q)
-    ∙ none_twice (same_name q next_text) (get m q)
+    ∙ none_again (same_name q next_text) (get m q)
     ∙ sym (get-remove nat_list_cmp_total m next_text q))
 
 front_of : (cs : List ChangeParts) (m n : Variables) → IsFront cs m n → IsFrontOf (new_data cs) m n
@@ -109,7 +92,8 @@ front_of cs m n front = (front.0, front.1 ∙ ap (after_each m) (sym (take-map _
 front_from : (cs : List ChangeParts) (m n : Variables) → IsFrontOf (new_data cs) m n → IsFront cs m n
 front_from cs m n front = (front.0, front.1 ∙ ap (after_each m) (take-map _ front.0 cs))
 
-not_in : (name : List ℕ) (cs : List ChangeParts) → AllByRecursion (λ y. same_name name y ≡ false) (map (λ (c : ChangeParts). c.name) cs) → IsNotIn name (new_data cs)
+not_in : (name : List ℕ) (cs : List ChangeParts) → AllByRecursion (λ y. same_name name y ≡ false) (map (λ (c : ChangeParts). c.name) cs)
+    → IsNotIn name (new_data cs)
 not_in name [] out = tt
 not_in name (c ∷ cs) out = ((eq_by_cmp_equiv nat_list_cmp_total).symm c.name name ∙ out.0, not_in name cs out.1)
 
@@ -127,7 +111,8 @@ module _ (cs : List ChangeParts) (m : Variables) (distinct : AreApart (new_data 
   back_front : (n : Variables) (j : ℕ) → IsFront cs m n → IsFront cs m (made (take j (taken_back cs)) n)
   back_front n j front =
       front_from cs m (made (take j (taken_back cs)) n)
-      (subst (IsFrontOf (new_data cs) m) (ap (λ (l : List Single). after_each n (take j l)) (sym (new-back m cs told)) ∙ ap (after_each n) (take-map _ j (taken_back cs)))
+      (subst (IsFrontOf (new_data cs) m)
+      (ap (λ (l : List Single). after_each n (take j l)) (sym (new-back m cs told)) ∙ ap (after_each n) (take-map _ j (taken_back cs)))
       (back_fronts (new_data cs) m n j distinct (front_of cs m n front)))
 
   -- under the identity under which they were begun
@@ -135,7 +120,8 @@ module _ (cs : List ChangeParts) (m : Variables) (distinct : AreApart (new_data 
   own_onwards boot n j front = subst (λ (l : List ChangeParts). IsFront cs m (made (take j l) n)) (sym (own_due boot cs)) (made_front n j front)
 
   pub own_backwards : (boot : List ℕ) (n : Variables) (j : ℕ) → IsFront cs m n → IsFront cs m (made (take j (due_by boot boot (taken_back cs))) n)
-  own_backwards boot n j front = subst (λ (l : List ChangeParts). IsFront cs m (made (take j l) n)) (sym (own_due boot (taken_back cs))) (back_front n j front)
+  own_backwards boot n j front =
+      subst (λ (l : List ChangeParts). IsFront cs m (made (take j l) n)) (sym (own_due boot (taken_back cs))) (back_front n j front)
 
   -- and under another: BootNext may be gone
   abbrev pub IsFrontOrWithoutNext : Variables → Type 0
@@ -146,7 +132,8 @@ module _ (cs : List ChangeParts) (m : Variables) (distinct : AreApart (new_data 
   spent_makes ds front gone j =
       ap (λ (l : List ChangeParts). made l (without_next gone front)) (take-map spent j ds) ∙ start_due true (take j ds) gone front
 
-  pub other_onwards : (began boot : List ℕ) → same_name boot began ≡ false → (n : Variables) (j : ℕ) → IsFrontOrWithoutNext n → IsFrontOrWithoutNext (made (take j (due_by boot began cs)) n)
+  pub other_onwards : (began boot : List ℕ) → same_name boot began ≡ false → (n : Variables) (j : ℕ) → IsFrontOrWithoutNext n
+      → IsFrontOrWithoutNext (made (take j (due_by boot began cs)) n)
   other_onwards began boot other n j is = (
     made (take j cs) is.0,
     is.1 || is_of_next (take j cs),
@@ -154,7 +141,8 @@ module _ (cs : List ChangeParts) (m : Variables) (distinct : AreApart (new_data 
     (λ i. made (take j (cond (other i) cs (map spent cs))) (is.3 i)) ∙ spent_makes cs is.0 is.1 j,
   )
 
-  pub other_backwards : (began boot : List ℕ) → same_name boot began ≡ false → (n : Variables) (j : ℕ) → IsFrontOrWithoutNext n → IsFrontOrWithoutNext (made (take j (due_by boot began (taken_back cs))) n)
+  pub other_backwards : (began boot : List ℕ) → same_name boot began ≡ false → (n : Variables) (j : ℕ) → IsFrontOrWithoutNext n
+      → IsFrontOrWithoutNext (made (take j (due_by boot began (taken_back cs))) n)
   other_backwards began boot other n j is = (
     made (take j (taken_back cs)) is.0,
     is.1 || is_of_next (take j (taken_back cs)),
@@ -163,9 +151,6 @@ module _ (cs : List ChangeParts) (m : Variables) (distinct : AreApart (new_data 
   )
 
   -- ---- an update, and what comes after it
-
-  pub settled_same : (boot : List ℕ) (s : Store) → s.journal.pending ≡ None → settled boot s ≡ s
-  settled_same boot s none = ap (λ (p : Option PendingParts). settled_by p boot s) none
 
   pub updating_keeps : (boot : List ℕ) (former state : Option (List ℕ)) (s : Store) (k undone : ℕ) → Keeps cs boot (IsFront cs m) s →
       Keeps cs boot (IsFront cs m) (cut_failing boot (begun state former cs boot) k undone s)
@@ -186,7 +171,13 @@ module _ (cs : List ChangeParts) (m : Variables) (distinct : AreApart (new_data 
       (undoing_keeps cs began w.boot IsFrontOrWithoutNext (other_onwards began w.boot other) (other_backwards began w.boot other) k undone w.store keeps)
   starts_keep began w (Starts boot deletes ∷ events) other settle keeps =
       starts_keep began (happens w (Starts boot deletes)) events settle.0 settle.1 (record {
-        variables = (keeps.variables.0, deletes || keeps.variables.1, keeps.variables.2, ap (without_next deletes) keeps.variables.3 ∙ twice deletes keeps.variables.1 keeps.variables.0);
+        variables = (
+          keeps.variables.0,
+          deletes || keeps.variables.1,
+          keeps.variables.2,
+          ap (without_next deletes) keeps.variables.3
+              ∙ twice deletes keeps.variables.1 keeps.variables.0,
+        );
         journal = keeps.journal;
       })
     where

@@ -1,10 +1,11 @@
--- BootNext, and the changes that are due once the machine was started in between.
+-- The changes that are due once the machine was started in between take BootNext out where they would set it. Made over variables
+-- from which firmware may have deleted BootNext, they leave what a start would have left after the changes as they were (`starts`).
 use Rattle.std.proofs.Common.{◌≡◌, ◌⊎◌, inl, inr, ⊎_elim, ℕ, ◌||◌, ◌&&◌, Bool, true, false, cond, List, [], ◌∷◌, map, Option, None, refl, sym, ap, ◌∙◌}
 use Rattle.std.specs.List.{list_any}
-use Rattle.std.proofs.lemmas.Bool.{true≢false}
+use Rattle.std.proofs.lemmas.Bool.{or_parts}
 use Rattle.std.specs.Cmp.{Equal-is}
 use Rattle.std.proofs.lemmas.Cmp.{nat_list_cmp_total, eq_by_cmp_equiv}
-use Rattle.std.specs.FinMap.{get, remove, get-remove}
+use Rattle.std.specs.FinMap.{get, get-remove}
 use Rattle.uefi_vars.specs.Name.{next_text}
 use Rattle.uefi_vars.specs.Vars.{Variables}
 use Rattle.uefi_vars.specs.NameChanges.{after_each}
@@ -17,23 +18,22 @@ abbrev pub spent_single : Single → Single
 spent_single c = (c.0, cond (same_name c.0 next_text) None c.1)
 
 -- one change, at a name that is BootNext or another: n tells which
-at_name : (b n : Bool) (c : Single) (x : Option (List ℕ)) → (b ≡ true → same_name c.0 next_text ≡ n) → cond b (spent_single c).1 (cond n None x) ≡ cond n None (cond b c.1 x)
+at_name : (b n : Bool) (c : Single) (x : Option (List ℕ)) → (b ≡ true → same_name c.0 next_text ≡ n)
+    → cond b (spent_single c).1 (cond n None x) ≡ cond n None (cond b c.1 x)
 at_name true true c x is = ap (λ m. cond m None c.1) (is refl)
 at_name true false c x is = ap (λ m. cond m None c.1) (is refl)
 at_name false n c x is = refl
 
-over_spent : (cs : List Single) (q : List ℕ) (x : Option (List ℕ)) → over (map spent_single cs) q (cond (same_name q next_text) None x) ≡ cond (same_name q next_text) None (over cs q x)
+over_spent : (cs : List Single) (q : List ℕ) (x : Option (List ℕ))
+    → over (map spent_single cs) q (cond (same_name q next_text) None x) ≡ cond (same_name q next_text) None (over cs q x)
 over_spent [] q x = refl
 over_spent (c ∷ cs) q x =
-    ap (over (map spent_single cs) q) (at_name (same_name q c.0) (same_name q next_text) c x (λ at. ap (λ p. same_name p next_text) (sym (one_name q c.0 ((Equal-is _).0 at)))))
+    ap (over (map spent_single cs) q)
+    (at_name (same_name q c.0) (same_name q next_text) c x (λ at. ap (λ p. same_name p next_text) (sym (one_name q c.0 ((Equal-is _).0 at)))))
     ∙ over_spent cs q (cond (same_name q c.0) c.1 x)
 
-pub boots : (cs : List Single) (m : Variables) → after_each (remove m next_text) (map spent_single cs) ≡ remove (after_each m cs) next_text
-boots cs m = same_variables _ _ (λ q.
-    get-each (map spent_single cs) _ q ∙ ap (over (map spent_single cs) q) (get-remove nat_list_cmp_total m next_text q) ∙ over_spent cs q (get m q)
-    ∙ ap (cond (same_name q next_text) None) (sym (get-each cs m q)) ∙ sym (get-remove nat_list_cmp_total (after_each m cs) next_text q))
-
-kept_or_none : (b : Bool) (c : Single) (x : Option (List ℕ)) → (b ≡ true → same_name c.0 next_text ≡ true) → (cond b (spent_single c).1 x ≡ None) ⊎ (cond b (spent_single c).1 x ≡ x)
+kept_or_none : (b : Bool) (c : Single) (x : Option (List ℕ)) → (b ≡ true → same_name c.0 next_text ≡ true)
+    → (cond b (spent_single c).1 x ≡ None) ⊎ (cond b (spent_single c).1 x ≡ x)
 kept_or_none true c x is = inl (ap (λ m. cond m None c.1) (is refl))
 kept_or_none false c x is = inr refl
 
@@ -41,18 +41,14 @@ never_over : (cs : List Single) (x : Option (List ℕ)) → (over (map spent_sin
 never_over [] x = inr refl
 never_over (c ∷ cs) x = ⊎_elim (λ none. inl none) (λ is. ⊎_elim (λ none. inl (is ∙ none)) (λ same. inr (is ∙ same)) here) (never_over cs _)
   where
-    same_next : same_name next_text next_text ≡ true
-    same_next = refl
-
     here : (cond (same_name next_text c.0) (spent_single c).1 x ≡ None) ⊎ (cond (same_name next_text c.0) (spent_single c).1 x ≡ x)
-    here = kept_or_none _ c x (λ at. ap (λ p. same_name p next_text) (sym (one_name next_text c.0 ((Equal-is _).0 at))) ∙ same_next)
+    here = kept_or_none _ c x (λ at. ap (λ p. same_name p next_text) (sym (one_name next_text c.0 ((Equal-is _).0 at))))
 
-pub never_set : (cs : List Single) (m : Variables) → (get (after_each m (map spent_single cs)) next_text ≡ None) ⊎ (get (after_each m (map spent_single cs)) next_text ≡ get m next_text)
-never_set cs m = ⊎_elim (λ none. inl (get-each (map spent_single cs) m next_text ∙ none)) (λ same. inr (get-each (map spent_single cs) m next_text ∙ same)) (never_over cs (get m next_text))
-
-pub others_made : (cs : List Single) (m : Variables) (q : List ℕ) → same_name q next_text ≡ false → get (after_each m (map spent_single cs)) q ≡ get (after_each m cs) q
-others_made cs m q at =
-    get-each (map spent_single cs) m q ∙ ap (λ b. over (map spent_single cs) q (cond b None (get m q))) (sym at) ∙ over_spent cs q (get m q) ∙ ap (λ b. cond b None (over cs q (get m q))) at ∙ sym (get-each cs m q)
+pub never_set : (cs : List Single) (m : Variables)
+    → (get (after_each m (map spent_single cs)) next_text ≡ None) ⊎ (get (after_each m (map spent_single cs)) next_text ≡ get m next_text)
+never_set cs m =
+    ⊎_elim (λ none. inl (get-each (map spent_single cs) m next_text ∙ none)) (λ same. inr (get-each (map spent_single cs) m next_text ∙ same))
+    (never_over cs (get m next_text))
 
 -- ---- a start
 
@@ -86,9 +82,13 @@ pub get-without_next : (deletes : Bool) (m : Variables) (q : List ℕ) → get (
 get-without_next true m q = get-remove nat_list_cmp_total m next_text q
 get-without_next false m q = refl
 
-at_others : (d h : Bool) (x : Option (List ℕ)) → cond (d && false) None x ≡ x
-at_others true h x = refl
-at_others false h x = refl
+pub not_deleted : (deletes : Bool) (x : Option (List ℕ)) → cond (deletes && false) None x ≡ x
+not_deleted true x = refl
+not_deleted false x = refl
+
+-- other names keep their data
+pub at_other : (deletes : Bool) (m : Variables) (q : List ℕ) → same_name q next_text ≡ false → get (without_next deletes m) q ≡ get m q
+at_other deletes m q other = get-without_next deletes m q ∙ ap (λ b. cond (deletes && b) None (get m q)) other ∙ not_deleted deletes (get m q)
 
 at_next : (d h : Bool) (x y : Option (List ℕ)) → (h ≡ false → x ≡ y) → cond h None (cond (d && true) None x) ≡ cond ((d || h) && true) None y
 at_next true true x y same = refl
@@ -100,16 +100,8 @@ at_next false false x y same = same refl
 unless_next : (cs : List Single) (x : Option (List ℕ)) → has_next cs ≡ false → over cs next_text x ≡ x
 unless_next [] x out = refl
 unless_next (c ∷ cs) x out =
-    ap (λ b. over cs next_text (cond b c.1 x)) ((eq_by_cmp_equiv nat_list_cmp_total).symm next_text c.0 ∙ or_false_left (same_name c.0 next_text) (has_next cs) out)
-    ∙ unless_next cs x (or_false_right (same_name c.0 next_text) (has_next cs) out)
-  where
-    or_false_left : (a b : Bool) → (a || b) ≡ false → a ≡ false
-    or_false_left true b e = e
-    or_false_left false b e = refl
-
-    or_false_right : (a b : Bool) → (a || b) ≡ false → b ≡ false
-    or_false_right true b e = absurd (true≢false e)
-    or_false_right false b e = e
+    let none = or_parts (same_name c.0 next_text) (has_next cs) out in
+    ap (λ b. over cs next_text (cond b c.1 x)) ((eq_by_cmp_equiv nat_list_cmp_total).symm next_text c.0 ∙ none.0) ∙ unless_next cs x none.1
 
 start_over : (cs : List Single) (deletes n : Bool) (q : List ℕ) (x : Option (List ℕ)) → same_name q next_text ≡ n →
     over (map spent_single cs) q (cond (deletes && n) None x) ≡ cond ((deletes || has_next cs) && n) None (over cs q x)
@@ -122,14 +114,15 @@ start_over cs deletes true q x at =
     is : q ≡ next_text
     is = one_name q next_text ((Equal-is _).0 at)
 start_over cs deletes false q x at =
-    ap (over (map spent_single cs) q) (at_others deletes true x)
+    ap (over (map spent_single cs) q) (not_deleted deletes x)
     ∙ ap (λ b. over (map spent_single cs) q (cond b None x)) (sym at)
     ∙ over_spent cs q x
     ∙ ap (λ b. cond b None (over cs q x)) at
-    ∙ sym (at_others (deletes || has_next cs) true (over cs q x))
+    ∙ sym (not_deleted (deletes || has_next cs) (over cs q x))
 
 -- what is due then is what there was before, and then the start: BootNext is gone if firmware deleted it, or a change is of it
-pub starts : (cs : List Single) (deletes : Bool) (m : Variables) → after_each (without_next deletes m) (map spent_single cs) ≡ without_next (deletes || has_next cs) (after_each m cs)
+pub starts : (cs : List Single) (deletes : Bool) (m : Variables)
+    → after_each (without_next deletes m) (map spent_single cs) ≡ without_next (deletes || has_next cs) (after_each m cs)
 starts cs deletes m = same_variables _ _ (λ q.
     get-each (map spent_single cs) _ q ∙ ap (over (map spent_single cs) q) (get-without_next deletes m q)
     ∙ start_over cs deletes (same_name q next_text) q (get m q) refl

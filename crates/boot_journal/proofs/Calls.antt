@@ -1,12 +1,15 @@
--- Calls of `command` and `settle`, one after the other.
-use Rattle.std.proofs.Common.{◌≡◌, ◌⊎◌, inl, inr, ⊎_elim, ℕ, zero, suc, ◌||◌, not, Bool, true, false, if◌then◌else◌, List, [], ◌∷◌, Option, refl, sym, ap, subst, ◌∙◌}
+-- Calls of `command` and `settle`, one after the other: by induction over them, the machine stands for what some turns lead to, whose
+-- updates are those of the calls (`all_stand`). A call that is cut off or refused may have made its update or not.
+use Rattle.std.proofs.Common.{◌≡◌, ◌⊎◌, inl, inr, ⊎_elim, ℕ, zero, suc, ◌||◌, not, Bool, true, false, if◌then◌else◌, List, [], ◌∷◌, Option, refl, sym, ap}
+use Rattle.std.proofs.Common.{subst, ◌∙◌}
 use Rattle.std.specs.List.{AllByRecursion, list_any}
 use Rattle.std.proofs.lemmas.Bool.{true≢false}
 use Rattle.uefi_vars.specs.Vars.{Variables}
 use Rattle.var_stores.specs.BootChange.{ChangeParts, same_name, is_boot_name, changes_from, IsNeeded}
 use Rattle.boot_requests.specs.declared.event.Event.{Event}
 use Rattle.boot_requests.specs.State.{keep_text}
-use Rattle.boot_journal.specs.Calls.{Call, Runs, Done, Unchanged, NotRun, Open, Settling, Starts, Firmware, RunsTo, CallLeads, Step, world_after, AreSteps, known_with, identities, IsNewStart, HaveNewStarts, IfFirmware, FirmwareDid, NewestIsBy, AreWith, AreByCalls}
+use Rattle.boot_journal.specs.Calls.{Call, Runs, Done, Unchanged, NotRun, Open, Settling, Starts, Firmware, RunsTo, CallLeads, Step, world_after, AreSteps}
+use Rattle.boot_journal.specs.Calls.{known_with, identities, IsNewStart, HaveNewStarts, IfFirmware, FirmwareDid, NewestIsBy, AreWith, AreByCalls}
 use Rattle.boot_journal.specs.Commands.{IsCommanding}
 use Rattle.boot_journal.specs.Events as event
 use Rattle.boot_journal.specs.Events.{World, happens}
@@ -74,7 +77,8 @@ failed_former P w a to (suc k) (suc back) now former = former
 -- ---- one call more
 
 module _ (AreSo : Meddling → Type 0) (stay : (over : List ChangeParts) (changes : Meddling) → AreSo changes → AreSo (that_stay over changes))
-    (base : Variables) (needed : (from to : Variables) → AllByRecursion (IsNeeded from to) (changes_from from to)) (no_keep : is_boot_name keep_text ≡ false) where
+    (base : Variables) (needed : (from to : Variables) → AllByRecursion (IsNeeded from to) (changes_from from to))
+    (no_keep : is_boot_name keep_text ≡ false) where
   -- an update by these events, of what the machine stood for
   update_by : (u : World) (events : List Event) (By : List Update → Type 0) (a : Account) (to : Variables) → Fits base u a → Did AreSo base By a.now →
       RunsTo events (stands_for u.boot u.store) to → Did AreSo base (NewestIsBy u events By) (Brings to ∷ a.now)
@@ -91,13 +95,16 @@ module _ (AreSo : Meddling → Type 0) (stay : (over : List ChangeParts) (change
   abbrev May : World → List Event → (List Update → Type 0) → List Update → Type 0
   May u events By updates = By updates ⊎ NewestIsBy u events By updates
 
-  made : (u : World) (events : List Event) (By : List Update → Type 0) (turns : List Turn) → Did AreSo base (NewestIsBy u events By) turns → Did AreSo base (May u events By) turns
+  made : (u : World) (events : List Event) (By : List Update → Type 0) (turns : List Turn) → Did AreSo base (NewestIsBy u events By) turns
+      → Did AreSo base (May u events By) turns
   made u events By turns did = record { updates = did.updates; are = did.are; by = inr did.by; meddled = did.meddled }
 
-  not_made : (u : World) (events : List Event) (By : List Update → Type 0) (turns : List Turn) → Did AreSo base By turns → Did AreSo base (May u events By) turns
+  not_made : (u : World) (events : List Event) (By : List Update → Type 0) (turns : List Turn) → Did AreSo base By turns
+      → Did AreSo base (May u events By) turns
   not_made u events By turns did = record { updates = did.updates; are = did.are; by = inl did.by; meddled = did.meddled }
 
-  settles : (known : List (List ℕ)) (u v : World) (By : List Update → Type 0) → Stands AreSo base known u By → v.boot ≡ u.boot → IsSettling u.boot u.store v.store → Stands AreSo base known v By
+  settles : (known : List (List ℕ)) (u v : World) (By : List Update → Type 0)
+      → Stands AreSo base known u By → v.boot ≡ u.boot → IsSettling u.boot u.store v.store → Stands AreSo base known v By
   settles known u v By was boot at =
       let e = event.Undoes at.0 at.1 in
       let same : v ≡ happens u e = λ i. record { boot = boot i; store = at.2 i } in
@@ -128,7 +135,9 @@ module _ (AreSo : Meddling → Type 0) (stay : (over : List ChangeParts) (change
       let same : v ≡ happens u e = λ i. record { boot = boot i; store = did.2.2 i } in
       let a = was.told in
       let more = made u events By (Brings to ∷ a.now) (update_by u events By a to was.fits was.now did.1) in
-      let turns = failed (Did AreSo base (May u events By)) u a to did.2.0 did.2.1 (not_made u events By a.now was.now) (not_made u events By a.former was.former) more in
+      let turns =
+      failed (Did AreSo base (May u events By)) u a to did.2.0 did.2.1 (not_made u events By a.now was.now)
+      (not_made u events By a.former was.former) more in
       subst (λ (x : World). Stands AreSo base known x (May u events By)) (sym same) (record {
         told = account u a e;
         is = known_failed base known u to did.2.0 did.2.1 was.is;
@@ -146,7 +155,8 @@ module _ (AreSo : Meddling → Type 0) (stay : (over : List ChangeParts) (change
       let e = event.Undoes settling.0 settling.1 in
       let same : v ≡ happens u e = λ i. record { boot = boot i; store = settling.2 i } in
       let turns = undone (Did AreSo base By) u was.told settling.0 settling.1 was.now was.former in
-      of_event e same (known_undone base known u settling.0 settling.1 was.is) (all_fit base needed no_keep known u was.told (e ∷ []) was.is tt was.fits) turns.1)
+      of_event e same (known_undone base known u settling.0 settling.1 was.is)
+      (all_fit base needed no_keep known u was.told (e ∷ []) was.is tt was.fits) turns.1)
       (λ did.
       let e = event.Fails did.0 did.2.0 did.2.1 in
       let same : v ≡ happens u e = λ i. record { boot = boot i; store = did.2.2 i } in
@@ -154,8 +164,9 @@ module _ (AreSo : Meddling → Type 0) (stay : (over : List ChangeParts) (change
       (failed_former (Did AreSo base By) u was.told did.0 did.2.0 did.2.1 was.now was.former))
       at
     where
-      of_event : (e : event.Event) → v ≡ happens u e → IsKnown known (happens u e) → Fits base (happens u e) (account u was.told e) → Did AreSo base By (account u was.told e).former →
-          Stands AreSo base known v By
+      of_event : (e : event.Event)
+          → v ≡ happens u e → IsKnown known (happens u e) → Fits base (happens u e) (account u was.told e) → Did AreSo base By (account u was.told e).former
+          → Stands AreSo base known v By
       of_event e same is fits former = record {
         told = record { now = was.told.now; former = (account u was.told e).former };
         is = subst (IsKnown known) (sym same) is;
@@ -164,8 +175,10 @@ module _ (AreSo : Meddling → Type 0) (stay : (over : List ChangeParts) (change
         former = former;
       }
 
-  done : (known : List (List ℕ)) (u v : World) (events : List Event) (By : List Update → Type 0) (to : Variables) → Stands AreSo base known u By → v.boot ≡ u.boot → IsIdle v.store →
-      RunsTo events (stands_for u.boot u.store) to → stands_for v.boot v.store ≡ brought (stands_for u.boot u.store) to → Stands AreSo base known v (NewestIsBy u events By)
+  done : (known : List (List ℕ)) (u v : World) (events : List Event) (By : List Update → Type 0) (to : Variables)
+      → Stands AreSo base known u By → v.boot ≡ u.boot → IsIdle v.store → RunsTo events (stands_for u.boot u.store) to
+      → stands_for v.boot v.store ≡ brought (stands_for u.boot u.store) to
+      → Stands AreSo base known v (NewestIsBy u events By)
   done known u v events By to was boot none runs brings =
       let more = update_by u events By was.told to was.fits was.now runs in record {
         told = record { now = Brings to ∷ was.told.now; former = Brings to ∷ was.told.now };
@@ -178,8 +191,9 @@ module _ (AreSo : Meddling → Type 0) (stay : (over : List ChangeParts) (change
         former = more;
       }
 
-  starts : (known : List (List ℕ)) (u v : World) (By : List Update → Type 0) (boot : List ℕ) (deletes : Bool) → is_known known boot ≡ false → Stands AreSo base known u By →
-      v ≡ happens u (event.Starts boot deletes) → Stands AreSo base (boot ∷ known) v By
+  starts : (known : List (List ℕ)) (u v : World) (By : List Update → Type 0) (boot : List ℕ) (deletes : Bool)
+      → is_known known boot ≡ false → Stands AreSo base known u By → v ≡ happens u (event.Starts boot deletes)
+      → Stands AreSo base (boot ∷ known) v By
   starts known u v By boot deletes new was same =
       subst (λ (x : World). Stands AreSo base (boot ∷ known) x By) (sym same) (record {
         told = account u was.told (event.Starts boot deletes);
@@ -196,12 +210,27 @@ module _ (AreSo : Meddling → Type 0) (stay : (over : List ChangeParts) (change
         told = account u was.told (event.Firmware changes);
         is = record { boot = was.is.boot; journal = was.is.journal };
         fits = all_fit base needed no_keep known u was.told (event.Firmware changes ∷ []) was.is tt was.fits;
-        now = record { updates = was.now.updates; are = was.now.are; by = was.now.by; meddled = (stay (due u.boot u.store.journal.pending) changes are, was.now.meddled) };
-        former = record { updates = was.former.updates; are = was.former.are; by = was.former.by; meddled = (stay (due u.boot (turned u.store.journal).pending) changes are, was.former.meddled) };
+        now =
+            record {
+              updates = was.now.updates;
+              are = was.now.are;
+              by = was.now.by;
+              meddled =
+                  (stay (due u.boot u.store.journal.pending) changes are, was.now.meddled);
+            };
+        former =
+            record {
+              updates = was.former.updates;
+              are = was.former.are;
+              by = was.former.by;
+              meddled =
+                  (stay (due u.boot (turned u.store.journal).pending) changes are, was.former.meddled);
+            };
       })
 
-  pub one_more : (known : List (List ℕ)) (u v : World) (call : Call) (By : List Update → Type 0) → Stands AreSo base known u By → CallLeads u call v → IsNewStart known call → IfFirmware AreSo call →
-      Stands AreSo base (known_with call known) v (AreWith u call By)
+  pub one_more : (known : List (List ℕ)) (u v : World) (call : Call) (By : List Update → Type 0)
+      → Stands AreSo base known u By → CallLeads u call v → IsNewStart known call → IfFirmware AreSo call
+      → Stands AreSo base (known_with call known) v (AreWith u call By)
   one_more known u v (Runs events Done) By was lead new did = done known u v events By lead.2 was lead.0 lead.1 lead.3 lead.4
   one_more known u v (Runs events Unchanged) By was lead new did = unchanged known u v events By was lead.0 lead.1 lead.2
   one_more known u v (Runs events NotRun) By was lead new did = settles known u v By was lead.0 lead.1
@@ -213,7 +242,8 @@ module _ (AreSo : Meddling → Type 0) (stay : (over : List ChangeParts) (change
 -- ---- any number of calls
 
 module _ (AreSo : Meddling → Type 0) (stay : (over : List ChangeParts) (changes : Meddling) → AreSo changes → AreSo (that_stay over changes))
-    (needed : (from to : Variables) → AllByRecursion (IsNeeded from to) (changes_from from to)) (no_keep : is_boot_name keep_text ≡ false) (w : World) (none : IsIdle w.store) where
+    (needed : (from to : Variables) → AllByRecursion (IsNeeded from to) (changes_from from to)) (no_keep : is_boot_name keep_text ≡ false) (w : World)
+    (none : IsIdle w.store) where
   abbrev base : Variables
   base = stands_for w.boot w.store
 
@@ -247,14 +277,17 @@ pub others_stay : (over : List ChangeParts) (changes : Meddling) → AllByRecurs
 others_stay over [] are = tt
 others_stay over (change ∷ changes) are = by (not (list_any (λ other. same_name other.name change.0) over)) (others_stay over changes are.1)
   where
-    by : (b : Bool) → AllByRecursion IsOfAnother (that_stay over changes) → AllByRecursion IsOfAnother (if b then change ∷ that_stay over changes else that_stay over changes)
+    by : (b : Bool) → AllByRecursion IsOfAnother (that_stay over changes)
+        → AllByRecursion IsOfAnother (if b then change ∷ that_stay over changes else that_stay over changes)
     by true rest = (are.0, rest)
     by false rest = rest
 
 -- the run of the updates is that of the turns, if firmware changed nothing but other variables
-pub run_of_turns : (start : Variables) (turns : List Turn) (updates : List Update) → AreUpdatesIn start turns updates → Meddled (AllByRecursion IsOfAnother) turns → IsRunOf start turns (run_of updates)
+pub run_of_turns : (start : Variables) (turns : List Turn) (updates : List Update)
+    → AreUpdatesIn start turns updates → Meddled (AllByRecursion IsOfAnother) turns → IsRunOf start turns (run_of updates)
 run_of_turns start [] updates are meddled = ap run_of are
 run_of_turns start (Brings to ∷ before) [] are meddled = elim are [ ]
-run_of_turns start (Brings to ∷ before) (update ∷ earlier) are meddled = (run_of earlier, update.seen, run_of_turns start before earlier are.1 meddled, are.0.by, refl)
+run_of_turns start (Brings to ∷ before) (update ∷ earlier) are meddled =
+    (run_of earlier, update.seen, run_of_turns start before earlier are.1 meddled, are.0.by, refl)
 run_of_turns start (Boots deletes ∷ before) updates are meddled = run_of_turns start before updates are meddled
 run_of_turns start (Meddles changes ∷ before) updates are meddled = (meddled.0, run_of_turns start before updates are meddled.1)

@@ -1,8 +1,11 @@
--- The fields of a journal file: each is read or at fault, what is written is read again, and what is at fault isn't read.
-use Rattle.std.proofs.Common.{◌≡◌, ◌≢◌, ◌⊎◌, ℕ, ◌<◌, ◌≤◌, ◌&&◌, true, false, not, ltb, eqb, List, [], ◌∷◌, ◌++◌, length, take, drop, Option, Some, None, IfSome, Result, Ok, Err, refl, sym, ap, subst, ◌∙◌, inl, inr, arith, append_assoc}
+-- The fields of a journal file, in their order: each is read or at fault (`.._ends`), what is written is read again (`.._again`), and
+-- what is at fault isn't read (`.._fails`). Each goes through the tests of its reader by `rw`.
+use Rattle.std.proofs.Common.{◌≡◌, ◌≢◌, ◌⊎◌, ℕ, ◌<◌, ◌≤◌, ◌&&◌, true, false, not, ltb, eqb, List, [], ◌∷◌, ◌++◌, length, take, drop, Option, Some, None}
+use Rattle.std.proofs.Common.{IfSome, Result, Ok, Err, refl, sym, ap, subst, ◌∙◌, inl, inr, arith, append_assoc}
 use Rattle.std.specs.Int.{w32, to_le_bytes, from_le_bytes}
 use Rattle.std.specs.List.{AllByRecursion}
-use Rattle.std.proofs.lemmas.Bool.{cases_lt, cases_eq, cases_Bool, lt-ltb, le-ltb, ltb-false, ne_eqb, eq-eqb, and_parts, and_from, not-true, not_from_false, false_from_ne_true, false≢true}
+use Rattle.std.proofs.lemmas.Bool.{cases_lt, cases_eq, cases_Bool, lt-ltb, le-ltb, ltb-false, ne_eqb, eq-eqb, and_parts, and_from, not-true, not_from_false}
+use Rattle.std.proofs.lemmas.Bool.{false_from_ne_true, false≢true}
 use Rattle.std.proofs.lemmas.List.{length-append, take-append-drop, length-take-le, take_at, drop_at, nil_from_length}
 use Rattle.std.proofs.lemmas.Nat.{from_le_bytes-to_le_bytes_4}
 use Rattle.uefi_path.specs.Row.{IsByte}
@@ -17,8 +20,10 @@ use Rattle.boot_journal.specs.declared.fault.JournalFault.{JournalFault}
 use Rattle.boot_journal.specs.declared.fault.JournalFault.TheVariants as fault
 use Rattle.boot_journal.specs.MachineName.{machine_name_max, IsMachineName}
 use Rattle.boot_journal.specs.Bytes.{contents, value_bytes}
-use Rattle.boot_journal.specs.Fault.{HasBadMachineLength, IsCutMachine, IsMachineFault, IsCutValue, HasLongValue, HasCutIdentity, HasBadIdentityLength, HasBadCharacter, HasCutName, HasBadName}
-use Rattle.boot_journal.specs.Reader.{place_of, len_at, stored, value_of, value_at, machine_of, machine_at, is_printing, identity_of, identity_at, name_of, name_at}
+use Rattle.boot_journal.specs.Fault.{HasBadMachineLength, IsCutMachine, IsMachineFault, IsCutValue, HasLongValue, HasCutIdentity, HasBadIdentityLength}
+use Rattle.boot_journal.specs.Fault.{HasBadCharacter, HasCutName, HasBadName}
+use Rattle.boot_journal.specs.Reader.{place_of, len_at, stored, value_of, value_at, machine_of, machine_at, is_printing, identity_of, identity_at, name_of}
+use Rattle.boot_journal.specs.Reader.{name_at}
 
 -- what is read at the start of the bytes, and is spelled so there
 pub record Takes {A : Type 0} (read : Result (A × List ℕ) JournalFault) (spelling : A → List ℕ) (Is : A → Type 0) (bytes : List ℕ) : Type 0 where
@@ -33,6 +38,10 @@ pub record Stops {A : Type 0} (read : Result A JournalFault) (P : JournalFault �
   pub fault_is : JournalFault
   pub read_is : read ≡ Err fault_is
   pub here : P fault_is
+
+-- a length that isn't 0 nor too large passes the tests
+len_tests : (most len : ℕ) → (0 < len) × (len ≤ most) → (eqb len 0 ≡ false) × (ltb most len ≡ false)
+len_tests most len good = (ne_eqb len 0 (λ e. omega (arith, e, good)), le-ltb _ _ good.1)
 
 -- ---- a length of four bytes
 
@@ -50,9 +59,7 @@ len_stated end bytes len behind stated =
 
 len_short : (end : ℕ) (bytes : List ℕ) → length bytes < 4 → len_at end bytes ≡ Err (fault.Truncated (place_of end bytes))
 unfolding len_at
-len_short end bytes short =
-    let few : ltb (length bytes) 4 ≡ true = lt-ltb _ _ short in
-    rw few refl
+len_short end bytes short = rw (lt-ltb (length bytes) 4 short) refl
 
 -- what is at the start of what follows the four bytes has bytes
 pub first_fits : (bytes behind first rest : List ℕ) → IsBytes bytes → behind ≡ drop 4 bytes → behind ≡ first ++ rest → AllByRecursion IsByte first
@@ -93,34 +100,24 @@ stored-contents (Some []) is = absurd (is.some refl)
 stored-contents (Some (byte ∷ bytes)) is = refl
 
 -- a value whose length is stated is read by that length
-stated_at : (end : ℕ) (bytes : List ℕ) (len : ℕ) (behind : List ℕ) → StatesLength bytes len behind → value_at end bytes ≡ value_of (place_of end bytes) len behind
+stated_at : (end : ℕ) (bytes : List ℕ) (len : ℕ) (behind : List ℕ) → StatesLength bytes len behind
+    → value_at end bytes ≡ value_of (place_of end bytes) len behind
 unfolding value_at
-stated_at end bytes len behind stated =
-    let read = len_stated end bytes len behind stated in
-    rw read refl
+stated_at end bytes len behind stated = rw (len_stated end bytes len behind stated) refl
 
-value_good : (place len : ℕ) (behind : List ℕ) → len ≤ data_max → len ≤ length behind → value_of place len behind ≡ Ok (stored (take len behind), drop len behind)
-value_good place len behind short within =
-    let one : ltb data_max len ≡ false = le-ltb _ _ short in
-    let two : ltb (length behind) len ≡ false = le-ltb _ _ within in
-    rw (one, two) refl
+value_good : (place len : ℕ) (behind : List ℕ) → len ≤ data_max → len ≤ length behind
+    → value_of place len behind ≡ Ok (stored (take len behind), drop len behind)
+value_good place len behind short within = rw (le-ltb data_max len short, le-ltb (length behind) len within) refl
 
 value_cut : (place len : ℕ) (behind : List ℕ) → len ≤ data_max → length behind < len → value_of place len behind ≡ Err (fault.Truncated place)
-value_cut place len behind short cut =
-    let one : ltb data_max len ≡ false = le-ltb _ _ short in
-    let two : ltb (length behind) len ≡ true = lt-ltb _ _ cut in
-    rw (one, two) refl
+value_cut place len behind short cut = rw (le-ltb data_max len short, lt-ltb (length behind) len cut) refl
 
 value_long : (place len : ℕ) (behind : List ℕ) → data_max < len → value_of place len behind ≡ Err (fault.ValueTooLong place)
-value_long place len behind long =
-    let one : ltb data_max len ≡ true = lt-ltb _ _ long in
-    rw one refl
+value_long place len behind long = rw (lt-ltb data_max len long) refl
 
 short_fails : (end : ℕ) (bytes : List ℕ) → length bytes < 4 → value_at end bytes ≡ Err (fault.Truncated (place_of end bytes))
 unfolding value_at
-short_fails end bytes short =
-    let read = len_short end bytes short in
-    rw read refl
+short_fails end bytes short = rw (len_short end bytes short) refl
 
 pub cut_value_fails : (end : ℕ) (bytes : List ℕ) → IsCutValue bytes → value_at end bytes ≡ Err (fault.Truncated (place_of end bytes))
 cut_value_fails end bytes (inl short) = short_fails end bytes short
@@ -151,7 +148,8 @@ abbrev pub ValueEnds : ℕ → List ℕ → Type 0
 ValueEnds end bytes =
     Takes (value_at end bytes) value_bytes (λ value. IfSome value IsData) bytes ⊎ Stops (value_at end bytes) (IsValueFault (place_of end bytes) bytes)
 
-stated_takes : (end : ℕ) (bytes : List ℕ) (len : ℕ) (behind : List ℕ) → AllByRecursion IsByte bytes → StatesLength bytes len behind → len ≤ data_max → len ≤ length behind
+stated_takes : (end : ℕ) (bytes : List ℕ) (len : ℕ) (behind : List ℕ)
+    → AllByRecursion IsByte bytes → StatesLength bytes len behind → len ≤ data_max → len ≤ length behind
     → Takes (value_at end bytes) value_bytes (λ value. IfSome value IsData) bytes
 stated_takes end bytes len behind fits stated short within =
     let value = take len behind in
@@ -165,7 +163,9 @@ stated_takes end bytes len behind fits stated short within =
       rest = drop len behind;
       read_is = stated_at end bytes len behind stated ∙ value_good (place_of end bytes) len behind short within;
       is = stored-IsData value value_fits (omega (arith, size, short));
-      parts = stated.parts ∙ ap (λ (t : List ℕ). to_le_bytes w32 len ++ t) (sym (take-append-drop len behind)) ∙ sym (append_assoc (to_le_bytes w32 len) value (drop len behind))
+      parts =
+          stated.parts ∙ ap (λ (t : List ℕ). to_le_bytes w32 len ++ t) (sym (take-append-drop len behind))
+          ∙ sym (append_assoc (to_le_bytes w32 len) value (drop len behind))
           ∙ ap (λ (t : List ℕ). t ++ drop len behind) (sym spelled);
     }
 
@@ -192,46 +192,31 @@ value_ends end bytes fits =
 
 -- ---- the name of a machine
 
-machine_stated : (end : ℕ) (bytes : List ℕ) (len : ℕ) (behind : List ℕ) → StatesLength bytes len behind → machine_at end bytes ≡ machine_of (place_of end bytes) len behind
+machine_stated : (end : ℕ) (bytes : List ℕ) (len : ℕ) (behind : List ℕ) → StatesLength bytes len behind
+    → machine_at end bytes ≡ machine_of (place_of end bytes) len behind
 unfolding machine_at
-machine_stated end bytes len behind stated =
-    let read = len_stated end bytes len behind stated in
-    rw read refl
+machine_stated end bytes len behind stated = rw (len_stated end bytes len behind stated) refl
 
 machine_short : (end : ℕ) (bytes : List ℕ) → length bytes < 4 → machine_at end bytes ≡ Err (fault.Truncated (place_of end bytes))
 unfolding machine_at
-machine_short end bytes short =
-    let read = len_short end bytes short in
-    rw read refl
+machine_short end bytes short = rw (len_short end bytes short) refl
 
--- a length that isn't 0 nor too large
-machine_len : (len : ℕ) → (0 < len) × (len ≤ machine_name_max) → (eqb len 0 ≡ false) × (ltb machine_name_max len ≡ false)
-machine_len len good = (ne_eqb len 0 (λ e. omega (arith, e, good)), le-ltb _ _ good.1)
-
-machine_good : (place len : ℕ) (behind : List ℕ) → (0 < len) × (len ≤ machine_name_max) → len ≤ length behind → machine_of place len behind ≡ Ok (take len behind, drop len behind)
+machine_good : (place len : ℕ) (behind : List ℕ) → (0 < len) × (len ≤ machine_name_max) → len ≤ length behind
+    → machine_of place len behind ≡ Ok (take len behind, drop len behind)
 machine_good place len behind good within =
-    let tests = machine_len len good in
-    let some = tests.0 in
-    let short = tests.1 in
-    let enough : ltb (length behind) len ≡ false = le-ltb _ _ within in
-    rw (some, short, enough) refl
+    let tests = len_tests machine_name_max len good in
+    rw (tests.0, tests.1, le-ltb (length behind) len within) refl
 
-machine_cut : (place len : ℕ) (behind : List ℕ) → (0 < len) × (len ≤ machine_name_max) → length behind < len → machine_of place len behind ≡ Err (fault.Truncated place)
+machine_cut : (place len : ℕ) (behind : List ℕ) → (0 < len) × (len ≤ machine_name_max) → length behind < len
+    → machine_of place len behind ≡ Err (fault.Truncated place)
 machine_cut place len behind good cut =
-    let tests = machine_len len good in
-    let some = tests.0 in
-    let short = tests.1 in
-    let few : ltb (length behind) len ≡ true = lt-ltb _ _ cut in
-    rw (some, short, few) refl
+    let tests = len_tests machine_name_max len good in
+    rw (tests.0, tests.1, lt-ltb (length behind) len cut) refl
 
 machine_bad : (place len : ℕ) (behind : List ℕ) → (len ≡ 0) ⊎ (machine_name_max < len) → machine_of place len behind ≡ Err (fault.BadMachine place)
-machine_bad place len behind (inl none) =
-    let test : eqb len 0 ≡ true = eq-eqb len 0 none in
-    rw test refl
+machine_bad place len behind (inl none) = rw (eq-eqb len 0 none) refl
 machine_bad place len behind (inr long) =
-    let some : eqb len 0 ≡ false = ne_eqb len 0 (λ e. omega (arith, e, long)) in
-    let test : ltb machine_name_max len ≡ true = lt-ltb _ _ long in
-    rw (some, test) refl
+    rw (ne_eqb len 0 (λ e. omega (arith, e, long)), lt-ltb machine_name_max len long) refl
 
 cut_machine_fails : (end : ℕ) (bytes : List ℕ) → IsCutMachine bytes → machine_at end bytes ≡ Err (fault.Truncated (place_of end bytes))
 cut_machine_fails end bytes (inl short) = machine_short end bytes short
@@ -264,7 +249,9 @@ MachineEnds end bytes =
 machine_stops : (end : ℕ) (bytes : List ℕ) (f : JournalFault) → IsMachineFault (place_of end bytes) bytes f → MachineEnds end bytes
 machine_stops end bytes f h = inr (record { fault_is = f; read_is = machine_fails end bytes f h; here = h })
 
-machine_takes : (end : ℕ) (bytes : List ℕ) (len : ℕ) (behind : List ℕ) → AllByRecursion IsByte bytes → StatesLength bytes len behind → (0 < len) × (len ≤ machine_name_max) → len ≤ length behind → MachineEnds end bytes
+machine_takes : (end : ℕ) (bytes : List ℕ) (len : ℕ) (behind : List ℕ)
+    → AllByRecursion IsByte bytes → StatesLength bytes len behind → (0 < len) × (len ≤ machine_name_max) → len ≤ length behind
+    → MachineEnds end bytes
 machine_takes end bytes len behind fits stated good within =
     let name = take len behind in
     let size : length name ≡ len = length-take-le len behind within in
@@ -278,20 +265,27 @@ machine_takes end bytes len behind fits stated good within =
         len = omega (arith, good, size);
         bytes = AllByRecursion-first IsByte name (drop len behind) (subst (AllByRecursion IsByte) (sym (take-append-drop len behind)) behind_fits);
       };
-      parts = stated.parts ∙ ap (λ (t : List ℕ). to_le_bytes w32 len ++ t) (sym (take-append-drop len behind)) ∙ sym (append_assoc (to_le_bytes w32 len) name (drop len behind))
+      parts =
+          stated.parts ∙ ap (λ (t : List ℕ). to_le_bytes w32 len ++ t) (sym (take-append-drop len behind))
+          ∙ sym (append_assoc (to_le_bytes w32 len) name (drop len behind))
           ∙ ap (λ (n : ℕ). (to_le_bytes w32 n ++ name) ++ drop len behind) (sym size);
     })
 
 machine_by : (end : ℕ) (bytes : List ℕ) (len : ℕ) (behind : List ℕ) → AllByRecursion IsByte bytes → StatesLength bytes len behind → MachineEnds end bytes
 machine_by end bytes len behind fits stated =
     elim (cases_eq len 0) [
-      | inl none ↦ machine_stops end bytes (fault.BadMachine (place_of end bytes)) (inr (refl, record { len = len; behind = behind; stated = stated; bad = inl none }))
+      | inl none ↦
+          machine_stops end bytes (fault.BadMachine (place_of end bytes)) (inr (refl, record { len = len; behind = behind; stated = stated; bad = inl none }))
       | inr some ↦ elim (cases_lt machine_name_max len) [
-        | inl long ↦ machine_stops end bytes (fault.BadMachine (place_of end bytes)) (inr (refl, record { len = len; behind = behind; stated = stated; bad = inr long }))
+        | inl long ↦
+            machine_stops end bytes (fault.BadMachine (place_of end bytes))
+            (inr (refl, record { len = len; behind = behind; stated = stated; bad = inr long }))
         | inr short ↦
             let good : (0 < len) × (len ≤ machine_name_max) = (omega (arith, some), short) in
             elim (cases_lt (length behind) len) [
-              | inl cut ↦ machine_stops end bytes (fault.Truncated (place_of end bytes)) (inl (refl, inr (record { len = len; behind = behind; stated = stated; good = good; cut = cut })))
+              | inl cut ↦
+                  machine_stops end bytes (fault.Truncated (place_of end bytes))
+                  (inl (refl, inr (record { len = len; behind = behind; stated = stated; good = good; cut = cut })))
               | inr within ↦ machine_takes end bytes len behind fits stated good within
             ]
       ]
@@ -322,44 +316,29 @@ printing_passes : (text : List ℕ) → AllByRecursion IsNameByte text → is_pr
 printing_passes [] all = refl
 printing_passes (byte ∷ text) all = and_from _ (is_printing text) (name_byte_passes byte all.0) (printing_passes text all.1)
 
--- a length that isn't 0 nor too large
-good_len : (place len : ℕ) (behind : List ℕ) → (0 < len) × (len ≤ name_max) → (eqb len 0 ≡ false) × (ltb name_max len ≡ false)
-good_len place len behind good = (ne_eqb len 0 (λ e. omega (arith, e, good)), le-ltb _ _ good.1)
-
-identity_good : (place len : ℕ) (behind : List ℕ) → (0 < len) × (len ≤ name_max) → len ≤ length behind → is_printing (take len behind) ≡ true → identity_of place len behind ≡ Ok (take len behind, drop len behind)
+identity_good : (place len : ℕ) (behind : List ℕ) → (0 < len) × (len ≤ name_max) → len ≤ length behind → is_printing (take len behind) ≡ true
+    → identity_of place len behind ≡ Ok (take len behind, drop len behind)
 identity_good place len behind good within printing =
-    let tests = good_len place len behind good in
-    let some = tests.0 in
-    let short = tests.1 in
-    let enough : ltb (length behind) len ≡ false = le-ltb _ _ within in
-    rw (some, short, enough, printing) refl
+    let tests = len_tests name_max len good in
+    rw (tests.0, tests.1, le-ltb (length behind) len within, printing) refl
 
-identity_cut : (place len : ℕ) (behind : List ℕ) → (0 < len) × (len ≤ name_max) → length behind < len → identity_of place len behind ≡ Err (fault.Truncated place)
+identity_cut : (place len : ℕ) (behind : List ℕ) → (0 < len) × (len ≤ name_max) → length behind < len
+    → identity_of place len behind ≡ Err (fault.Truncated place)
 identity_cut place len behind good cut =
-    let tests = good_len place len behind good in
-    let some = tests.0 in
-    let short = tests.1 in
-    let few : ltb (length behind) len ≡ true = lt-ltb _ _ cut in
-    rw (some, short, few) refl
+    let tests = len_tests name_max len good in
+    rw (tests.0, tests.1, lt-ltb (length behind) len cut) refl
 
-identity_unprinting : (place len : ℕ) (behind : List ℕ) → (0 < len) × (len ≤ name_max) → len ≤ length behind → is_printing (take len behind) ≡ false → identity_of place len behind ≡ Err (fault.BadIdentity place)
+identity_unprinting : (place len : ℕ) (behind : List ℕ) → (0 < len) × (len ≤ name_max) → len ≤ length behind → is_printing (take len behind) ≡ false
+    → identity_of place len behind ≡ Err (fault.BadIdentity place)
 identity_unprinting place len behind good within bad =
-    let tests = good_len place len behind good in
-    let some = tests.0 in
-    let short = tests.1 in
-    let enough : ltb (length behind) len ≡ false = le-ltb _ _ within in
-    rw (some, short, enough, bad) refl
+    let tests = len_tests name_max len good in
+    rw (tests.0, tests.1, le-ltb (length behind) len within, bad) refl
 
 identity_empty : (place len : ℕ) (behind : List ℕ) → len ≡ 0 → identity_of place len behind ≡ Err (fault.BadIdentity place)
-identity_empty place len behind none =
-    let test : eqb len 0 ≡ true = eq-eqb len 0 none in
-    rw test refl
+identity_empty place len behind none = rw (eq-eqb len 0 none) refl
 
 identity_long : (place len : ℕ) (behind : List ℕ) → name_max < len → identity_of place len behind ≡ Err (fault.BadIdentity place)
-identity_long place len behind long =
-    let some : eqb len 0 ≡ false = ne_eqb len 0 (λ e. omega (arith, e, long)) in
-    let test : ltb name_max len ≡ true = lt-ltb _ _ long in
-    rw (some, test) refl
+identity_long place len behind long = rw (ne_eqb len 0 (λ e. omega (arith, e, long)), lt-ltb name_max len long) refl
 
 pub identity_front : (end len : ℕ) (behind : List ℕ) → identity_at end (len ∷ behind) ≡ identity_of (place_of end (len ∷ behind)) len behind
 unfolding identity_at
@@ -375,18 +354,23 @@ IsCutIdentity bytes = (bytes ≡ []) ⊎ HasCutIdentity bytes
 abbrev pub IsBadIdentity : List ℕ → Type 0
 IsBadIdentity bytes = HasBadIdentityLength bytes ⊎ HasBadCharacter bytes
 
-identity_fails_by : (end : ℕ) (bytes : List ℕ) (len : ℕ) (behind : List ℕ) (f : ℕ → JournalFault) → bytes ≡ len ∷ behind → ((place : ℕ) → identity_of place len behind ≡ Err (f place)) → identity_at end bytes ≡ Err (f (place_of end bytes))
+identity_fails_by : (end : ℕ) (bytes : List ℕ) (len : ℕ) (behind : List ℕ) (f : ℕ → JournalFault)
+    → bytes ≡ len ∷ behind → ((place : ℕ) → identity_of place len behind ≡ Err (f place))
+    → identity_at end bytes ≡ Err (f (place_of end bytes))
 identity_fails_by end bytes len behind f parts fails =
     subst (λ (b : List ℕ). identity_at end b ≡ Err (f (place_of end b))) (sym parts) (identity_front end len behind ∙ fails (place_of end (len ∷ behind)))
 
 pub cut_identity_fails : (end : ℕ) (bytes : List ℕ) → IsCutIdentity bytes → identity_at end bytes ≡ Err (fault.Truncated (place_of end bytes))
 cut_identity_fails end bytes (inl none) = subst (λ (b : List ℕ). identity_at end b ≡ Err (fault.Truncated (place_of end b))) (sym none) (no_identity end)
-cut_identity_fails end bytes (inr h) = identity_fails_by end bytes h.len h.behind (λ place. fault.Truncated place) h.parts (λ place. identity_cut place h.len h.behind h.good h.cut)
+cut_identity_fails end bytes (inr h) =
+    identity_fails_by end bytes h.len h.behind (λ place. fault.Truncated place) h.parts (λ place. identity_cut place h.len h.behind h.good h.cut)
 
-unprinting_fails : (place : ℕ) (text behind : List ℕ) → (0 < length text) × (length text ≤ name_max) → ¬ AllByRecursion IsNameByte text → identity_of place (length text) (text ++ behind) ≡ Err (fault.BadIdentity place)
+unprinting_fails : (place : ℕ) (text behind : List ℕ) → (0 < length text) × (length text ≤ name_max) → ¬ AllByRecursion IsNameByte text
+    → identity_of place (length text) (text ++ behind) ≡ Err (fault.BadIdentity place)
 unprinting_fails place text behind good bad =
     let front = take_at text behind (length text) refl in
-    let test : is_printing (take (length text) (text ++ behind)) ≡ false = ap is_printing front ∙ false_from_ne_true (is_printing text) (λ e. bad (printing_bytes text e)) in
+    let test : is_printing (take (length text) (text ++ behind)) ≡ false =
+    ap is_printing front ∙ false_from_ne_true (is_printing text) (λ e. bad (printing_bytes text e)) in
     identity_unprinting place (length text) (text ++ behind) good (omega (arith, length-append text behind)) test
 
 pub bad_identity_fails : (end : ℕ) (bytes : List ℕ) → IsBadIdentity bytes → identity_at end bytes ≡ Err (fault.BadIdentity (place_of end bytes))
@@ -394,7 +378,8 @@ bad_identity_fails end bytes (inl h) =
     identity_fails_by end bytes h.len h.behind (λ place. fault.BadIdentity place) h.parts
     (λ place. elim h.bad [ inl none ↦ identity_empty place h.len h.behind none | inr long ↦ identity_long place h.len h.behind long ])
 bad_identity_fails end bytes (inr h) =
-    identity_fails_by end bytes (length h.text) (h.text ++ h.behind) (λ place. fault.BadIdentity place) h.parts (λ place. unprinting_fails place h.text h.behind h.good h.bad)
+    identity_fails_by end bytes (length h.text) (h.text ++ h.behind) (λ place. fault.BadIdentity place) h.parts
+    (λ place. unprinting_fails place h.text h.behind h.good h.bad)
 
 some_length : (text : List ℕ) → IsName text → (0 < length text) × (length text ≤ name_max)
 some_length text is =
@@ -407,7 +392,8 @@ identity_again end boot rest is =
     let back = drop_at boot rest (length boot) refl in
     let printing : is_printing (take (length boot) (boot ++ rest)) ≡ true = ap is_printing front ∙ printing_passes boot is.printing in
     identity_front end (length boot) (boot ++ rest)
-    ∙ identity_good (place_of end (length boot ∷ (boot ++ rest))) (length boot) (boot ++ rest) (some_length boot is) (omega (arith, length-append boot rest)) printing
+    ∙ identity_good (place_of end (length boot ∷ (boot ++ rest))) (length boot) (boot ++ rest) (some_length boot is)
+    (omega (arith, length-append boot rest)) printing
     ∙ rw (front, back) refl
 
 abbrev pub IsIdentityFault : ℕ → List ℕ → JournalFault → Type 0
@@ -426,7 +412,8 @@ identity_bad end bytes h = inr (record { fault_is = fault.BadIdentity (place_of 
 -- its characters are there
 pub text_parts : (len : ℕ) (behind : List ℕ) → len ≤ length behind → len ∷ behind ≡ name_bytes (take len behind) ++ drop len behind
 text_parts len behind within =
-    ap (λ (t : List ℕ). len ∷ t) (sym (take-append-drop len behind)) ∙ ap (λ (n : ℕ). n ∷ (take len behind ++ drop len behind)) (sym (length-take-le len behind within))
+    ap (λ (t : List ℕ). len ∷ t) (sym (take-append-drop len behind))
+    ∙ ap (λ (n : ℕ). n ∷ (take len behind ++ drop len behind)) (sym (length-take-le len behind within))
 
 text_ends : (end len : ℕ) (behind : List ℕ) → (0 < len) × (len ≤ name_max) → len ≤ length behind → IdentityEnds end (len ∷ behind)
 text_ends end len behind good within =
@@ -476,22 +463,20 @@ name_front : (end len : ℕ) (behind : List ℕ) → name_at end (len ∷ behind
 unfolding name_at
 name_front end len behind = refl
 
-name_good : (place len : ℕ) (behind : List ℕ) → len ≤ length behind → is_boot_name (take len behind) ≡ true → name_of place len behind ≡ Ok (take len behind, drop len behind)
-name_good place len behind within boot =
-    let enough : ltb (length behind) len ≡ false = le-ltb _ _ within in
-    rw (enough, boot) refl
+name_good : (place len : ℕ) (behind : List ℕ) → len ≤ length behind → is_boot_name (take len behind) ≡ true
+    → name_of place len behind ≡ Ok (take len behind, drop len behind)
+name_good place len behind within boot = rw (le-ltb (length behind) len within, boot) refl
 
 name_cut : (place len : ℕ) (behind : List ℕ) → length behind < len → name_of place len behind ≡ Err (fault.Truncated place)
-name_cut place len behind cut =
-    let few : ltb (length behind) len ≡ true = lt-ltb _ _ cut in
-    rw few refl
+name_cut place len behind cut = rw (lt-ltb (length behind) len cut) refl
 
-name_bad : (place len : ℕ) (behind : List ℕ) → len ≤ length behind → is_boot_name (take len behind) ≡ false → name_of place len behind ≡ Err (fault.BadName place)
-name_bad place len behind within bad =
-    let enough : ltb (length behind) len ≡ false = le-ltb _ _ within in
-    rw (enough, bad) refl
+name_bad : (place len : ℕ) (behind : List ℕ) → len ≤ length behind → is_boot_name (take len behind) ≡ false
+    → name_of place len behind ≡ Err (fault.BadName place)
+name_bad place len behind within bad = rw (le-ltb (length behind) len within, bad) refl
 
-name_fails_by : (end : ℕ) (bytes : List ℕ) (len : ℕ) (behind : List ℕ) (f : ℕ → JournalFault) → bytes ≡ len ∷ behind → ((place : ℕ) → name_of place len behind ≡ Err (f place)) → name_at end bytes ≡ Err (f (place_of end bytes))
+name_fails_by : (end : ℕ) (bytes : List ℕ) (len : ℕ) (behind : List ℕ) (f : ℕ → JournalFault)
+    → bytes ≡ len ∷ behind → ((place : ℕ) → name_of place len behind ≡ Err (f place))
+    → name_at end bytes ≡ Err (f (place_of end bytes))
 name_fails_by end bytes len behind f parts fails =
     subst (λ (b : List ℕ). name_at end b ≡ Err (f (place_of end b))) (sym parts) (name_front end len behind ∙ fails (place_of end (len ∷ behind)))
 
@@ -509,7 +494,8 @@ name_again end name rest boot =
     let front = take_at name rest (length name) refl in
     let back = drop_at name rest (length name) refl in
     name_front end (length name) (name ++ rest)
-    ∙ name_good (place_of end (length name ∷ (name ++ rest))) (length name) (name ++ rest) (omega (arith, length-append name rest)) (ap is_boot_name front ∙ boot)
+    ∙ name_good (place_of end (length name ∷ (name ++ rest))) (length name) (name ++ rest) (omega (arith, length-append name rest))
+    (ap is_boot_name front ∙ boot)
     ∙ rw (front, back) refl
 
 abbrev pub IsNameFault : ℕ → List ℕ → JournalFault → Type 0
@@ -536,7 +522,8 @@ name_ends end len behind =
           parts = text_parts len behind within;
         })
         | inr bad ↦
-            let h : HasBadName (len ∷ behind) = record { name = take len behind; behind = drop len behind; bad = bad; parts = text_parts len behind within } in
+            let h : HasBadName (len ∷ behind) =
+            record { name = take len behind; behind = drop len behind; bad = bad; parts = text_parts len behind within } in
             inr (record { fault_is = fault.BadName (place_of end (len ∷ behind)); read_is = bad_name_fails end (len ∷ behind) h; here = inr (refl, h) })
       ]
     ]

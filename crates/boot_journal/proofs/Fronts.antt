@@ -1,15 +1,16 @@
--- Changes of different names, made again or taken back in part, leave what some of them lead to.
-use Rattle.std.proofs.Common.{◌≡◌, inl, inr, ℕ, zero, suc, Bool, true, false, cond, List, [], ◌∷◌, map, reverse, length, take, drop, Option, refl, sym, ap, subst, ◌∙◌, arith}
+-- Changes of different names, made again or taken back in part, leave what some of them lead to, from the first on: by what is found
+-- under each name.
+use Rattle.std.proofs.Common.{◌≡◌, inl, inr, ℕ, zero, suc, Bool, true, false, cond, List, [], ◌∷◌, reverse, length, take, drop, Option, refl, sym, ap, subst}
+use Rattle.std.proofs.Common.{◌∙◌, arith}
 use Rattle.std.specs.Cmp.{Equal-is}
 use Rattle.std.proofs.lemmas.Cmp.{nat_list_cmp_total, eq_by_cmp_equiv}
-use Rattle.std.specs.FinMap.{get, remove}
+use Rattle.std.specs.FinMap.{get}
+use Rattle.std.proofs.Math.Seq.{take-length}
 use Rattle.std.proofs.lemmas.Bool.{cases_lt}
-use Rattle.std.proofs.lemmas.List.{take-append-le, take_all, take-map, length-append}
-use Rattle.uefi_vars.specs.Name.{next_text}
+use Rattle.std.proofs.lemmas.List.{take-append-le, take_all, length-append}
 use Rattle.uefi_vars.specs.Vars.{Variables}
 use Rattle.uefi_vars.specs.NameChanges.{with_data, after_each}
 use Rattle.var_stores.specs.BootChange.{same_name}
-use Rattle.boot_journal.proofs.Boot.{spent_single, boots}
 use Rattle.boot_journal.proofs.Single.{Single, over, as_they_were, back, back-cons, one_name, same_variables, get-each, get-with_data, taken_back}
 
 -- no change is of this name
@@ -38,7 +39,8 @@ later zero k = k
 later (suc j) zero = suc j
 later (suc j) (suc k) = suc (later j k)
 
-over_fronts : (cs : List Single) (q : List ℕ) (j k : ℕ) (x : Option (List ℕ)) → AreApart cs → over (take j cs) q (over (take k cs) q x) ≡ over (take (later j k) cs) q x
+over_fronts : (cs : List Single) (q : List ℕ) (j k : ℕ) (x : Option (List ℕ)) → AreApart cs
+    → over (take j cs) q (over (take k cs) q x) ≡ over (take (later j k) cs) q x
 over_fronts cs q zero k x apart = refl
 over_fronts cs q (suc j) zero x apart = refl
 over_fronts [] q (suc j) (suc k) x apart = refl
@@ -51,9 +53,11 @@ over_fronts (c ∷ cs) q (suc j) (suc k) x apart =
     at_first true rest out = over_not_in cs q j c.1 (out refl) ∙ sym (over_not_in cs q (later j k) c.1 (out refl))
     at_first false rest out = rest
 
-pub made_fronts : (cs : List Single) (m : Variables) (j k : ℕ) → AreApart cs → after_each (after_each m (take k cs)) (take j cs) ≡ after_each m (take (later j k) cs)
+pub made_fronts : (cs : List Single) (m : Variables) (j k : ℕ) → AreApart cs
+    → after_each (after_each m (take k cs)) (take j cs) ≡ after_each m (take (later j k) cs)
 made_fronts cs m j k apart = same_variables _ _ (λ q.
-    get-each (take j cs) _ q ∙ ap (over (take j cs) q) (get-each (take k cs) m q) ∙ over_fronts cs q j k (get m q) apart ∙ sym (get-each (take (later j k) cs) m q))
+    get-each (take j cs) _ q ∙ ap (over (take j cs) q) (get-each (take k cs) m q) ∙ over_fronts cs q j k (get m q) apart
+    ∙ sym (get-each (take (later j k) cs) m q))
 
 not_in_drop : (name : List ℕ) (i : ℕ) (cs : List Single) → IsNotIn name cs → IsNotIn name (drop i cs)
 not_in_drop name zero cs out = out
@@ -77,15 +81,13 @@ take_back : (cs : List Single) (m : Variables) (j : ℕ) → (i : ℕ) × (take 
 take_back [] m zero = (0, refl)
 take_back [] m (suc j) = (0, refl)
 take_back (c ∷ cs) m j = elim (cases_lt (length (back cs m)) j) [
-  | inr within ↦ let rest = take_back cs m j in (suc rest.0, ap (take j) (back-cons c cs m) ∙ take-append-le j (back cs m) ((c.0, get m c.0) ∷ []) within ∙ rest.1)
+  | inr within ↦ let rest =
+      take_back cs m j in (suc rest.0, ap (take j) (back-cons c cs m) ∙ take-append-le j (back cs m) ((c.0, get m c.0) ∷ []) within ∙ rest.1)
   | inl past ↦ (0, take_all j (back (c ∷ cs) m) (omega (arith, ap length (back-cons c cs m), length-append (back cs m) ((c.0, get m c.0) ∷ []))))
 ]
 
 pub again_front : (cs : List Single) (m n : Variables) (j : ℕ) → AreApart cs → IsFrontOf cs m n → IsFrontOf cs m (after_each n (take j cs))
 again_front cs m n j apart front = (later j front.0, ap (λ (v : Variables). after_each v (take j cs)) front.1 ∙ made_fronts cs m j front.0 apart)
-
-pub boot_front : (cs : List Single) (m n : Variables) (j : ℕ) → AreApart cs → IsFrontOf cs m n → (front : Variables) × IsFrontOf cs m front × (after_each (remove n next_text) (take j (map spent_single cs)) ≡ remove front next_text)
-boot_front cs m n j apart front = (after_each n (take j cs), again_front cs m n j apart front, ap (λ (l : List Single). after_each (remove n next_text) l) (take-map spent_single j cs) ∙ boots (take j cs) n)
 
 pub back_fronts : (cs : List Single) (m n : Variables) (j : ℕ) → AreApart cs → IsFrontOf cs m n → IsFrontOf cs m (after_each n (take j (back cs m)))
 back_fronts cs m n j apart front =
@@ -93,10 +95,8 @@ back_fronts cs m n j apart front =
     let at = back_front cs m some.0 front.0 apart in
     (at.0, (λ t. after_each (front.1 t) (some.1 t)) ∙ at.1)
 
-over_all_not_in : (ds : List Single) (q : List ℕ) (x : Option (List ℕ)) → IsNotIn q ds → over ds q x ≡ x
-over_all_not_in [] q x out = refl
-over_all_not_in (d ∷ ds) q x out = ap (λ b. over ds q (cond b d.1 x)) ((eq_by_cmp_equiv nat_list_cmp_total).symm q d.0 ∙ out.0) ∙ over_all_not_in ds q x out.1
-
 -- what no change is of stays
 pub others_stay : (cs : List Single) (m : Variables) (q : List ℕ) → IsNotIn q cs → get (after_each m cs) q ≡ get m q
-others_stay cs m q out = get-each cs m q ∙ over_all_not_in cs q (get m q) out
+others_stay cs m q out =
+    get-each cs m q ∙ ap (λ (l : List Single). over l q (get m q)) (sym (take-length cs))
+    ∙ over_not_in cs q (length cs) (get m q) out

@@ -1,5 +1,7 @@
--- What journal files spell, and what the reader's answer says of the bytes.
-use Rattle.std.proofs.Common.{◌≡◌, ◌≢◌, ◌⊎◌, ℕ, Bool, true, eqb, List, [], ◌∷◌, ◌++◌, length, drop, Option, Some, None, IfSome, Result, Ok, Err, refl, sym, ap, subst, ◌∙◌, inl, inr, arith}
+-- What journal files spell, and what the reader's answer says of the bytes: what it reads is spelled (`Readings`) and what is spelled is
+-- read (`Spellings`), so bytes spell one journal or have one first fault.
+use Rattle.std.proofs.Common.{◌≡◌, ◌≢◌, ◌⊎◌, ℕ, Bool, true, eqb, List, [], ◌∷◌, ◌++◌, length, drop, Option, Some, None, IfSome, Result, Ok, Err, refl, sym}
+use Rattle.std.proofs.Common.{ap, subst, ◌∙◌, inl, inr, arith}
 use Rattle.std.specs.Prelude.{IfOk, IfErr}
 use Rattle.std.specs.List.{AllByRecursion, starts_with}
 use Rattle.std.proofs.lemmas.Bool.Decides.{Decides-eqb}
@@ -18,7 +20,8 @@ use Rattle.boot_journal.specs.Journal.{JournalParts, PendingParts, Makes, TakesB
 use Rattle.boot_journal.specs.JournalValue.{IsPending, IsJournal}
 use Rattle.boot_journal.specs.Values.{IsBootChange}
 use Rattle.boot_journal.specs.MachineName.{IsMachineName}
-use Rattle.boot_journal.specs.Bytes.{value_bytes, change_bytes, changes_bytes, pending_bytes, body_bytes, head_bytes, file_bytes, IsJournalFile, SpellsJournalFile}
+use Rattle.boot_journal.specs.Bytes.{value_bytes, change_bytes, changes_bytes, pending_bytes, body_bytes, head_bytes, file_bytes, IsJournalFile}
+use Rattle.boot_journal.specs.Bytes.{SpellsJournalFile}
 use Rattle.boot_journal.specs.Fault.{IsJournalFault}
 use Rattle.boot_journal.specs.Reader.{Fails, Gives, file_at}
 use Rattle.boot_journal.proofs.Readings.{file_ends}
@@ -50,7 +53,8 @@ one_fault bytes f g p q = same_fault (file_at bytes) f g (fault_again bytes f p)
 pub no_journal : (bytes : List ℕ) (f : JournalFault) (file : JournalFile) → IsJournalFault bytes f → SpellsJournalFile bytes file → ⊥
 no_journal bytes f file p q = not_both (file_at bytes) file f (file_again bytes file q) (fault_again bytes f p)
 
-pub either : (bytes : List ℕ) → AllByRecursion IsByte bytes → ((file : JournalFile) × SpellsJournalFile bytes file) ⊎ ((f : JournalFault) × IsJournalFault bytes f)
+pub either : (bytes : List ℕ) → AllByRecursion IsByte bytes
+    → ((file : JournalFile) × SpellsJournalFile bytes file) ⊎ ((f : JournalFault) × IsJournalFault bytes f)
 either bytes fits =
     elim (file_ends bytes fits) [ inl file ↦ inl (file.value, (file.is, file.parts)) | inr stop ↦ inr (stop.fault_is, stop.here) ]
 
@@ -73,12 +77,15 @@ AreNames = (name : List ℕ) → is_boot_name name ≡ true → IsName name
 
 change_fits : AreNames → (change : ChangeParts) → IsBootChange change → AllByRecursion IsByte (change_bytes change)
 change_fits names change is =
-    AllByRecursion-append IsByte (name_bytes change.name) (value_bytes change.before ++ value_bytes change.after) (name_fits change.name (names change.name is.boot))
-    (AllByRecursion-append IsByte (value_bytes change.before) (value_bytes change.after) (value_fits change.before is.before) (value_fits change.after is.after))
+    AllByRecursion-append IsByte (name_bytes change.name) (value_bytes change.before ++ value_bytes change.after)
+    (name_fits change.name (names change.name is.boot))
+    (AllByRecursion-append IsByte (value_bytes change.before) (value_bytes change.after) (value_fits change.before is.before)
+    (value_fits change.after is.after))
 
 changes_fit : AreNames → (changes : List ChangeParts) → AllByRecursion IsBootChange changes → AllByRecursion IsByte (changes_bytes changes)
 changes_fit names [] all = tt
-changes_fit names (change ∷ changes) all = AllByRecursion-append IsByte (change_bytes change) (changes_bytes changes) (change_fits names change all.0) (changes_fit names changes all.1)
+changes_fit names (change ∷ changes) all =
+    AllByRecursion-append IsByte (change_bytes change) (changes_bytes changes) (change_fits names change all.0) (changes_fit names changes all.1)
 
 pending_fits : AreNames → (pending : Option PendingParts) → IfSome pending IsPending → AllByRecursion IsByte (pending_bytes pending)
 pending_fits names None is = tt
@@ -92,14 +99,18 @@ pending_fits names (Some (TakesBack changes boot)) is =
 
 body_fits : AreNames → (journal : JournalParts) → IsJournal journal → AllByRecursion IsByte (body_bytes journal)
 body_fits names journal is =
-    AllByRecursion-append IsByte (value_bytes journal.state) (pending_bytes journal.pending) (value_fits journal.state is.state) (pending_fits names journal.pending is.pending)
+    AllByRecursion-append IsByte (value_bytes journal.state) (pending_bytes journal.pending) (value_fits journal.state is.state)
+    (pending_fits names journal.pending is.pending)
 
 head_fits : (machine : Option (List ℕ)) → IfSome machine IsMachineName → AllByRecursion IsByte (head_bytes machine)
 head_fits None named = (omega arith, (omega arith, (omega arith, (omega arith, tt))))
-head_fits (Some name) named = (omega arith, (omega arith, (omega arith, (omega arith, (omega arith, (omega arith, (omega arith, (omega arith, named.bytes))))))))
+head_fits (Some name) named =
+    (omega arith, (omega arith, (omega arith, (omega arith, (omega arith, (omega arith, (omega arith, (omega arith, named.bytes))))))))
 
 pub file_fits : AreNames → (file : JournalFile) → IsJournalFile file → AllByRecursion IsByte (file_bytes file)
-file_fits names file is = AllByRecursion-append IsByte (head_bytes file.machine) (body_bytes file.journal) (head_fits file.machine is.machine) (body_fits names file.journal is.journal)
+file_fits names file is =
+    AllByRecursion-append IsByte (head_bytes file.machine) (body_bytes file.journal) (head_fits file.machine is.machine)
+    (body_fits names file.journal is.journal)
 
 -- ---- the reader's answer
 
@@ -139,11 +150,13 @@ pub found : (answer : Answer) (bytes : List ℕ) → AllByRecursion IsByte bytes
 found (Ok value) bytes fits is = read_file_is bytes value fits is
 found (Err f) bytes fits is = tt
 
-fault_found : (f : JournalFault) (bytes : List ℕ) → AllByRecursion IsByte bytes → (f ≡ fault.OutOfMemory) ⊎ (file_at bytes ≡ Err f) → f ≢ fault.OutOfMemory → IsJournalFault bytes f
+fault_found : (f : JournalFault) (bytes : List ℕ) → AllByRecursion IsByte bytes → (f ≡ fault.OutOfMemory) ⊎ (file_at bytes ≡ Err f) → f ≢ fault.OutOfMemory
+    → IsJournalFault bytes f
 fault_found f bytes fits (inl refused) other = absurd (other refused)
 fault_found f bytes fits (inr read) other = read_fault_is bytes f fits read
 
-pub faulty : (answer : Answer) (bytes : List ℕ) → AllByRecursion IsByte bytes → IsAnswer answer bytes → IfErr answer (λ f. f ≢ fault.OutOfMemory → IsJournalFault bytes f)
+pub faulty : (answer : Answer) (bytes : List ℕ) → AllByRecursion IsByte bytes → IsAnswer answer bytes
+    → IfErr answer (λ f. f ≢ fault.OutOfMemory → IsJournalFault bytes f)
 faulty (Ok value) bytes fits is = tt
 faulty (Err f) bytes fits is = fault_found f bytes fits (failed_as f (file_at bytes) is)
 
@@ -151,6 +164,7 @@ refused_or : (f : JournalFault) (read answer : Answer) → (f ≡ fault.OutOfMem
 refused_or f read answer (inl refused) is = inr (ap (λ (g : JournalFault). Err g) refused)
 refused_or f read answer (inr same) is = inl (sym same ∙ is)
 
-pub only : (answer : Answer) (bytes : List ℕ) (expected : Answer) → IsAnswer answer bytes → file_at bytes ≡ expected → IsUnless answer expected fault.OutOfMemory
+pub only : (answer : Answer) (bytes : List ℕ) (expected : Answer) → IsAnswer answer bytes → file_at bytes ≡ expected
+    → IsUnless answer expected fault.OutOfMemory
 only (Ok value) bytes expected is read = inl (sym is ∙ read)
 only (Err f) bytes expected is read = refused_or f (file_at bytes) expected (failed_as f (file_at bytes) is) read

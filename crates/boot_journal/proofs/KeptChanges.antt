@@ -1,5 +1,6 @@
--- Changes of data alone, and the same changes of what is kept.
-use Rattle.std.proofs.Common.{◌≡◌, ℕ, ◌+◌, ◌<◌, ◌≤◌, true, List, [], ◌∷◌, ◌++◌, map, length, get_or, Option, Some, None, refl, ap, arith}
+-- Changes of data alone, and the same changes of what is kept: what is kept has the attributes of what is there, can be stored if
+-- there is room for them, and what is at fault in one change is so in the list.
+use Rattle.std.proofs.Common.{◌≡◌, ℕ, zero, suc, ◌+◌, ◌<◌, ◌≤◌, true, List, [], ◌∷◌, ◌++◌, map, length, get_or, Option, Some, None, refl, ap, arith}
 use Rattle.std.specs.List.{AllByRecursion}
 use Rattle.std.specs.Option.{option_map}
 use Rattle.std.specs.FinMap.{get}
@@ -11,16 +12,25 @@ use Rattle.boot_journal.specs.declared.attributes.AttributesFault.{AttributesFau
 use Rattle.boot_journal.specs.declared.attributes.AttributesFault.TheVariants.{NoData, TooLong, OutOfMemory}
 use Rattle.boot_journal.specs.Attributes.{attributes_len, attributes_in}
 use Rattle.boot_journal.specs.JournalAttributes.{value_kept, ChangeHasRoom, IsFaultOfChanges, IsFaultOfData}
-use Rattle.boot_journal.proofs.Valid.{each_at}
 use Rattle.boot_journal.proofs.WithAttributes.{four_bytes}
 
+-- what is so of each of a list, at an index
+pub each_at : {A : Type 0} (P : ChangeParts → Type 0) (f : A → ChangeParts) (xs : List A) (i : ℕ) (d : A) → AllByRecursion P (map f xs)
+    → i < length xs → P (f (get_or xs i d))
+each_at P f [] i d all within = absurd (omega (arith, within))
+each_at P f (x ∷ xs) zero d all within = all.0
+each_at P f (x ∷ xs) (suc i) d all within = each_at P f xs i d all.1 (omega (arith, within))
+
 -- what is kept of data of the boot manager has the attributes of what is there
-pub value_is : (there : Variables) (name : List ℕ) (at value : Option (List ℕ)) → is_boot_name name ≡ true → at ≡ get there name → option_map (λ v. attributes_in at ++ v) value ≡ value_kept there name value
+pub value_is : (there : Variables) (name : List ℕ) (at value : Option (List ℕ)) → is_boot_name name ≡ true → at ≡ get there name
+    → option_map (λ v. attributes_in at ++ v) value ≡ value_kept there name value
 value_is there name at None boot is = refl
 value_is there name at (Some value) boot is = rw boot (ap (λ (o : Option (List ℕ)). Some (attributes_in o ++ value)) is)
 
 -- what is kept can be stored
-pub kept_IsData : (bytes value : List ℕ) (at : Option (List ℕ)) → bytes ≡ attributes_in at ++ value → attributes_len + length value ≤ data_max → AllByRecursion IsByte bytes → IsData bytes
+pub kept_IsData : (bytes value : List ℕ) (at : Option (List ℕ))
+    → bytes ≡ attributes_in at ++ value → attributes_len + length value ≤ data_max → AllByRecursion IsByte bytes
+    → IsData bytes
 kept_IsData bytes value at is room fits =
     let size : length bytes ≡ 4 + length value = omega (arith, ap length is, length-append (attributes_in at) value, four_bytes at) in
     record {
@@ -40,7 +50,8 @@ after_fails c TooLong h = λ all. h all.0.1
 after_fails c OutOfMemory h = tt
 
 -- what fails for one of the changes fails for all
-pub one_fails : (cs : List ChangeParts) (i : ℕ) (d : ChangeParts) (f : AttributesFault) → i < length cs → IsFaultOfChanges (get_or cs i d ∷ []) f → IsFaultOfChanges cs f
+pub one_fails : (cs : List ChangeParts) (i : ℕ) (d : ChangeParts) (f : AttributesFault) → i < length cs → IsFaultOfChanges (get_or cs i d ∷ []) f
+    → IsFaultOfChanges cs f
 one_fails cs i d NoData within h = h
 one_fails cs i d TooLong within h = λ all. h (each_at ChangeHasRoom (λ (c : ChangeParts). c) cs i d (mapped cs all) within, tt)
   where

@@ -3,6 +3,7 @@ pub mod Boot
 pub mod Fronts
 pub mod Parts
 pub mod Making
+pub mod Throughout
 pub mod Settling
 pub mod Updates
 pub mod Unchanged
@@ -15,7 +16,6 @@ pub mod Applied
 pub mod KeptAttributes
 pub mod Restarts
 pub mod Once
-pub mod Followers
 pub mod Running
 pub mod Records
 pub mod Commands
@@ -24,7 +24,6 @@ pub mod OwnCalls
 pub mod Errors
 pub mod Between
 pub mod Next
-pub mod Valid
 pub mod KeptChanges
 pub mod Moments
 pub mod Fields

@@ -1,19 +1,21 @@
--- Where a cut comes, and what that stands for.
-use Rattle.std.proofs.Common.{◌≡◌, ◌⊎◌, inl, inr, ⊎_elim, ℕ, zero, suc, Bool, true, false, cond, List, [], ◌∷◌, map, take, length, Option, Some, None, refl, sym, ap, ◌∙◌}
+-- Where a cut comes as changes are made, and what that stands for: changes that are made again, or taken back, lead to the same.
+use Rattle.std.proofs.Common.{◌≡◌, ◌⊎◌, inl, inr, ⊎_elim, ℕ, zero, suc, Bool, true, false, cond, List, [], ◌∷◌, map, take, length, Option, Some, None, refl}
+use Rattle.std.proofs.Common.{sym, ap, ◌∙◌}
+use Rattle.std.proofs.Math.Seq.{take-length}
 use Rattle.std.specs.FinMap.{get}
 use Rattle.std.proofs.lemmas.Bool.{true≢false}
 use Rattle.std.proofs.lemmas.Cmp.{nat_list_cmp_total, eq_by_cmp_equiv}
 use Rattle.std.proofs.lemmas.List.{take-map}
 use Rattle.uefi_vars.specs.Vars.{Variables}
 use Rattle.uefi_vars.specs.NameChanges.{after_each}
-use Rattle.var_stores.specs.BootChange.{ChangeParts, same_name, new_data}
+use Rattle.var_stores.specs.BootChange.{ChangeParts, same_name, is_boot_name, new_data}
 use Rattle.boot_requests.specs.State.{keep_text}
 use Rattle.boot_journal.specs.Changes.{made, taken_back, spent, TellWhatIsThere}
 use Rattle.boot_journal.specs.Journal.{JournalParts, PendingParts, Makes, TakesBack, idle, due, due_by, turned_by, is_making}
 use Rattle.boot_journal.specs.Store.{Store, with_made, with_journal, with_state, seen, stands_for, falls_back_to}
 use Rattle.boot_journal.specs.Moves.{cut_making, cut_carrying, cut_settling, cut_settling_by, settled, settled_by}
-use Rattle.boot_journal.proofs.Single.{Single, over, same_variables, get-with_data, get-each, each_again, back, taken_back as back_leads}
-use Rattle.boot_journal.proofs.Parts.{take_whole, due_covers, new-back}
+use Rattle.boot_journal.proofs.Single.{Single, over, unlike, same_variables, get-with_data, get-each, each_again, back, taken_back as back_leads}
+use Rattle.boot_journal.proofs.Parts.{due_covers, new-back}
 
 pub same_self : (name : List ℕ) → same_name name name ≡ true
 same_self name = (eq_by_cmp_equiv nat_list_cmp_total).refl name
@@ -40,7 +42,8 @@ making_stands boot k s = ⊎_elim
     (λ done. ap (stands_for boot) done)
     (making_is k (due boot s.journal.pending) (idle s.journal.state) s)
 
-settling_by : (boot : List ℕ) (k : ℕ) (s : Store) (p : Option PendingParts) → p ≡ s.journal.pending → stands_for boot (cut_settling_by p boot k s) ≡ stands_for boot s
+settling_by : (boot : List ℕ) (k : ℕ) (s : Store) (p : Option PendingParts) → p ≡ s.journal.pending
+    → stands_for boot (cut_settling_by p boot k s) ≡ stands_for boot s
 settling_by boot k s None is = refl
 settling_by boot k s (Some pending) is =
     ap (λ (p : Option PendingParts). stands_for boot (cut_making k (due boot p) (idle s.journal.state) s)) is ∙ making_stands boot k s
@@ -83,7 +86,11 @@ pub carrying_variables : (boot : List ℕ) (journal : JournalParts) (k : ℕ) (s
 carrying_variables boot journal zero s = (0, refl)
 carrying_variables boot journal (suc k) s = ⊎_elim
     (λ amid. (k, λ i. (amid i).variables))
-    (λ done. (length (due boot journal.pending), (λ i. (done i).variables) ∙ ap (λ (l : List ChangeParts). made l s.variables) (sym (take_whole (due boot journal.pending)))))
+    (λ done. (
+      length (due boot journal.pending),
+      (λ i. (done i).variables)
+          ∙ ap (λ (l : List ChangeParts). made l s.variables) (sym (take-length (due boot journal.pending))),
+    ))
     (making_is k (due boot journal.pending) (idle journal.state) (with_journal journal s))
 
 -- ---- taking back
@@ -111,6 +118,14 @@ falls_back_after boot j s making = by s.journal.pending making
 
 pub get-state : (state : Option (List ℕ)) (m : Variables) (q : List ℕ) → get (with_state state m) q ≡ cond (same_name q keep_text) state (get m q)
 get-state state m q = get-with_data m keep_text state q
+
+-- under another name it is what is there
+pub beside_state : (state : Option (List ℕ)) (m : Variables) (q : List ℕ) → same_name q keep_text ≡ false → get (with_state state m) q ≡ get m q
+beside_state state m q other = get-state state m q ∙ ap (λ b. cond b state (get m q)) other
+
+-- as under the boot manager's
+pub not_keep : is_boot_name keep_text ≡ false → (name : List ℕ) → is_boot_name name ≡ true → same_name name keep_text ≡ false
+not_keep no_keep name boot = unlike name keep_text (λ e. true≢false (sym boot ∙ ap is_boot_name e ∙ no_keep))
 
 pub state_of_seen : (state : Option (List ℕ)) (m : Variables) → get (with_state state m) keep_text ≡ state
 state_of_seen state m = get-state state m keep_text ∙ ap (λ b. cond b state (get m keep_text)) (same_self keep_text)

@@ -1,8 +1,7 @@
--- Updates by requests, whatever firmware did between them.
-use Rattle.std.proofs.Common.{◌≡◌, inl, ℕ, ◌-◌, Bool, true, false, List, [], ◌∷◌, ◌++◌, refl, sym, ap, subst, ◌∙◌}
-use Rattle.std.specs.FinMap.{get, get-remove}
-use Rattle.std.proofs.lemmas.Cmp.{nat_list_cmp_total}
-use Rattle.uefi_vars.specs.Name.{next_text}
+-- Updates by requests, whatever firmware did between them: BootKeepState, with the next number and the outcomes, goes on from each to the
+-- next, and so the numbers that are applied do.
+use Rattle.std.proofs.Common.{◌≡◌, inl, ℕ, ◌-◌, false, List, [], ◌∷◌, ◌++◌, refl, sym, ap, subst, ◌∙◌}
+use Rattle.std.specs.FinMap.{get}
 use Rattle.uefi_vars.specs.Vars.{Variables}
 use Rattle.uefi_vars.specs.NameChanges.{after_each}
 use Rattle.var_stores.specs.BootChange.{is_boot_name, changes_from}
@@ -25,6 +24,7 @@ use Rattle.boot_journal.specs.Turns as Turns
 use Rattle.boot_journal.specs.Turns.{after_turn, after_turns}
 use Rattle.boot_journal.proofs.Applied.{mark_over}
 use Rattle.boot_journal.proofs.WithAttributes.{get_elsewhere}
+use Rattle.boot_journal.proofs.Boot.{at_other}
 use Rattle.boot_journal.proofs.Making.{state_of_seen}
 use Rattle.boot_journal.proofs.Restarts.{after_restart}
 
@@ -36,10 +36,6 @@ pub record Marked (vars : Variables) (first : MarkParts) (updates : List Update)
   pub has : HasMark vars last.next_number last.kept
   pub on : GoOn first updates last
 
-kept_by_starts : (deletes : Bool) (vars : Variables) → get (without_next deletes vars) keep_text ≡ get vars keep_text
-kept_by_starts true vars = get-remove nat_list_cmp_total vars next_text keep_text
-kept_by_starts false vars = refl
-
 stays : (v w : Variables) (first : MarkParts) (updates : List Update) → get w keep_text ≡ get v keep_text → Marked v first updates → Marked w first updates
 stays v w first updates same marked = record {
   last = marked.last;
@@ -47,7 +43,8 @@ stays v w first updates same marked = record {
   on = marked.on;
 }
 
-module _ (leads : (start : State) (run : List Seen) → IsState start → AreRead run → IsState (state_at start run)) (no_keep : is_boot_name keep_text ≡ false) where
+module _ (leads : (start : State) (run : List Seen) → IsState start → AreRead run → IsState (state_at start run))
+    (no_keep : is_boot_name keep_text ≡ false) where
   brings : (vars to : Variables) (first : MarkParts) (update : Update) (earlier : List Update) → IsUpdateFrom vars update to → Marked vars first earlier →
       Marked (brought vars to) first (update ∷ earlier)
   brings vars to first update earlier from marked =
@@ -57,7 +54,8 @@ module _ (leads : (start : State) (run : List Seen) → IsState start → AreRea
       let image = from.by.leads update.before from.opens in record {
         last = mark_in (state_after update);
         has = mark_over (data_of to) (brought vars to) (state_after update).next_number (state_after update).kept
-            (state_of_seen (get to keep_text) (made (changes_from vars to) vars) ∙ sym (get_elsewhere to keep_text no_keep)) (inl (record { is = is.mark; stored = image.mark }));
+            (state_of_seen (get to keep_text) (made (changes_from vars to) vars) ∙ sym (get_elsewhere to keep_text no_keep))
+            (inl (record { is = is.mark; stored = image.mark }));
         on = (subst (GoOn first earlier) (sym (λ i. mark_of (same.0 i) (same.1 i))) marked.on, refl);
       }
 
@@ -68,10 +66,13 @@ module _ (leads : (start : State) (run : List Seen) → IsState start → AreRea
   all_marked vars (Turns.Brings to ∷ before) first (update ∷ earlier) has are =
       brings (after_turns vars before) to first update earlier are.0 (all_marked vars before first earlier has are.1)
   all_marked vars (Turns.Boots deletes ∷ before) first updates has are =
-      stays (after_turns vars before) (without_next deletes (after_turns vars before)) first updates (kept_by_starts deletes (after_turns vars before)) (all_marked vars before first updates has are)
+      stays (after_turns vars before) (without_next deletes (after_turns vars before)) first updates
+      (at_other deletes (after_turns vars before) keep_text refl)
+      (all_marked vars before first updates has are)
   all_marked vars (Turns.Meddles changes ∷ before) first updates has are =
       let was = after_turns vars before in
-      stays was (after_turn (Turns.Meddles changes) was) first updates (state_of_seen (get was keep_text) (after_each was changes)) (all_marked vars before first updates has are)
+      stays was (after_turn (Turns.Meddles changes) was) first updates (state_of_seen (get was keep_text) (after_each was changes))
+      (all_marked vars before first updates has are)
 
 -- ---- each number once
 

@@ -1,19 +1,23 @@
--- What firmware did by itself stays, whatever is cut off when.
-use Rattle.std.proofs.Common.{◌≡◌, ⊎_elim, ℕ, zero, suc, ◌||◌, Bool, true, false, cond, List, [], ◌∷◌, ◌++◌, map, reverse, take, Option, Some, None, refl, sym, ap, subst, ◌∙◌}
+-- What firmware did by itself stays, whatever is cut off when: a variable that no change is of, nor one that is to be done, is as it was
+-- after each event (`Own`), and changes that were made in part before firmware's lead to the same as all of them over firmware's.
+use Rattle.std.proofs.Common.{◌≡◌, ℕ, zero, suc, ◌||◌, Bool, true, false, cond, List, [], ◌∷◌, ◌++◌, map, reverse, take, Option, Some, None, refl}
+use Rattle.std.proofs.Common.{sym, ap, ◌∙◌}
 use Rattle.std.specs.FinMap.{get}
 use Rattle.std.proofs.lemmas.List.{reverse-append}
 use Rattle.std.proofs.lemmas.List.Folds.{list_any-append}
+use Rattle.std.proofs.lemmas.Bool.{or_parts}
 use Rattle.uefi_vars.specs.Vars.{Variables}
 use Rattle.uefi_vars.specs.NameChanges.{after_each}
 use Rattle.var_stores.specs.BootChange.{ChangeParts, same_name, new_data, changes_from}
 use Rattle.boot_journal.specs.Changes.{made, undone, taken_back, spent, LeaveAlone}
-use Rattle.boot_journal.specs.Journal.{JournalParts, PendingParts, Makes, TakesBack, idle, due, turned, turned_by, changes_of}
-use Rattle.boot_journal.specs.Store.{Store, with_journal, with_state, seen, stands_for, falls_back_to, journal_to}
-use Rattle.boot_journal.specs.Moves.{cut_making, cut_carrying, cut_settling, cut_settling_by, cut_undoing_by, settled, settled_by}
-use Rattle.boot_journal.specs.Events.{Event, Settles, Undoes, Updates, Fails, Starts, Firmware, World, happens, all_happen, with_variables, updating, failing, firmware_in, by_firmware, UpdatesLeaveAlone}
+use Rattle.boot_journal.specs.Journal.{JournalParts, PendingParts, Makes, TakesBack, due, turned, turned_by, changes_of}
+use Rattle.boot_journal.specs.Store.{Store, with_state, seen, stands_for, falls_back_to, journal_to}
+use Rattle.boot_journal.specs.Moves.{cut_carrying, cut_settling, cut_undoing, settled, settled_by}
+use Rattle.boot_journal.specs.Events.{Event, Settles, Undoes, Updates, Fails, Starts, Firmware, World, happens, all_happen, with_variables, updating, failing}
+use Rattle.boot_journal.specs.Events.{firmware_in, by_firmware, UpdatesLeaveAlone}
 use Rattle.boot_journal.proofs.Single.{Single, over, over-append, same_variables, get-each}
-use Rattle.boot_journal.proofs.Firmware.{is_in, in_or_not, same_either_way, out_keeps, in_forgets}
-use Rattle.boot_journal.proofs.Making.{making_is}
+use Rattle.boot_journal.proofs.Firmware.{is_in, same_either_way, out_keeps, in_forgets}
+use Rattle.boot_journal.proofs.Throughout.{Holds, settling_holds, carrying_holds, undoing_holds}
 
 -- ---- the names of what is due
 
@@ -39,7 +43,7 @@ reverse_in (c ∷ cs) q =
     ∙ ap (λ b. b || (same_name c.name q || false)) (reverse_in cs q)
     ∙ or_swap (same_name c.name q) (is_in cs q)
 
-back_in : (cs : List ChangeParts) (q : List ℕ) → is_in (taken_back cs) q ≡ is_in cs q
+pub back_in : (cs : List ChangeParts) (q : List ℕ) → is_in (taken_back cs) q ≡ is_in cs q
 back_in cs q = reverse_in (map undone cs) q ∙ undone_in cs q
 
 or_spent_in : (same : Bool) (cs : List ChangeParts) (q : List ℕ) → is_in (cond same cs (map spent cs)) q ≡ is_in cs q
@@ -52,16 +56,17 @@ due_in boot None q = refl
 due_in boot (Some (Makes former changes began)) q = or_spent_in (same_name boot began) changes q
 due_in boot (Some (TakesBack changes began)) q = or_spent_in (same_name boot began) (taken_back changes) q ∙ back_in changes q
 
-turned_in : (state : Option (List ℕ)) (p : Option PendingParts) → changes_of (turned_by state p).pending ≡ changes_of p
-turned_in state None = refl
-turned_in state (Some (Makes former changes began)) = refl
-turned_in state (Some (TakesBack changes began)) = refl
+-- they are the same when what is to be done is turned
+pub turned_changes : (state : Option (List ℕ)) (p : Option PendingParts) → changes_of (turned_by state p).pending ≡ changes_of p
+turned_changes state None = refl
+turned_changes state (Some (Makes former changes began)) = refl
+turned_changes state (Some (TakesBack changes began)) = refl
 
 take_out : (k : ℕ) (cs : List ChangeParts) (q : List ℕ) → is_in cs q ≡ false → is_in (take k cs) q ≡ false
 take_out zero cs q out = refl
 take_out (suc k) [] q out = refl
 take_out (suc k) (c ∷ cs) q out =
-    let apart = in_or_not (same_name c.name q) (is_in cs q) out in
+    let apart = or_parts (same_name c.name q) (is_in cs q) out in
     λ i. apart.0 i || take_out k cs q apart.1 i
 
 pub alone_out : (q : List ℕ) (cs : List ChangeParts) → LeaveAlone q cs → is_in cs q ≡ false
@@ -75,7 +80,8 @@ made_out cs m q out = get-each (new_data cs) m q ∙ out_keeps cs q (get m q) ou
 
 -- changes of the same names, of which the first ones were made in part before firmware's
 module _ (cs ds : List ChangeParts) (same : (q : List ℕ) → is_in cs q ≡ is_in ds q) (fs : List Single) where
-  over_between : (k : ℕ) (q : List ℕ) (x : Option (List ℕ)) → over (new_data ds) q (over fs q (over (new_data (take k cs)) q x)) ≡ over (new_data ds) q (over fs q x)
+  over_between : (k : ℕ) (q : List ℕ) (x : Option (List ℕ))
+      → over (new_data ds) q (over fs q (over (new_data (take k cs)) q x)) ≡ over (new_data ds) q (over fs q x)
   over_between k q x = by (is_in ds q) refl
     where
       by : (b : Bool) → is_in ds q ≡ b → over (new_data ds) q (over fs q (over (new_data (take k cs)) q x)) ≡ over (new_data ds) q (over fs q x)
@@ -105,94 +111,85 @@ back_over boot later s fs k =
     let t = turned s.journal in
     ap (with_state t.state)
     (made_between (due boot p) (due later t.pending)
-    (λ q. due_in boot p q ∙ sym (due_in later t.pending q ∙ ap (λ (l : List ChangeParts). is_in l q) (turned_in s.journal.state p)))
+    (λ q. due_in boot p q ∙ sym (due_in later t.pending q ∙ ap (λ (l : List ChangeParts). is_in l q) (turned_changes s.journal.state p)))
     fs k s.variables)
 
 -- ---- a variable that no change is of
 
 -- it is this, and no change that is to be done is of it
-pub record Own (q : List ℕ) (x : Option (List ℕ)) (s : Store) : Type 0 where
-  pub here : get s.variables q ≡ x
-  pub out : is_in (changes_of s.journal.pending) q ≡ false
+abbrev pub IsThis : List ℕ → Option (List ℕ) → Variables → Type 0
+IsThis q x m = get m q ≡ x
+
+abbrev pub IsOut : List ℕ → Option PendingParts → Type 0
+IsOut q p = is_in (changes_of p) q ≡ false
+
+abbrev pub Own : List ℕ → Option (List ℕ) → Store → Type 0
+Own q x s = Holds (IsThis q x) (IsOut q) s
 
 module _ (q : List ℕ) (x : Option (List ℕ)) where
-  making_own : (k : ℕ) (cs : List ChangeParts) (state : Option (List ℕ)) (s : Store) → is_in cs q ≡ false → Own q x s → Own q x (cut_making k cs (idle state) s)
-  making_own k cs state s out own = ⊎_elim
-      (λ amid. subst (Own q x) (sym amid) (record { here = made_out (take k cs) s.variables q (take_out k cs q out) ∙ own.here; out = own.out }))
-      (λ done. subst (Own q x) (sym done) (record { here = made_out cs s.variables q out ∙ own.here; out = refl }))
-      (making_is k cs (idle state) s)
+  due_own : (boot : List ℕ) (p : Option PendingParts) → IsOut q p → (m : Variables) (j : ℕ) → IsThis q x m → IsThis q x (made (take j (due boot p)) m)
+  due_own boot p out m j own = made_out (take j (due boot p)) m q (take_out j (due boot p) q (due_in boot p q ∙ out)) ∙ own
 
-  settling_own_by : (p : Option PendingParts) (boot : List ℕ) (k : ℕ) (s : Store) → is_in (changes_of p) q ≡ false → Own q x s → Own q x (cut_settling_by p boot k s)
-  settling_own_by None boot k s out own = own
-  settling_own_by (Some pending) boot k s out own = making_own k (due boot (Some pending)) s.journal.state s (due_in boot (Some pending) q ∙ out) own
+  turned_out : (state : Option (List ℕ)) (p : Option PendingParts) → IsOut q p → IsOut q (turned_by state p).pending
+  turned_out state p out = ap (λ (l : List ChangeParts). is_in l q) (turned_changes state p) ∙ out
 
   settling_own : (boot : List ℕ) (k : ℕ) (s : Store) → Own q x s → Own q x (cut_settling boot k s)
-  settling_own boot k s own = settling_own_by s.journal.pending boot k s own.out own
+  settling_own boot k s own = settling_holds boot (IsThis q x) (IsOut q) refl turned_out (due_own boot) k s own
 
-  carrying_own : (boot : List ℕ) (journal : JournalParts) (k : ℕ) (s : Store) → is_in (changes_of journal.pending) q ≡ false → Own q x s → Own q x (cut_carrying boot journal k s)
-  carrying_own boot journal zero s out own = own
-  carrying_own boot journal (suc k) s out own =
-      making_own k (due boot journal.pending) journal.state (with_journal journal s) (due_in boot journal.pending q ∙ out) (record { here = own.here; out = out })
+  carrying_own : (boot : List ℕ) (journal : JournalParts) (k : ℕ) (s : Store) → IsOut q journal.pending → Own q x s → Own q x (cut_carrying boot journal k s)
+  carrying_own boot journal k s out own = carrying_holds boot (IsThis q x) (IsOut q) refl turned_out (due_own boot) journal k s out own
 
-  turned_out : (journal : JournalParts) → is_in (changes_of journal.pending) q ≡ false → is_in (changes_of (turned journal).pending) q ≡ false
-  turned_out journal out = ap (λ (l : List ChangeParts). is_in l q) (turned_in journal.state journal.pending) ∙ out
+  pub undoing_own : (boot : List ℕ) (k back : ℕ) (s : Store) → Own q x s → Own q x (cut_undoing boot k back s)
+  undoing_own boot k back s own = undoing_holds boot (IsThis q x) (IsOut q) refl turned_out (due_own boot) k back s own
 
-  pub undoing_own_by : (p : Option PendingParts) (boot : List ℕ) (k back : ℕ) (s : Store) → Own q x s → Own q x (cut_undoing_by p boot k back s)
-  undoing_own_by None boot k back s own = own
-  undoing_own_by (Some (Makes former changes began)) boot k back s own =
-      carrying_own boot (turned s.journal) back (cut_settling boot k s) (turned_out s.journal own.out) (settling_own boot k s own)
-  undoing_own_by (Some (TakesBack changes began)) boot k back s own = settling_own boot k s own
-
-  settled_own_by : (p : Option PendingParts) (boot : List ℕ) (s : Store) → is_in (changes_of p) q ≡ false → Own q x s → Own q x (settled_by p boot s)
+  settled_own_by : (p : Option PendingParts) (boot : List ℕ) (s : Store) → IsOut q p → Own q x s → Own q x (settled_by p boot s)
   settled_own_by None boot s out own = own
   settled_own_by (Some pending) boot s out own =
-      record { here = made_out (due boot (Some pending)) s.variables q (due_in boot (Some pending) q ∙ out) ∙ own.here; out = refl }
+      record { variables = made_out (due boot (Some pending)) s.variables q (due_in boot (Some pending) q ∙ out) ∙ own.variables; journal = refl }
 
-  settled_own : (boot : List ℕ) (s : Store) → Own q x s → Own q x (settled boot s)
-  settled_own boot s own = settled_own_by s.journal.pending boot s own.out own
-
-  updating_own : (boot : List ℕ) (to : Variables) (k : ℕ) (s : Store) → LeaveAlone q (changes_from (seen (settled boot s)) to) → Own q x s → Own q x (updating boot to k (settled boot s))
+  updating_own : (boot : List ℕ) (to : Variables) (k : ℕ) (s : Store) → LeaveAlone q (changes_from (seen (settled boot s)) to) → Own q x s
+      → Own q x (updating boot to k (settled boot s))
   updating_own boot to k s alone own =
-      carrying_own boot (journal_to boot (settled boot s) to) k (settled boot s) (alone_out q _ alone) (settled_own boot s own)
+      carrying_own boot (journal_to boot (settled boot s) to) k (settled boot s) (alone_out q _ alone)
+      (settled_own_by s.journal.pending boot s own.journal own)
 
-  pub failing_own : (boot : List ℕ) (to : Variables) (k back : ℕ) (s : Store) → LeaveAlone q (changes_from (seen (settled boot s)) to) → Own q x s → Own q x (failing boot to k back (settled boot s))
+  pub failing_own : (boot : List ℕ) (to : Variables) (k back : ℕ) (s : Store) → LeaveAlone q (changes_from (seen (settled boot s)) to) → Own q x s
+      → Own q x (failing boot to k back (settled boot s))
   failing_own boot to k back s alone own =
       let journal = journal_to boot (settled boot s) to in
-      carrying_own boot (turned journal) back (updating boot to k (settled boot s)) (turned_out journal (alone_out q _ alone)) (updating_own boot to k s alone own)
+      carrying_own boot (turned journal) back (updating boot to k (settled boot s)) (turned_out journal.state journal.pending (alone_out q _ alone))
+      (updating_own boot to k s alone own)
 
 -- ---- over lists of events
 
--- no change that is to be done is of the name
-abbrev IsOut : List ℕ → World → Type 0
-IsOut q w = is_in (changes_of w.store.journal.pending) q ≡ false
-
 -- it is as an event of firmware's leaves it, and then as all later ones do
-then : (m n : Variables) (fs gs : List Single) (q : List ℕ) → get n q ≡ get (after_each m fs) q → get (after_each n gs) q ≡ get (after_each m (fs ++ gs)) q
+pub then : (m n : Variables) (fs gs : List Single) (q : List ℕ) → get n q ≡ get (after_each m fs) q
+    → get (after_each n gs) q ≡ get (after_each m (fs ++ gs)) q
 then m n fs gs q is =
     get-each gs n q ∙ ap (over gs q) (is ∙ get-each fs m q) ∙ sym (over-append fs gs q (get m q)) ∙ sym (get-each (fs ++ gs) m q)
 
-as_it_was : (w : World) (q : List ℕ) → IsOut q w → Own q (get w.store.variables q) w.store
-as_it_was w q out = record { here = refl; out = out }
+as_it_was : (w : World) (q : List ℕ) → IsOut q w.store.journal.pending → Own q (get w.store.variables q) w.store
+as_it_was w q out = record { variables = refl; journal = out }
 
-all_own : (q : List ℕ) (w : World) (events : List Event) → IsOut q w → UpdatesLeaveAlone q w events →
+own_then : {x : Option (List ℕ)} (q : List ℕ) (w v : World) (fs : List Single) → Own q (get w.store.variables q) v.store
+    → x ≡ get (after_each v.store.variables fs) q → x ≡ get (after_each w.store.variables fs) q
+own_then q w v fs own later = later ∙ then w.store.variables v.store.variables [] fs q own.variables
+
+all_own : (q : List ℕ) (w : World) (events : List Event) → IsOut q w.store.journal.pending → UpdatesLeaveAlone q w events →
     get (all_happen w events).store.variables q ≡ get (after_each w.store.variables (by_firmware events)) q
 all_own q w [] out alone = refl
 all_own q w (Settles k ∷ events) out alone =
     let own = settling_own q (get w.store.variables q) w.boot k w.store (as_it_was w q out) in
-    let v = happens w (Settles k) in
-    all_own q v events own.out alone.1 ∙ then w.store.variables v.store.variables [] (by_firmware events) q own.here
+    own_then q w (happens w (Settles k)) (by_firmware events) own (all_own q (happens w (Settles k)) events own.journal alone.1)
 all_own q w (Undoes k back ∷ events) out alone =
-    let own = undoing_own_by q (get w.store.variables q) w.store.journal.pending w.boot k back w.store (as_it_was w q out) in
-    let v = happens w (Undoes k back) in
-    all_own q v events own.out alone.1 ∙ then w.store.variables v.store.variables [] (by_firmware events) q own.here
+    let own = undoing_own q (get w.store.variables q) w.boot k back w.store (as_it_was w q out) in
+    own_then q w (happens w (Undoes k back)) (by_firmware events) own (all_own q (happens w (Undoes k back)) events own.journal alone.1)
 all_own q w (Updates to k ∷ events) out alone =
     let own = updating_own q (get w.store.variables q) w.boot to k w.store alone.0 (as_it_was w q out) in
-    let v = happens w (Updates to k) in
-    all_own q v events own.out alone.1 ∙ then w.store.variables v.store.variables [] (by_firmware events) q own.here
+    own_then q w (happens w (Updates to k)) (by_firmware events) own (all_own q (happens w (Updates to k)) events own.journal alone.1)
 all_own q w (Fails to k back ∷ events) out alone =
     let own = failing_own q (get w.store.variables q) w.boot to k back w.store alone.0 (as_it_was w q out) in
-    let v = happens w (Fails to k back) in
-    all_own q v events own.out alone.1 ∙ then w.store.variables v.store.variables [] (by_firmware events) q own.here
+    own_then q w (happens w (Fails to k back)) (by_firmware events) own (all_own q (happens w (Fails to k back)) events own.journal alone.1)
 all_own q w (Starts boot true ∷ events) out alone =
     let v = happens w (Starts boot true) in
     all_own q v events out alone.1 ∙ then w.store.variables v.store.variables (firmware_in (Starts boot true)) (by_firmware events) q refl

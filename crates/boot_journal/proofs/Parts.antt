@@ -1,5 +1,6 @@
--- Changes that tell what was there before, as names with their new data.
-use Rattle.std.proofs.Common.{◌≡◌, ◌⊎◌, inl, inr, ⊎_elim, ℕ, ◌||◌, Bool, true, false, cond, List, [], ◌∷◌, ◌++◌, map, reverse, take, length, Option, None, refl, sym, ap, ◌∙◌}
+-- Changes that tell what was there before, as names with their new data: what is due of them, and what takes them back.
+use Rattle.std.proofs.Common.{◌≡◌, ◌⊎◌, inl, inr, ⊎_elim, ℕ, ◌||◌, Bool, true, false, cond, List, [], ◌∷◌, ◌++◌, map, reverse, take, Option, None}
+use Rattle.std.proofs.Common.{refl, sym, ap, ◌∙◌}
 use Rattle.std.specs.FinMap.{get}
 use Rattle.std.proofs.lemmas.List.{take-map, map-append, reverse-append}
 use Rattle.uefi_vars.specs.Name.{next_text}
@@ -16,10 +17,6 @@ map-reverse f [] = refl
 map-reverse f (x ∷ xs) =
     ap (map f) (reverse-append (x ∷ []) xs) ∙ map-append f (reverse xs) (x ∷ [])
     ∙ ap (λ (l : List _). l ++ f x ∷ []) (map-reverse f xs) ∙ sym (reverse-append (f x ∷ []) (map f xs))
-
-pub take_whole : {A : Type 0} (xs : List A) → take (length xs) xs ≡ xs
-take_whole [] = refl
-take_whole (x ∷ xs) = ap (λ (l : List _). x ∷ l) (take_whole xs)
 
 -- ---- the names of some changes with other data
 
@@ -53,12 +50,10 @@ back_spent cs =
 
 -- what some of the one list leave of a name is forgotten by the other, whose changes have the same names, or it is what was there
 module _ (f g : ChangeParts → Option (List ℕ)) where
-  backward-cons : (c : ChangeParts) (cs : List ChangeParts) → backward g (c ∷ cs) ≡ backward g cs ++ (c.name, g c) ∷ []
-  backward-cons c cs = reverse-append ((c.name, g c) ∷ []) (forward g cs)
-
   over_more : (c : ChangeParts) (cs : List ChangeParts) (q : List ℕ) (x : Option (List ℕ)) →
       over (backward g (c ∷ cs)) q x ≡ cond (same_name q c.name) (g c) (over (backward g cs) q x)
-  over_more c cs q x = ap (λ (l : List Single). over l q x) (backward-cons c cs) ∙ over-append (backward g cs) ((c.name, g c) ∷ []) q x
+  over_more c cs q x =
+      ap (λ (l : List Single). over l q x) (reverse-append ((c.name, g c) ∷ []) (forward g cs)) ∙ over-append (backward g cs) ((c.name, g c) ∷ []) q x
 
   at_first : (b : Bool) (c : ChangeParts) (cs : List ChangeParts) (q : List ℕ) → Keeps (forward f cs) q →
       ((x y : Option (List ℕ)) → cond b (g c) (over (backward g cs) q x) ≡ cond b (g c) (over (backward g cs) q y))
@@ -94,7 +89,8 @@ due_covers true cs k m =
     ∙ ap (λ (l : List Single). after_each m l) (sym (back_backward cs))
 due_covers false cs k m =
     ap (λ (l : List Single). after_each (made (take k (map spent cs)) m) l) (back_spent cs)
-    ∙ ap (λ (l : List Single). after_each (after_each m l) (backward (unless_next (λ c. c.before)) cs)) (sym (take-map _ k (map spent cs)) ∙ ap (take k) (spent_forward cs))
+    ∙ ap (λ (l : List Single). after_each (after_each m l) (backward (unless_next (λ c. c.before)) cs))
+    (sym (take-map _ k (map spent cs)) ∙ ap (take k) (spent_forward cs))
     ∙ covers (unless_next (λ c. c.after)) (unless_next (λ c. c.before)) cs k m
     ∙ ap (λ (l : List Single). after_each m l) (sym (back_spent cs))
 
@@ -113,7 +109,7 @@ pub new-spent : (cs : List ChangeParts) → new_data (map spent cs) ≡ map spen
 new-spent [] = refl
 new-spent (c ∷ cs) = ap (λ (l : List Single). spent_single (c.name, c.after) ∷ l) (new-spent cs)
 
-none_again : (n : Bool) (x : Option (List ℕ)) → cond n None (cond n None x) ≡ cond n None x
+pub none_again : (n : Bool) (x : Option (List ℕ)) → cond n None (cond n None x) ≡ cond n None x
 none_again true x = refl
 none_again false x = refl
 
@@ -147,31 +143,3 @@ start_due same cs deletes m =
     ap (λ (l : List Single). after_each (without_next deletes m) l) (new-spent cs)
     ∙ start_single same (new_data cs) deletes m
     ∙ (λ i. without_next (deletes || next_new cs i) (after_each m (sym (due_single same cs) i)))
-
--- what takes changes back is of BootNext if one of them is
-any_append : (xs ys : List ChangeParts) → is_of_next (xs ++ ys) ≡ (is_of_next xs || is_of_next ys)
-any_append [] ys = refl
-any_append (x ∷ xs) ys = ap (λ b. same_name x.name next_text || b) (any_append xs ys) ∙ or_assoc (same_name x.name next_text) (is_of_next xs) (is_of_next ys)
-  where
-    or_assoc : (a b c : Bool) → (a || (b || c)) ≡ ((a || b) || c)
-    or_assoc true b c = refl
-    or_assoc false b c = refl
-
-or_swap : (a b : Bool) → (b || (a || false)) ≡ (a || b)
-or_swap true true = refl
-or_swap true false = refl
-or_swap false true = refl
-or_swap false false = refl
-
-next_reverse : (cs : List ChangeParts) → is_of_next (reverse cs) ≡ is_of_next cs
-next_reverse [] = refl
-next_reverse (c ∷ cs) =
-    ap is_of_next (reverse-append (c ∷ []) cs) ∙ any_append (reverse cs) (c ∷ [])
-    ∙ ap (λ b. b || (same_name c.name next_text || false)) (next_reverse cs) ∙ or_swap (same_name c.name next_text) (is_of_next cs)
-
-next_undone : (cs : List ChangeParts) → is_of_next (map undone cs) ≡ is_of_next cs
-next_undone [] = refl
-next_undone (c ∷ cs) = ap (λ b. same_name c.name next_text || b) (next_undone cs)
-
-pub next_back : (cs : List ChangeParts) → is_of_next (taken_back cs) ≡ is_of_next cs
-next_back cs = next_reverse (map undone cs) ∙ next_undone cs

@@ -1,96 +1,95 @@
--- Records of what was done.
-use Rattle.std.proofs.Common.{◌≡◌, ◌+◌, ℕ, Bool, true, false, Result, Ok, Err, Option, Some, None, List, [], ◌∷◌, ◌++◌, refl, sym, ap, ◌∙◌, append_assoc, arith}
+-- The record of a machine over a device, to which each call adds some moves. What is there is what all moves lead to, what was
+-- there is what each of them left, and so many were refused as the record has refusals. A call that did some moves is a
+-- `Goes`; what the contract of `make` and of `replace_journal` says follows from this and from the moves alone.
+use Rattle.std.proofs.Common.{◌≡◌, ◌+◌, Ok, Err, Option, Some, None, List, [], ◌∷◌, ◌++◌, refl, sym, ap, ◌∙◌, append_assoc, arith}
+use Rattle.std.specs.List.{AllByRecursion}
 use Rattle.boot_journal.specs.declared.recorded.Move.{Move}
 use Rattle.boot_journal.specs.declared.recorded.Move.TheVariants.{Made, Replaced, Refused}
-use Rattle.std.proofs.lemmas.Bool.{true≢false}
-use Rattle.var_stores.specs.BootChange.{ChangeParts}
 use Rattle.boot_journal.specs.declared.machine.CallError.{CallError}
-use Rattle.boot_journal.specs.declared.machine.CallError.TheVariants.{Refused as Refusal}
 use Rattle.boot_journal.specs.Asked.{Ask, and_then}
 use Rattle.boot_journal.specs.Cause.{HasCause}
-use Rattle.boot_journal.specs.Journal.{JournalParts}
 use Rattle.boot_journal.specs.Moments.{Leaves, IsNow}
 use Rattle.boot_journal.specs.Recorded.{moved, done_to, past, refusals_in}
 use Rattle.boot_journal.specs.Store.{Store}
 
-done_push : (s : Store) (ms : List Move) (m : Move) → done_to s (ms ++ m ∷ []) ≡ moved (done_to s ms) m
-done_push s [] m = refl
-done_push s (x ∷ ms) m = done_push (moved s x) ms m
+-- ---- records with some moves more
 
-past_push : (s : Store) (ms : List Move) (m : Move) → past s (ms ++ m ∷ []) ≡ past s ms ++ moved (done_to s ms) m ∷ []
-past_push s [] m = refl
-past_push s (x ∷ ms) m = ap (λ (l : List Store). moved s x ∷ l) (past_push (moved s x) ms m)
+done_append : (s : Store) (ms more : List Move) → done_to s (ms ++ more) ≡ done_to (done_to s ms) more
+done_append s [] more = refl
+done_append s (m ∷ ms) more = done_append (moved s m) ms more
 
-refusals_made : (ms : List Move) (change : ChangeParts) → refusals_in (ms ++ Made change ∷ []) ≡ refusals_in ms
-refusals_made [] change = refl
-refusals_made (Made c ∷ ms) change = refusals_made ms change
-refusals_made (Replaced j ∷ ms) change = refusals_made ms change
-refusals_made (Refused ∷ ms) change = ap (λ (n : ℕ). 1 + n) (refusals_made ms change)
+past_append : (s : Store) (ms more : List Move) → past s (ms ++ more) ≡ past s ms ++ past (done_to s ms) more
+past_append s [] more = refl
+past_append s (m ∷ ms) more = ap (λ (l : List Store). moved s m ∷ l) (past_append (moved s m) ms more)
 
-refusals_replaced : (ms : List Move) (journal : JournalParts) → refusals_in (ms ++ Replaced journal ∷ []) ≡ refusals_in ms
-refusals_replaced [] journal = refl
-refusals_replaced (Made c ∷ ms) journal = refusals_replaced ms journal
-refusals_replaced (Replaced j ∷ ms) journal = refusals_replaced ms journal
-refusals_replaced (Refused ∷ ms) journal = ap (λ (n : ℕ). 1 + n) (refusals_replaced ms journal)
+refusals_append : (ms more : List Move) → refusals_in (ms ++ more) ≡ refusals_in ms + refusals_in more
+refusals_append [] more = omega arith
+refusals_append (Made change ∷ ms) more = refusals_append ms more
+refusals_append (Replaced journal ∷ ms) more = refusals_append ms more
+refusals_append (Refused ∷ ms) more = omega (arith, refusals_append ms more)
 
-refusals_refused : (ms : List Move) → refusals_in (ms ++ Refused ∷ []) ≡ 1 + refusals_in ms
-refusals_refused [] = refl
-refusals_refused (Made c ∷ ms) = refusals_refused ms
-refusals_refused (Replaced j ∷ ms) = refusals_refused ms
-refusals_refused (Refused ∷ ms) = ap (λ (n : ℕ). 1 + n) (refusals_refused ms)
+-- the last moment is that of what all moves lead to
+past_ends : (s : Store) (m : Move) (ms : List Move) → IsNow (done_to s (m ∷ ms)) (past s (m ∷ ms))
+past_ends s m [] = ([], refl)
+past_ends s m (next ∷ ms) =
+    let rest = past_ends (moved s m) next ms in
+    (moved s m ∷ rest.0, ap (λ (l : List Store). moved s m ∷ l) rest.1)
 
--- what is there is what was done leads to
-pub keeps : (first now new : Store) (old items : List Move) (m : Move) → now ≡ done_to first old → items ≡ old ++ m ∷ [] → new ≡ moved now m → new ≡ done_to first items
-keeps first now new old items m is pushed goes = goes ∙ ap (λ (s : Store). moved s m) is ∙ sym (done_push first old m) ∙ sym (ap (done_to first) pushed)
+-- what is there is what all moves lead to, and is so after one more
+pub keeps : (first now new : Store) (old items : List Move) (m : Move) → now.variables ≡ (done_to first old).variables
+    → now.journal ≡ (done_to first old).journal → items ≡ old ++ m ∷ [] → new ≡ moved now m
+    → (new.variables ≡ (done_to first items).variables) × (new.journal ≡ (done_to first items).journal)
+keeps first now new old items m vars journal pushed goes =
+    let kept : new ≡ done_to first items =
+    goes ∙ (λ i. moved (record { variables = vars i; journal = journal i }) m) ∙ sym (done_append first old (m ∷ []))
+    ∙ sym (ap (done_to first) pushed) in
+    (ap (λ (s : Store). s.variables) kept, ap (λ (s : Store). s.journal) kept)
 
--- ---- one more move
+-- ---- what a call did
 
--- what a step of the record leads to
-pub record Step (first now first' now' : Store) (items items' : List Move) (m : Move) : Type 0 where
+-- these moves more: what was first, and is now, and the record, before them and after them
+pub record Goes (first now first' now' : Store) (items items' more : List Move) : Type 0 where
   pub is : now ≡ done_to first items
   pub same : first' ≡ first
-  pub pushed : items' ≡ items ++ m ∷ []
-  pub goes : now' ≡ moved now m
+  pub told : items' ≡ items ++ more
+  pub leads : now' ≡ done_to now more
 
-step_past : (first now first' now' : Store) (items items' : List Move) (m : Move) → Step first now first' now' items items' m → past first' items' ≡ past first items ++ now' ∷ []
-step_past first now first' now' items items' m step =
-    (λ i. past (step.same i) (step.pushed i)) ∙ past_push first items m
-    ∙ ap (λ (s : Store). past first items ++ s ∷ []) (ap (λ (s : Store). moved s m) (sym step.is) ∙ sym step.goes)
+past_goes : {first now first' now' : Store} {items items' more : List Move} → Goes first now first' now' items items' more
+    → past first' items' ≡ past first items ++ past now more
+past_goes {first = first} {items = items} {more = more} goes =
+    (λ i. past (goes.same i) (goes.told i)) ∙ past_append first items more
+    ∙ ap (λ (s : Store). past first items ++ past s more) (sym goes.is)
 
-pub step_moments : (P : Store → Type 0) (first now first' now' : Store) (items items' : List Move) (m : Move) → Step first now first' now' items items' m → P now' →
-    Leaves P (past first items) (past first' items')
-step_moments P first now first' now' items items' m step here = record { since = now' ∷ []; is = step_past first now first' now' items items' m step; each = (here, tt) }
+-- each moment since is what one of them left
+pub moments : {first now first' now' : Store} {items items' more : List Move} (P : Store → Type 0) → Goes first now first' now' items items' more
+    → AllByRecursion P (past now more) → Leaves P (past first items) (past first' items')
+moments {now = now} {more = more} P goes each = record { since = past now more; is = past_goes goes; each = each }
 
-pub step_now : (first now first' now' : Store) (items items' : List Move) (m : Move) → Step first now first' now' items items' m → IsNow now' (past first' items')
-step_now first now first' now' items items' m step = (past first items, step_past first now first' now' items items' m step)
+-- the last moment is that of what is there now
+pub ends : {first now first' now' : Store} {items items' more : List Move} {m : Move} → Goes first now first' now' items items' (m ∷ more)
+    → IsNow now' (past first' items')
+ends {first = first} {now = now} {items = items} {more = more} {m = m} goes =
+    let last = past_ends now m more in (
+      past first items ++ last.0,
+      past_goes goes ∙ ap (λ (l : List Store). past first items ++ l) last.1
+          ∙ sym (append_assoc (past first items) last.0 (done_to now (m ∷ more) ∷ []))
+          ∙ ap (λ (s : Store). (past first items ++ last.0) ++ s ∷ []) (sym goes.leads),
+    )
 
-pub step_is : (first now first' now' : Store) (items items' : List Move) (m : Move) → Step first now first' now' items items' m → now' ≡ done_to first' items'
-step_is first now first' now' items items' m step =
-    step.goes ∙ ap (λ (s : Store). moved s m) step.is ∙ sym (done_push first items m) ∙ sym (λ i. done_to (step.same i) (step.pushed i))
+refusals_go : {first now first' now' : Store} {items items' more : List Move} → Goes first now first' now' items items' more
+    → refusals_in items' ≡ refusals_in items + refusals_in more
+refusals_go {items = items} {more = more} goes = ap refusals_in goes.told ∙ refusals_append items more
 
--- ---- causes
+-- a call that was done tells of no refusal, and one that failed of a refusal that is in the record
+pub no_refusal : {E : Type 0} {first now first' now' : Store} {items items' more : List Move} → Goes first now first' now' items items' more
+    → HasCause {T = Unit {0}} {E = E} (refusals_in items) (refusals_in items') (Ok tt)
+no_refusal goes = record { later = omega (arith, refusals_go goes); refused = λ refusal is. absurd (cc) }
 
-ok_is_no_error : {T E : Type 0} (x : T) (e : E) → ◌≡◌ {A = Result T E} (Ok x) (Err e) → ⊥
-ok_is_no_error {T} {E} x e is = true≢false (ap is_fine is)
-  where
-    is_fine : Result T E → Bool
-    is_fine (Ok x) = true
-    is_fine (Err e) = false
-
-pub no_refusal : {E : Type 0} (before now : ℕ) → now ≡ before → HasCause {T = Unit {0}} {E = E} before now (Ok tt)
-no_refusal before now same = record { later = omega (arith, same); refused = λ refusal is. absurd (ok_is_no_error tt (Refusal refusal) is) }
-
-pub one_refusal : {E : Type 0} (before now : ℕ) (error : CallError E) → now ≡ 1 + before → HasCause {T = Unit {0}} before now (Err error)
-one_refusal before now error more = record { later = omega (arith, more); refused = λ refusal is. omega (arith, more) }
-
-pub count_made : (items items' : List Move) (change : ChangeParts) → items' ≡ items ++ Made change ∷ [] → refusals_in items' ≡ refusals_in items
-count_made items items' change pushed = ap refusals_in pushed ∙ refusals_made items change
-
-pub count_replaced : (items items' : List Move) (journal : JournalParts) → items' ≡ items ++ Replaced journal ∷ [] → refusals_in items' ≡ refusals_in items
-count_replaced items items' journal pushed = ap refusals_in pushed ∙ refusals_replaced items journal
-
-pub count_refused : (items items' : List Move) → items' ≡ items ++ Refused ∷ [] → refusals_in items' ≡ 1 + refusals_in items
-count_refused items items' pushed = ap refusals_in pushed ∙ refusals_refused items
+pub one_refusal : {E : Type 0} {first now first' now' : Store} {items items' more : List Move} (error : CallError E)
+    → Goes first now first' now' items items' more → refusals_in more ≡ 1
+    → HasCause {T = Unit {0}} (refusals_in items) (refusals_in items') (Err error)
+one_refusal error goes one =
+    record { later = omega (arith, refusals_go goes, one); refused = λ refusal is. omega (arith, refusals_go goes, one) }
 
 -- ---- what a device was asked
 
@@ -98,11 +97,14 @@ then_again : (asked : Option (List Ask)) (xs ys : List Ask) → and_then (and_th
 then_again None xs ys = refl
 then_again (Some asks) xs ys = ap Some (append_assoc asks xs ys)
 
-pub asked_twice : (asked mid asked' : Option (List Ask)) (x y : Ask) → mid ≡ and_then asked (x ∷ []) → asked' ≡ and_then mid (y ∷ []) → asked' ≡ and_then asked (x ∷ y ∷ [])
-asked_twice asked mid asked' x y first second = second ∙ ap (λ (a : Option (List Ask)). and_then a (y ∷ [])) first ∙ then_again asked (x ∷ []) (y ∷ [])
+pub asked_twice : (asked mid asked' : Option (List Ask)) (x y : Ask) → mid ≡ and_then asked (x ∷ []) → asked' ≡ and_then mid (y ∷ [])
+    → asked' ≡ and_then asked (x ∷ y ∷ [])
+asked_twice asked mid asked' x y first second =
+    second ∙ ap (λ (a : Option (List Ask)). and_then a (y ∷ [])) first ∙ then_again asked (x ∷ []) (y ∷ [])
 
 pub told_once : (moves same moves' : List Move) (m n : Move) → same ≡ moves → m ≡ n → moves' ≡ same ++ m ∷ [] → moves' ≡ moves ++ n ∷ []
 told_once moves same moves' m n is alike pushed = pushed ∙ (λ i. is i ++ alike i ∷ [])
 
 pub told_twice : (moves mid moves' : List Move) (m n : Move) → mid ≡ moves ++ m ∷ [] → moves' ≡ mid ++ n ∷ [] → moves' ≡ moves ++ m ∷ n ∷ []
-told_twice moves mid moves' m n first second = second ∙ ap (λ (l : List Move). l ++ n ∷ []) first ∙ append_assoc moves (m ∷ []) (n ∷ [])
+told_twice moves mid moves' m n first second =
+    second ∙ ap (λ (l : List Move). l ++ n ∷ []) first ∙ append_assoc moves (m ∷ []) (n ∷ [])

@@ -1,4 +1,4 @@
--- What happens after a restart does what it does in a run of its own from the gap on.
+-- What happens after a restart does what it does in a run of its own from the gap on: step by step, both accept the same requests.
 use Rattle.std.proofs.Common.{◌≡◌, ℕ, ltb, Bool, true, false, cond, List, [], ◌∷◌, ◌++◌, Option, None, refl, sym, ap, ◌∙◌, arith}
 use Rattle.std.proofs.lemmas.Bool.Decides.{nat_tests}
 use Rattle.std.proofs.lemmas.List.{append_assoc}
@@ -11,7 +11,8 @@ use Rattle.boot_requests.specs.Seen.{Seen, Came, Malformed, Prepare, Hand, Resta
 use Rattle.boot_requests.specs.Window.{Requests, gap_of, is_open}
 use Rattle.boot_requests.proofs.WholeRuns.Deliveries.{above_gap, open_waiting, waiting_behind}
 use Rattle.boot_requests.proofs.WholeRuns.Gaps.{gap_is}
-use Rattle.boot_requests.proofs.WholeRuns.NextNumbers.{accepted_open, gap_open, new_changes_open, accepted_closed, gap_closed, new_changes_closed, gap_kept, gap_of_none}
+use Rattle.boot_requests.proofs.WholeRuns.NextNumbers.{accepted_open, gap_open, new_changes_open, accepted_closed, gap_closed, new_changes_closed, gap_kept}
+use Rattle.boot_requests.proofs.WholeRuns.NextNumbers.{gap_of_none}
 use Rattle.boot_requests.proofs.WholeRuns.Numbers.{get_retained, same_numbers}
 
 -- what waits after a run
@@ -53,7 +54,8 @@ module _ (first : ℕ) (run : List Seen) (number : ℕ) (request : Request) wher
       ap (λ (m : Requests). above_gap m (gap_at first (Came number request ∷ run))) (accepted_closed first run number request is)
       ∙ ap (above_gap (accepted_requests first run)) (gap_closed first run number request is)
 
-came : (first second : ℕ) (run also : List Seen) (number : ℕ) (request : Request) → GoAlike first second run also → StepsAlike first second run also (Came number request)
+came : (first second : ℕ) (run also : List Seen) (number : ℕ) (request : Request) → GoAlike first second run also
+    → StepsAlike first second run also (Came number request)
 came first second run also number request alike = by (opens first run number request) refl
   where
     same_opens : opens first run number request ≡ opens second also number request
@@ -67,7 +69,8 @@ came first second run also number request alike = by (opens first run number req
         let there : opens second also number request ≡ true = sym same_opens ∙ is in record {
           same =
               new_changes_open first run number request is
-              ∙ (λ i. changes_between (alike.gap i) (gap_of (alike.gap i) (insert (alike.waiting i) number request)) (insert (alike.waiting i) number request))
+              ∙ (λ i. changes_between (alike.gap i) (gap_of (alike.gap i) (insert (alike.waiting i) number request))
+              (insert (alike.waiting i) number request))
               ∙ sym (new_changes_open second also number request there);
           later = record {
             gap =
@@ -152,7 +155,8 @@ record HasDone (first second : ℕ) (done : List Change) (run also : List Seen) 
   alike : GoAlike first second run also
   changes : history first run ≡ done ++ history second also
 
-go_on : (first second : ℕ) (done : List Change) (later run also : List Seen) → HasDone first second done run also → HasDone first second done (run_followed_by run later) (run_followed_by also later)
+go_on : (first second : ℕ) (done : List Change) (later run also : List Seen) → HasDone first second done run also
+    → HasDone first second done (run_followed_by run later) (run_followed_by also later)
 go_on first second done [] run also has = has
 go_on first second done (seen ∷ later) run also has =
     let next = step first second run also seen has.alike in
@@ -171,5 +175,6 @@ pub record DoesBoth (first : ℕ) (earlier seen : List Seen) : Type 0 where
 
 pub after_restart : (first : ℕ) (earlier seen : List Seen) → DoesBoth first earlier seen
 after_restart first earlier seen =
-    let has = go_on first (gap_at first earlier) (history first earlier) seen (Restart ∷ earlier) [] (record { alike = anew first earlier; changes = refl }) in
+    let has =
+    go_on first (gap_at first earlier) (history first earlier) seen (Restart ∷ earlier) [] (record { alike = anew first earlier; changes = refl }) in
     record { gap = has.alike.gap; changes = has.changes }

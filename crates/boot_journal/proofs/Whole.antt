@@ -1,27 +1,35 @@
--- Whatever is cut off when, a machine stands for the whole turns that happened.
-use Rattle.std.proofs.Common.{◌≡◌, ⊎_elim, ℕ, zero, suc, ◌||◌, ◌&&◌, if◌then◌else◌, Bool, true, false, cond, List, [], ◌∷◌, map, Option, Some, None, refl, sym, ap, subst, ◌∙◌}
+-- Whatever is cut off when, a machine stands for the whole turns that happened: by induction over the events, with an account of these
+-- turns and of those that it would fall back to (`Fits`).
+use Rattle.std.proofs.Common.{◌≡◌, ⊎_elim, ℕ, zero, suc, ◌||◌, ◌&&◌, if◌then◌else◌, Bool, true, false, cond, List, [], ◌∷◌, map, Option, Some, None, refl}
+use Rattle.std.proofs.Common.{sym, ap, subst, ◌∙◌}
 use Rattle.std.specs.List.{AllByRecursion}
 use Rattle.std.specs.FinMap.{get}
 use Rattle.std.specs.Cmp.{Equal-is}
-use Rattle.std.proofs.lemmas.Bool.{true≢false}
+use Rattle.std.proofs.lemmas.Bool.{true≢false, or_right}
 use Rattle.uefi_vars.specs.Name.{next_text}
 use Rattle.uefi_vars.specs.Vars.{Variables}
 use Rattle.uefi_vars.specs.NameChanges.{after_each}
 use Rattle.var_stores.specs.BootChange.{ChangeParts, same_name, new_data, is_boot_name, changes_from, IsNeeded}
 use Rattle.boot_requests.specs.State.{keep_text}
 use Rattle.boot_journal.specs.Changes.{made, taken_back, spent, is_of_next}
-use Rattle.boot_journal.specs.Journal.{JournalParts, PendingParts, Makes, TakesBack, idle, due, due_by, turned, turned_by, is_making, changes_of, BeganUnderAnother}
+use Rattle.boot_journal.specs.Journal.{JournalParts, PendingParts, Makes, TakesBack, idle, due, due_by, turned, turned_by, is_making, changes_of}
+use Rattle.boot_journal.specs.Journal.{BeganUnderAnother}
 use Rattle.boot_journal.specs.Store.{Store, with_journal, with_state, seen, stands_for, falls_back_to, brought, journal_to}
-use Rattle.boot_journal.specs.Moves.{cut_making, cut_carrying, cut_settling, cut_settling_by, cut_undoing_by, settled}
-use Rattle.boot_journal.specs.Events.{Event, Settles, Undoes, Updates, Fails, Starts, Firmware, World, world, happens, all_happen, without_next, with_variables, updating, failing}
-use Rattle.boot_journal.specs.Turns.{Brings, Meddles, that_stay, after_turn, after_turns, Account, account, accounts, happened, is_known, IsBegunKnown, IsKnown, StartsAreNew}
-use Rattle.boot_journal.proofs.Single.{Single, over, one_name, same_variables, get-each}
+use Rattle.boot_journal.specs.Moves.{cut_making, cut_carrying, cut_settling, cut_settling_by, cut_undoing, cut_undoing_by, settled}
+use Rattle.boot_journal.specs.Events.{Event, Settles, Undoes, Updates, Fails, Starts, Firmware, World, world, happens, all_happen, without_next}
+use Rattle.boot_journal.specs.Events.{with_variables, updating, failing}
+use Rattle.boot_journal.specs.Turns.{Brings, Meddles, that_stay, after_turn, after_turns, Account, account, accounts, happened, is_known, IsBegunKnown}
+use Rattle.boot_journal.specs.Turns.{IsKnown, StartsAreNew}
+use Rattle.boot_journal.proofs.Single.{Single, over, one_name, unlike, same_variables, get-each}
 use Rattle.boot_journal.proofs.Firmware.{stays_over}
-use Rattle.boot_journal.proofs.Boot.{get-without_next}
-use Rattle.boot_journal.proofs.Parts.{start_due, next_back}
+use Rattle.boot_journal.proofs.Boot.{get-without_next, not_deleted}
+use Rattle.boot_journal.proofs.Parts.{start_due}
+use Rattle.boot_journal.proofs.Own.{turned_changes, back_in}
+use Rattle.boot_journal.proofs.Throughout.{turned_new, settling_holds, carrying_holds, undoing_holds}
 use Rattle.boot_journal.proofs.Updates.{updating_stands, updating_falls_back, failing_stands}
 use Rattle.boot_journal.proofs.Settling.{unturned, turned_not_making, carried_not_making, undone_stands}
-use Rattle.boot_journal.proofs.Making.{same_self, making_is, settling_stands, settled_stands, settled_idle, idle_stands, falls_back_after, get-state, state_of_seen}
+use Rattle.boot_journal.proofs.Making.{same_self, making_is, settling_stands, settled_stands, settled_idle, idle_stands, falls_back_after, get-state}
+use Rattle.boot_journal.proofs.Making.{beside_state, state_of_seen}
 
 -- ---- settlings
 
@@ -40,15 +48,14 @@ making_still boot k s making = ⊎_elim
     (λ done. absurd (true≢false (sym making ∙ ap (λ (c : Store). is_making c.journal.pending) done)))
     (making_is k (due boot s.journal.pending) (idle s.journal.state) s)
 
-settling_still_by : (boot : List ℕ) (k : ℕ) (s : Store) (p : Option PendingParts) → p ≡ s.journal.pending → is_making (cut_settling_by p boot k s).journal.pending ≡ true →
-    StillMakes boot s (cut_settling_by p boot k s)
+settling_still_by : (boot : List ℕ) (k : ℕ) (s : Store) (p : Option PendingParts)
+    → p ≡ s.journal.pending → is_making (cut_settling_by p boot k s).journal.pending ≡ true
+    → StillMakes boot s (cut_settling_by p boot k s)
 settling_still_by boot k s None is making = record { before = making; falls_back = refl }
 settling_still_by boot k s (Some pending) is making =
     subst (λ (p : Option PendingParts). StillMakes boot s (cut_making k (due boot p) (idle s.journal.state) s)) (sym is)
-    (making_still boot k s (sym (ap (λ (p : Option PendingParts). is_making (cut_making k (due boot p) (idle s.journal.state) s).journal.pending) is) ∙ making))
-
-settling_still : (boot : List ℕ) (k : ℕ) (s : Store) → is_making (cut_settling boot k s).journal.pending ≡ true → StillMakes boot s (cut_settling boot k s)
-settling_still boot k s making = settling_still_by boot k s s.journal.pending refl making
+    (making_still boot k s (sym (ap (λ (p : Option PendingParts). is_making (cut_making k (due boot p) (idle s.journal.state) s).journal.pending) is)
+    ∙ making))
 
 -- ---- accounts
 
@@ -60,7 +67,7 @@ module _ (base : Variables) where
   fits_settles : (w : World) (a : Account) (k : ℕ) → Fits base w a → Fits base (world w.boot (cut_settling w.boot k w.store)) a
   fits_settles w a k fits = record {
     now = settling_stands w.boot k w.store ∙ fits.now;
-    former = λ making. let still = settling_still w.boot k w.store making in still.falls_back ∙ fits.former still.before;
+    former = λ making. let still = settling_still_by w.boot k w.store w.store.journal.pending refl making in still.falls_back ∙ fits.former still.before;
   }
 
   fits_undoes : (w : World) (a : Account) (k back : ℕ) → Fits base w a → (p : Option PendingParts) → p ≡ w.store.journal.pending →
@@ -70,7 +77,11 @@ module _ (base : Variables) where
   fits_undoes w a k back fits (Some (Makes former changes began)) is =
       let making : is_making w.store.journal.pending ≡ true = sym (ap is_making is) in record {
         now = undone_stands w.boot k back w.store making ∙ fits.former making;
-        former = λ still. absurd (true≢false (sym still ∙ carried_not_making w.boot (turned w.store.journal) back (cut_settling w.boot k w.store) (turned_not_making w.store.journal.state w.store.journal.pending)));
+        former =
+            λ still. absurd (true≢false
+            (sym still
+            ∙ carried_not_making w.boot (turned w.store.journal) back (cut_settling w.boot k w.store)
+            (turned_not_making w.store.journal.state w.store.journal.pending)));
       }
 
   -- ---- updates
@@ -96,29 +107,28 @@ module _ (base : Variables) where
         Fits base (world w.boot (failing w.boot to k (suc back) (settled w.boot w.store))) a
     fits_failed w a to k back fits = record {
       now = failing_stands needed no_keep w.boot to k back (settled w.boot w.store) ∙ settled_seen w a fits;
-      former = λ making. absurd (true≢false (sym making ∙ carried_not_making w.boot (turned (journal_to w.boot (settled w.boot w.store) to)) back (cut_carrying w.boot (journal_to w.boot (settled w.boot w.store) to) k (settled w.boot w.store)) refl));
+      former =
+          λ making. absurd (true≢false
+          (sym making
+          ∙ carried_not_making w.boot (turned (journal_to w.boot (settled w.boot w.store) to)) back
+          (cut_carrying w.boot (journal_to w.boot (settled w.boot w.store) to) k (settled w.boot w.store)) refl));
     }
 
   -- ---- starts
 
-  without_state : (deletes : Bool) (state : Option (List ℕ)) (m : Variables) → with_state state (without_next deletes m) ≡ without_next deletes (with_state state m)
+  without_state : (deletes : Bool) (state : Option (List ℕ)) (m : Variables)
+      → with_state state (without_next deletes m) ≡ without_next deletes (with_state state m)
   without_state deletes state m = same_variables _ _ (λ q.
       get-state state (without_next deletes m) q
       ∙ ap (cond (same_name q keep_text) state) (get-without_next deletes m q)
       ∙ both q (same_name q keep_text) refl
       ∙ sym (get-without_next deletes (with_state state m) q ∙ ap (cond (deletes && same_name q next_text) None) (get-state state m q)))
     where
-      apart : same_name keep_text next_text ≡ false
-      apart = refl
-
-      with_false : (d : Bool) (x : Option (List ℕ)) → cond (d && false) None x ≡ x
-      with_false true x = refl
-      with_false false x = refl
-
       both : (q : List ℕ) (n : Bool) → same_name q keep_text ≡ n →
           cond n state (cond (deletes && same_name q next_text) None (get m q)) ≡ cond (deletes && same_name q next_text) None (cond n state (get m q))
       both q true is =
-          sym (ap (λ b. cond (deletes && b) None state) (ap (λ p. same_name p next_text) (one_name q keep_text ((Equal-is _).0 is)) ∙ apart) ∙ with_false deletes state)
+          sym (ap (λ b. cond (deletes && b) None state) (ap (λ p. same_name p next_text) (one_name q keep_text ((Equal-is _).0 is)))
+          ∙ not_deleted deletes state)
       both q false is = refl
 
   or_none : (deletes : Bool) → (deletes || false) ≡ deletes
@@ -134,23 +144,14 @@ module _ (base : Variables) where
   start_by old boot deletes m (Some (TakesBack changes began)) new =
       ap (λ b. made (cond b (taken_back changes) (map spent (taken_back changes))) (without_next deletes m)) new
       ∙ start_due (same_name old began) (taken_back changes) deletes m
-      ∙ ap (λ b. without_next (deletes || b) (made (due_by old began (taken_back changes)) m)) (next_back changes)
+      ∙ ap (λ b. without_next (deletes || b) (made (due_by old began (taken_back changes)) m)) (back_in changes next_text)
 
-  start_stands : (old boot : List ℕ) (deletes : Bool) (s : Store) → BeganUnderAnother boot s.journal.pending →
-      stands_for boot (with_variables (without_next deletes s.variables) s) ≡ without_next (deletes || is_of_next (changes_of s.journal.pending)) (stands_for old s)
+  start_stands : (old boot : List ℕ) (deletes : Bool) (s : Store) → BeganUnderAnother boot s.journal.pending
+      → stands_for boot (with_variables (without_next deletes s.variables) s)
+      ≡ without_next (deletes || is_of_next (changes_of s.journal.pending)) (stands_for old s)
   start_stands old boot deletes s new =
       ap (with_state s.journal.state) (start_by old boot deletes s.variables s.journal.pending new)
       ∙ without_state (deletes || is_of_next (changes_of s.journal.pending)) s.journal.state (made (due old s.journal.pending) s.variables)
-
-  turned_new : (boot : List ℕ) (state : Option (List ℕ)) (p : Option PendingParts) → BeganUnderAnother boot p → BeganUnderAnother boot (turned_by state p).pending
-  turned_new boot state None new = new
-  turned_new boot state (Some (Makes former changes began)) new = new
-  turned_new boot state (Some (TakesBack changes began)) new = new
-
-  turned_changes : (state : Option (List ℕ)) (p : Option PendingParts) → changes_of (turned_by state p).pending ≡ changes_of p
-  turned_changes state None = refl
-  turned_changes state (Some (Makes former changes began)) = refl
-  turned_changes state (Some (TakesBack changes began)) = refl
 
   fits_starts : (w : World) (a : Account) (boot : List ℕ) (deletes : Bool) → BeganUnderAnother boot w.store.journal.pending → Fits base w a →
       Fits base (happens w (Starts boot deletes)) (account w a (Starts boot deletes))
@@ -173,7 +174,7 @@ module _ (base : Variables) where
       get-each (new_data due) (after_each m fs) q ∙ ap (over (new_data due) q) (get-each fs m q)
       ∙ stays_over due fs q (get m q)
       ∙ sym (get-each (that_stay due fs) (with_state st (made due m)) q
-      ∙ ap (over (that_stay due fs) q) (get-state st (made due m) q ∙ ap (λ b. cond b st (get (made due m) q)) is ∙ get-each (new_data due) m q))
+      ∙ ap (over (that_stay due fs) q) (beside_state st (made due m) q is ∙ get-each (new_data due) m q))
 
   firmware_stands : (boot : List ℕ) (fs : List Single) (s : Store) →
       stands_for boot (with_variables (after_each s.variables fs) s) ≡ after_turn (Meddles (that_stay (due boot s.journal.pending) fs)) (stands_for boot s)
@@ -186,7 +187,8 @@ module _ (base : Variables) where
       ∙ sym (get-state st (after_each (with_state st (made ds s.variables)) (that_stay ds fs)) q))
       ∙ ap (λ (x : Option (List ℕ)). with_state x (after_each (stands_for boot s) (that_stay ds fs))) (sym (state_of_seen st (made ds s.variables)))
 
-  fits_firmware : (w : World) (a : Account) (changes : List Single) → Fits base w a → Fits base (happens w (Firmware changes)) (account w a (Firmware changes))
+  fits_firmware : (w : World) (a : Account) (changes : List Single) → Fits base w a
+      → Fits base (happens w (Firmware changes)) (account w a (Firmware changes))
   fits_firmware w a changes fits = record {
     now = firmware_stands w.boot changes w.store ∙ ap (after_turn (Meddles (that_stay (due w.boot w.store.journal.pending) changes))) fits.now;
     former = λ making.
@@ -197,11 +199,7 @@ module _ (base : Variables) where
   -- ---- identities
 
   known_later : (boot q : List ℕ) (known : List (List ℕ)) → is_known known q ≡ true → is_known (boot ∷ known) q ≡ true
-  known_later boot q known is = or_true (same_name q boot) (is_known known q) is
-    where
-      or_true : (a b : Bool) → b ≡ true → (a || b) ≡ true
-      or_true true b is = refl
-      or_true false b is = is
+  known_later boot q known is = or_right (same_name q boot) (is_known known q) is
 
   begun_later : (boot : List ℕ) (known : List (List ℕ)) (p : Option PendingParts) → IsBegunKnown known p → IsBegunKnown (boot ∷ known) p
   begun_later boot known None is = is
@@ -210,63 +208,58 @@ module _ (base : Variables) where
 
   -- an identity that isn't known isn't one that is
   other_identity : (boot began : List ℕ) (known : List (List ℕ)) → is_known known boot ≡ false → is_known known began ≡ true → same_name boot began ≡ false
-  other_identity boot began known new is = by (same_name boot began) refl
-    where
-      by : (b : Bool) → same_name boot began ≡ b → b ≡ false
-      by true same = absurd (true≢false (sym is ∙ ap (is_known known) (sym (one_name boot began ((Equal-is _).0 same))) ∙ new))
-      by false same = refl
+  other_identity boot began known new is = unlike boot began (λ e. true≢false (sym is ∙ ap (is_known known) (sym e) ∙ new))
 
   new_to : (boot : List ℕ) (known : List (List ℕ)) (p : Option PendingParts) → is_known known boot ≡ false → IsBegunKnown known p → BeganUnderAnother boot p
   new_to boot known None new is = tt
   new_to boot known (Some (Makes former changes began)) new is = other_identity boot began known new is
   new_to boot known (Some (TakesBack changes began)) new is = other_identity boot began known new is
 
-  known_making : (known : List (List ℕ)) (k : ℕ) (cs : List ChangeParts) (state : Option (List ℕ)) (s : Store) →
-      IsBegunKnown known s.journal.pending → IsBegunKnown known (cut_making k cs (idle state) s).journal.pending
-  known_making known k cs state s is = ⊎_elim
-      (λ amid. subst (λ (c : Store). IsBegunKnown known c.journal.pending) (sym amid) is)
-      (λ done. subst (λ (c : Store). IsBegunKnown known c.journal.pending) (sym done) tt)
-      (making_is k cs (idle state) s)
-
-  known_settling : (known : List (List ℕ)) (boot : List ℕ) (k : ℕ) (s : Store) (p : Option PendingParts) →
-      IsBegunKnown known s.journal.pending → IsBegunKnown known (cut_settling_by p boot k s).journal.pending
-  known_settling known boot k s None is = is
-  known_settling known boot k s (Some pending) is = known_making known k (due boot (Some pending)) s.journal.state s is
-
-  known_turned : (known : List (List ℕ)) (state : Option (List ℕ)) (p : Option PendingParts) → IsBegunKnown known p → IsBegunKnown known (turned_by state p).pending
+  known_turned : (known : List (List ℕ)) (state : Option (List ℕ)) (p : Option PendingParts) → IsBegunKnown known p
+      → IsBegunKnown known (turned_by state p).pending
   known_turned known state None is = is
   known_turned known state (Some (Makes former changes began)) is = is
   known_turned known state (Some (TakesBack changes began)) is = is
 
-  known_carrying : (known : List (List ℕ)) (boot : List ℕ) (journal : JournalParts) (k : ℕ) (s : Store) →
-      IsBegunKnown known journal.pending → IsBegunKnown known s.journal.pending → IsBegunKnown known (cut_carrying boot journal k s).journal.pending
-  known_carrying known boot journal zero s begins is = is
-  known_carrying known boot journal (suc k) s begins is = known_making known k (due boot journal.pending) journal.state (with_journal journal s) begins
+  -- moves keep it, whatever the variables are
+  module _ (known : List (List ℕ)) (boot : List ℕ) where
+    known_settling : (k : ℕ) (s : Store) → IsBegunKnown known s.journal.pending → IsBegunKnown known (cut_settling boot k s).journal.pending
+    known_settling k s is =
+        (settling_holds boot (λ m. Unit {0}) (IsBegunKnown known) tt (known_turned known) (λ p begun m j here. tt) k s
+        (record { variables = tt; journal = is })).journal
 
-  known_undoing : (known : List (List ℕ)) (boot : List ℕ) (k back : ℕ) (s : Store) (p : Option PendingParts) →
-      IsBegunKnown known s.journal.pending → IsBegunKnown known (cut_undoing_by p boot k back s).journal.pending
-  known_undoing known boot k back s None is = is
-  known_undoing known boot k back s (Some (Makes former changes began)) is =
-      known_carrying known boot (turned s.journal) back (cut_settling boot k s) (known_turned known s.journal.state s.journal.pending is) (known_settling known boot k s s.journal.pending is)
-  known_undoing known boot k back s (Some (TakesBack changes began)) is = known_settling known boot k s s.journal.pending is
+    known_carrying : (journal : JournalParts) (k : ℕ) (s : Store) → IsBegunKnown known journal.pending → IsBegunKnown known s.journal.pending
+        → IsBegunKnown known (cut_carrying boot journal k s).journal.pending
+    known_carrying journal k s begins is =
+        (carrying_holds boot (λ m. Unit {0}) (IsBegunKnown known) tt (known_turned known) (λ p begun m j here. tt) journal k s begins
+        (record { variables = tt; journal = is })).journal
+
+    known_undoing : (k back : ℕ) (s : Store) → IsBegunKnown known s.journal.pending → IsBegunKnown known (cut_undoing boot k back s).journal.pending
+    known_undoing k back s is =
+        (undoing_holds boot (λ m. Unit {0}) (IsBegunKnown known) tt (known_turned known) (λ p begun m j here. tt) k back s
+        (record { variables = tt; journal = is })).journal
 
   known_settled : (known : List (List ℕ)) (boot : List ℕ) (s : Store) → IsBegunKnown known (settled boot s).journal.pending
   known_settled known boot s = subst (λ (p : Option PendingParts). IsBegunKnown known p) (sym (settled_idle boot s)) tt
 
-  known_updating : (known : List (List ℕ)) (w : World) (to : Variables) (k : ℕ) → IsKnown known w → IsBegunKnown known (updating w.boot to k (settled w.boot w.store)).journal.pending
+  known_updating : (known : List (List ℕ)) (w : World) (to : Variables) (k : ℕ) → IsKnown known w
+      → IsBegunKnown known (updating w.boot to k (settled w.boot w.store)).journal.pending
   known_updating known w to k is =
       known_carrying known w.boot (journal_to w.boot (settled w.boot w.store) to) k (settled w.boot w.store) is.boot (known_settled known w.boot w.store)
 
   pub known_undone : (known : List (List ℕ)) (w : World) (k back : ℕ) → IsKnown known w → IsKnown known (happens w (Undoes k back))
-  known_undone known w k back is = record { boot = is.boot; journal = known_undoing known w.boot k back w.store w.store.journal.pending is.journal }
+  known_undone known w k back is = record { boot = is.boot; journal = known_undoing known w.boot k back w.store is.journal }
 
   pub known_failed : (known : List (List ℕ)) (w : World) (to : Variables) (k back : ℕ) → IsKnown known w → IsKnown known (happens w (Fails to k back))
   known_failed known w to k back is = record {
     boot = is.boot;
-    journal = known_carrying known w.boot (turned (journal_to w.boot (settled w.boot w.store) to)) back (updating w.boot to k (settled w.boot w.store)) is.boot (known_updating known w to k is);
+    journal =
+        known_carrying known w.boot (turned (journal_to w.boot (settled w.boot w.store) to)) back (updating w.boot to k (settled w.boot w.store)) is.boot
+        (known_updating known w to k is);
   }
 
-  pub known_started : (known : List (List ℕ)) (w : World) (boot : List ℕ) (deletes : Bool) → IsKnown known w → IsKnown (boot ∷ known) (happens w (Starts boot deletes))
+  pub known_started : (known : List (List ℕ)) (w : World) (boot : List ℕ) (deletes : Bool) → IsKnown known w
+      → IsKnown (boot ∷ known) (happens w (Starts boot deletes))
   known_started known w boot deletes is = record {
     boot = ap (λ b. b || is_known known boot) (same_self boot);
     journal = begun_later boot known w.store.journal.pending is.journal;
@@ -279,7 +272,8 @@ module _ (base : Variables) where
         Fits base (all_happen w events) (accounts w a events)
     all_fit known w a [] is new fits = fits
     all_fit known w a (Settles k ∷ events) is new fits =
-        all_fit known (happens w (Settles k)) a events (record { boot = is.boot; journal = known_settling known w.boot k w.store w.store.journal.pending is.journal }) new (fits_settles w a k fits)
+        all_fit known (happens w (Settles k)) a events
+        (record { boot = is.boot; journal = known_settling known w.boot k w.store is.journal }) new (fits_settles w a k fits)
     all_fit known w a (Undoes k zero ∷ events) is new fits =
         all_fit known (happens w (Undoes k zero)) a events
         (known_undone known w k zero is) new
@@ -289,12 +283,14 @@ module _ (base : Variables) where
         (known_undone known w k (suc back) is) new
         (fits_undoes w a k back fits w.store.journal.pending refl)
     all_fit known w a (Updates to zero ∷ events) is new fits =
-        all_fit known (happens w (Updates to zero)) a events (record { boot = is.boot; journal = known_settled known w.boot w.store }) new (fits_settled needed no_keep w a fits)
+        all_fit known (happens w (Updates to zero)) a events (record { boot = is.boot; journal = known_settled known w.boot w.store }) new
+        (fits_settled needed no_keep w a fits)
     all_fit known w a (Updates to (suc k) ∷ events) is new fits =
         all_fit known (happens w (Updates to (suc k))) (account w a (Updates to (suc k))) events
         (record { boot = is.boot; journal = known_updating known w to (suc k) is }) new (fits_begun needed no_keep w a to k fits)
     all_fit known w a (Fails to zero zero ∷ events) is new fits =
-        all_fit known (happens w (Fails to zero zero)) a events (record { boot = is.boot; journal = known_settled known w.boot w.store }) new (fits_settled needed no_keep w a fits)
+        all_fit known (happens w (Fails to zero zero)) a events (record { boot = is.boot; journal = known_settled known w.boot w.store }) new
+        (fits_settled needed no_keep w a fits)
     all_fit known w a (Fails to (suc k) zero ∷ events) is new fits =
         all_fit known (happens w (Fails to (suc k) zero)) (account w a (Fails to (suc k) zero)) events
         (record { boot = is.boot; journal = known_updating known w to (suc k) is }) new (fits_begun needed no_keep w a to k fits)
@@ -311,7 +307,8 @@ module _ (base : Variables) where
         (known_started known w boot deletes is) new.1
         (fits_starts w a boot deletes (new_to boot known w.store.journal.pending new.0 is.journal) fits)
     all_fit known w a (Firmware changes ∷ events) is new fits =
-        all_fit known (happens w (Firmware changes)) (account w a (Firmware changes)) events (record { boot = is.boot; journal = is.journal }) new (fits_firmware w a changes fits)
+        all_fit known (happens w (Firmware changes)) (account w a (Firmware changes)) events (record { boot = is.boot; journal = is.journal }) new
+        (fits_firmware w a changes fits)
 
 -- of a machine on which nothing is to be done
 pub all_whole : (needed : (from to : Variables) → AllByRecursion (IsNeeded from to) (changes_from from to)) → is_boot_name keep_text ≡ false →

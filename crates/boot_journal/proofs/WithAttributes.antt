@@ -1,5 +1,7 @@
--- Attributes of what a machine keeps, and the set of what it keeps.
-use Rattle.std.proofs.Common.{◌≡◌, ℕ, ◌≤◌, leb, Bool, true, false, cond, T, List, [], ◌∷◌, ◌++◌, map, length, take, drop, Option, Some, None, IfSome, is_some, refl, sym, ap, subst, ◌∙◌, arith}
+-- Attributes of what a machine keeps, and the set of what it keeps: values that are rewritten under their names, one after the other as
+-- the loops of `attributes.rt` do it, or all at once.
+use Rattle.std.proofs.Common.{◌≡◌, ℕ, ◌≤◌, leb, Bool, true, false, cond, T, List, [], ◌∷◌, ◌++◌, map, length, take, drop, Option, Some, None, IfSome, is_some}
+use Rattle.std.proofs.Common.{refl, sym, ap, subst, ◌∙◌, arith}
 use Rattle.std.specs.Option.{option_map}
 use Rattle.std.specs.List.{AllByRecursion}
 use Rattle.std.specs.Cmp.{Equal-is}
@@ -14,7 +16,8 @@ use Rattle.uefi_vars.specs.NameChanges.{with_data, after_each}
 use Rattle.uefi_vars.proofs.Maps.{sorted_parts, find_below, entries-AllByRecursion}
 use Rattle.var_stores.specs.BootChange.{same_name, is_boot_name}
 use Rattle.var_stores.specs.Rewriting.{boot_attributes}
-use Rattle.boot_journal.specs.Attributes.{attributes_len, attributes_in, with_values, data_in, data_of, kept_with, with_attributes, KeepAttributes, HaveAttributes}
+use Rattle.boot_journal.specs.Attributes.{attributes_len, attributes_in, with_values, data_in, data_of, kept_with, with_attributes, KeepAttributes}
+use Rattle.boot_journal.specs.Attributes.{HaveAttributes}
 use Rattle.boot_journal.proofs.Making.{same_self}
 use Rattle.boot_journal.proofs.Single.{Single, over, one_name, same_variables, get-with_data, get-each}
 
@@ -25,9 +28,10 @@ found_value : (value : List ℕ → List ℕ → List ℕ) (es : List (List ℕ 
 found_value value [] q = refl
 found_value value (e ∷ es) q = by (same_name q e.0) refl (found_value value es q)
   where
-    by : (b : Bool) → same_name q e.0 ≡ b →
-        find name_cmp q (map (λ (e : List ℕ × List ℕ). (e.0, value e.0 e.1)) es) ≡ option_map (value q) (find name_cmp q es) →
-        cond b (Some (value e.0 e.1)) (find name_cmp q (map (λ (e : List ℕ × List ℕ). (e.0, value e.0 e.1)) es)) ≡ option_map (value q) (cond b (Some e.1) (find name_cmp q es))
+    by : (b : Bool)
+        → same_name q e.0 ≡ b → find name_cmp q (map (λ (e : List ℕ × List ℕ). (e.0, value e.0 e.1)) es) ≡ option_map (value q) (find name_cmp q es)
+        → cond b (Some (value e.0 e.1)) (find name_cmp q (map (λ (e : List ℕ × List ℕ). (e.0, value e.0 e.1)) es))
+        ≡ option_map (value q) (cond b (Some e.1) (find name_cmp q es))
     by true is rest = ap (λ n. Some (value n e.1)) (sym (one_name q e.0 ((Equal-is _).0 is)))
     by false is rest = rest
 
@@ -75,7 +79,8 @@ attributes_are kept x is = has_attributes kept (omega (arith, length-take attrib
 
 -- ---- attributes on data, and off again
 
-off_again : (x : Option (List ℕ)) (value : List ℕ) (b : Bool) → cond b (drop attributes_len (cond b (attributes_in x ++ value) value)) (cond b (attributes_in x ++ value) value) ≡ value
+off_again : (x : Option (List ℕ)) (value : List ℕ) (b : Bool)
+    → cond b (drop attributes_len (cond b (attributes_in x ++ value) value)) (cond b (attributes_in x ++ value) value) ≡ value
 off_again x value true = subst (λ n. drop n (attributes_in x ++ value) ≡ value) (four_bytes x) (drop-append_seam (attributes_in x) value)
 off_again x value false = refl
 
@@ -92,7 +97,8 @@ begins_so x value = subst (λ n. take n (attributes_in x ++ value) ≡ attribute
 
 pub attributes_kept : (there vars : Variables) → KeepAttributes there (with_attributes there vars)
 attributes_kept there vars name boot =
-    subst (λ (x : Option (List ℕ)). IfSome x (λ kept. take attributes_len kept ≡ attributes_in (get there name))) (sym (get-with_attributes there vars name)) (by (get vars name))
+    subst (λ (x : Option (List ℕ)). IfSome x (λ kept. take attributes_len kept ≡ attributes_in (get there name))) (sym (get-with_attributes there vars name))
+    (by (get vars name))
   where
     by : (x : Option (List ℕ)) → IfSome (option_map (kept_with there name) x) (λ kept. take attributes_len kept ≡ attributes_in (get there name))
     by None = tt
@@ -117,14 +123,17 @@ on_again vars have = same_variables _ _ (λ q.
 
 -- ---- changes of single variables
 
-pub data_of-with_data : (vars : Variables) (name : List ℕ) (value : Option (List ℕ)) → data_of (with_data vars name value) ≡ with_data (data_of vars) name (option_map (data_in name) value)
+pub data_of-with_data : (vars : Variables) (name : List ℕ) (value : Option (List ℕ))
+    → data_of (with_data vars name value) ≡ with_data (data_of vars) name (option_map (data_in name) value)
 data_of-with_data vars name value = same_variables _ _ (λ q.
     get-data_of (with_data vars name value) q
     ∙ ap (option_map (data_in q)) (get-with_data vars name value q)
     ∙ at q (same_name q name) refl
-    ∙ sym (get-with_data (data_of vars) name (option_map (data_in name) value) q ∙ ap (cond (same_name q name) (option_map (data_in name) value)) (get-data_of vars q)))
+    ∙ sym (get-with_data (data_of vars) name (option_map (data_in name) value) q
+    ∙ ap (cond (same_name q name) (option_map (data_in name) value)) (get-data_of vars q)))
   where
-    at : (q : List ℕ) (b : Bool) → same_name q name ≡ b → option_map (data_in q) (cond b value (get vars q)) ≡ cond b (option_map (data_in name) value) (option_map (data_in q) (get vars q))
+    at : (q : List ℕ) (b : Bool) → same_name q name ≡ b
+        → option_map (data_in q) (cond b value (get vars q)) ≡ cond b (option_map (data_in name) value) (option_map (data_in q) (get vars q))
     at q true is = ap (λ n. option_map (data_in n) value) (one_name q name ((Equal-is _).0 is))
     at q false is = refl
 
@@ -142,11 +151,15 @@ rewritten value (e ∷ es) = cond (is_boot_name e.0) ((e.0, Some (value e.0 e.1)
 abbrev pub AreIn : Variables → List (List ℕ × List ℕ) → Type 0
 AreIn vars es = AllByRecursion (λ e. IsVariable e × (get vars e.0 ≡ Some e.1)) es
 
-none_behind : (e : List ℕ × List ℕ) (es : List (List ℕ × List ℕ)) → T (is_sorted name_cmp (e ∷ es)) → (q : List ℕ) → same_name q e.0 ≡ true → find name_cmp q es ≡ None
-none_behind e es rising q is = ap (λ n. find name_cmp n es) (one_name q e.0 ((Equal-is _).0 is)) ∙ find_below name_cmp e.0 es (sorted_parts name_cmp e es rising).0
+none_behind : (e : List ℕ × List ℕ) (es : List (List ℕ × List ℕ)) → T (is_sorted name_cmp (e ∷ es)) → (q : List ℕ) → same_name q e.0 ≡ true
+    → find name_cmp q es ≡ None
+none_behind e es rising q is =
+    ap (λ n. find name_cmp n es) (one_name q e.0 ((Equal-is _).0 is)) ∙ find_below name_cmp e.0 es (sorted_parts name_cmp e es rising).0
 
 module _ (vars : Variables) where
-  each_in : (es : List (List ℕ × List ℕ)) → T (is_sorted name_cmp es) → AllByRecursion IsVariable es → ((q v : List ℕ) → find name_cmp q es ≡ Some v → get vars q ≡ Some v) → AreIn vars es
+  each_in : (es : List (List ℕ × List ℕ))
+      → T (is_sorted name_cmp es) → AllByRecursion IsVariable es → ((q v : List ℕ) → find name_cmp q es ≡ Some v → get vars q ≡ Some v)
+      → AreIn vars es
   each_in [] rising valid here = tt
   each_in (e ∷ es) rising valid here = (
     (valid.0, here e.0 e.1 (ap (λ b. cond b (Some e.1) (find name_cmp e.0 es)) (same_self e.0))),
@@ -166,7 +179,8 @@ module _ (value : List ℕ → List ℕ → List ℕ) (elsewhere : (name kept : 
   now_in q None x = x
   now_in q (Some kept) x = cond (is_boot_name q) (Some (value q kept)) x
 
-  over_rewritten : (es : List (List ℕ × List ℕ)) → T (is_sorted name_cmp es) → (q : List ℕ) (x : Option (List ℕ)) → over (rewritten value es) q x ≡ now_in q (find name_cmp q es) x
+  over_rewritten : (es : List (List ℕ × List ℕ)) → T (is_sorted name_cmp es) → (q : List ℕ) (x : Option (List ℕ))
+      → over (rewritten value es) q x ≡ now_in q (find name_cmp q es) x
   over_rewritten [] rising q x = refl
   over_rewritten (e ∷ es) rising q x = at (λ y. over_rewritten es (sorted_parts name_cmp e es rising).1 q y) (same_name q e.0) (is_boot_name e.0) refl refl
     where
@@ -178,7 +192,8 @@ module _ (value : List ℕ → List ℕ → List ℕ) (elsewhere : (name kept : 
 
       at : ((y : Option (List ℕ)) → over (rewritten value es) q y ≡ now_in q (find name_cmp q es) y) →
           (same boot : Bool) → same_name q e.0 ≡ same → is_boot_name e.0 ≡ boot →
-          over (cond boot ((e.0, Some (value e.0 e.1)) ∷ rewritten value es) (rewritten value es)) q x ≡ now_in q (cond same (Some e.1) (find name_cmp q es)) x
+          over (cond boot ((e.0, Some (value e.0 e.1)) ∷ rewritten value es) (rewritten value es)) q x
+          ≡ now_in q (cond same (Some e.1) (find name_cmp q es)) x
       at rest true true is name =
           ap (λ b. over (rewritten value es) q (cond b (Some (value e.0 e.1)) x)) is
           ∙ rest (Some (value e.0 e.1))

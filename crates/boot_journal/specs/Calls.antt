@@ -4,9 +4,9 @@ use Rattle.std.specs.Global.{Global}
 use Rattle.uefi_vars.specs.Name.{next_text}
 use Rattle.uefi_vars.specs.Vars.{Variables}
 use Rattle.var_stores.specs.BootChange.{changes_from}
+use Rattle.boot_requests.specs.declared.answer.Answer.{Answer}
 use Rattle.boot_requests.specs.declared.event.Event.{Event}
 use Rattle.boot_requests.specs.Seen.{AreSeen}
-use Rattle.boot_journal.specs.declared.requests.Answer.{Answer}
 use Rattle.boot_journal.specs.Changes.{LeaveAlone}
 use Rattle.boot_journal.specs.Commands.{IsCommanding}
 use Rattle.boot_journal.specs.Events.{World, happens}

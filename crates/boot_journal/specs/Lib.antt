@@ -9,12 +9,10 @@ pub mod Values
 pub mod JournalValue
 pub mod Cause
 pub mod Working
-pub mod Followers
 pub mod Attributes
 pub mod Requests
 pub mod RunFault
 pub mod Once
-pub mod Answering
 pub mod Commands
 pub mod Calls
 pub mod Asked

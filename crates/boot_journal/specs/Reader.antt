@@ -1,6 +1,7 @@
 -- For private functions of the reader of journals: what is read at the start of some bytes, with which a file of this
 -- length ends, or the fault that is met there.
-use Rattle.std.specs.Prelude.{◌≡◌, ◌&&◌, ℕ, zero, suc, ◌-◌, ◌==◌, nat_lt, Bool, not, List, [], ◌∷◌, length, take, drop, Option, Some, None, Result, Ok, Err, if◌then◌else◌}
+use Rattle.std.specs.Prelude.{◌≡◌, ◌&&◌, ℕ, zero, suc, ◌-◌, ◌==◌, nat_lt, Bool, not, List, [], ◌∷◌, length, take, drop, Option, Some, None, Result, Ok, Err}
+use Rattle.std.specs.Prelude.{if◌then◌else◌}
 use Rattle.std.specs.Int.{w32, from_le_bytes}
 use Rattle.std.specs.List.{list_all, starts_with}
 use Rattle.uefi_vars.specs.Name.{name_max}

@@ -5,18 +5,18 @@ use Rattle.std.specs.FinMap.{get}
 use Rattle.std.specs.List.{AllByRecursion}
 use Rattle.uefi_vars.specs.NameChanges.{IsChange}
 use Rattle.var_stores.specs.BootChange.{same_name, is_boot_name}
+use Rattle.boot_requests.specs.declared.answer.Answer.{Answer}
 use Rattle.boot_requests.specs.declared.event.Event.{Event}
-use Rattle.boot_requests.specs.declared.reply.Reply.{Reply}
 use Rattle.uefi_vars.specs.Vars.{Variables}
+use Rattle.boot_requests.specs.Answering.{replies_of, requests_of}
+use Rattle.boot_requests.specs.Followers.{request_of, TellFollowers}
 use Rattle.boot_requests.specs.Keeper.{AreRead}
 use Rattle.boot_requests.specs.Run.{run_followed_by, state_at}
 use Rattle.boot_requests.specs.Reply.{AreAnswers}
 use Rattle.boot_requests.specs.Seen.{Seen, Restart, AreSeen}
 use Rattle.boot_requests.specs.State.{State, IsImage, keep_text}
 use Rattle.boot_requests.specs.StoredState.{OpensAs}
-use Rattle.boot_journal.specs.declared.requests.Answer.{Answer}
 use Rattle.boot_journal.specs.Attributes.{data_of, KeepAttributes}
-use Rattle.boot_journal.specs.Followers.{TellFollowers}
 use Rattle.boot_journal.specs.Turns.{Turn, Brings, Boots, Meddles, after_turns}
 
 -- the variables open as this state, without their attributes
@@ -33,16 +33,14 @@ pub record IsUpdateBy (from : Variables) (seen : List Seen) (to : Variables) : T
   pub leads : LeadsTo from seen to
   pub attributes : KeepAttributes from to
 
-abbrev pub replies_of : List Answer → List Reply
-replies_of answers = map (λ answer. answer.reply) answers
-
 -- the events are run so, over variables that open as a state without their attributes, with these answers: their
--- replies are those of the run, and they tell their followers
+-- replies are those of the run, and they tell their followers and the numbers of the requests that came
 abbrev pub IsAnswered : List Event → Variables → Variables → List Answer → Type 0
 IsAnswered events from to answers =
     (seen : List Seen) × AreSeen events seen × IsUpdateBy from seen to
     × ((m : State) → KeepsState from m → AreAnswers m [] seen (replies_of answers) × TellFollowers m [] seen answers)
     × ((m : State) × KeepsState from m)
+    × (requests_of answers ≡ map request_of seen)
 
 -- a change of a variable that neither requests nor boots change
 pub record IsOfAnother (change : List ℕ × Option (List ℕ)) : Type 0 where

@@ -10,10 +10,11 @@ ghost use Rattle.boot_journal.specs.Moves.{IsSettling, IsUpdating};
 ghost use Rattle.boot_journal.specs.Store.{IsIdle, seen, updated, stands_for, falls_back_to, brought};
 
 use crate::boot_id::BootId;
+use crate::laws::keep_is_no_boot_name;
 use crate::machine::{CallError, CommandError, Machine};
 use crate::updating::{settle, update};
 use std::alloc::Global;
-use uefi_vars::{Vars, laws as vars_laws};
+use uefi_vars::Vars;
 use var_stores::laws as store_laws;
 
 /// What is run over a machine's variables. It sees them, and gives them, as a machine keeps them: those of the boot
@@ -86,8 +87,7 @@ pub fn command<M: Machine, R: Run>(
         (M.history machine.old) (M.history machine.new) }
 {
     store_laws::each_change_is_needed();
-    store_laws::entry_names_are_those_of_numbers();
-    vars_laws::order_and_next_are_no_entries();
+    keep_is_no_boot_name();
     match settle(alloc, machine, boot) {
         Ok(()) => run_settled(alloc, machine, run, boot),
         Err(error) => Err(CommandError::Settling(error)),

@@ -50,8 +50,7 @@ pub fn updates_are_whole_or_do_not_happen()
         ≡ after_turns (stands_for w.boot w.store) (happened w events) }
 {
     store_laws::each_change_is_needed();
-    store_laws::entry_names_are_those_of_numbers();
-    vars_laws::order_and_next_are_no_entries();
+    keep_is_no_boot_name();
 }
 
 /// At most once. If what is to be done began under another identity, no settling sets BootNext, wherever it is cut off and
@@ -85,8 +84,7 @@ pub fn variables_are_those_after_some_changes()
 {
     store_laws::each_change_is_needed();
     store_laws::each_change_is_of_another_variable();
-    store_laws::entry_names_are_those_of_numbers();
-    vars_laws::order_and_next_are_no_entries();
+    keep_is_no_boot_name();
 }
 
 /// Nothing dangles. Where the variables are those after some changes of an update, from the first one on, with BootNext
@@ -153,14 +151,8 @@ pub fn each_request_is_applied_once()
         × AgreesButForNext now (state_at start run) }
 {
     store_laws::each_change_is_needed();
-    store_laws::all_changes_lead_to_the_other_set();
-    store_laws::entry_names_are_those_of_numbers();
-    vars_laws::order_and_next_are_no_entries();
-    request_laws::a_run_leads_to_a_state();
-    request_laws::each_plain_state_has_a_turn();
-    request_laws::a_turn_goes_on_with_the_run();
-    request_laws::a_start_stands_for_no_events();
-    request_laws::an_image_is_migrated_to_itself();
+    turns_apply_each_request_once();
+    keep_is_no_boot_name();
 }
 
 /// Exactly once, whatever firmware does. If the updates that happened are by requests, each of variables that open as a
@@ -176,8 +168,7 @@ pub fn each_number_is_applied_once_whatever_firmware_does()
         × AreAppliedOnce first last updates }
 {
     store_laws::each_change_is_needed();
-    store_laws::entry_names_are_those_of_numbers();
-    vars_laws::order_and_next_are_no_entries();
+    keep_is_no_boot_name();
     request_laws::a_run_leads_to_a_state();
 }
 
@@ -199,8 +190,7 @@ pub fn calls_apply_each_number_once()
         × AreAppliedOnce first last updates }
 {
     store_laws::each_change_is_needed();
-    store_laws::entry_names_are_those_of_numbers();
-    vars_laws::order_and_next_are_no_entries();
+    keep_is_no_boot_name();
     request_laws::a_run_leads_to_a_state();
 }
 
@@ -216,14 +206,8 @@ pub fn calls_apply_each_request_once()
         × AgreesButForNext now (state_at start (run_of updates)) }
 {
     store_laws::each_change_is_needed();
-    store_laws::all_changes_lead_to_the_other_set();
-    store_laws::entry_names_are_those_of_numbers();
-    vars_laws::order_and_next_are_no_entries();
-    request_laws::a_run_leads_to_a_state();
-    request_laws::each_plain_state_has_a_turn();
-    request_laws::a_turn_goes_on_with_the_run();
-    request_laws::a_start_stands_for_no_events();
-    request_laws::an_image_is_migrated_to_itself();
+    turns_apply_each_request_once();
+    keep_is_no_boot_name();
 }
 
 /// Attributes outlive updates by requests. What an update leaves under the name of a variable of the boot manager, if
@@ -245,8 +229,7 @@ pub fn updates_keep_attributes()
 {
     store_laws::each_change_is_needed();
     store_laws::all_changes_lead_to_the_other_set();
-    store_laws::entry_names_are_those_of_numbers();
-    vars_laws::order_and_next_are_no_entries();
+    keep_is_no_boot_name();
 }
 
 /// What a machine keeps is attributes and data. A set that attributes were put on is the same without them, and has the
@@ -315,3 +298,28 @@ pub fn bytes_have_one_journal_fault()
 pub fn journal_faults_compare_as_values()
     ensures { (a b : JournalFault) → IsTrue (⟦<JournalFault as PartialEq>⟧.eq a b) ↔ (a ≡ b) }
 {}
+
+/// What the laws on requests have of lists of events and of calls, over turns: if each update among these is by requests, and
+/// firmware did nothing to the boot manager's variables but delete BootNext, each accepted request is applied once.
+fn turns_apply_each_request_once()
+    ensures { (vars : Variables) (turns : List Turn) (start : State) (run : List Seen) → KeepsState vars start → IsRunOf vars turns run →
+        (now : State) × KeepsState (after_turns vars turns) now × AgreesButForNext now (state_at start run) }
+{
+    keep_is_no_boot_name();
+    store_laws::all_changes_lead_to_the_other_set();
+    store_laws::entry_names_are_those_of_numbers();
+    vars_laws::order_and_next_are_no_entries();
+    request_laws::a_run_leads_to_a_state();
+    request_laws::each_plain_state_has_a_turn();
+    request_laws::a_turn_goes_on_with_the_run();
+    request_laws::a_start_stands_for_no_events();
+    request_laws::an_image_is_migrated_to_itself();
+}
+
+/// BootKeepState is no variable of the boot manager.
+pub(crate) fn keep_is_no_boot_name()
+    ensures { is_boot_name keep_text ≡ false }
+{
+    store_laws::entry_names_are_those_of_numbers();
+    vars_laws::order_and_next_are_no_entries();
+}

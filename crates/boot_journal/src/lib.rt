@@ -42,6 +42,6 @@ pub use machine::{CallError, CommandError, Machine, UpdateError};
 pub use machine_name::{MACHINE_NAME_MAX, MachineName};
 pub use reader::read_journal;
 pub use recorded::{Device, Recorded};
-pub use requests::{Answer, Requests, RunFault};
+pub use requests::{Requests, RunFault};
 pub use updating::{settle, update};
 pub use writer::write_journal;

@@ -13,10 +13,11 @@ ghost use Rattle.boot_journal.specs.Store.{with_made, with_journal, IsIdle, IsFr
 use crate::boot_id::BootId;
 use crate::change::Change;
 use crate::journal::Journal;
+use crate::laws::keep_is_no_boot_name;
 use crate::machine::{CallError, Machine, UpdateError};
 use crate::work::Work;
 use std::alloc::Global;
-use uefi_vars::{Vars, laws as vars_laws};
+use uefi_vars::Vars;
 use var_stores::laws as store_laws;
 
 /// Makes the changes, one after the other.
@@ -121,6 +122,7 @@ fn go_on<M: Machine>(
 /// refused a move: the earlier update that the journal is of is then taken back, and hasn't happened, also if a start in
 /// between used its BootNext. [`UpdateError::Unsettled`] if it refused to take changes back: the next settling goes on with
 /// that.
+#[tactic(auto, using(crate::proofs::Settling::still_settling))]
 pub fn settle<M: Machine>(
     alloc: Global,
     machine: &mut M,
@@ -210,8 +212,7 @@ pub fn update<M: Machine>(
 {
     store_laws::each_change_is_needed();
     store_laws::each_change_is_of_another_variable();
-    store_laws::entry_names_are_those_of_numbers();
-    vars_laws::order_and_next_are_no_entries();
+    keep_is_no_boot_name();
     let from = machine.read_vars(alloc)?;
     let journal = Journal::begin(alloc, &from, to, boot)?;
     if journal.changes_nothing() {

@@ -3,3 +3,5 @@ pub mod Turn
 pub mod Frames
 pub mod Variables
 pub mod Streams
+pub mod EventLists
+pub mod Answering

@@ -4,6 +4,7 @@ pub mod Gaps
 pub mod Deliveries
 pub mod NextNumbers
 pub mod Effects
+pub mod Told
 pub mod Histories
 pub mod Hands
 pub mod Pendings

@@ -4,6 +4,7 @@ pub mod Kind
 pub mod Request
 pub mod Frame
 pub mod FrameFault
+pub mod FaultOffset
 pub mod Outcome
 pub mod State
 pub mod Apply
@@ -19,7 +20,15 @@ pub mod StateOf
 pub mod StoredState
 pub mod Words
 pub mod Stream
+-- scripts and streams, what is answered to their events, and what these do to variables
+pub mod Script
+pub mod EventStream
+pub mod ScriptWords
+pub mod Followers
+pub mod Answering
+pub mod Happens
 -- for private functions
+pub mod Lines
 pub mod Reader
 pub mod Writer
 pub mod Marks

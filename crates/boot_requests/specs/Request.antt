@@ -1,5 +1,5 @@
 -- Requests, as contracts see them: each with the number of an entry, a load option, or the numbers of an order.
-use Rattle.std.specs.Prelude.{ℕ, List, ◌++◌}
+use Rattle.std.specs.Prelude.{ℕ, List, ◌++◌, Option, Some, None}
 use Rattle.std.specs.List.{AllByRecursion}
 use Rattle.std.specs.Int.{w16, to_le_bytes}
 use Rattle.uefi_path.specs.Units.{units_bytes}
@@ -27,6 +27,15 @@ kind_of (Remove entry) = kind.Remove
 kind_of (Order numbers) = kind.Order
 kind_of (Next entry) = kind.Next
 kind_of (AddFree option) = kind.AddFree
+
+-- the number of the entry that it names
+abbrev pub named_entry : Request → Option ℕ
+named_entry (Add entry option) = Some entry
+named_entry (Replace entry option) = Some entry
+named_entry (Remove entry) = Some entry
+named_entry (Order numbers) = None
+named_entry (Next entry) = Some entry
+named_entry (AddFree option) = None
 
 -- its payload: the number of the entry, and after it the spelling of the option; the numbers of the order; or an
 -- option's spelling alone

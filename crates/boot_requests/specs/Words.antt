@@ -1,4 +1,4 @@
--- The words of faults, outcomes and replies. Those of a fault: its name, and after one blank the words of the fault
+-- The words of faults, requests, outcomes and replies. Those of a fault: its name, and after one blank the words of the fault
 -- that it holds.
 use Rattle.std.specs.Prelude.{ℕ, List, [], ◌++◌, codes, Option, Some, None}
 use Rattle.std.specs.Fmt.{decimal}
@@ -15,6 +15,8 @@ use Rattle.boot_requests.specs.declared.outcome.Code.TheVariants as code
 use Rattle.boot_requests.specs.declared.outcome.Outcome.{Outcome}
 use Rattle.boot_requests.specs.declared.reply.Reply.{Reply}
 use Rattle.boot_requests.specs.declared.reply.Reply.TheVariants as reply
+use Rattle.boot_requests.specs.declared.request.Request.{Request}
+use Rattle.boot_requests.specs.declared.request.Request.TheVariants as request
 
 abbrev pub frame_fault_words : FrameFault → List ℕ
 frame_fault_words frame.Short = codes "Short"
@@ -39,6 +41,15 @@ open_fault_words opening.BadOrder = codes "BadOrder"
 open_fault_words opening.BadNext = codes "BadNext"
 open_fault_words opening.BadState = codes "BadState"
 open_fault_words opening.OutOfMemory = codes "OutOfMemory"
+
+-- what a request is called
+abbrev pub request_name : Request → List ℕ
+request_name (request.Add entry option) = codes "add"
+request_name (request.Replace entry option) = codes "replace"
+request_name (request.Remove entry) = codes "remove"
+request_name (request.Order numbers) = codes "order"
+request_name (request.Next entry) = codes "next"
+request_name (request.AddFree option) = codes "add-free"
 
 -- the code's name
 abbrev pub code_words : Code → List ℕ

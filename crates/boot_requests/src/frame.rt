@@ -6,8 +6,8 @@ ghost use Rattle.boot_requests.specs.Kind.{version_of, byte_of, IsVersion, IsKin
 /// The most bytes of a payload.
 pub const PAYLOAD_MAX: usize = 131_072;
 
-/// The two bytes at the start of a frame.
-pub(crate) const MAGIC: [u8; 2] = [0x42, 0x51];
+/// The two bytes at the start of a frame, and so of a stream of frames. No line of a script begins with them.
+pub const FRAME_MAGIC: [u8; 2] = [0x42, 0x51];
 
 /// The bytes before a payload.
 pub(crate) const HEADER_LEN: usize = 12;

@@ -19,7 +19,7 @@ ghost use Rattle.boot_requests.specs.declared.reply.Reply.{Reply};
 ghost use Rattle.boot_requests.specs.declared.request.Request.{Request};
 ghost use Rattle.boot_requests.specs.Limits.{width, kept_max, payload_max, no_number};
 ghost use Rattle.boot_requests.specs.Request.{IsRequest, payload_of};
-ghost use Rattle.boot_requests.specs.Frame.{SpellsFrame};
+ghost use Rattle.boot_requests.specs.Frame.{magic, SpellsFrame};
 ghost use Rattle.boot_requests.specs.FrameFault.{IsFirstFault};
 ghost use Rattle.boot_requests.specs.State.{State, IsState, IsImage};
 ghost use Rattle.boot_requests.specs.Apply.{stores, stored_by, HasPlanOf};
@@ -31,11 +31,14 @@ ghost use Rattle.boot_requests.specs.Turn.{Plain, plain_start, Turn};
 ghost use Rattle.boot_requests.specs.Keeper.{StandsFor, IsPlain, AreRead, IsStored, IsLeft, IsUntouched};
 ghost use Rattle.boot_requests.specs.StoredState.{with_second_mark, OpensAs, IsOpenFault};
 ghost use Rattle.boot_requests.specs.Stream.{Cut, IsCut};
+ghost use Rattle.boot_requests.specs.declared.script_fault.ScriptFault.{ScriptFault};
+ghost use Rattle.boot_requests.specs.Script.{IsScript, IsFirstBadLine};
+ghost use Rattle.boot_requests.specs.EventStream.{IsStream, IsStreamFault};
 
 use crate::bytes::Bytes;
 use crate::event::Event;
 use crate::fault::{FeedFault, FrameFault, OpenFault};
-use crate::frame::PAYLOAD_MAX;
+use crate::frame::{FRAME_MAGIC, PAYLOAD_MAX};
 use crate::mark::KEPT_MAX;
 use crate::outcome::{Code, Outcome};
 use crate::reply::Reply;
@@ -154,8 +157,9 @@ pub fn the_order_of_deliveries_does_not_matter()
         state_at start x ≡ state_at start y }
 {}
 
-/// The public constants are the limits that the definitions state.
+/// The public constants are the limits and the magic that the definitions state.
 pub fn limits_are_those_of_the_definitions()
+    ensures magic { FRAME_MAGIC ≡ magic }
     ensures payload_max { PAYLOAD_MAX ≡ payload_max }
     ensures kept_max { KEPT_MAX ≡ kept_max }
     ensures width { WIDTH ≡ width }
@@ -397,3 +401,38 @@ pub fn a_plan_holds_what_was_asked_for()
     uefi_vars::laws::entries_have_one_plan();
     uefi_vars::laws::a_plan_has_each_normal_option();
 }
+
+/// A text is a script, or has a first bad line.
+pub fn a_text_is_a_script_or_has_a_bad_line()
+    ensures { (text : List ℕ) →
+        ((events : List Event) × IsScript text events) ⊎ ((number : ℕ) × IsFirstBadLine text number) }
+{}
+
+/// A text is a script with one list of events at most.
+pub fn a_text_is_one_script()
+    ensures { (text : List ℕ) (a b : List Event) → IsScript text a → IsScript text b → a ≡ b }
+{}
+
+/// A text that has a bad line isn't a script.
+pub fn a_bad_line_leaves_no_script()
+    ensures { (text : List ℕ) (number : ℕ) (events : List Event) →
+        IsFirstBadLine text number → IsScript text events → ⊥ }
+{}
+
+/// A text has one first bad line at most.
+pub fn a_text_has_one_first_bad_line()
+    ensures { (text : List ℕ) (m n : ℕ) → IsFirstBadLine text m → IsFirstBadLine text n → m ≡ n }
+{}
+
+/// Bytes are a stream, or have a fault of one.
+pub fn bytes_are_a_stream_or_have_a_fault()
+    ensures { (stream : List ℕ) → AllByRecursion IsByte stream →
+        ((events : List Event) × IsStream stream events)
+        ⊎ ((fault : ScriptFault) × IsStreamFault stream fault) }
+{}
+
+/// Bytes that have a fault aren't a stream.
+pub fn a_fault_leaves_no_stream()
+    ensures { (stream : List ℕ) (fault : ScriptFault) (events : List Event) →
+        IsStreamFault stream fault → IsStream stream events → ⊥ }
+{}

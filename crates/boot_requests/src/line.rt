@@ -1,6 +1,6 @@
 //! Replies as text.
 
-ghost use Rattle.std.specs.Prelude.{◌≡◌, IfOk};
+ghost use Rattle.std.specs.Prelude.{◌≡◌, [], ◌∷◌, ◌++◌, IfOk, OnOk};
 ghost use Rattle.std.specs.String.{string_bytes};
 ghost use Rattle.boot_requests.specs.Words.{line_of};
 
@@ -36,4 +36,13 @@ pub fn reply_line(alloc: Global, reply: &Reply) -> Result<String, AllocError>
         Reply::NothingPrepared => String::from_str(alloc, "nothing prepared"),
         Reply::Restarted(next) => format!(in alloc; "restarted {next}"),
     }
+}
+
+/// Appends the line of the reply and a line feed. This fails only when out of memory.
+pub fn append_reply_line(alloc: Global, reply: &Reply, lines: &mut String) -> Result<(), AllocError>
+    ensures { OnOk result (string_bytes lines.new ≡ string_bytes lines.old ++ (line_of reply.now ++ 10 ∷ [])) }
+{
+    let line = reply_line(alloc, reply)?;
+    lines.push_str(&line)?;
+    lines.push('\n')
 }

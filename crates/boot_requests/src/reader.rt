@@ -1,6 +1,6 @@
 //! Bytes to requests.
 
-ghost use Rattle.std.specs.Prelude.{◌≡◌, ◌≢◌, ◌+◌, ◌<◌, ◌^◌, ◌%◌, ◌++◌, ℕ, List, length, IfOk, IfErr, OnOk, IfSome, IfNone, Ok, Err};
+ghost use Rattle.std.specs.Prelude.{◌≡◌, ◌≢◌, ◌+◌, ◌<◌, ◌^◌, ◌%◌, ◌++◌, ℕ, List, length, IfOk, IfErr, OnOk, IfSome, IfNone, Some, Ok, Err};
 ghost use Rattle.std.specs.List.{AllByRecursion, flat_map};
 ghost use Rattle.std.specs.Int.{w16, w32, to_le_bytes};
 ghost use Rattle.uefi_path.specs.declared.fault.PathFault.{PathFault};
@@ -15,7 +15,7 @@ ghost use Rattle.boot_requests.specs.FrameFault.{IsRaw, IsFirstFault};
 ghost use Rattle.boot_requests.specs.Reader.{raw_of, PassesLength, FailsHeader, SplitsFrame, SpellsPayload, IsPayloadFault, SpellsEntry, IsEntryFault, IsOptionFault};
 
 use crate::fault::{FeedFault, FrameFault};
-use crate::frame::{ENTRY_LEN, Kind, MAGIC, NO_NUMBER, PAYLOAD_MAX};
+use crate::frame::{ENTRY_LEN, FRAME_MAGIC, Kind, NO_NUMBER, PAYLOAD_MAX};
 use crate::laws;
 use crate::request::{OrderList, Request};
 use std::alloc::Global;
@@ -27,7 +27,7 @@ use uefi_path::{PathFault, laws as path_laws, read_units};
 pub(crate) struct RawFrame<'a> {
     magic: [u8; 2],
     version: u8,
-    kind: u8,
+    pub(crate) kind: u8,
     number: u32,
     len: u32,
     pub(crate) payload: &'a [u8],
@@ -76,6 +76,14 @@ pub(crate) fn split_header(bytes: &[u8]) -> Option<RawFrame<'_>>
     })
 }
 
+/// The number in a header, if there are the twelve bytes of one: that of the request, if the bytes are a frame.
+pub(crate) fn header_number(bytes: &[u8]) -> Option<u32>
+    ensures { (number : ℕ) (request : Request) → SpellsFrame bytes.now number request → result ≡ Some number }
+{
+    let raw = split_header(bytes)?;
+    Some(raw.number)
+}
+
 /// How many bytes the header states after it, if it passes its tests.
 #[inline(always)]
 pub(crate) fn stated_len(raw: RawFrame<'_>) -> Result<usize, FeedFault>
@@ -85,7 +93,7 @@ pub(crate) fn stated_len(raw: RawFrame<'_>) -> Result<usize, FeedFault>
     ensures fault { IfErr result (FailsHeader (raw_of raw.entry.magic raw.entry.version
         raw.entry.kind raw.entry.number raw.entry.len raw.entry.payload.now)) }
 {
-    if raw.magic != MAGIC {
+    if raw.magic != FRAME_MAGIC {
         return Err(FeedFault::BadMagic);
     }
     if !Kind::has_version(raw.version) {

@@ -3,7 +3,8 @@
 ghost use Rattle.std.specs.Prelude.{◌≡◌, IfOk};
 ghost use Rattle.std.specs.List.{AllByRecursion};
 ghost use Rattle.uefi_vars.specs.Order.{IsEntryNumber};
-ghost use Rattle.boot_requests.specs.Request.{IsRequest, kind_of};
+ghost use Rattle.boot_requests.specs.Request.{IsRequest, kind_of, named_entry};
+ghost use Rattle.boot_requests.specs.Words.{request_name};
 
 use crate::frame::Kind;
 use std::alloc::{AllocError, Global};
@@ -115,6 +116,33 @@ impl Request {
             Request::Next(entry) => Request::Next(*entry),
             Request::AddFree(option) => Request::AddFree(option.copy(alloc)?),
         })
+    }
+
+    /// What the request is called: `add`, `replace`, `remove`, `order`, `next` or `add-free`.
+    pub fn name(&self) -> &'static str
+        ensures { result.now ≡ request_name self.now }
+    {
+        match self {
+            Request::Add(..) => "add",
+            Request::Replace(..) => "replace",
+            Request::Remove(_) => "remove",
+            Request::Order(_) => "order",
+            Request::Next(_) => "next",
+            Request::AddFree(_) => "add-free",
+        }
+    }
+
+    /// The number of the entry that the request names, if it names one.
+    pub fn entry(&self) -> Option<u16>
+        ensures { result ≡ named_entry self.now }
+    {
+        match self {
+            Request::Add(entry, _)
+            | Request::Replace(entry, _)
+            | Request::Remove(entry)
+            | Request::Next(entry) => Some(*entry),
+            Request::Order(_) | Request::AddFree(_) => None,
+        }
     }
 
     /// What the request is about.

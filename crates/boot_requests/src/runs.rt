@@ -1,6 +1,6 @@
 //! Events one after the other.
 
-ghost use Rattle.std.specs.Prelude.{◌≡◌, ◌<◌, ◌+◌, List, [], ◌∷◌, ◌++◌, length, take, drop, IsTrue, OnOk, OnErr, false};
+ghost use Rattle.std.specs.Prelude.{◌≡◌, ◌<◌, ◌+◌, List, [], ◌∷◌, ◌++◌, length, take, drop, IsTrue, IfOk, OnOk, OnErr, false};
 ghost use Rattle.std.specs.List.{AllByRecursion};
 ghost use Rattle.boot_requests.specs.declared.reply.Reply.{Reply};
 ghost use Rattle.boot_requests.specs.State.{State};
@@ -76,8 +76,24 @@ fn take_event(
     Ok(())
 }
 
+/// The keeper takes this event, and the reply is given. If memory is refused, nothing changes.
+pub(crate) fn next_reply(
+    alloc: Global,
+    keeper: &mut Keeper,
+    event: &Event,
+) -> Result<Reply, AllocError>
+    ensures turn { IfOk result (λ reply. (seen : Seen) → IsSeen event.now seen →
+        Turn keeper.old seen keeper.new reply) }
+    ensures unchanged { OnErr result (keeper.new ≡ keeper.old) }
+    ensures valid { IsEvent event.now }
+{
+    let (update, reply) = keeper.take_turn(alloc, event)?;
+    keeper.update(update)?;
+    Ok(reply)
+}
+
 /// Looks at each event, for the contract alone: what a value's type keeps is known where the value is looked at.
-fn look_at_each(events: &[Event])
+pub(crate) fn look_at_each(events: &[Event])
     ensures { AllByRecursion IsEvent events.now }
 {
     for event in events {

@@ -12,7 +12,7 @@ ghost use Rattle.boot_requests.specs.Frame.{header_bytes, SpellsFrame};
 ghost use Rattle.boot_requests.specs.Writer.{IsWriteFault};
 
 use crate::fault::FrameFault;
-use crate::frame::{ENTRY_LEN, HEADER_LEN, Kind, MAGIC, NO_NUMBER, PAYLOAD_MAX};
+use crate::frame::{ENTRY_LEN, FRAME_MAGIC, HEADER_LEN, Kind, NO_NUMBER, PAYLOAD_MAX};
 use crate::request::Request;
 use std::alloc::{AllocError, Global};
 use uefi_option::{append_option, option_len};
@@ -40,8 +40,8 @@ fn header(kind: Kind, number: u32, len: u32) -> [u8; HEADER_LEN]
     let [a, b, c, d] = number.to_le_bytes();
     let [e, f, g, h] = len.to_le_bytes();
     [
-        MAGIC[0],
-        MAGIC[1],
+        FRAME_MAGIC[0],
+        FRAME_MAGIC[1],
         kind.version(),
         kind.byte(),
         a,

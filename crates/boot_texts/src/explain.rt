@@ -4,33 +4,17 @@ use crate::content::{EntryDigits, NumberList, Summary, digits_of, option_place};
 use crate::json::{
     JsonObject, Leaf, append_leaf, append_leaves, append_object, append_objects, json_line,
 };
-use crate::place::{Place, script_places};
+use crate::place::{Form, Place};
 use crate::reason::{bytes_reason, frame_reason};
 use crate::shown_option::{AttributeWords, ShownOption};
-use boot_commands::{ScriptFault, read_script};
-use boot_requests::{Bytes, Event, FeedFault, FrameFault, Inbox, Request, read_frame};
+use boot_requests::{Event, EventList, FRAME_MAGIC, FrameFault, Request, ScriptFault, read_frame};
 use serde::Serializer;
 use std::alloc::{AllocError, Global};
 use std::fmt;
 use uefi_option::LoadOption;
 
-/// The two bytes that each frame begins with, and so a stream of them; no line of a script does.
-const STREAM_START: &[u8] = &[0x42, 0x51];
-
 /// The four bytes that a set file begins with.
 const SET_START: &[u8] = b"BVS1";
-
-/// The offset of a frame's payload.
-const PAYLOAD_START: usize = 12;
-
-/// The offset of the option in the frame of a request that names an entry, whose number is before it.
-const ENTRY_OPTION_START: usize = 14;
-
-/// The offset of the byte with the kind of a frame.
-const KIND_AT: usize = 3;
-
-/// The kind of a request that names no entry, so that its payload is an option alone.
-const ADD_FREE: u8 = 6;
 
 /// What a script or a stream asks for, in words.
 #[derive(Debug, Drop)]
@@ -52,15 +36,6 @@ struct Explanation {
     fault: Option<FormFault>,
     /// Where the first fault is, of a frame or of the whole.
     first_fault: Option<Place>,
-}
-
-/// What the bytes are.
-#[derive(Clone, Copy)]
-enum Form {
-    /// Lines, each with an event.
-    Script,
-    /// Frames, one after the other.
-    Stream,
 }
 
 /// One event of a script, or one frame of a stream.
@@ -168,146 +143,81 @@ pub fn explain_json(alloc: Global, bytes: &[u8]) -> Result<Explained, AllocError
 
 /// What the bytes ask for.
 fn explain(alloc: Global, bytes: &[u8]) -> Result<Explanation, AllocError> {
-    let mut explanation = if bytes.starts_with(STREAM_START) {
-        explain_stream(alloc, bytes)?
+    let form = if bytes.starts_with(&FRAME_MAGIC) {
+        Form::Stream
     } else {
-        explain_script(alloc, bytes)?
+        Form::Script
     };
-    explanation.first_fault = first_fault(&explanation);
-    Ok(explanation)
-}
-
-/// Where the first fault is: every step comes before the fault of the whole.
-fn first_fault(explanation: &Explanation) -> Option<Place> {
-    let malformed = explanation
-        .steps
-        .iter()
-        .find(|step| matches!(step.asks, Asks::Malformed(_)));
-    match (malformed, &explanation.fault) {
-        (Some(step), _) => Some(step.place),
-        (None, Some(fault)) => Some(fault.place),
-        (None, None) => None,
-    }
-}
-
-/// What the frames of a stream ask for.
-fn explain_stream(alloc: Global, stream: &[u8]) -> Result<Explanation, AllocError> {
-    let mut frames = Vec::new(alloc);
-    let fault = cut_stream(alloc, stream, &mut frames)?;
-    let (steps, end) = steps_of_frames(alloc, &frames)?;
+    let list = form.events(alloc, bytes)?;
+    let steps = steps_of(alloc, form, &list)?;
+    let fault = fault_of(alloc, form, bytes, &list)?;
+    let first_fault = first_fault(&steps, fault.as_ref());
     Ok(Explanation {
-        form: Form::Stream,
+        form,
         steps,
-        fault: stream_fault(alloc, end, fault)?,
-        first_fault: None,
-    })
-}
-
-/// Cuts the frames off a stream. The answer is the fault of the stream, if it has one.
-fn cut_stream(
-    alloc: Global,
-    stream: &[u8],
-    frames: &mut Vec<Bytes>,
-) -> Result<Option<ScriptFault>, AllocError> {
-    let mut inbox = Inbox::new(alloc);
-    match inbox.feed(stream, frames) {
-        Ok(()) if inbox.held() > 0 => Ok(Some(ScriptFault::Rest(inbox.held()))),
-        Ok(()) => Ok(None),
-        Err(FeedFault::OutOfMemory) => Err(AllocError),
-        Err(fault) => Ok(Some(ScriptFault::Stream(fault))),
-    }
-}
-
-/// The steps of the frames, one after the other from offset 0, and the offset at which they end.
-fn steps_of_frames(alloc: Global, frames: &[Bytes]) -> Result<(Vec<Step>, usize), AllocError> {
-    let mut steps = Vec::with_capacity(alloc, frames.len())?;
-    let mut offset = 0usize;
-    for frame in frames {
-        let asks = Asks::of_frame(alloc, frame.bytes())?;
-        let place = Place::at_offset(offset);
-        steps.push(Step { place, asks })?;
-        offset = offset.saturating_add(frame.bytes().len());
-    }
-    Ok((steps, offset))
-}
-
-/// The fault of a stream at this offset, if it has one.
-fn stream_fault(
-    alloc: Global,
-    offset: usize,
-    fault: Option<ScriptFault>,
-) -> Result<Option<FormFault>, AllocError> {
-    match fault {
-        Some(fault) => Ok(Some(FormFault {
-            place: Place::at_offset(offset),
-            fault: fault.words(alloc)?,
-            reason: stream_reason(&fault),
-        })),
-        None => Ok(None),
-    }
-}
-
-/// What the lines of a script ask for, up to the first that is bad.
-fn explain_script(alloc: Global, text: &[u8]) -> Result<Explanation, AllocError> {
-    match read_script(alloc, text) {
-        Ok(events) => explain_lines(alloc, text, &events, None),
-        Err(ScriptFault::BadLine(number)) => {
-            let (front, rest) = split_before_line(text, number);
-            let fault = line_fault(alloc, number, rest)?;
-            match read_script(alloc, front) {
-                Ok(events) => explain_lines(alloc, front, &events, Some(fault)),
-                // The lines before the first bad one are a script.
-                Err(_) => Err(AllocError),
-            }
-        }
-        Err(_) => Err(AllocError),
-    }
-}
-
-/// What the lines of a script ask for, which are these events, and the fault of the line after them.
-fn explain_lines(
-    alloc: Global,
-    text: &[u8],
-    events: &[Event],
-    fault: Option<FormFault>,
-) -> Result<Explanation, AllocError> {
-    Ok(Explanation {
-        form: Form::Script,
-        steps: steps_of(alloc, text, events)?,
         fault,
-        first_fault: None,
+        first_fault,
     })
 }
 
-/// The lines of a text before the one of this number, counted from 1, and the text from that line on.
-fn split_before_line(text: &[u8], number: usize) -> (&[u8], &[u8]) {
-    let len = text
-        .split_inclusive(|byte| *byte == b'\n')
-        .take(number.saturating_sub(1))
-        .fold(0usize, |sum, line| sum.saturating_add(line.len()));
-    text.split_at_checked(len).unwrap_or((text, &[]))
-}
-
-/// The steps of a script: its events, each of which is that of the next line that isn't empty.
-fn steps_of(alloc: Global, text: &[u8], events: &[Event]) -> Result<Vec<Step>, AllocError> {
-    let mut steps = Vec::with_capacity(alloc, events.len())?;
-    for (place, event) in script_places(alloc, text)?.iter().zip(events) {
+/// The steps of the events, each at its place.
+fn steps_of(alloc: Global, form: Form, list: &EventList) -> Result<Vec<Step>, AllocError> {
+    let mut steps = Vec::with_capacity(alloc, list.events.len())?;
+    for (event, at) in list.events.iter().zip(&list.places) {
         steps.push(Step {
-            place: *place,
+            place: form.place(*at),
             asks: Asks::of_event(alloc, event)?,
         })?;
     }
     Ok(steps)
 }
 
-/// The fault of the bad line of this number, which is the first one of the text.
-fn line_fault(alloc: Global, number: usize, text: &[u8]) -> Result<FormFault, AllocError> {
-    let line = text.split(|byte| *byte == b'\n').next().unwrap_or(text);
-    Ok(FormFault {
-        place: Place::in_line(number),
-        fault: ScriptFault::BadLine(number).words(alloc)?,
-        reason: line_reason(line),
-    })
+/// The fault of the script or the stream itself, if it has one.
+fn fault_of(
+    alloc: Global,
+    form: Form,
+    bytes: &[u8],
+    list: &EventList,
+) -> Result<Option<FormFault>, AllocError> {
+    match &list.fault {
+        Some(fault) => Ok(Some(FormFault {
+            place: form.place(list.end),
+            fault: fault.words(alloc)?,
+            reason: form_reason(bytes, fault),
+        })),
+        None => Ok(None),
+    }
+}
+
+/// Where the first fault is: every step comes before the fault of the whole.
+fn first_fault(steps: &[Step], fault: Option<&FormFault>) -> Option<Place> {
+    let malformed = steps
+        .iter()
+        .find(|step| matches!(step.asks, Asks::Malformed(_)));
+    match (malformed, fault) {
+        (Some(step), _) => Some(step.place),
+        (None, Some(fault)) => Some(fault.place),
+        (None, None) => None,
+    }
+}
+
+/// Why the bytes, which have this fault, are no script or no stream.
+fn form_reason(bytes: &[u8], fault: &ScriptFault) -> &'static str {
+    match fault {
+        ScriptFault::BadLine(number) => line_reason(line_of(bytes, *number)),
+        ScriptFault::Stream(fault) => frame_reason(&FrameFault::from(*fault)),
+        ScriptFault::Rest(_) => {
+            "bytes are left after the last whole frame: one was cut, or something was added"
+        }
+        ScriptFault::OutOfMemory => "out of memory",
+    }
+}
+
+/// The line of this number, counted from 1, of a text.
+fn line_of(text: &[u8], number: usize) -> &[u8] {
+    text.split(|byte| *byte == b'\n')
+        .nth(number.saturating_sub(1))
+        .unwrap_or(&[])
 }
 
 /// Why a line is none of a script.
@@ -320,14 +230,6 @@ fn line_reason(line: &[u8]) -> &'static str {
         "after `deliver` and one blank come hexadecimal digits, two for each byte of a frame"
     } else {
         "a line is `deliver` and the digits of a frame, `prepare`, `hand` or `restart`"
-    }
-}
-
-/// Why bytes are no stream.
-fn stream_reason(fault: &ScriptFault) -> &'static str {
-    match fault {
-        ScriptFault::Stream(fault) => frame_reason(&FrameFault::from(*fault)),
-        _ => "bytes are left after the last whole frame: one was cut, or something was added",
     }
 }
 
@@ -347,12 +249,7 @@ impl Asks {
         match read_frame(alloc, bytes) {
             Ok((number, request)) => Ok(Asks::Request(ShownRequest::new(alloc, number, &request)?)),
             Err(FrameFault::OutOfMemory) => Err(AllocError),
-            Err(fault) => Ok(Asks::Malformed(Malformed {
-                fault: fault.words(alloc)?,
-                place: frame_place(bytes, &fault),
-                reason: reason_in_frame(bytes, &fault),
-                data: hex::encode(alloc, bytes)?,
-            })),
+            Err(fault) => Ok(Asks::Malformed(Malformed::new(alloc, bytes, &fault)?)),
         }
     }
 }
@@ -360,11 +257,10 @@ impl Asks {
 impl ShownRequest {
     /// What is shown of the request with this number.
     fn new(alloc: Global, number: u32, request: &Request) -> Result<ShownRequest, AllocError> {
-        let (kind, entry) = kind_and_entry(request);
         Ok(ShownRequest {
-            kind,
+            kind: request.name(),
             request: number,
-            entry: entry.map(EntryDigits),
+            entry: request.entry().map(EntryDigits),
             entries: match request {
                 Request::Order(order) => Some(digits_of(alloc, order.numbers())?),
                 _ => None,
@@ -378,65 +274,28 @@ impl ShownRequest {
     }
 }
 
-/// What the request is about, in a word, and the number of the entry that it names.
-fn kind_and_entry(request: &Request) -> (&'static str, Option<u16>) {
-    match request {
-        Request::Add(entry, _) => ("add", Some(*entry)),
-        Request::Replace(entry, _) => ("replace", Some(*entry)),
-        Request::Remove(entry) => ("remove", Some(*entry)),
-        Request::Order(_) => ("order", None),
-        Request::Next(entry) => ("next", Some(*entry)),
-        Request::AddFree(_) => ("add-free", None),
-    }
-}
-
 /// What is shown of an option, in a box.
 fn shown_option(alloc: Global, option: &LoadOption) -> Result<Box<ShownOption>, AllocError> {
     Ok(Box::new(alloc, ShownOption::new(alloc, option)?)?)
 }
 
-/// The offset of the option in the bytes of a frame that has one.
-fn option_start(bytes: &[u8]) -> usize {
-    match bytes.get(KIND_AT) {
-        Some(&ADD_FREE) => PAYLOAD_START,
-        _ => ENTRY_OPTION_START,
-    }
-}
-
-/// The offset of a frame's fault in its bytes: that of the field at fault, or of the node of an option.
-fn frame_place(bytes: &[u8], fault: &FrameFault) -> usize {
-    match fault {
-        FrameFault::Short => bytes.len(),
-        FrameFault::BadMagic | FrameFault::OutOfMemory => 0,
-        FrameFault::BadVersion => 2,
-        FrameFault::BadKind => KIND_AT,
-        FrameFault::BadNumber => 4,
-        FrameFault::TooLong | FrameFault::BadSize => 8,
-        FrameFault::BadPayload => PAYLOAD_START,
-        FrameFault::Option(fault) => {
-            let place = option_place(fault).unwrap_or(0);
-            option_start(bytes).saturating_add(place)
-        }
-    }
-}
-
-/// Why the bytes, which have this fault, are no frame.
-fn reason_in_frame(bytes: &[u8], fault: &FrameFault) -> &'static str {
-    match fault {
-        FrameFault::Option(fault) => {
-            bytes_reason(bytes.get(option_start(bytes)..).unwrap_or(&[]), fault)
-        }
-        fault => frame_reason(fault),
-    }
-}
-
-impl Form {
-    /// What it is called.
-    fn word(self) -> &'static str {
-        match self {
-            Form::Script => "script",
-            Form::Stream => "stream",
-        }
+impl Malformed {
+    /// What is shown of bytes that have this fault.
+    fn new(alloc: Global, bytes: &[u8], fault: &FrameFault) -> Result<Malformed, AllocError> {
+        let start = fault.offset(bytes);
+        let (within, reason) = match fault {
+            FrameFault::Option(fault) => (
+                option_place(fault).unwrap_or(0),
+                bytes_reason(bytes.get(start..).unwrap_or(&[]), fault),
+            ),
+            fault => (0, frame_reason(fault)),
+        };
+        Ok(Malformed {
+            fault: fault.words(alloc)?,
+            place: start.saturating_add(within),
+            reason,
+            data: hex::encode(alloc, bytes)?,
+        })
     }
 }
 

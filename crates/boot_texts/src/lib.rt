@@ -3,8 +3,8 @@
 //!
 //! [`vars_report`] shows variables, [`diff_report`] what differs between two sets, [`change_report`] one change, and
 //! [`explain_report`] what the frames of a script or a stream ask for, each as lines for a person. [`vars_json`],
-//! [`diff_json`] and [`explain_json`] have the same as JSON, [`reply_json`] shows a reply to a request, and docs/formats.md has
-//! each line and each field.
+//! [`diff_json`] and [`explain_json`] have the same as JSON, [`reply_json`] shows the answer to an event, and docs/formats.md
+//! has each line and each field.
 //!
 //! [`option_bytes`] makes a load option of words, and [`frame_bytes`] a frame, which [`frame_line`] puts into a line of
 //! a script. [`attribute_bits`], [`attributes_of_text`], [`optional_text`], [`entry_of_digits`] and
@@ -31,6 +31,6 @@ pub use frame::{FrameWords, FrameWordsFault, frame_bytes, frame_line};
 pub use option::{
     Flags, OptionWords, OptionWordsFault, attribute_bits, option_bytes, optional_text,
 };
-pub use place::{Place, script_places, stream_places};
+pub use place::{Form, Place};
 pub use replies::reply_json;
 pub use shown_vars::{vars_json, vars_report};

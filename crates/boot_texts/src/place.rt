@@ -1,45 +1,67 @@
-//! Places of events in a script or a stream.
+//! What requests come in, and where in it an event or a fault is.
 
 use crate::json::{JsonObject, Leaf, append_leaves};
-use boot_requests::Event;
+use boot_requests::{EventList, script_events, stream_events};
 use serde::Serializer;
 use std::alloc::{AllocError, Global};
 use std::fmt;
 
-/// Where an event or a fault is: by the line of a script, or the offset in a stream.
-#[derive(Clone, Copy, Debug, PartialEq, Eq, Drop)]
-pub struct Place {
-    /// The number of the line, counted from 1.
-    line: Option<usize>,
-    /// The offset in bytes from the first one.
-    offset: Option<usize>,
+/// What bytes with events are.
+#[derive(Clone, Copy, Debug, PartialEq, Eq)]
+pub enum Form {
+    /// A script: lines, each with an event.
+    Script,
+    /// A stream: frames, one after the other.
+    Stream,
 }
 
-impl Place {
-    /// The line of this number, counted from 1.
-    pub(crate) fn in_line(number: usize) -> Place {
-        Place {
-            line: Some(number),
-            offset: None,
+impl Form {
+    /// The events of the bytes, each with where it is, up to the first fault.
+    ///
+    /// # Errors
+    ///
+    /// [`AllocError`] if memory was refused.
+    pub fn events(self, alloc: Global, bytes: &[u8]) -> Result<EventList, AllocError> {
+        match self {
+            Form::Script => script_events(alloc, bytes),
+            Form::Stream => stream_events(alloc, bytes),
         }
     }
 
-    /// This offset, in bytes.
-    pub(crate) fn at_offset(offset: usize) -> Place {
-        Place {
-            line: None,
-            offset: Some(offset),
+    /// The line of this number, counted from 1, of a script; this offset of a stream.
+    pub fn place(self, at: usize) -> Place {
+        match self {
+            Form::Script => Place::Line(at),
+            Form::Stream => Place::Offset(at),
         }
     }
+
+    /// What it is called.
+    pub(crate) fn word(self) -> &'static str {
+        match self {
+            Form::Script => "script",
+            Form::Stream => "stream",
+        }
+    }
+}
+
+/// Where an event or a fault is.
+#[derive(Clone, Copy, Debug, PartialEq, Eq, Drop)]
+pub enum Place {
+    /// In the line of this number of a script, counted from 1.
+    Line(usize),
+    /// At this offset of a stream, in bytes from the first one.
+    Offset(usize),
 }
 
 impl JsonObject for Place {
     fn append_members<S: Serializer>(&self, out: &mut S) -> Result<(), S::Error> {
+        let (line, offset) = match self {
+            Place::Line(number) => (Some(*number), None),
+            Place::Offset(offset) => (None, Some(*offset)),
+        };
         append_leaves(
-            &[
-                ("line", Leaf::Count(self.line)),
-                ("offset", Leaf::Count(self.offset)),
-            ],
+            &[("line", Leaf::Count(line)), ("offset", Leaf::Count(offset))],
             out,
         )
     }
@@ -47,42 +69,9 @@ impl JsonObject for Place {
 
 impl fmt::Display for Place {
     fn fmt<W: fmt::Write>(&self, f: &mut fmt::Formatter<W>) -> fmt::Result {
-        match (self.line, self.offset) {
-            (Some(line), _) => write!(f, "line {line}"),
-            (None, Some(offset)) => write!(f, "offset {offset}"),
-            (None, None) => Ok(()),
+        match self {
+            Place::Line(number) => write!(f, "line {number}"),
+            Place::Offset(offset) => write!(f, "offset {offset}"),
         }
     }
-}
-
-/// The places of the events of a script: its lines that aren't empty.
-///
-/// # Errors
-///
-/// [`AllocError`] if memory was refused.
-pub fn script_places(alloc: Global, text: &[u8]) -> Result<Vec<Place>, AllocError> {
-    let mut places = Vec::new(alloc);
-    for (index, line) in text.split(|byte| *byte == b'\n').enumerate() {
-        if !line.is_empty() {
-            places.push(Place::in_line(index.saturating_add(1)))?;
-        }
-    }
-    Ok(places)
-}
-
-/// The places of the events of a stream, each of which is the delivery of one frame after the other.
-///
-/// # Errors
-///
-/// [`AllocError`] if memory was refused.
-pub fn stream_places(alloc: Global, events: &[Event]) -> Result<Vec<Place>, AllocError> {
-    let mut places = Vec::with_capacity(alloc, events.len())?;
-    let mut offset = 0usize;
-    for event in events {
-        places.push(Place::at_offset(offset))?;
-        if let Event::Deliver(bytes) = event {
-            offset = offset.saturating_add(bytes.bytes().len());
-        }
-    }
-    Ok(places)
 }

@@ -4,7 +4,7 @@ use crate::content::EntryDigits;
 use crate::json::{JsonObject, Leaf, append_leaves, append_object, append_objects, json_line};
 use crate::place::Place;
 use crate::shown_vars::ShownPlan;
-use boot_requests::{Event, FrameFault, Outcome, Reply, read_frame};
+use boot_requests::{Answer, Outcome, Reply};
 use serde::Serializer;
 use std::alloc::{AllocError, Global};
 use uefi_vars::BootPlan;
@@ -74,43 +74,33 @@ impl JsonObject for Follower {
     }
 }
 
-/// Shows the reply to the event at this place as JSON, an object on one line that ends with a line feed. The followers are
-/// the outcomes of the requests that had waited and were applied right after the event's own, of which the last is the one
-/// below the next number. docs/formats.md has each member.
+/// Shows the answer to the event at this place as JSON, an object on one line that ends with a line feed. Its followers
+/// are the outcomes of the requests that had waited and were applied right after the event's own, of which the last is the
+/// one below the next number. docs/formats.md has each member.
 ///
 /// # Errors
 ///
 /// [`AllocError`] if memory was refused.
-pub fn reply_json(
-    alloc: Global,
-    place: Place,
-    event: &Event,
-    reply: &Reply,
-    followers: &[Outcome],
-) -> Result<String, AllocError> {
-    let mut shown = ShownReply::new(alloc, place, event, reply)?;
-    if let Some(next) = shown.next {
-        shown.followers = shown_followers(alloc, next, followers)?;
-    }
-    json_line(alloc, &shown)
+pub fn reply_json(alloc: Global, place: Place, answer: &Answer) -> Result<String, AllocError> {
+    json_line(alloc, &ShownReply::new(alloc, place, answer)?)
 }
 
 impl ShownReply {
-    /// What is shown of the reply, but for what was applied with the request.
-    fn new(
-        alloc: Global,
-        place: Place,
-        event: &Event,
-        reply: &Reply,
-    ) -> Result<ShownReply, AllocError> {
+    /// What is shown of the answer.
+    fn new(alloc: Global, place: Place, answer: &Answer) -> Result<ShownReply, AllocError> {
+        let reply = &answer.reply;
+        let next = next_of(reply);
         Ok(ShownReply {
             place,
-            request: number_of(alloc, event)?,
+            request: answer.request,
             reply: name_of(reply),
             outcome: outcome_of(reply).map(|outcome| outcome.code.name()),
             entry: outcome_of(reply).and_then(entry_of),
-            next: next_of(reply),
-            followers: Vec::new(alloc),
+            next,
+            followers: match next {
+                Some(next) => shown_followers(alloc, next, &answer.followers)?,
+                None => Vec::new(alloc),
+            },
             fault: match reply {
                 Reply::Malformed(fault) => Some(fault.words(alloc)?),
                 _ => None,
@@ -138,18 +128,6 @@ impl ShownReply {
             ],
             out,
         )
-    }
-}
-
-/// The number of the request that is delivered, if one is.
-fn number_of(alloc: Global, event: &Event) -> Result<Option<u32>, AllocError> {
-    let Event::Deliver(bytes) = event else {
-        return Ok(None);
-    };
-    match read_frame(alloc, bytes.bytes()) {
-        Ok((number, _request)) => Ok(Some(number)),
-        Err(FrameFault::OutOfMemory) => Err(AllocError),
-        Err(_) => Ok(None),
     }
 }
 

@@ -1,12 +1,12 @@
 //! A place and a journal, as what a machine's updates are made in.
 
 use crate::variable_file::{is_in_file, set_in_file};
-use boot_commands::{FileLock, LIMIT, OutputFile, replace_file};
 use boot_journal::{CallError, Change, Device, Journal, MachineName, write_journal};
 use std::alloc::{AllocError, Global};
 use std::io::{self, ErrorKind};
 use std::rt::Files;
-use var_places::{Failure, Folder, has_value, read_file, set_variable};
+use var_places::{Failure, Folder, has_value, set_variable};
+use whole_files::{FileLock, LIMIT, OutputFile, read_file, replace_file};
 
 /// Where the variables of a machine are.
 #[derive(Drop)]

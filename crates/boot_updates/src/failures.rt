@@ -1,9 +1,7 @@
 //! What keeps an update from being made, in words.
 
 use crate::updates::UpdateWords;
-use boot_commands::ScriptFault;
 use boot_journal::{CallError, CommandError, RunFault, UpdateError};
-use boot_requests::OpenFault;
 use std::alloc::{AllocError, Global};
 use std::fmt::{self, Display};
 use var_places::Failure;
@@ -43,16 +41,11 @@ pub(crate) fn of_command(
 /// What it is to the program that the variables of the place, or those that the requests lead to, are refused.
 fn of_run(alloc: Global, words: &UpdateWords<'_>, fault: RunFault) -> Failure {
     match fault {
-        RunFault::Open(fault) => of_open(alloc, words, fault),
-        fault => Failure::of_fault(alloc, words.place, fault),
-    }
-}
-
-/// What it is to the program that the variables of the place are refused.
-fn of_open(alloc: Global, words: &UpdateWords<'_>, fault: OpenFault) -> Failure {
-    match ScriptFault::Open(fault).words(alloc) {
-        Ok(text) => Failure::of_run(alloc, words.place, text.as_str()),
-        Err(AllocError) => Failure::Memory,
+        RunFault::Open(_) => match format!(in alloc; "{fault}") {
+            Ok(text) => Failure::of_run(alloc, words.place, text.as_str()),
+            Err(AllocError) => Failure::Memory,
+        },
+        RunFault::NoData | RunFault::TooLong => Failure::of_fault(alloc, words.place, fault),
     }
 }
 

@@ -20,8 +20,9 @@ pub(crate) fn check_requests(
     if left_out.is_empty() {
         return Ok(());
     }
-    for (event, place) in script.events.iter().zip(&script.places) {
+    for (event, at) in script.events.iter().zip(&script.places) {
         if let Some(variable) = changed_by(alloc, event, left_out)? {
+            let place = script.form.place(*at);
             let fault = format!(in alloc;
                 "{place} would change {variable}, which has no value or too long a one, and stays as it is"
             )?;

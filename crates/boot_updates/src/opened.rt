@@ -8,15 +8,15 @@ use crate::script::Script;
 use crate::state_folder::stored_journal;
 use crate::told::tell_of_settling;
 use crate::updates::UpdateWords;
-use boot_commands::OutputFile;
 use boot_journal::{BootId, Journal, Recorded};
 use std::alloc::Global;
 use std::rt::Files;
 use uefi_vars::Vars;
 use var_places::{
-    Failure, FileKind, Quoted, Reason, STANDARD, check_damage, file_kind, is_folder, lock_file,
-    name_of, no_place, read, read_file, read_folder, variable_file,
+    Failure, FileKind, Quoted, Reason, STANDARD, check_damage, file_kind, is_folder, name_of,
+    no_place, read, read_folder, variable_file,
 };
+use whole_files::{OutputFile, lock_file, read_file};
 
 /// The file in which Linux tells the identity of its start.
 const BOOT_ID: &str = "/proc/sys/kernel/random/boot_id";
@@ -147,7 +147,7 @@ fn open_file<R: Files<File: OutputFile> + Input + Eprint + AllocGlobal>(
     if path == STANDARD {
         return Err(Failure::refused(alloc, name_of(path), Reason::Standard));
     }
-    let lock = lock_file(rt, path)?;
+    let lock = lock_file(rt, path).map_err(|error| Failure::of_write(alloc, path, error))?;
     let bytes = read(rt, path)?;
     check_kind(alloc, path, &bytes)?;
     if !words.force {

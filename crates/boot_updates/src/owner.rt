@@ -2,12 +2,12 @@
 
 use crate::device::PlaceDevice;
 use crate::updates::UpdateWords;
-use boot_commands::OutputFile;
 use boot_journal::{AttributesFault, Journal, JournalFile, MachineName};
 use std::alloc::Global;
 use std::rt::Files;
 use uefi_vars::Vars;
 use var_places::{Failure, Quoted, machine_name};
+use whole_files::OutputFile;
 
 /// What the machine of the place is called: what `--machine` says, or what the system or the place's path says.
 ///

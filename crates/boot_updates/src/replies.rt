@@ -1,12 +1,14 @@
 //! What is printed of replies, and whether all was done.
 
-ghost use Rattle.std.specs.Prelude.{◌↔◌, IfOk, IsTrue};
+ghost use Rattle.std.specs.Prelude.{◌≡◌, ◌↔◌, IsTrue};
 ghost use Rattle.std.specs.List.{AllByRecursion};
+ghost use Rattle.boot_requests.specs.declared.event.Event.{Event};
+ghost use Rattle.boot_requests.specs.Followers.{request_of};
+ghost use Rattle.boot_requests.specs.Seen.{Seen, IsSeen};
 ghost use Rattle.boot_updates.specs.Replies.{IsBelow, IsCarriedOut, IsDone};
 
 use crate::script::Script;
-use boot_journal::Answer;
-use boot_requests::{Code, Event, FrameFault, Outcome, Reply, read_frame, reply_line};
+use boot_requests::{Answer, Code, Outcome, Reply, append_reply_line};
 use boot_texts::reply_json;
 use std::alloc::{AllocError, Global};
 
@@ -28,8 +30,7 @@ pub enum Ended {
 pub(crate) fn answer_lines(alloc: Global, answers: &[Answer]) -> Result<String, AllocError> {
     let mut text = String::new(alloc);
     for answer in answers {
-        text.push_str(&reply_line(alloc, &answer.reply)?)?;
-        text.push('\n')?;
+        append_reply_line(alloc, &answer.reply, &mut text)?;
     }
     Ok(text)
 }
@@ -45,30 +46,20 @@ pub(crate) fn answers_json(
     answers: &[Answer],
 ) -> Result<String, AllocError> {
     let mut text = String::new(alloc);
-    for ((event, place), answer) in script.events.iter().zip(&script.places).zip(answers) {
-        let line = reply_json(alloc, *place, event, &answer.reply, &answer.followers)?;
-        text.push_str(&line)?;
+    for (at, answer) in script.places.iter().zip(answers) {
+        text.push_str(&reply_json(alloc, script.form.place(*at), answer)?)?;
     }
     Ok(text)
 }
 
-/// Whether the answers to these events say that all was done.
-///
-/// # Errors
-///
-/// [`AllocError`] if memory was refused.
-pub(crate) fn ending(
-    alloc: Global,
-    events: &[Event],
-    answers: &[Answer],
-) -> Result<Ended, AllocError> {
+/// Whether the answers say that all was done.
+pub(crate) fn ending(answers: &[Answer]) -> Ended {
     let next = last_next(answers);
-    for (event, answer) in events.iter().zip(answers) {
-        if !is_done(alloc, event, answer, next)? {
-            return Ok(Ended::NotAll);
-        }
+    if answers.iter().all(|answer| is_done(answer, next)) {
+        Ended::AllDone
+    } else {
+        Ended::NotAll
     }
-    Ok(Ended::AllDone)
 }
 
 /// The next number that the last answer tells that tells one: 0 if none does.
@@ -83,13 +74,14 @@ pub(crate) fn last_next(answers: &[Answer]) -> u32 {
     told.unwrap_or(0)
 }
 
-/// Whether what the event asks for was done, if this is the next number after all events.
-fn is_done(alloc: Global, event: &Event, answer: &Answer, next: u32) -> Result<bool, AllocError>
-    ensures { IfOk result (λ done. IsTrue done → IsDone next event.now answer.now.reply answer.now.followers.items) }
+/// Whether what the event with this answer asks for was done, if this is the next number after all events.
+fn is_done(answer: &Answer, next: u32) -> bool
+    ensures { (event : Event) (seen : Seen) → IsSeen event seen → answer.now.request ≡ request_of seen →
+        IsTrue result → IsDone next event answer.now.reply answer.now.followers.items }
 {
-    Ok(match &answer.reply {
+    match &answer.reply {
         Reply::Malformed(_) | Reply::Ahead(_) | Reply::Conflict => false,
-        Reply::Waiting(_) => is_below(alloc, event, next)?,
+        Reply::Waiting(_) => is_below(answer.request, next),
         Reply::Applied(outcome, _) => {
             is_carried_out(outcome) && are_carried_out(&answer.followers)
         }
@@ -100,7 +92,7 @@ fn is_done(alloc: Global, event: &Event, answer: &Answer, next: u32) -> Result<b
         | Reply::Plan(_)
         | Reply::NothingPrepared
         | Reply::Restarted(_) => true,
-    })
+    }
 }
 
 /// Whether each of the requests was carried out.
@@ -117,16 +109,13 @@ fn is_carried_out(outcome: &Outcome) -> bool
     outcome.code == Code::Done
 }
 
-/// Whether the event is a request with a number below the next one, and so was applied.
-fn is_below(alloc: Global, event: &Event, next: u32) -> Result<bool, AllocError>
-    ensures { IfOk result (λ below. IsTrue below → IsBelow event.now next) }
+/// Whether this is the number of a request that is below the next one, and that so was applied.
+fn is_below(request: Option<u32>, next: u32) -> bool
+    ensures { (event : Event) (seen : Seen) → IsSeen event seen → request ≡ request_of seen →
+        IsTrue result → IsBelow event next }
 {
-    let Event::Deliver(bytes) = event else {
-        return Ok(false);
-    };
-    match read_frame(alloc, bytes.bytes()) {
-        Ok((number, _request)) => Ok(number < next),
-        Err(FrameFault::OutOfMemory) => Err(AllocError),
-        Err(_) => Ok(false),
+    match request {
+        Some(number) => number < next,
+        None => false,
     }
 }

@@ -1,8 +1,7 @@
 //! Scripts and streams of requests.
 
-use boot_commands::{ScriptFault, read_script, read_stream};
-use boot_requests::Event;
-use boot_texts::{Place, script_places, stream_places};
+use boot_requests::{Event, EventList, ScriptFault};
+use boot_texts::Form;
 use std::alloc::{AllocError, Global};
 use std::rt::Files;
 use var_places::{Failure, name_of, read};
@@ -12,10 +11,12 @@ use var_places::{Failure, name_of, read};
 pub(crate) struct Script<'a> {
     /// What it is called.
     pub(crate) name: &'a str,
+    /// What it is.
+    pub(crate) form: Form,
     /// The events, in their order.
     pub(crate) events: Vec<Event>,
-    /// The place of each of them.
-    pub(crate) places: Vec<Place>,
+    /// The place of each of them, as [`EventList`] has it.
+    pub(crate) places: Vec<usize>,
 }
 
 impl Script<'_> {
@@ -23,6 +24,7 @@ impl Script<'_> {
     pub(crate) fn empty(alloc: Global) -> Script<'static> {
         Script {
             name: "",
+            form: Form::Script,
             events: Vec::new(alloc),
             places: Vec::new(alloc),
         }
@@ -45,45 +47,32 @@ impl Script<'_> {
 pub(crate) fn read_events<'a, R: Files + Input + AllocGlobal>(
     rt: &R,
     path: &'a str,
-    is_stream: bool,
+    form: Form,
 ) -> Result<Script<'a>, Failure> {
     let alloc = rt.alloc();
     let bytes = read(rt, path)?;
-    match script_of(alloc, name_of(path), &bytes, is_stream) {
-        Ok(script) => Ok(script),
-        Err(fault) => Err(of_script(alloc, path, fault)),
+    let name = name_of(path);
+    let EventList {
+        events,
+        places,
+        fault,
+        ..
+    } = form.events(alloc, &bytes)?;
+    match fault {
+        Some(fault) => Err(of_script(alloc, name, fault)),
+        None => Ok(Script {
+            name,
+            form,
+            events,
+            places,
+        }),
     }
 }
 
-/// The events of the script or the stream that the bytes are.
-fn script_of<'a>(
-    alloc: Global,
-    name: &'a str,
-    bytes: &[u8],
-    is_stream: bool,
-) -> Result<Script<'a>, ScriptFault> {
-    let events = if is_stream {
-        read_stream(alloc, bytes)?
-    } else {
-        read_script(alloc, bytes)?
-    };
-    let places = if is_stream {
-        stream_places(alloc, &events)?
-    } else {
-        script_places(alloc, bytes)?
-    };
-    Ok(Script {
-        name,
-        events,
-        places,
-    })
-}
-
-/// What it is to the program that the script at this path has this fault.
-fn of_script(alloc: Global, path: &str, fault: ScriptFault) -> Failure {
+/// What it is to the program that the script of this name has this fault.
+fn of_script(alloc: Global, name: &str, fault: ScriptFault) -> Failure {
     match fault.words(alloc) {
-        Ok(_) if matches!(fault, ScriptFault::OutOfMemory) => Failure::Memory,
-        Ok(words) => Failure::of_run(alloc, name_of(path), words.as_str()),
-        Err(_) => Failure::Memory,
+        Ok(words) => Failure::of_run(alloc, name, words.as_str()),
+        Err(AllocError) => Failure::Memory,
     }
 }

@@ -1,13 +1,13 @@
 //! The folder that has the journal of a machine.
 
-use boot_commands::{LIMIT, OutputFile, replace_file};
 use boot_journal::{JournalFault, JournalFile, read_journal};
 use std::alloc::{AllocError, Global};
 use std::fs::{File, OpenFile};
 use std::io::{self, ErrorKind};
 use std::path::{Path, PathBuf};
 use std::rt::Files;
-use var_places::{Failure, Reason, read_file, shown};
+use var_places::{Failure, Reason, shown};
+use whole_files::{LIMIT, OutputFile, read_file};
 
 /// The name of the journal's file.
 const JOURNAL: &str = "journal";

@@ -5,10 +5,12 @@ use crate::opened::open_machine;
 use crate::replies::{Ended, answer_lines, answers_json, ending, last_next};
 use crate::script::{Script, read_events};
 use crate::state_folder::lock_folder;
-use boot_commands::OutputFile;
-use boot_journal::{Answer, Requests, command, settle};
+use boot_journal::{Requests, command, settle};
+use boot_requests::Answer;
+use boot_texts::Form;
 use std::rt::Files;
 use var_places::{Failure, print};
+use whole_files::OutputFile;
 
 /// The words of an update.
 #[derive(Clone, Copy, Debug)]
@@ -69,7 +71,14 @@ pub fn update<R: Files<File: OutputFile> + Input + Print + Eprint + AllocGlobal>
             script,
             is_stream,
             json,
-        } => run_script(rt, words, &read_events(rt, script, is_stream)?, json),
+        } => {
+            let form = if is_stream {
+                Form::Stream
+            } else {
+                Form::Script
+            };
+            run_script(rt, words, &read_events(rt, script, form)?, json)
+        }
         Job::Next => tell_next(rt, words),
         Job::Settle => settle_place(rt, words),
     }
@@ -84,7 +93,7 @@ fn run_script<R: Files<File: OutputFile> + Input + Print + Eprint + AllocGlobal>
 ) -> Result<Ended, Failure> {
     let answers = run_events(rt, words, script)?;
     print_answers(rt, script, &answers, json)?;
-    Ok(ending(rt.alloc(), &script.events, &answers)?)
+    Ok(ending(&answers))
 }
 
 /// Prints the replies to the events of the script.

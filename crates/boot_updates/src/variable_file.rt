@@ -1,12 +1,12 @@
 //! Changes of single variables of an emulator's variable file.
 
-use boot_commands::{FileLock, OutputFile};
 use boot_journal::ATTRIBUTES_LEN;
 use std::alloc::{AllocError, Global};
 use std::rt::Files;
 use uefi_vars::Vars;
-use var_places::{Failure, changed_variable_file, of_store, read, rewrite};
+use var_places::{Failure, changed_variable_file, of_store, read};
 use var_stores::{read_store, store_attributes, store_vars};
+use whole_files::{FileLock, OutputFile, rewrite_file};
 
 /// Sets the variable of this name in the file at this path to the attributes and the data of what is to be kept of it, or
 /// takes it out, whatever is there. The file is locked, and is replaced as a whole. Nothing is written if it is so already.
@@ -23,7 +23,11 @@ pub(crate) fn set_in_file<R: Files<File: OutputFile> + Input + Print + AllocGlob
     kept: Option<&[u8]>,
 ) -> Result<(), Failure> {
     match changed_file(rt, path, name, kept)? {
-        Some(bytes) => rewrite(rt, path, lock, &bytes),
+        Some(bytes) => rewrite_file(rt, lock, &bytes).map_err(|error| Failure::of_write(
+            rt.alloc(),
+            path,
+            error,
+        )),
         None => Ok(()),
     }
 }

@@ -2,19 +2,19 @@
 use Rattle.std.specs.Prelude.{◌≡◌, ◌⊎◌, ℕ, List, Result, IsErrAnd, ⊤}
 use Rattle.std.specs.String.{string_bytes}
 use Rattle.uefi_vars.specs.Vars.{Variables}
-use Rattle.bootkeep.specs.declared.command_line.InputFormat.{InputFormat}
 use Rattle.bootkeep.specs.declared.failure.Failure.{Failure}
 use Rattle.bootkeep.specs.declared.failure.Failure.TheVariants as failure
-use Rattle.boot_commands.specs.declared.fault.ScriptFault.{ScriptFault}
-use Rattle.boot_commands.specs.declared.fault.ScriptFault.TheVariants as script
-use Rattle.boot_commands.specs.declared.input.InputFault.{InputFault}
-use Rattle.boot_commands.specs.declared.input.InputFault.TheVariants as input
-use Rattle.boot_commands.specs.declared.output.OutputFault.{OutputFault}
-use Rattle.boot_commands.specs.declared.output.OutputFault.TheVariants as output
+use Rattle.boot_commands.specs.declared.fault.ScriptRunFault.{ScriptRunFault}
+use Rattle.boot_commands.specs.declared.fault.ScriptRunFault.TheVariants as running
+use Rattle.boot_commands.specs.declared.runs.InputFormat.{InputFormat}
+use Rattle.boot_commands.specs.declared.file_fault.InputFault.{InputFault}
+use Rattle.boot_commands.specs.declared.file_fault.InputFault.TheVariants as input
+use Rattle.boot_commands.specs.declared.file_fault.OutputFault.{OutputFault}
+use Rattle.boot_commands.specs.declared.file_fault.OutputFault.TheVariants as output
 use Rattle.boot_commands.specs.declared.refusal.Refusal.{Refusal}
 use Rattle.boot_commands.specs.declared.refusal.Refusal.TheVariants as refusal
-use Rattle.bootkeep.specs.InputFormat.{IsFirstFaultIn}
-use Rattle.boot_commands.specs.Words.{script_fault_words}
+use Rattle.boot_commands.specs.RunFault.{IsFirstFaultIn}
+use Rattle.boot_commands.specs.Words.{script_run_fault_words}
 
 -- the status that the program ends with
 abbrev pub status_of : Failure → ℕ
@@ -53,29 +53,27 @@ IsRefusedBy words failure.Memory = ⊤
 IsRefusedBy words _ = ⊥
 
 -- the failure is what a fault of a script is to the program
-abbrev pub IsFailureOf : ScriptFault → Failure → Type 0
-IsFailureOf script.Read made = made ≡ failure.Read
-IsFailureOf script.Write made = made ≡ failure.Write
-IsFailureOf script.TooMuch made = made ≡ failure.TooMuch
-IsFailureOf script.OutOfMemory made = made ≡ failure.Memory
-IsFailureOf (script.BadLine number) made = IsRefusedBy (script_fault_words (script.BadLine number)) made
-IsFailureOf (script.Stream fault) made = IsRefusedBy (script_fault_words (script.Stream fault)) made
-IsFailureOf (script.Rest count) made = IsRefusedBy (script_fault_words (script.Rest count)) made
-IsFailureOf (script.Open fault) made = IsRefusedBy (script_fault_words (script.Open fault)) made
+abbrev pub IsFailureOf : ScriptRunFault → Failure → Type 0
+IsFailureOf running.Read made = made ≡ failure.Read
+IsFailureOf running.Write made = made ≡ failure.Write
+IsFailureOf running.TooMuch made = made ≡ failure.TooMuch
+IsFailureOf running.OutOfMemory made = made ≡ failure.Memory
+IsFailureOf (running.Script fault) made = IsRefusedBy (script_run_fault_words (running.Script fault)) made
+IsFailureOf (running.Open fault) made = IsRefusedBy (script_run_fault_words (running.Open fault)) made
 
 -- the answer is what this fault is to the program, unless a read failed or memory was refused
-abbrev pub IsFailureUnless : {T : Type 0} → Result T Failure → ScriptFault → Type 0
+abbrev pub IsFailureUnless : {T : Type 0} → Result T Failure → ScriptRunFault → Type 0
 IsFailureUnless answer expected =
     IsErrAnd answer (λ made. IsFailureOf expected made ⊎ ((made ≡ failure.Read) ⊎ (made ≡ failure.Memory)))
 
 -- the words tell the first fault of a script or a stream and of the variables that it is to be run over
 abbrev pub TellsScriptFault : InputFormat → List ℕ → Variables → List ℕ → Type 0
 TellsScriptFault format bytes vars words =
-    (fault : ScriptFault) × IsFirstFaultIn format bytes vars fault × (words ≡ script_fault_words fault)
+    (fault : ScriptRunFault) × IsFirstFaultIn format bytes vars fault × (words ≡ script_run_fault_words fault)
 
 -- the status that a program ends with if a script is refused for this fault
-abbrev pub script_status_of : ScriptFault → ℕ
-script_status_of script.Read = 3
-script_status_of script.Write = 3
-script_status_of script.OutOfMemory = 4
+abbrev pub script_status_of : ScriptRunFault → ℕ
+script_status_of running.Read = 3
+script_status_of running.Write = 3
+script_status_of running.OutOfMemory = 4
 script_status_of _ = 1

@@ -1,6 +1,7 @@
 //! The words of the command line.
 
 use crate::failure::Failure;
+use boot_commands::InputFormat;
 use clap::error::ErrorKind;
 use clap::{Arg, ArgAction, ArgMatches, Command};
 use std::alloc::{AllocError, Global};
@@ -35,15 +36,6 @@ const SCRIPT_VALUE: &str = "SCRIPT";
 const OUT_OPTION: &str = "out";
 
 const STREAM_OPTION: &str = "stream";
-
-/// What a run reads its events from.
-#[derive(Clone, Copy)]
-pub enum InputFormat {
-    /// The lines of a script.
-    Script,
-    /// A stream of frames, each of which is delivered.
-    Stream,
-}
 
 /// What the words of the command line ask for.
 #[derive(Clone, Copy)]

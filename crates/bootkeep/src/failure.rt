@@ -5,7 +5,7 @@ ghost use Rattle.bootkeep.specs.Failure.{failure_of, failure_of_input, failure_o
 ghost use Rattle.bootkeep.specs.declared.failure.Failure.TheVariants as failure;
 
 use crate::command_line::USAGE;
-use boot_commands::{InputFault, OutputFault, Refusal, ScriptFault};
+use boot_commands::{InputFault, OutputFault, Refusal, ScriptRunFault};
 use std::alloc::{AllocError, AllocFailed, Global};
 use thiserror::Error;
 
@@ -50,19 +50,16 @@ impl Failure {
 
     /// What a fault of a script or a stream is to the program. If there is no memory for its words, it is
     /// [`Failure::Memory`].
-    pub fn of_script(alloc: Global, fault: ScriptFault) -> Failure
+    pub fn of_script(alloc: Global, fault: ScriptRunFault) -> Failure
         ensures fault { IsFailureOf fault result }
         ensures status { (result ≡ failure.Memory) ⊎ (status_of result ≡ script_status_of fault) }
     {
         match fault {
-            ScriptFault::Read => Failure::Read,
-            ScriptFault::Write => Failure::Write,
-            ScriptFault::TooMuch => Failure::TooMuch,
-            ScriptFault::OutOfMemory => Failure::Memory,
-            ScriptFault::BadLine(_)
-            | ScriptFault::Stream(_)
-            | ScriptFault::Rest(_)
-            | ScriptFault::Open(_) => match fault.words(alloc) {
+            ScriptRunFault::Read => Failure::Read,
+            ScriptRunFault::Write => Failure::Write,
+            ScriptRunFault::TooMuch => Failure::TooMuch,
+            ScriptRunFault::OutOfMemory => Failure::Memory,
+            ScriptRunFault::Script(_) | ScriptRunFault::Open(_) => match fault.words(alloc) {
                 Ok(words) => Failure::Refused(words),
                 Err(AllocError) => Failure::Memory,
             },
@@ -122,16 +119,12 @@ impl From<OutputFault> for Failure {
 
 /// The status that a program ends with if its script or stream is refused: 3 if reading or writing failed, 4 if memory
 /// was refused, and 1 if the script, the stream or the variables are at fault.
-pub fn script_status(fault: &ScriptFault) -> u8
+pub fn script_status(fault: &ScriptRunFault) -> u8
     ensures { result ≡ script_status_of fault.now }
 {
     match fault {
-        ScriptFault::Read | ScriptFault::Write => 3,
-        ScriptFault::OutOfMemory => 4,
-        ScriptFault::BadLine(_)
-        | ScriptFault::Stream(_)
-        | ScriptFault::Rest(_)
-        | ScriptFault::Open(_)
-        | ScriptFault::TooMuch => 1,
+        ScriptRunFault::Read | ScriptRunFault::Write => 3,
+        ScriptRunFault::OutOfMemory => 4,
+        ScriptRunFault::Script(_) | ScriptRunFault::Open(_) | ScriptRunFault::TooMuch => 1,
     }
 }

@@ -1,27 +1,28 @@
 //! A run of the program, over any runtime.
 
-ghost use Rattle.std.specs.Prelude.{◌≡◌, ◌≢◌, ℕ, ◌<◌, ◌≤◌, List, length, Err, IfOk, IfErr, IfSome, MatchResult, false};
+ghost use Rattle.std.specs.Prelude.{◌≡◌, ◌≢◌, ℕ, ◌<◌, ◌≤◌, List, length, vec_len, Err, IfOk, IfErr, IfSome, MatchResult, false};
 ghost use Rattle.std.specs.Io.KnownBytes.{Keeps, Appends};
 ghost use Rattle.uefi_vars.specs.Vars.{Variables};
 ghost use Rattle.boot_requests.specs.declared.reply.Reply.{Reply};
-ghost use Rattle.boot_commands.specs.declared.fault.ScriptFault.{ScriptFault};
-ghost use Rattle.boot_commands.specs.Runs.{answer_lines};
-ghost use Rattle.boot_commands.specs.ScriptFault.{script_max, IsFaultUnless};
+ghost use Rattle.boot_commands.specs.declared.fault.ScriptRunFault.{ScriptRunFault};
+ghost use Rattle.boot_requests.specs.Happens.{answer_lines};
+ghost use Rattle.boot_commands.specs.Runs.{RunsIn};
+ghost use Rattle.boot_commands.specs.RunFault.{script_max, IsFirstFaultIn, MayComeIn};
 ghost use Rattle.boot_commands.specs.Source.{ReadsAll, AppendsFront};
 ghost use Rattle.bootkeep.specs.Failure.{status_of, IfRefused, IsFailureOf, IsFailureUnless, TellsScriptFault};
-ghost use Rattle.bootkeep.specs.InputFormat.{RunsIn, IsFirstFaultIn, MayComeIn};
 ghost use Rattle.bootkeep.specs.declared.failure.Failure.TheVariants as failure;
 
-use crate::command_line::{self, Action, InputFormat, USAGE};
+use crate::command_line::{self, Action, USAGE};
 use crate::failure::Failure;
 use boot_commands::{
-    InputFault, OutputFile, ScriptFault, Sink, Source, Watched, lock_file, option_report,
-    path_report, read_file, refuse, run_script, run_stream, set_report, text_report, write_file,
+    InputFault, InputFormat, OutputFault, Sink, Source, Watched, option_report, path_report,
+    refuse, run_input, set_report, text_report,
 };
 use std::alloc::Global;
 use std::rt::{Env, Files};
 use std::{env, io};
 use uefi_vars::{Vars, read_set, write_set};
+use whole_files::{LIMIT, OutputFile, lock_file, read_file, write_file};
 
 /// Does what the words of the command line ask for, and returns the status to end with: 0, or that
 /// of the [`Failure`], whose line goes to standard error.
@@ -52,11 +53,11 @@ fn answer<R: Env + Files<File: OutputFile> + Print + AllocGlobal>(rt: &R) -> Res
         Action::Path { hex } => rt.print(path_report(rt.alloc(), hex)?),
         Action::Text { text } => rt.print(text_report(rt.alloc(), text)?),
         Action::LoadOption { file } => {
-            let bytes = read_file(rt, file)?;
+            let bytes = read_whole(rt, file)?;
             rt.print(option_report(rt.alloc(), bytes.as_slice())?)
         }
         Action::Show { set } => {
-            let bytes = read_file(rt, set)?;
+            let bytes = read_whole(rt, set)?;
             rt.print(set_report(rt.alloc(), bytes.as_slice())?)
         }
         Action::Run {
@@ -81,7 +82,7 @@ fn run_file<R: Files<File: OutputFile> + Print + AllocGlobal>(
     file: &str,
 ) -> Result<(), Failure> {
     let alloc = rt.alloc();
-    let script = match read_file(rt, script) {
+    let script = match read_whole(rt, script) {
         Ok(script) => script,
         Err(fault) => {
             read_vars(rt, set)?;
@@ -89,7 +90,7 @@ fn run_file<R: Files<File: OutputFile> + Print + AllocGlobal>(
         }
     };
     let mut reader = watch(script.as_slice());
-    let lock = lock_file(rt, file);
+    let lock = lock_file(rt, file).map_err(OutputFault::from);
     let vars = read_vars(rt, set)?;
     let lock = match lock {
         Ok(lock) => lock,
@@ -100,7 +101,7 @@ fn run_file<R: Files<File: OutputFile> + Print + AllocGlobal>(
     };
     let vars = run_events(alloc, format, &mut reader, &mut watch(io::writer(rt)), vars)?;
     let bytes = write_set(alloc, &vars)?;
-    Ok(write_file(rt, lock, &bytes)?)
+    Ok(write_file(rt, lock, &bytes).map_err(OutputFault::from)?)
 }
 
 /// A reader or a writer of which no call has failed.
@@ -135,7 +136,7 @@ fn run_events<R: Source, W: Sink>(
     ensures too_much { result ≡ Err failure.TooMuch → IfSome (R.remaining script.old) (λ text.
         script_max < length text) }
     // The first fault of the input and of the variables is told as the program's failure for it.
-    ensures only_fault { IfSome (R.remaining script.old) (λ text. (fault : ScriptFault) →
+    ensures only_fault { IfSome (R.remaining script.old) (λ text. (fault : ScriptRunFault) →
         IsFirstFaultIn format text vars fault → IsFailureUnless result fault) }
     // If replies aren't written, all of the input was read, and the first of them were written.
     ensures write { result ≡ Err failure.Write →
@@ -146,7 +147,7 @@ fn run_events<R: Source, W: Sink>(
         Keeps (W.contents replies.old) (W.contents replies.new)) }
     // Which failures may come, also if the bytes aren't known: those for the faults that such a run may have.
     ensures may_come { IfErr result (λ failure.
-        (fault : ScriptFault) × MayComeIn format vars fault × IsFailureOf fault failure) }
+        (fault : ScriptRunFault) × MayComeIn format vars fault × IsFailureOf fault failure) }
     ensures no_usage { result ≢ Err failure.CommandLine }
 {
     match run_input(alloc, format, script, replies, vars) {
@@ -155,42 +156,19 @@ fn run_events<R: Source, W: Sink>(
     }
 }
 
-/// The variables after the script or the stream that a reader gives, by [`run_script`] or [`run_stream`].
-fn run_input<R: Source, W: Sink>(
-    alloc: Global,
-    format: InputFormat,
-    reader: &mut R,
-    writer: &mut W,
-    vars: Vars,
-) -> Result<Vars, ScriptFault>
-    requires reads { R.failed reader.old ≡ false }
-    requires writes { W.failed writer.old ≡ false }
-    ensures done { IfOk result (λ after.
-        (text : List ℕ) × ReadsAll (R.remaining reader.old) (R.remaining reader.new) text × (length text ≤ script_max)
-        × (answers : List Reply) × RunsIn format text vars after answers
-        × Appends (W.contents writer.old) (W.contents writer.new) (answer_lines answers)) }
-    ensures fault { IfErr result (λ fault. IfSome (R.remaining reader.old) (λ text.
-        fault ≢ ScriptFault.Read → fault ≢ ScriptFault.Write → fault ≢ ScriptFault.OutOfMemory →
-        IsFirstFaultIn format text vars fault)) }
-    ensures only_fault { IfSome (R.remaining reader.old) (λ text. (fault : ScriptFault) →
-        IsFirstFaultIn format text vars fault → IsFaultUnless result fault) }
-    ensures may_come { IfErr result (MayComeIn format vars) }
-    ensures write { result ≡ Err ScriptFault.Write →
-        (text : List ℕ) × ReadsAll (R.remaining reader.old) (R.remaining reader.new) text × (length text ≤ script_max)
-        × (after : Variables) × (answers : List Reply) × RunsIn format text vars after answers
-        × AppendsFront (W.contents writer.old) (W.contents writer.new) (answer_lines answers) }
-    ensures unwritten { IfErr result (λ fault. fault ≢ ScriptFault.Write →
-        Keeps (W.contents writer.old) (W.contents writer.new)) }
+/// The bytes of the file at this path.
+fn read_whole<R: Files + AllocGlobal>(rt: &R, path: &str) -> Result<Vec<u8>, InputFault>
+    ensures { IfOk result (λ bytes. vec_len bytes ≤ LIMIT) }
 {
-    match format {
-        InputFormat::Script => run_script(alloc, reader, writer, vars),
-        InputFormat::Stream => run_stream(alloc, reader, writer, vars),
+    match read_file(rt, path, LIMIT)? {
+        Some(bytes) => Ok(bytes),
+        None => Err(InputFault::TooMuch),
     }
 }
 
 /// The variables of the set file at this path.
 fn read_vars<R: Files + AllocGlobal>(rt: &R, set: &str) -> Result<Vars, Failure> {
-    let bytes = read_file(rt, set)?;
+    let bytes = read_whole(rt, set)?;
     Ok(read_set(rt.alloc(), &bytes).map_err(|fault| refuse(rt.alloc(), fault))?)
 }
 

@@ -12,10 +12,14 @@ use Rattle.uefi_vars.specs.Set.{SpellsSet}
 use Rattle.uefi_vars.specs.Fault.{IsFirstFault}
 use Rattle.uefi_vars.specs.Order.{HasOrder, HasNext, HasBadOrder, HasBadNext}
 use Rattle.uefi_vars.specs.Plan.{PlanParts, HasPlan}
+use Rattle.boot_requests.specs.declared.script_fault.ScriptFault.{ScriptFault}
+use Rattle.boot_requests.specs.declared.script_fault.ScriptFault.TheVariants as script
+use Rattle.boot_requests.specs.EventStream.{IsStreamFault}
 use Rattle.uefi_vars.proofs.Sets.{same_set, fault_leaves_none, same_first_fault}
 use Rattle.bootkeep_c.specs.declared.failure.Failure.{Failure}
 use Rattle.bootkeep_c.specs.declared.failure.Failure.TheVariants as failure
-use Rattle.bootkeep_c.specs.Refusals.{set_failure, vars_failure, put_failure}
+use Rattle.bootkeep_c.specs.Refusals.{set_failure, vars_failure, put_failure, stream_failure}
+use Rattle.bootkeep_c.specs.Runs.{IsStreamFailure}
 use Rattle.bootkeep_c.specs.Plans.{number_or_none, next_number, normal_numbers}
 use Rattle.bootkeep_c.specs.Sets.{IsSetFailure, IsVarsFault, IsPlanFailure, HasPlanNumbers, IsPut, IsPutFault, IsPutFailure}
 
@@ -128,3 +132,19 @@ put_failure_is set name value vars fault failed spelled is (inr why) = why.4 ∙
 pub no_put_failure : (set name value : List ℕ) (vars : Variables) (failed : Failure) → SpellsSet set vars → IsPut name value → IsPutFailure set name value failed → ⊥
 no_put_failure set name value vars failed spelled is (inl why) = no_set_failure set vars failed spelled why
 no_put_failure set name value vars failed spelled is (inr why) = no_put_fault name value why.1 is why.3
+
+-- ---- streams
+
+-- the fault of a stream isn't that of a line
+pub not_a_line : (stream : List ℕ) (fault : ScriptFault) → (fault ≢ script.OutOfMemory → IsStreamFault stream fault) → (number : ℕ) → fault ≢ script.BadLine number
+not_a_line stream (script.BadLine n) own number is = own (λ e. cc)
+not_a_line stream (script.Stream f) own number is = cc
+not_a_line stream (script.Rest n) own number is = cc
+not_a_line stream script.OutOfMemory own number is = cc
+
+pub stream_failed : (stream : List ℕ) (fault : ScriptFault) (failed : Failure) → (fault ≢ script.OutOfMemory → IsStreamFault stream fault) → failed ≡ stream_failure fault
+    → failed ≢ failure.Memory → IsStreamFailure stream failed
+stream_failed stream script.OutOfMemory failed own is other = absurd (other is)
+stream_failed stream (script.BadLine n) failed own is other = absurd (own (λ e. cc))
+stream_failed stream (script.Stream f) failed own is other = (script.Stream f, own (λ e. cc), is)
+stream_failed stream (script.Rest n) failed own is other = (script.Rest n, own (λ e. cc), is)

@@ -1,39 +1,25 @@
 -- Why variables aren't kept, or a stream isn't run over a set: there is one failure at most.
-use Rattle.std.proofs.Common.{◌≡◌, ℕ, List, inl, inr, refl, ap, subst, ◌∙◌}
+use Rattle.std.proofs.Common.{◌≡◌, ℕ, List, inl, inr, refl, ap, sym, subst, ◌∙◌}
 use Rattle.uefi_vars.specs.declared.fault.SetFault.{SetFault}
 use Rattle.uefi_vars.specs.Vars.{Variables}
 use Rattle.uefi_vars.specs.Set.{SpellsSet}
 use Rattle.uefi_vars.specs.Fault.{IsFirstFault}
 use Rattle.uefi_vars.proofs.Sets.{same_set, fault_leaves_none}
 use Rattle.boot_requests.specs.declared.fault.OpenFault.{OpenFault}
-use Rattle.boot_requests.specs.declared.fault.OpenFault.TheVariants as opening
-use Rattle.boot_requests.specs.Stream.{Cut, IsCut}
+use Rattle.boot_requests.specs.declared.event.Event.{Event}
 use Rattle.boot_requests.specs.State.{State}
 use Rattle.boot_requests.specs.StoredState.{OpensAs, IsOpenFault}
+use Rattle.boot_requests.specs.EventStream.{IsStream}
+use Rattle.boot_requests.proofs.EventLists.Streams.{one_stream_fault, no_stream}
+use Rattle.boot_requests.proofs.Answering.Happening.{one_open_fault}
 use Rattle.bootkeep_c.specs.declared.failure.Failure.{Failure}
-use Rattle.bootkeep_c.specs.Refusals.{set_failure, open_failure}
-use Rattle.bootkeep_c.specs.Runs.{AreFrames, IsStreamFailure}
+use Rattle.bootkeep_c.specs.Refusals.{set_failure, open_failure, stream_failure}
+use Rattle.bootkeep_c.specs.Runs.{IsStreamFailure}
 use Rattle.bootkeep_c.specs.Runnings.{IsOpenFailure, IsKeepFailure, IsRunFailure}
 use Rattle.bootkeep_c.proofs.Failures.{set_failure_is, no_set_failure}
-use Rattle.bootkeep_c.proofs.Streams.{one_stream_failure, frames_have_no_failure}
-
-same_open_fault : (vars : Variables) (f g : OpenFault) → IsOpenFault vars f → IsOpenFault vars g → f ≡ g
-same_open_fault vars opening.BadOrder opening.BadOrder p q = refl
-same_open_fault vars opening.BadOrder opening.BadNext p q = absurd (q.0 p)
-same_open_fault vars opening.BadOrder opening.BadState p q = absurd (q.0 p)
-same_open_fault vars opening.BadOrder opening.OutOfMemory p q = absurd q
-same_open_fault vars opening.BadNext opening.BadOrder p q = absurd (p.0 q)
-same_open_fault vars opening.BadNext opening.BadNext p q = refl
-same_open_fault vars opening.BadNext opening.BadState p q = absurd (q.1 p.1)
-same_open_fault vars opening.BadNext opening.OutOfMemory p q = absurd q
-same_open_fault vars opening.BadState opening.BadOrder p q = absurd (p.0 q)
-same_open_fault vars opening.BadState opening.BadNext p q = absurd (p.1 q.1)
-same_open_fault vars opening.BadState opening.BadState p q = refl
-same_open_fault vars opening.BadState opening.OutOfMemory p q = absurd q
-same_open_fault vars opening.OutOfMemory g p q = absurd p
 
 open_failure_is : (vars : Variables) (fault : OpenFault) (failed : Failure) → IsOpenFault vars fault → IsOpenFailure vars failed → failed ≡ open_failure fault
-open_failure_is vars fault failed is why = why.2 ∙ ap open_failure (same_open_fault vars why.0 fault why.1 is)
+open_failure_is vars fault failed is why = why.2 ∙ ap open_failure (one_open_fault vars why.0 fault why.1 is)
 
 -- ---- keepers
 
@@ -69,23 +55,28 @@ run_failure_is_of_set set stream fault failed first (inl why) = set_failure_is s
 run_failure_is_of_set set stream fault failed first (inr (inl why)) = absurd (fault_leaves_none set fault why.0 first why.1)
 run_failure_is_of_set set stream fault failed first (inr (inr why)) = absurd (fault_leaves_none set fault why.0 first why.2)
 
-module _ (one_cut : (stream : List ℕ) (a b : Cut) → IsCut stream a → IsCut stream b → a ≡ b) where
-  pub run_failure_is_of_stream : (set stream : List ℕ) (vars : Variables) (wanted failed : Failure) → SpellsSet set vars → IsStreamFailure stream wanted → IsRunFailure set stream failed
-      → failed ≡ wanted
-  run_failure_is_of_stream set stream vars wanted failed spelled is (inl why) = absurd (no_set_failure set vars failed spelled why)
-  run_failure_is_of_stream set stream vars wanted failed spelled is (inr (inl why)) = one_stream_failure one_cut stream failed wanted why.2 is
-  run_failure_is_of_stream set stream vars wanted failed spelled is (inr (inr why)) = absurd (frames_have_no_failure one_cut stream why.1 wanted why.3 is)
+one_stream_failure : (stream : List ℕ) (f g : Failure) → IsStreamFailure stream f → IsStreamFailure stream g → f ≡ g
+one_stream_failure stream f g p q = p.2 ∙ ap stream_failure (one_stream_fault stream p.0 q.0 p.1 q.1) ∙ sym q.2
 
-  pub run_failure_is : (set stream : List ℕ) (vars : Variables) (frames : List (List ℕ)) (fault : OpenFault) (failed : Failure) → SpellsSet set vars → AreFrames stream frames
-      → IsOpenFault vars fault → IsRunFailure set stream failed → failed ≡ open_failure fault
-  run_failure_is set stream vars frames fault failed spelled are is (inl why) = absurd (no_set_failure set vars failed spelled why)
-  run_failure_is set stream vars frames fault failed spelled are is (inr (inl why)) = absurd (frames_have_no_failure one_cut stream frames failed are why.2)
-  run_failure_is set stream vars frames fault failed spelled are is (inr (inr why)) =
-      open_failure_is vars fault failed is (subst (λ (v : Variables). IsOpenFailure v failed) (same_set set why.0 vars why.2 spelled) why.4)
+pub events_have_no_failure : (stream : List ℕ) (events : List Event) (failed : Failure) → IsStream stream events → IsStreamFailure stream failed → ⊥
+events_have_no_failure stream events failed is why = no_stream stream why.0 events why.1 is
 
-  module _ (no_fault : (m : State) (vars : Variables) (fault : OpenFault) → OpensAs vars m → IsOpenFault vars fault → ⊥) where
-    pub no_run_failure : (set stream : List ℕ) (vars : Variables) (m : State) (frames : List (List ℕ)) (failed : Failure) → SpellsSet set vars → OpensAs vars m → AreFrames stream frames
-        → IsRunFailure set stream failed → ⊥
-    no_run_failure set stream vars m frames failed spelled opens are (inl why) = no_set_failure set vars failed spelled why
-    no_run_failure set stream vars m frames failed spelled opens are (inr (inl why)) = frames_have_no_failure one_cut stream frames failed are why.2
-    no_run_failure set stream vars m frames failed spelled opens are (inr (inr why)) = no_open_failure no_fault set vars why.0 m failed spelled opens why.2 why.4
+pub run_failure_is_of_stream : (set stream : List ℕ) (vars : Variables) (wanted failed : Failure) → SpellsSet set vars → IsStreamFailure stream wanted → IsRunFailure set stream failed
+    → failed ≡ wanted
+run_failure_is_of_stream set stream vars wanted failed spelled is (inl why) = absurd (no_set_failure set vars failed spelled why)
+run_failure_is_of_stream set stream vars wanted failed spelled is (inr (inl why)) = one_stream_failure stream failed wanted why.2 is
+run_failure_is_of_stream set stream vars wanted failed spelled is (inr (inr why)) = absurd (events_have_no_failure stream why.1 wanted why.3 is)
+
+pub run_failure_is : (set stream : List ℕ) (vars : Variables) (events : List Event) (fault : OpenFault) (failed : Failure) → SpellsSet set vars → IsStream stream events
+    → IsOpenFault vars fault → IsRunFailure set stream failed → failed ≡ open_failure fault
+run_failure_is set stream vars events fault failed spelled are is (inl why) = absurd (no_set_failure set vars failed spelled why)
+run_failure_is set stream vars events fault failed spelled are is (inr (inl why)) = absurd (events_have_no_failure stream events failed are why.2)
+run_failure_is set stream vars events fault failed spelled are is (inr (inr why)) =
+    open_failure_is vars fault failed is (subst (λ (v : Variables). IsOpenFailure v failed) (same_set set why.0 vars why.2 spelled) why.4)
+
+module _ (no_fault : (m : State) (vars : Variables) (fault : OpenFault) → OpensAs vars m → IsOpenFault vars fault → ⊥) where
+  pub no_run_failure : (set stream : List ℕ) (vars : Variables) (m : State) (events : List Event) (failed : Failure) → SpellsSet set vars → OpensAs vars m → IsStream stream events
+      → IsRunFailure set stream failed → ⊥
+  no_run_failure set stream vars m events failed spelled opens are (inl why) = no_set_failure set vars failed spelled why
+  no_run_failure set stream vars m events failed spelled opens are (inr (inl why)) = events_have_no_failure stream events failed are why.2
+  no_run_failure set stream vars m events failed spelled opens are (inr (inr why)) = no_open_failure no_fault set vars why.0 m failed spelled opens why.2 why.4

@@ -16,6 +16,8 @@ use Rattle.boot_requests.specs.declared.fault.OpenFault.{OpenFault}
 use Rattle.boot_requests.specs.declared.fault.OpenFault.TheVariants as opening
 use Rattle.boot_requests.specs.declared.fault.FeedFault.{FeedFault}
 use Rattle.boot_requests.specs.declared.fault.FeedFault.TheVariants as feeding
+use Rattle.boot_requests.specs.declared.script_fault.ScriptFault.{ScriptFault}
+use Rattle.boot_requests.specs.declared.script_fault.ScriptFault.TheVariants as script
 use Rattle.bootkeep_c.specs.declared.refusal.Refusal.{Refusal}
 use Rattle.bootkeep_c.specs.declared.failure.Failure.{Failure}
 use Rattle.bootkeep_c.specs.declared.failure.Failure.TheVariants as failure
@@ -109,6 +111,12 @@ feed_failure feeding.OutOfMemory = failure.Memory
 -- a stream that ends in this many bytes of a frame
 abbrev pub rest_failure : ℕ → Failure
 rest_failure count = at_place 0x0704 count
+
+-- why a stream isn't run: no other fault is one of a stream
+abbrev pub stream_failure : ScriptFault → Failure
+stream_failure (script.Stream fault) = feed_failure fault
+stream_failure (script.Rest count) = rest_failure count
+stream_failure _ = failure.Memory
 
 -- ---- what a call tells
 

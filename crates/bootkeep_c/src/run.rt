@@ -1,30 +1,30 @@
 //! Streams of frames, run over sets of variables.
 
-ghost use Rattle.std.specs.Prelude.{◌≡◌, ◌≢◌, ◌⊎◌, ◌++◌, ℕ, List, [], ◌∷◌, IfOk, IfErr, OnOk};
+ghost use Rattle.std.specs.Prelude.{◌≡◌, ◌≢◌, ◌⊎◌, ℕ, List, IfOk, IfErr};
 ghost use Rattle.std.specs.String.{string_bytes};
 ghost use Rattle.uefi_vars.specs.declared.fault.SetFault.{SetFault};
 ghost use Rattle.uefi_vars.specs.Vars.{Variables};
 ghost use Rattle.uefi_vars.specs.Set.{SpellsSet};
 ghost use Rattle.uefi_vars.specs.Fault.{IsFirstFault};
 ghost use Rattle.boot_requests.specs.declared.event.Event.{Event};
-ghost use Rattle.boot_requests.specs.declared.reply.Reply.{Reply};
 ghost use Rattle.boot_requests.specs.declared.fault.OpenFault.{OpenFault};
+ghost use Rattle.boot_requests.specs.declared.script_fault.ScriptFault.{ScriptFault};
 ghost use Rattle.boot_requests.specs.State.{State};
 ghost use Rattle.boot_requests.specs.StoredState.{OpensAs, IsOpenFault};
+ghost use Rattle.boot_requests.specs.EventStream.{IsStream};
 ghost use Rattle.bootkeep_c.specs.declared.failure.Failure.{Failure};
 ghost use Rattle.bootkeep_c.specs.Status.{done, refused, no_room, no_memory, IsGiveStatus};
-ghost use Rattle.bootkeep_c.specs.Refusals.{set_failure, open_failure, Tells, TellsUnless};
-ghost use Rattle.bootkeep_c.specs.Runs.{AreFrames, IsStreamFailure, deliveries, reply_lines, RanOver, GivesBoth};
-ghost use Rattle.bootkeep_c.specs.Runnings.{IsRunFailure, Answers};
+ghost use Rattle.bootkeep_c.specs.Refusals.{set_failure, open_failure, stream_failure, Tells, TellsUnless};
+ghost use Rattle.bootkeep_c.specs.Runs.{IsStreamFailure, RanOver, GivesBoth};
+ghost use Rattle.bootkeep_c.specs.Runnings.{IsRunFailure};
 
 use crate::buffer::put_in_front;
 use crate::failure::Failure;
 use crate::open::open;
 use crate::refusal::{Refusal, STREAM_REST};
 use crate::status::{DONE, NO_ROOM};
-use boot_requests::{Bytes, Event, Inbox, Keeper, Reply, laws, reply_line, run};
-use std::alloc::{AllocError, Global};
-use std::slice;
+use boot_requests::{Event, ScriptFault, answer_lines, laws, read_stream};
+use std::alloc::Global;
 use uefi_vars::{laws as vars_laws, read_set, write_set};
 
 /// Delivers each frame of a stream to a keeper of the set, and gives the set after them and the lines of the replies.
@@ -40,8 +40,8 @@ pub extern "C" fn bootkeep_run(
     refusal: &mut Refusal,
 ) -> u32
     // What can be run is run, if there is room and memory.
-    ensures runs { (vars : Variables) (m : State) (frames : List (List ℕ)) →
-        SpellsSet set.now vars → AreFrames stream.now frames → OpensAs vars m →
+    ensures runs { (vars : Variables) (m : State) (events : List Event) →
+        SpellsSet set.now vars → IsStream stream.now events → OpensAs vars m →
         result ≡ done ⊎ (result ≡ no_room ⊎ (result ≡ no_memory)) }
     // What is given is what the run comes to.
     ensures given { (result ≡ done) ⊎ (result ≡ no_room) → (after : List ℕ) × (text : List ℕ)
@@ -52,8 +52,8 @@ pub extern "C" fn bootkeep_run(
         TellsUnless (set_failure fault) result refusal.old refusal.new }
     ensures stream_fault { (vars : Variables) (failed : Failure) → SpellsSet set.now vars →
         IsStreamFailure stream.now failed → TellsUnless failed result refusal.old refusal.new }
-    ensures open_fault { (vars : Variables) (frames : List (List ℕ)) (fault : OpenFault) →
-        SpellsSet set.now vars → AreFrames stream.now frames → IsOpenFault vars fault →
+    ensures open_fault { (vars : Variables) (events : List Event) (fault : OpenFault) →
+        SpellsSet set.now vars → IsStream stream.now events → IsOpenFault vars fault →
         TellsUnless (open_failure fault) result refusal.old refusal.new }
     ensures told { result ≡ refused → (failed : Failure)
         × IsRunFailure set.now stream.now failed × Tells failed result refusal.old refusal.new }
@@ -65,7 +65,6 @@ pub extern "C" fn bootkeep_run(
     ensures refusal { result ≢ refused → refusal.new ≡ refusal.old }
 {
     vars_laws::bytes_spell_one_set();
-    laws::a_stream_has_one_cut();
     laws::variables_open_as_one_state();
     laws::what_opens_has_no_fault();
     match ran_over(alloc, set, stream) {
@@ -102,75 +101,34 @@ fn ran_over(alloc: Global, set: &[u8], stream: &[u8]) -> Result<(Vec<u8>, String
     ensures fault { IfErr result (λ failed. failed ≢ Failure.Memory →
         IsRunFailure set.now stream.now failed) }
 {
-    laws::a_start_stands_for_no_events();
-    laws::each_event_is_seen();
     let vars = read_set(alloc, set)?;
-    let frames = cut(alloc, stream)?;
+    let events = read_events(alloc, stream)?;
     let keeper = open(alloc, vars)?;
-    let (keeper, lines) = answer_all(alloc, keeper, frames)?;
+    let (keeper, lines) = answer_lines(alloc, keeper, &events)?;
     let bytes = write_set(alloc, keeper.vars())?;
     Ok((bytes, lines))
 }
 
-/// The frames of a stream.
-fn cut(alloc: Global, stream: &[u8]) -> Result<Vec<Bytes>, Failure>
-    ensures found { IfOk result (λ frames. AreFrames stream.now frames.items) }
+/// The delivery of each frame of a stream.
+fn read_events(alloc: Global, stream: &[u8]) -> Result<Vec<Event>, Failure>
+    ensures found { IfOk result (λ events. IsStream stream.now events.items) }
     ensures fault { IfErr result (λ failed. failed ≢ Failure.Memory → IsStreamFailure stream.now failed) }
 {
-    let mut inbox = Inbox::new(alloc);
-    let mut frames = Vec::new(alloc);
-    inbox.feed(stream, &mut frames)?;
-    match inbox.held() {
-        0 => Ok(frames),
-        count => Err(Failure::at(STREAM_REST, count)),
+    match read_stream(alloc, stream) {
+        Ok(events) => Ok(events),
+        Err(fault) => Err(stream_failure(fault)),
     }
 }
 
-/// The keeper after these frames, and the lines of the replies. Each frame is answered before the next one is taken, and
-/// only the line of its reply is kept.
-fn answer_all(
-    alloc: Global,
-    keeper: Keeper,
-    frames: Vec<Bytes>,
-) -> Result<(Keeper, String), AllocError>
-    ensures { IfOk result (λ answered.
-        Answers keeper (deliveries frames.items) answered.0 [] (string_bytes answered.1)) }
+/// Why a call has no answer if a stream has this fault.
+fn stream_failure(fault: ScriptFault) -> Failure
+    requires { (number : ℕ) → fault ≢ ScriptFault.BadLine number }
+    ensures { result ≡ stream_failure fault }
 {
-    let mut now = keeper;
-    let mut lines = String::new(alloc);
-    for frame in frames {
-        now = answer(alloc, now, Event::Deliver(frame), &mut lines)?;
+    match fault {
+        ScriptFault::Stream(fault) => Failure::from(fault),
+        ScriptFault::Rest(count) => Failure::at(STREAM_REST, count),
+        ScriptFault::OutOfMemory => Failure::Memory,
+        ScriptFault::BadLine(_) => unreachable!(),
     }
-    Ok((now, lines))
-}
-
-/// The keeper after this event. The line of the reply to it is appended.
-fn answer(
-    alloc: Global,
-    keeper: Keeper,
-    event: Event,
-    lines: &mut String,
-) -> Result<Keeper, AllocError>
-    ensures { IfOk result (λ after.
-        Answers keeper (event ∷ []) after (string_bytes lines.old) (string_bytes lines.new)) }
-{
-    let mut replies = Vec::new(alloc);
-    let (keeper, whole) = run(alloc, keeper, slice::from_ref(&event), &mut replies);
-    if !whole {
-        return Err(AllocError);
-    }
-    append_lines(alloc, &replies, lines)?;
-    Ok(keeper)
-}
-
-/// Appends the lines of the replies, each ended by a line feed.
-fn append_lines(alloc: Global, replies: &[Reply], lines: &mut String) -> Result<(), AllocError>
-    ensures { OnOk result (string_bytes lines.new ≡ string_bytes lines.old ++ reply_lines replies.now) }
-{
-    for reply in replies {
-        let line = reply_line(alloc, reply)?;
-        lines.push_str(&line)?;
-        lines.push('\n')?;
-    }
-    Ok(())
 }

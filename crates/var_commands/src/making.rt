@@ -1,7 +1,6 @@
 //! The commands `option`, `frame` and `explain`, which make load options and requests, and show requests.
 
 use crate::action::{AttributeWords, Form, LoadOptionWords, OptionalWords, RequestWords};
-use boot_commands::OutputFile;
 use boot_texts::{
     DigitsFault, FrameWords, FrameWordsFault, OptionWords, OptionWordsFault, attribute_bits,
     attributes_of_text, entry_of_digits, explain_json, explain_report, frame_bytes, frame_line,
@@ -11,6 +10,7 @@ use hex::FromHexError;
 use std::alloc::Global;
 use std::rt::Files;
 use var_places::{Failure, Quoted, Reason, lock, name_of, no_option, print, read, write};
+use whole_files::OutputFile;
 
 /// Makes a file with the load option of these words.
 ///

@@ -8,7 +8,6 @@ use crate::action::{Action, Form};
 use crate::command_line::{action_of, read_words};
 use crate::making::{explain, make_frame, make_option};
 use crate::write::write_place;
-use boot_commands::OutputFile;
 use boot_texts::{diff_json, diff_report, vars_json, vars_report};
 use boot_updates::{Ended, UpdateWords, update};
 use clap::error::ErrorKind;
@@ -21,6 +20,7 @@ use var_places::{
     name_of, print, read_place, write,
 };
 use var_stores::boot_changes;
+use whole_files::OutputFile;
 
 /// How the program ends if it did what it was asked to.
 #[derive(Clone, Copy, Debug, PartialEq, Eq)]

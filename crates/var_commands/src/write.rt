@@ -1,7 +1,6 @@
 //! The command `write`, which makes the boot variables of a place those of a set.
 
 use crate::action::WriteWords;
-use boot_commands::OutputFile;
 use boot_texts::change_report;
 use std::alloc::{AllocError, Global};
 use std::rt::Files;
@@ -14,6 +13,7 @@ use var_places::{
     print, read, read_folder, set_vars, shown, write,
 };
 use var_stores::{BootChange, boot_changes};
+use whole_files::OutputFile;
 
 /// Makes the boot variables of a place those of a set, and prints each change; or prints them alone, for a dry run.
 ///

@@ -3,11 +3,10 @@
 use crate::failure::Failure;
 use crate::file_kinds::{FileKind, file_kind, other_kind};
 use crate::folder::{KEEP_STATE, LeftOut};
-use crate::input::{STANDARD, read_file};
+use crate::input::STANDARD;
 use crate::notes::{DamageWords, Shortened, note};
 use crate::place_vars::PlaceVars;
 use crate::reason::Reason;
-use boot_commands::LIMIT;
 use std::alloc::{AllocError, Global};
 use std::fs;
 use std::io::{self, ErrorKind};
@@ -19,6 +18,7 @@ use var_stores::{
     BootChange, Record, StoreFault, VariableStore, WriteFault, is_boot_name, left_out, read_store,
     store_attributes, store_vars, write_boot_vars,
 };
+use whole_files::{LIMIT, read_file};
 
 /// The variables of the file of this name, which has these bytes. Tells on standard error what is left out, and damage,
 /// as [`variable_file`] does.

@@ -6,7 +6,6 @@ ghost use Rattle.std.specs.FinMap as map;
 ghost use Rattle.var_places.specs.Folder.{IsFileName};
 
 use crate::failure::Failure;
-use crate::input::read_file;
 use crate::mounts::is_on_efivarfs;
 use crate::notes::{Quoted, Shortened, note};
 use crate::place_vars::PlaceVars;
@@ -21,6 +20,7 @@ use thiserror::Error;
 use uefi_path::Guid;
 use uefi_text::{GuidText, read_guid};
 use uefi_vars::{DATA_MAX, PutFault, Vars};
+use whole_files::read_file;
 
 /// 8be4df61-93ca-11d2-aa0d-00e098032b8c, EFI_GLOBAL_VARIABLE, the vendor of the variables of the standard (UEFI 2.10,
 /// 3.3).

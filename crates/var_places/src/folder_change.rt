@@ -5,7 +5,6 @@ ghost use Rattle.std.specs.Option.{option_map};
 ghost use Rattle.var_places.specs.Folder.{IsAsWanted, attributes_for};
 
 use crate::folder::{ATTRIBUTES_LEN, Folder};
-use crate::input::read_file;
 use std::alloc::{AllocError, Global};
 use std::fs::{self, File, OpenFile, OpenOptions};
 use std::io::{self, ErrorKind, Write};
@@ -13,6 +12,7 @@ use std::path::Path;
 use std::rt::Files;
 use uefi_vars::{DATA_MAX, Vars};
 use var_stores::{BOOT_ATTRIBUTES, BootChange, laws as stores_laws};
+use whole_files::{read_file, sync_file, sync_folder};
 
 /// Makes one change in the folder at this path, of which this was read: by one write of the attributes and the value,
 /// as efivarfs wants it, to a file that isn't cut before, or by removing the file. A variable that is replaced keeps
@@ -39,6 +39,7 @@ pub fn make_change<R: Files + AllocGlobal>(
         }
         None => fs::remove_file(rt, file.as_path())?,
     }
+    // Also if no file was made or removed: a change before may have been cut off.
     sync_folder(rt, path)
 }
 
@@ -62,7 +63,7 @@ pub fn set_variable<R: Files + AllocGlobal>(
     let found = find(rt, file.as_path())?;
     match kept {
         // Whoever wrote it may have been killed before it was on the disk.
-        Some(_) if found.is(kept) => sync(&File::open(rt, file.as_path())?)?,
+        Some(_) if found.is(kept) => sync_file(&File::open(rt, file.as_path())?)?,
         None if found.is(kept) => {}
         Some(bytes) => store(rt, file.as_path(), bytes, matches!(found, Found::Nothing))?,
         None => fs::remove_file(rt, file.as_path())?,
@@ -131,7 +132,7 @@ fn store<R: Files>(rt: &R, path: Path<'_>, bytes: &[u8], is_new: bool) -> io::Re
         fs::remove_file(rt, path)?;
     }
     written?;
-    sync(&file)
+    sync_file(&file)
 }
 
 /// The bytes of the file that is to show this value of the variable of this name.
@@ -148,31 +149,6 @@ fn file_bytes(
     let mut bytes = Vec::from_slice(alloc, front)?;
     bytes.extend_from_slice(value)?;
     Ok(bytes)
-}
-
-/// Brings the names in the folder at this path to the disk, as [`sync`] does: without that a file may come back that was
-/// removed, and a new one be lost. Whether the last change made or removed one isn't asked, since one before may have been
-/// cut off.
-fn sync_folder<R: Files>(rt: &R, path: &str) -> io::Result<()> {
-    match File::open(rt, path) {
-        Ok(folder) => sync(&folder),
-        // A folder may be written by someone who may not read it.
-        Err(error) if error.kind() == ErrorKind::PermissionDenied => Ok(()),
-        Err(error) => Err(error),
-    }
-}
-
-/// Brings a file or a folder to the disk. A file system that has none, as efivarfs, answers that it can't, and that is
-/// passed over.
-fn sync<F: OpenFile>(file: &F) -> io::Result<()> {
-    match file.sync_all() {
-        Err(error)
-            if matches!(
-                error.kind(),
-                ErrorKind::InvalidInput | ErrorKind::Unsupported
-            ) => { Ok(()) }
-        done => done,
-    }
 }
 
 /// Writes all of the bytes at once.

@@ -5,9 +5,8 @@
 //! [`read_folder`], [`variable_file`] and [`file_vars`] read folders and files; a [`PlaceVars`] has the attributes too.
 //! A folder is changed one variable at a time, by [`make_change`] and [`set_variable`]. A file is replaced as a whole:
 //! [`changed_set`] and [`changed_variable_file`] give its bytes, [`check_damage`] refuses one that is damaged,
-//! [`lock()`] locks it and [`write()`] replaces it, and [`lock_file`] and [`rewrite`] do so for several changes
-//! under one lock. [`machine_name`] tells the machine of a place from others. What goes wrong is a [`Failure`], which
-//! has a message and the status of a program that ends with it.
+//! [`lock()`] locks it and [`write()`] replaces it. [`machine_name`] tells the machine of a place from others. What
+//! goes wrong is a [`Failure`], which has a message and the status of a program that ends with it.
 #![tactic(auto)]
 
 mod failure;
@@ -32,10 +31,10 @@ pub use file_place::{
 };
 pub use folder::{Folder, KEEP_STATE, LeftOut, read_folder};
 pub use folder_change::{has_value, make_change, set_variable};
-pub use input::{STANDARD, name_of, read, read_file};
+pub use input::{STANDARD, name_of, read};
 pub use machine::machine_name;
 pub use notes::{Quoted, SHOWN_MAX, Shortened, note, shown};
-pub use output::{Output, lock, lock_file, print, rewrite, write};
+pub use output::{Output, lock, print, write};
 pub use place::{is_folder, read_place};
 pub use place_vars::PlaceVars;
 pub use reason::Reason;

@@ -4,7 +4,6 @@ ghost use Rattle.std.specs.Prelude.{◌↔◌, IsTrue};
 ghost use Rattle.var_places.specs.Machine.{IsBlankGuid};
 
 use crate::failure::Failure;
-use crate::input::read_file;
 use crate::mounts::{is_on_efivarfs, resolved};
 use crate::reason::Reason;
 use std::alloc::{AllocError, Global};
@@ -12,6 +11,7 @@ use std::io::ErrorKind;
 use std::rt::Files;
 use uefi_path::Guid;
 use uefi_text::{GuidText, read_guid};
+use whole_files::read_file;
 
 /// The file in which Linux tells the UUID that the maker gave to the machine.
 const PRODUCT_UUID: &str = "/sys/class/dmi/id/product_uuid";

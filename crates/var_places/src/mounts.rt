@@ -1,12 +1,11 @@
 //! What a folder is mounted from.
 
-use crate::input::read_file;
-use boot_commands::LIMIT;
 use std::alloc::{AllocError, Global};
 use std::fs;
 use std::io::{self, ErrorKind};
 use std::path::{Path, PathBuf};
 use std::rt::Files;
+use whole_files::{LIMIT, read_file};
 
 /// The file in which Linux tells what is mounted, a line for each mount, those above others after them.
 const MOUNTS: &str = "/proc/self/mountinfo";

@@ -1,8 +1,10 @@
 -- Kinds: a byte stands for one at most, and each is in the table that the code goes through.
-use Rattle.std.proofs.Common.{◌≡◌, ◌↔◌, ◌⊎◌, ℕ, ◌<◌, ◌&&◌, Bool, true, false, cond, eqb, List, [], ◌∷◌, Option, Some, None, IfSome, IfNone, refl, sym, subst, ◌∙◌, inl, inr, lit<, arith}
+use Rattle.std.proofs.Common.{◌≡◌, ◌↔◌, ◌⊎◌, ℕ, ◌<◌, ◌&&◌, Bool, true, false, cond, eqb, List, [], ◌∷◌, Option, Some, None, IfSome, IfNone, refl, sym, subst}
+use Rattle.std.proofs.Common.{◌∙◌, inl, inr, lit<, arith}
 use Rattle.std.specs.List.{AllByRecursion, find, list_any}
 use Rattle.std.specs.Option.{option_map}
-use Rattle.std.proofs.lemmas.Bool.{false≢true, cases_eq, eqb-true, eqb-false, and_parts, and_cases, or_cases, or_parts}
+use Rattle.std.proofs.lemmas.Bool.{false≢true, cases_Bool, eqb-true, eqb-false, and_parts, and_cases, or_cases, or_parts}
+use Rattle.std.proofs.lemmas.Iterator.Adapters.{option_map_id}
 use Rattle.boot_requests.specs.declared.frame.Kind.{Kind}
 use Rattle.boot_requests.specs.declared.frame.Kind.TheVariants as kinds
 use Rattle.boot_requests.specs.declared.frame.TheConstants.Kind.{ALL}
@@ -33,42 +35,6 @@ every : (P : Kind → Type 0) → AllByRecursion P ALL → (k : Kind) → P k
 every P h kinds.Add = h.0
 every P h _ = assumption
 
--- ---- some kind is one of which this holds, or none is
-
--- of some kind in the list it holds, or of none
-some_or_none : (P : Kind → Type 0) → ((k : Kind) → P k ⊎ (¬ P k)) → (list : List Kind) → ((k : Kind) × P k) ⊎ AllByRecursion (λ k. ¬ P k) list
-some_or_none P decide [] = inr tt
-some_or_none P decide (k ∷ rest) =
-    elim (decide k) [
-      | inl is ↦ inl (k, is)
-      | inr other ↦ elim (some_or_none P decide rest) [ inl found ↦ inl found | inr others ↦ inr (other, others) ]
-    ]
-
-decided : (P : Kind → Type 0) → ((k : Kind) → P k ⊎ (¬ P k)) → ((k : Kind) × P k) ⊎ (¬ ((k : Kind) × P k))
-decided P decide =
-    elim (some_or_none P decide ALL) [ inl found ↦ inl found | inr others ↦ inr (λ is. every (λ k. ¬ P k) others is.0 is.1) ]
-
-pub version_or_not : (version : ℕ) → IsVersion version ⊎ (¬ IsVersion version)
-version_or_not version = decided (λ k. version_of k ≡ version) (λ k. cases_eq (version_of k) version)
-
--- the kind has the version and the byte
-abbrev Has : ℕ → ℕ → Kind → Type 0
-Has version byte k = (version_of k ≡ version) × (byte_of k ≡ byte)
-
-has_or_not : (version byte : ℕ) (k : Kind) → Has version byte k ⊎ (¬ Has version byte k)
-has_or_not version byte k =
-    elim (cases_eq (version_of k) version) [
-      | inl first ↦ elim (cases_eq (byte_of k) byte) [ inl second ↦ inl (first, second) | inr other ↦ inr (λ has. other has.1) ]
-      | inr other ↦ inr (λ has. other has.0)
-    ]
-
-pub kind_or_not : (version byte : ℕ) → IsKind version byte ⊎ (¬ IsKind version byte)
-kind_or_not version byte =
-    elim (decided (Has version byte) (has_or_not version byte)) [
-      | inl found ↦ inl (found.0, found.1.0, found.1.1)
-      | inr none ↦ inr (λ is. none (is.0, (is.1, is.2)))
-    ]
-
 -- ---- what a search of the table finds
 
 abbrev pub has_version : ℕ → Kind → Bool
@@ -93,6 +59,15 @@ version_found version true e = (λ t. some_version version ALL (sym e), λ is. r
 version_found version false e =
     (λ t. absurd (false≢true t), λ is. absurd (every (λ k. ¬ (version_of k ≡ version)) (no_version version ALL (sym e)) is.0 is.1))
 
+pub version_or_not : (version : ℕ) → IsVersion version ⊎ (¬ IsVersion version)
+version_or_not version =
+    let told = version_found version (list_any (has_version version) ALL) refl in
+    elim (cases_Bool (list_any (has_version version) ALL)) [ inl t ↦ inl (told.0 t) | inr f ↦ inr (λ is. false≢true (sym f ∙ told.1 is)) ]
+
+-- the kind has the version and the byte
+abbrev Has : ℕ → ℕ → Kind → Type 0
+Has version byte k = (version_of k ≡ version) × (byte_of k ≡ byte)
+
 abbrev pub has_both : ℕ → ℕ → Kind → Bool
 has_both version byte k = eqb (version_of k) version && eqb (byte_of k) byte
 
@@ -112,7 +87,8 @@ has_not version byte k e is =
 abbrev Finds : ℕ → ℕ → List Kind → Option Kind → Type 0
 Finds version byte list r = IfSome r (λ k. Has version byte k) × IfNone r (AllByRecursion (λ k. ¬ Has version byte k) list)
 
-one_more : (version byte : ℕ) (k : Kind) (rest : List Kind) (r : Option Kind) → ¬ Has version byte k → Finds version byte rest r → Finds version byte (k ∷ rest) r
+one_more : (version byte : ℕ) (k : Kind) (rest : List Kind) (r : Option Kind) → ¬ Has version byte k → Finds version byte rest r →
+    Finds version byte (k ∷ rest) r
 one_more version byte k rest None other h = (tt, (other, h.1))
 one_more version byte k rest (Some l) other h = (h.0, tt)
 
@@ -124,13 +100,20 @@ finds version byte (k ∷ rest) =
       | false ↦ λ f. one_more version byte k rest (find (has_both version byte) rest) (has_not version byte k f) (finds version byte rest)
     ] refl
 
-found_kind : (version byte : ℕ) (r : Option Kind) → Finds version byte ALL r → IfSome r (λ k. (version_of k ≡ version) × (byte_of k ≡ byte)) × IfNone r (¬ IsKind version byte)
+abbrev FindsKind : ℕ → ℕ → Option Kind → Type 0
+FindsKind version byte r = IfSome r (Has version byte) × IfNone r (¬ IsKind version byte)
+
+found_kind : (version byte : ℕ) (r : Option Kind) → Finds version byte ALL r → FindsKind version byte r
 found_kind version byte None h = (tt, λ is. every (λ k. ¬ Has version byte k) h.1 is.0 (is.1, is.2))
 found_kind version byte (Some k) h = (h.0, tt)
 
-same_option : (r : Option Kind) → option_map (λ k. k) r ≡ r
-same_option None = refl
-same_option (Some k) = refl
+pub kind_found : (version byte : ℕ) (r : Option Kind) → option_map (λ k. k) r ≡ find (has_both version byte) ALL →
+    IfSome r (λ k. (version_of k ≡ version) × (byte_of k ≡ byte)) × IfNone r (¬ IsKind version byte)
+kind_found version byte r e = found_kind version byte r (subst (Finds version byte ALL) (sym e ∙ option_map_id r) (finds version byte ALL))
 
-pub kind_found : (version byte : ℕ) (r : Option Kind) → option_map (λ k. k) r ≡ find (has_both version byte) ALL → IfSome r (λ k. (version_of k ≡ version) × (byte_of k ≡ byte)) × IfNone r (¬ IsKind version byte)
-kind_found version byte r e = found_kind version byte r (subst (Finds version byte ALL) (sym e ∙ same_option r) (finds version byte ALL))
+pub kind_or_not : (version byte : ℕ) → IsKind version byte ⊎ (¬ IsKind version byte)
+kind_or_not version byte = decided (find (has_both version byte) ALL) (found_kind version byte _ (finds version byte ALL))
+  where
+    decided : (r : Option Kind) → FindsKind version byte r → IsKind version byte ⊎ (¬ IsKind version byte)
+    decided None h = inr h.1
+    decided (Some k) h = inl (k, h.0.0, h.0.1)

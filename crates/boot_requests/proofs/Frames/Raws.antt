@@ -1,10 +1,11 @@
 -- The header and the payload of a frame: one for each input, and one first fault of them.
-use Rattle.std.proofs.Common.{◌≡◌, ◌≢◌, ◌⊎◌, ℕ, ◌<◌, ◌≤◌, List, [], ◌∷◌, ◌++◌, length, take, drop, get_or, refl, sym, ap, subst, ◌∙◌, inl, inr, arith, append_assoc}
+use Rattle.std.proofs.Common.{◌≡◌, ◌≢◌, ◌⊎◌, ℕ, ◌<◌, ◌≤◌, List, [], ◌∷◌, ◌++◌, length, take, drop, get_or, refl, sym, ap, ◌∙◌, inl, inr, arith, append_assoc}
 use Rattle.std.specs.Int.{w32, from_le_bytes, to_le_bytes}
-use Rattle.std.proofs.lemmas.List.{length-append, take_at, drop_at}
+use Rattle.std.proofs.lemmas.List.{length-append}
 use Rattle.std.proofs.lemmas.Nat.{from_le_bytes-to_le_bytes_4}
 use Rattle.uefi_option.specs.declared.fault.OptionFault.{OptionFault}
 use Rattle.uefi_option.specs.Fault.{IsFirstFault as IsFirstOptionFault}
+use Rattle.uefi_vars.proofs.Bytes.{same_size}
 use Rattle.boot_requests.specs.declared.fault.FrameFault.{FrameFault}
 use Rattle.boot_requests.specs.declared.fault.FrameFault.TheVariants as fault
 use Rattle.boot_requests.specs.Limits.{payload_max, no_number}
@@ -16,34 +17,31 @@ use Rattle.boot_requests.proofs.Frames.KindBytes.{of_one}
 
 -- ---- one header and one payload
 
-pub same_size : (a b x y : List ℕ) → length a ≡ length b → a ++ x ≡ b ++ y → (a ≡ b) × (x ≡ y)
-same_size a b x y size e =
-    (sym (take_at a x (length b) size) ∙ ap (take (length b)) e ∙ take_at b y (length b) refl, sym (drop_at a x (length b) size) ∙ ap (drop (length b)) e ∙ drop_at b y (length b) refl)
-
 -- what is after the magic
-abbrev behind_magic : Raw → List ℕ
+abbrev pub behind_magic : Raw → List ℕ
 behind_magic c = c.version ∷ c.kind ∷ (to_le_bytes w32 c.number ++ (to_le_bytes w32 c.len ++ c.payload))
 
-regroup : (input : List ℕ) (c : Raw) → IsRaw input c → input ≡ c.magic ++ behind_magic c
+pub regroup : (input : List ℕ) (c : Raw) → IsRaw input c → input ≡ c.magic ++ behind_magic c
 regroup input c is =
     let two = c.version ∷ c.kind ∷ [] in
     let number = to_le_bytes w32 c.number in
     let len = to_le_bytes w32 c.len in
-    is.parts ∙ append_assoc ((c.magic ++ two) ++ number) len c.payload ∙ append_assoc (c.magic ++ two) number (len ++ c.payload) ∙ append_assoc c.magic two (number ++ (len ++ c.payload))
+    is.parts ∙ append_assoc ((c.magic ++ two) ++ number) len c.payload ∙ append_assoc (c.magic ++ two) number (len ++ c.payload)
+    ∙ append_assoc c.magic two (number ++ (len ++ c.payload))
 
 pub same_raw : (input : List ℕ) (c d : Raw) → IsRaw input c → IsRaw input d → c ≡ d
 same_raw input c d first second =
-    let split = same_size c.magic d.magic (behind_magic c) (behind_magic d) (first.two_bytes ∙ sym second.two_bytes) (sym (regroup input c first) ∙ regroup input d second) in
+    let split = same_size c.magic d.magic (behind_magic c) (behind_magic d) (first.two_bytes ∙ sym second.two_bytes)
+    (sym (regroup input c first) ∙ regroup input d second) in
     let version : c.version ≡ d.version = ap (λ (t : List ℕ). get_or t 0 0) split.1 in
     let kind : c.kind ≡ d.kind = ap (λ (t : List ℕ). get_or t 1 0) split.1 in
-    let read_number : from_le_bytes w32 (to_le_bytes w32 c.number) ≡ from_le_bytes w32 (to_le_bytes w32 d.number) = ap (λ (t : List ℕ). from_le_bytes w32 (take 4 (drop 2 t))) split.1 in
-    let read_len : from_le_bytes w32 (to_le_bytes w32 c.len) ≡ from_le_bytes w32 (to_le_bytes w32 d.len) = ap (λ (t : List ℕ). from_le_bytes w32 (take 4 (drop 6 t))) split.1 in
-    let number : c.number ≡ d.number = sym (from_le_bytes-to_le_bytes_4 c.number first.number) ∙ read_number ∙ from_le_bytes-to_le_bytes_4 d.number second.number in
+    let read_number = ap (λ (t : List ℕ). from_le_bytes w32 (take 4 (drop 2 t))) split.1 in
+    let read_len = ap (λ (t : List ℕ). from_le_bytes w32 (take 4 (drop 6 t))) split.1 in
+    let number : c.number ≡ d.number =
+    sym (from_le_bytes-to_le_bytes_4 c.number first.number) ∙ read_number ∙ from_le_bytes-to_le_bytes_4 d.number second.number in
     let len : c.len ≡ d.len = sym (from_le_bytes-to_le_bytes_4 c.len first.len) ∙ read_len ∙ from_le_bytes-to_le_bytes_4 d.len second.len in
     let payload : c.payload ≡ d.payload = ap (drop 10) split.1 in
-    ap (λ (t : List ℕ). raw_of t c.version c.kind c.number c.len c.payload) split.0 ∙ ap (λ (n : ℕ). raw_of d.magic n c.kind c.number c.len c.payload) version
-    ∙ ap (λ (n : ℕ). raw_of d.magic d.version n c.number c.len c.payload) kind ∙ ap (λ (n : ℕ). raw_of d.magic d.version d.kind n c.len c.payload) number
-    ∙ ap (λ (n : ℕ). raw_of d.magic d.version d.kind d.number n c.payload) len ∙ ap (λ (t : List ℕ). raw_of d.magic d.version d.kind d.number d.len t) payload
+    λ i. raw_of (split.0 i) (version i) (kind i) (number i) (len i) (payload i)
 
 pub raw_size : (input : List ℕ) (c : Raw) → IsRaw input c → 12 ≤ length input
 raw_size input c is = omega (arith, is.two_bytes, simp length-append at (ap length (regroup input c is)))
@@ -90,34 +88,20 @@ one_step Test bad Rest one f g (inl x) (inr y) = absurd (x.0 y.0)
 one_step Test bad Rest one f g (inr x) (inl y) = absurd (y.0 x.0)
 one_step Test bad Rest one f g (inr x) (inr y) = one f g x.1 y.1
 
-no_step : (Test : Type 0) (bad : FrameFault) (Rest : FrameFault → Type 0) (f : FrameFault) → Test → (Rest f → ⊥) → Step Test bad Rest f → ⊥
-no_step Test bad Rest f passes none (inl x) = x.0 passes
-no_step Test bad Rest f passes none (inr x) = none x.1
-
 -- the fault is that of the option
 abbrev pub HasOptionFault : Raw → FrameFault → Type 0
 HasOptionFault c f = (x : OptionFault) × (f ≡ fault.Option x) × HasBadOption c x
 
-abbrev AfterNumber : Raw → FrameFault → Type 0
-AfterNumber c = Step (HasBadPayload c → ⊥) fault.BadPayload (HasOptionFault c)
-
-abbrev AfterKind : Raw → FrameFault → Type 0
-AfterKind c = Step (c.number ≢ no_number) fault.BadNumber (AfterNumber c)
-
-abbrev AfterSize : Raw → FrameFault → Type 0
-AfterSize c = Step (IsKind c.version c.kind) fault.BadKind (AfterKind c)
-
-abbrev AfterLength : Raw → FrameFault → Type 0
-AfterLength c = Step (length c.payload ≡ c.len) fault.BadSize (AfterSize c)
-
-abbrev AfterVersion : Raw → FrameFault → Type 0
-AfterVersion c = Step (c.len ≤ payload_max) fault.TooLong (AfterLength c)
-
-abbrev AfterMagic : Raw → FrameFault → Type 0
-AfterMagic c = Step (IsVersion c.version) fault.BadVersion (AfterVersion c)
-
+-- the tests, in their order, each with the fault that it tells
 abbrev pub Steps : Raw → FrameFault → Type 0
-Steps c = Step (c.magic ≡ magic) fault.BadMagic (AfterMagic c)
+Steps c =
+    Step (c.magic ≡ magic) fault.BadMagic
+    (Step (IsVersion c.version) fault.BadVersion
+    (Step (c.len ≤ payload_max) fault.TooLong
+    (Step (length c.payload ≡ c.len) fault.BadSize
+    (Step (IsKind c.version c.kind) fault.BadKind
+    (Step (c.number ≢ no_number) fault.BadNumber
+    (Step (HasBadPayload c → ⊥) fault.BadPayload (HasOptionFault c)))))))
 
 -- ---- the first fault, by these tests
 
@@ -141,7 +125,11 @@ by_tests input fault.BadPayload h =
 by_tests input (fault.Option x) h =
     let number = h.here.0 in
     let size = number.0 in
-    inr (h.raw, h.is, inr (size.0.0, inr (size.0.1, inr (size.1, inr (size.2, inr (number.1, inr (number.2, inr (good_before h.raw x h.here.1, (x, refl, h.here.1)))))))))
+    inr (
+      h.raw,
+      h.is,
+      inr (size.0.0, inr (size.0.1, inr (size.1, inr (size.2, inr (number.1, inr (number.2, inr (good_before h.raw x h.here.1, (x, refl, h.here.1)))))))),
+    )
 by_tests input fault.OutOfMemory h = absurd h
 
 -- ---- one first fault
@@ -151,15 +139,13 @@ one_option_fault one c f g x y = x.1 ∙ ap (λ (h : OptionFault). fault.Option 
 
 one_of_steps : OneOptionFault → (c : Raw) → OnlyOne (Steps c)
 one_of_steps one c =
-    one_step (c.magic ≡ magic) fault.BadMagic (AfterMagic c) (one_step (IsVersion c.version) fault.BadVersion (AfterVersion c) (one_step (c.len ≤ payload_max) fault.TooLong (AfterLength c)
-    (one_step (length c.payload ≡ c.len) fault.BadSize (AfterSize c) (one_step (IsKind c.version c.kind) fault.BadKind (AfterKind c) (one_step (c.number ≢ no_number) fault.BadNumber (AfterNumber c)
-    (one_step (HasBadPayload c → ⊥) fault.BadPayload (HasOptionFault c) (one_option_fault one c)))))))
+    one_step _ _ _ (one_step _ _ _ (one_step _ _ _ (one_step _ _ _ (one_step _ _ _ (one_step _ _ _ (one_step _ _ _ (one_option_fault one c)))))))
 
 same_by_tests : OneOptionFault → (input : List ℕ) (f g : FrameFault) → ByTests input f → ByTests input g → f ≡ g
 same_by_tests one input f g (inl x) (inl y) = x.1 ∙ sym y.1
 same_by_tests one input f g (inl x) (inr (c, is, steps)) = absurd (omega (arith, x.0, raw_size input c is))
 same_by_tests one input f g (inr (c, is, steps)) (inl y) = absurd (omega (arith, y.0, raw_size input c is))
-same_by_tests one input f g (inr (c, is, steps)) (inr (d, are, others)) = one_of_steps one d f g (subst (λ (raw : Raw). Steps raw f) (same_raw input c d is are) steps) others
+same_by_tests one input f g (inr (c, is, steps)) (inr (d, are, others)) = one_of_steps one d f g (rw (same_raw input c d is are) at steps) others
 
 pub same_first_fault : OneOptionFault → (input : List ℕ) (f g : FrameFault) → IsFirstFault input f → IsFirstFault input g → f ≡ g
 same_first_fault one input f g first second = same_by_tests one input f g (by_tests input f first) (by_tests input g second)
@@ -177,7 +163,11 @@ pub record Passes (c : Raw) : Type 0 where
   pub payload : HasBadPayload c → ⊥
 
 pub no_steps : (c : Raw) (f : FrameFault) → Passes c → (HasOptionFault c f → ⊥) → Steps c f → ⊥
-no_steps c f passes none =
-    no_step (c.magic ≡ magic) fault.BadMagic (AfterMagic c) f passes.magic (no_step (IsVersion c.version) fault.BadVersion (AfterVersion c) f passes.version (no_step (c.len ≤ payload_max) fault.TooLong (AfterLength c) f passes.len
-    (no_step (length c.payload ≡ c.len) fault.BadSize (AfterSize c) f passes.size (no_step (IsKind c.version c.kind) fault.BadKind (AfterKind c) f passes.kind (no_step (c.number ≢ no_number) fault.BadNumber (AfterNumber c) f passes.number
-    (no_step (HasBadPayload c → ⊥) fault.BadPayload (HasOptionFault c) f passes.payload none))))))
+no_steps c f passes none (inl x) = x.0 passes.magic
+no_steps c f passes none (inr (_, inl x)) = x.0 passes.version
+no_steps c f passes none (inr (_, inr (_, inl x))) = x.0 passes.len
+no_steps c f passes none (inr (_, inr (_, inr (_, inl x)))) = x.0 passes.size
+no_steps c f passes none (inr (_, inr (_, inr (_, inr (_, inl x))))) = x.0 passes.kind
+no_steps c f passes none (inr (_, inr (_, inr (_, inr (_, inr (_, inl x)))))) = x.0 passes.number
+no_steps c f passes none (inr (_, inr (_, inr (_, inr (_, inr (_, inr (_, inl x))))))) = x.0 passes.payload
+no_steps c f passes none (inr (_, inr (_, inr (_, inr (_, inr (_, inr (_, inr (_, x)))))))) = none x

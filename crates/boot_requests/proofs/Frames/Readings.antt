@@ -1,9 +1,9 @@
 -- What the reader finds: a request with its number, or the first fault, and every input's.
-use Rattle.std.proofs.Common.{◌≡◌, ◌≢◌, ◌⊎◌, ℕ, ◌%◌, ◌<◌, ◌≤◌, ◌^◌, List, [], ◌∷◌, ◌++◌, length, get_or, Result, Ok, Err, IfOk, IfErr, refl, sym, ap, subst, ◌∙◌, inl, inr, arith}
+use Rattle.std.proofs.Common.{◌≡◌, ◌≢◌, ◌⊎◌, ℕ, ◌%◌, ◌<◌, ◌≤◌, ◌^◌, List, [], ◌∷◌, ◌++◌, length, get_or, Result, Ok, Err, IfOk, IfErr, refl, sym, ap, subst}
+use Rattle.std.proofs.Common.{◌∙◌, inl, inr, arith}
 use Rattle.std.specs.Int.{w16, w32, from_le_bytes, to_le_bytes}
 use Rattle.std.specs.List.{AllByRecursion}
 use Rattle.std.proofs.lemmas.Bool.{cases_eq, cases_lt}
-use Rattle.std.proofs.lemmas.Nat.{le_bytes_4}
 use Rattle.uefi_path.specs.Answer.{IsUnless}
 use Rattle.uefi_path.specs.Row.{IsByte}
 use Rattle.uefi_path.specs.Units.{units_of, units_bytes}
@@ -11,6 +11,8 @@ use Rattle.uefi_option.specs.declared.fault.OptionFault.{OptionFault}
 use Rattle.uefi_option.specs.LoadOption.{OptionParts, SpellsOption, option_bytes}
 use Rattle.uefi_option.specs.Fault.{IsFirstFault as IsFirstOptionFault}
 use Rattle.uefi_vars.specs.Order.{IsEntryNumber}
+use Rattle.uefi_vars.proofs.Numbers.{AreWrittenAgain, AreTwoBytes}
+use Rattle.uefi_path.proofs.Numbers.{wide_32}
 use Rattle.boot_requests.specs.declared.frame.Kind.{Kind}
 use Rattle.boot_requests.specs.declared.frame.Kind.TheVariants as kinds
 use Rattle.boot_requests.specs.declared.fault.FrameFault.{FrameFault}
@@ -23,8 +25,7 @@ use Rattle.boot_requests.specs.Request.{kind_of}
 use Rattle.boot_requests.specs.Frame.{magic, header_bytes, SpellsFrame}
 use Rattle.boot_requests.specs.FrameFault.{Raw, IsRaw, IsBadPayload, IsBadOption, PassesNumber, IsFirstFault}
 use Rattle.boot_requests.specs.Reader.{raw_of, SplitsFrame, SpellsPayload, SpellsEntry, IsPayloadFault}
-use Rattle.boot_requests.proofs.Frames.ByteLists.{bytes_from_recursion}
-use Rattle.boot_requests.proofs.Frames.TwoBytes.{AreWrittenAgain, AreUnits, two_bytes}
+use Rattle.boot_requests.proofs.Frames.TwoBytes.{two_bytes}
 use Rattle.boot_requests.proofs.Frames.KindBytes.{version_or_not, kind_or_not}
 
 -- ---- a frame that was split
@@ -40,10 +41,13 @@ split_raw bytes number kind payload split = record {
   parts = split.parts;
 }
 
-split_passes : (bytes : List ℕ) (number : ℕ) (kind : Kind) (payload : List ℕ) → SplitsFrame bytes number kind payload → PassesNumber (raw_for number kind payload)
-split_passes bytes number kind payload split = (((refl, (kind, refl)), split.len, refl), (kind, refl, refl), λ e. let below = split.below in omega (arith, below, e))
+split_passes : (bytes : List ℕ) (number : ℕ) (kind : Kind) (payload : List ℕ) → SplitsFrame bytes number kind payload →
+    PassesNumber (raw_for number kind payload)
+split_passes bytes number kind payload split =
+    (((refl, (kind, refl)), split.len, refl), (kind, refl, refl), λ e. let below = split.below in omega (arith, below, e))
 
-pub frame_read : (bytes : List ℕ) (number : ℕ) (kind : Kind) (payload : List ℕ) (request : Request) → SplitsFrame bytes number kind payload → SpellsPayload kind payload request → SpellsFrame bytes number request
+pub frame_read : (bytes : List ℕ) (number : ℕ) (kind : Kind) (payload : List ℕ) (request : Request) → SplitsFrame bytes number kind payload →
+    SpellsPayload kind payload request → SpellsFrame bytes number request
 frame_read bytes number kind payload request split spelled = record {
   below = split.below;
   valid = spelled.valid;
@@ -52,22 +56,32 @@ frame_read bytes number kind payload request split spelled = record {
       ∙ ap (λ (t : List ℕ). header_bytes (kind_of request) number (length t) ++ t) spelled.is;
 }
 
-pub payload_fault_is : (bytes : List ℕ) (number : ℕ) (kind : Kind) (payload : List ℕ) (f : FrameFault) → SplitsFrame bytes number kind payload → IsPayloadFault kind payload f → f ≢ fault.OutOfMemory → IsFirstFault bytes f
+pub payload_fault_is : (bytes : List ℕ) (number : ℕ) (kind : Kind) (payload : List ℕ) (f : FrameFault) → SplitsFrame bytes number kind payload →
+    IsPayloadFault kind payload f → f ≢ fault.OutOfMemory → IsFirstFault bytes f
 payload_fault_is bytes number kind payload fault.BadPayload split h cause =
-    record { raw = raw_for number kind payload; is = split_raw bytes number kind payload split; here = (split_passes bytes number kind payload split, record { kind = kind; version_is = refl; is = refl; here = h }) }
+    record {
+      raw = raw_for number kind payload;
+      is = split_raw bytes number kind payload split;
+      here = (split_passes bytes number kind payload split, record { kind = kind; version_is = refl; is = refl; here = h });
+    }
 payload_fault_is bytes number kind payload (fault.Option x) split h cause =
-    record { raw = raw_for number kind payload; is = split_raw bytes number kind payload split; here = (split_passes bytes number kind payload split, record { kind = kind; version_is = refl; is = refl; here = h }) }
+    record {
+      raw = raw_for number kind payload;
+      is = split_raw bytes number kind payload split;
+      here = (split_passes bytes number kind payload split, record { kind = kind; version_is = refl; is = refl; here = h });
+    }
 payload_fault_is bytes number kind payload fault.OutOfMemory split h cause = absurd (cause refl)
 payload_fault_is bytes number kind payload _ split h cause = absurd h
 
 -- ---- every payload is that of a request, or has a fault
 
 abbrev pub OptionEnds : Type 0
-OptionEnds = (bytes : List ℕ) → AllByRecursion IsByte bytes → ((option : OptionParts) × SpellsOption bytes option) ⊎ ((f : OptionFault) × IsFirstOptionFault bytes f)
+OptionEnds =
+    (bytes : List ℕ) → AllByRecursion IsByte bytes → ((option : OptionParts) × SpellsOption bytes option) ⊎ ((f : OptionFault) × IsFirstOptionFault bytes f)
 
 -- even bytes are numbers, and are those of these numbers
 abbrev pub NumbersEnd : Type 0
-NumbersEnd = AreWrittenAgain × AreUnits
+NumbersEnd = AreWrittenAgain × AreTwoBytes
 
 -- the payload spells what is laid out so
 abbrev HasParts : Layout → List ℕ → Type 0
@@ -84,37 +98,29 @@ LayoutEnds layout payload = HasParts layout payload ⊎ (IsBadPayload layout pay
 entry_fits : (low high : ℕ) → low < 256 → high < 256 → from_le_bytes w16 (low ∷ high ∷ []) < 2 ^ 16
 entry_fits low high p q = omega (arith, p, q)
 
-option_behind : (low high : ℕ) (rest : List ℕ) (option : OptionParts) → low < 256 → high < 256 → rest ≡ option_bytes option → low ∷ high ∷ rest ≡ to_le_bytes w16 (from_le_bytes w16 (low ∷ high ∷ [])) ++ option_bytes option
-option_behind low high rest option p q is = ap (λ (t : List ℕ). low ∷ high ∷ t) is ∙ ap (λ (t : List ℕ). t ++ option_bytes option) (sym (two_bytes low high p q))
-
-entry_and_option_ends : OptionEnds → (payload : List ℕ) → AllByRecursion IsByte payload → LayoutEnds EntryAndOption payload
-entry_and_option_ends ends [] fits = inr (inl (omega arith))
-entry_and_option_ends ends (low ∷ []) fits = inr (inl (omega arith))
-entry_and_option_ends ends (low ∷ high ∷ rest) fits =
-    elim (ends rest fits.1.1) [
-      | inl read ↦
-          inl (from_le_bytes w16 (low ∷ high ∷ []), read.0, entry_fits low high fits.0 fits.1.0, record { valid = read.1.0; is = option_behind low high rest read.0 fits.0 fits.1.0 read.1.1 })
-      | inr stop ↦ inr (inr (stop.0, (omega arith, stop.1)))
-    ]
-
-entry_ends : (payload : List ℕ) → AllByRecursion IsByte payload → LayoutEnds Entry payload
-entry_ends [] fits = inr (inl (λ e. omega arith))
-entry_ends (low ∷ []) fits = inr (inl (λ e. omega arith))
-entry_ends (low ∷ high ∷ []) fits = inl (from_le_bytes w16 (low ∷ high ∷ []), entry_fits low high fits.0 fits.1.0, sym (two_bytes low high fits.0 fits.1.0))
-entry_ends (low ∷ high ∷ more ∷ rest) fits = inr (inl (λ e. omega arith))
-
-numbers_end : NumbersEnd → (payload : List ℕ) → AllByRecursion IsByte payload → LayoutEnds Numbers payload
-numbers_end numbers payload fits =
-    elim (cases_eq (length payload % 2) 0) [ inl even ↦ inl (units_of payload, (numbers.1 payload fits).0, sym (numbers.0 payload fits even)) | inr odd ↦ inr (inl odd) ]
-
-option_ends : OptionEnds → (payload : List ℕ) → AllByRecursion IsByte payload → LayoutEnds OptionAlone payload
-option_ends ends payload fits = elim (ends payload fits) [ inl read ↦ inl read | inr stop ↦ inr (inr stop) ]
+option_behind : (low high : ℕ) (rest : List ℕ) (option : OptionParts) → low < 256 → high < 256 → rest ≡ option_bytes option →
+    low ∷ high ∷ rest ≡ to_le_bytes w16 (from_le_bytes w16 (low ∷ high ∷ [])) ++ option_bytes option
+option_behind low high rest option p q is =
+    ap (λ (t : List ℕ). low ∷ high ∷ t) is ∙ ap (λ (t : List ℕ). t ++ option_bytes option) (sym (two_bytes low high p q))
 
 layout_ends : NumbersEnd → OptionEnds → (layout : Layout) (payload : List ℕ) → AllByRecursion IsByte payload → LayoutEnds layout payload
-layout_ends numbers ends EntryAndOption payload fits = entry_and_option_ends ends payload fits
-layout_ends numbers ends Entry payload fits = entry_ends payload fits
-layout_ends numbers ends Numbers payload fits = numbers_end numbers payload fits
-layout_ends numbers ends OptionAlone payload fits = option_ends ends payload fits
+layout_ends numbers ends EntryAndOption (low ∷ high ∷ rest) fits = elim (ends rest fits.1.1) [
+  | inl read ↦ inl (
+    from_le_bytes w16 (low ∷ high ∷ []),
+    read.0,
+    entry_fits low high fits.0 fits.1.0,
+    record { valid = read.1.0; is = option_behind low high rest read.0 fits.0 fits.1.0 read.1.1 },
+  )
+  | inr stop ↦ inr (inr (stop.0, (omega arith, stop.1)))
+]
+layout_ends numbers ends EntryAndOption _ fits = inr (inl (omega arith))
+layout_ends numbers ends Entry (low ∷ high ∷ []) fits =
+    inl (from_le_bytes w16 (low ∷ high ∷ []), entry_fits low high fits.0 fits.1.0, sym (two_bytes low high fits.0 fits.1.0))
+layout_ends numbers ends Entry _ fits = inr (inl (λ e. omega arith))
+layout_ends numbers ends Numbers payload fits =
+    elim (cases_eq (length payload % 2) 0)
+    [ inl even ↦ inl (units_of payload, (numbers.1 payload fits).0, sym (numbers.0 payload fits even)) | inr odd ↦ inr (inl odd) ]
+layout_ends numbers ends OptionAlone payload fits = elim (ends payload fits) [ inl read ↦ inl read | inr stop ↦ inr (inr stop) ]
 
 -- the request of the kind that has these parts
 with_parts : (kind : Kind) (payload : List ℕ) → HasParts (layout_of kind) payload → (request : Request) × SpellsPayload kind payload request
@@ -127,7 +133,8 @@ with_parts kinds.AddFree payload p = (AddFree p.0, record { valid = p.1.0; same_
 
 -- the payload is that of a request of the kind, or has a fault
 abbrev PayloadEnds : Kind → List ℕ → Type 0
-PayloadEnds kind payload = ((request : Request) × SpellsPayload kind payload request) ⊎ ((f : FrameFault) × IsPayloadFault kind payload f × (f ≢ fault.OutOfMemory))
+PayloadEnds kind payload =
+    ((request : Request) × SpellsPayload kind payload request) ⊎ ((f : FrameFault) × IsPayloadFault kind payload f × (f ≢ fault.OutOfMemory))
 
 payload_ends : NumbersEnd → OptionEnds → (kind : Kind) (payload : List ℕ) → AllByRecursion IsByte payload → PayloadEnds kind payload
 payload_ends numbers ends kind payload fits =
@@ -157,10 +164,12 @@ magic_or_not a b =
 
 -- any four bytes are those of a number
 four_bytes : (a b c d : ℕ) → a < 256 → b < 256 → c < 256 → d < 256 → to_le_bytes w32 (from_le_bytes w32 (a ∷ b ∷ c ∷ d ∷ [])) ≡ a ∷ b ∷ c ∷ d ∷ []
-four_bytes a b c d p q r s = le_bytes_4 (a ∷ b ∷ c ∷ d ∷ []) _ refl (bytes_from_recursion (a ∷ b ∷ c ∷ d ∷ []) (p, (q, (r, (s, tt))))) refl
+four_bytes a b c d p q r s = wide_32.same (a ∷ b ∷ c ∷ d ∷ []) (refl, (p, (q, (r, (s, tt)))))
 
-header_of : (a b v k n0 n1 n2 n3 l0 l1 l2 l3 : ℕ) (payload : List ℕ) → AllByRecursion IsByte (a ∷ b ∷ v ∷ k ∷ n0 ∷ n1 ∷ n2 ∷ n3 ∷ l0 ∷ l1 ∷ l2 ∷ l3 ∷ payload)
-    → HasHeader (a ∷ b ∷ v ∷ k ∷ n0 ∷ n1 ∷ n2 ∷ n3 ∷ l0 ∷ l1 ∷ l2 ∷ l3 ∷ payload) (raw_of (a ∷ b ∷ []) v k (from_le_bytes w32 (n0 ∷ n1 ∷ n2 ∷ n3 ∷ [])) (from_le_bytes w32 (l0 ∷ l1 ∷ l2 ∷ l3 ∷ [])) payload)
+header_of : (a b v k n0 n1 n2 n3 l0 l1 l2 l3 : ℕ) (payload : List ℕ) →
+    AllByRecursion IsByte (a ∷ b ∷ v ∷ k ∷ n0 ∷ n1 ∷ n2 ∷ n3 ∷ l0 ∷ l1 ∷ l2 ∷ l3 ∷ payload) →
+    HasHeader (a ∷ b ∷ v ∷ k ∷ n0 ∷ n1 ∷ n2 ∷ n3 ∷ l0 ∷ l1 ∷ l2 ∷ l3 ∷ payload)
+    (raw_of (a ∷ b ∷ []) v k (from_le_bytes w32 (n0 ∷ n1 ∷ n2 ∷ n3 ∷ [])) (from_le_bytes w32 (l0 ∷ l1 ∷ l2 ∷ l3 ∷ [])) payload)
 header_of a b v k n0 n1 n2 n3 l0 l1 l2 l3 payload fits =
     let number = fits.1.1.1.1 in
     let len = number.1.1.1.1 in
@@ -171,27 +180,21 @@ header_of a b v k n0 n1 n2 n3 l0 l1 l2 l3 payload fits =
         two_bytes = refl;
         number = omega (arith, number.0, number.1.0, number.1.1.0, number.1.1.1.0);
         len = omega (arith, len.0, len.1.0, len.1.1.0, len.1.1.1.0);
-        parts = sym (ap (λ (t : List ℕ). (((a ∷ b ∷ v ∷ k ∷ []) ++ t) ++ to_le_bytes w32 (from_le_bytes w32 (l0 ∷ l1 ∷ l2 ∷ l3 ∷ []))) ++ payload) number_is ∙ ap (λ (t : List ℕ). (a ∷ b ∷ v ∷ k ∷ n0 ∷ n1 ∷ n2 ∷ n3 ∷ t) ++ payload) len_is);
+        parts =
+            sym (ap (λ (t : List ℕ). (((a ∷ b ∷ v ∷ k ∷ []) ++ t) ++ to_le_bytes w32 (from_le_bytes w32 (l0 ∷ l1 ∷ l2 ∷ l3 ∷ []))) ++ payload) number_is
+            ∙ ap (λ (t : List ℕ). (a ∷ b ∷ v ∷ k ∷ n0 ∷ n1 ∷ n2 ∷ n3 ∷ t) ++ payload) len_is);
       };
       decided = magic_or_not a b;
       payload = len.1.1.1.1;
     }
 
 pub heads : (bytes : List ℕ) → AllByRecursion IsByte bytes → (length bytes < 12) ⊎ ((raw : Raw) × HasHeader bytes raw)
-heads [] fits = inl (omega arith)
-heads (a ∷ []) fits = inl (omega arith)
-heads (a ∷ b ∷ []) fits = inl (omega arith)
-heads (a ∷ b ∷ v ∷ []) fits = inl (omega arith)
-heads (a ∷ b ∷ v ∷ k ∷ []) fits = inl (omega arith)
-heads (a ∷ b ∷ v ∷ k ∷ n0 ∷ []) fits = inl (omega arith)
-heads (a ∷ b ∷ v ∷ k ∷ n0 ∷ n1 ∷ []) fits = inl (omega arith)
-heads (a ∷ b ∷ v ∷ k ∷ n0 ∷ n1 ∷ n2 ∷ []) fits = inl (omega arith)
-heads (a ∷ b ∷ v ∷ k ∷ n0 ∷ n1 ∷ n2 ∷ n3 ∷ []) fits = inl (omega arith)
-heads (a ∷ b ∷ v ∷ k ∷ n0 ∷ n1 ∷ n2 ∷ n3 ∷ l0 ∷ []) fits = inl (omega arith)
-heads (a ∷ b ∷ v ∷ k ∷ n0 ∷ n1 ∷ n2 ∷ n3 ∷ l0 ∷ l1 ∷ []) fits = inl (omega arith)
-heads (a ∷ b ∷ v ∷ k ∷ n0 ∷ n1 ∷ n2 ∷ n3 ∷ l0 ∷ l1 ∷ l2 ∷ []) fits = inl (omega arith)
 heads (a ∷ b ∷ v ∷ k ∷ n0 ∷ n1 ∷ n2 ∷ n3 ∷ l0 ∷ l1 ∷ l2 ∷ l3 ∷ payload) fits =
-    inr (raw_of (a ∷ b ∷ []) v k (from_le_bytes w32 (n0 ∷ n1 ∷ n2 ∷ n3 ∷ [])) (from_le_bytes w32 (l0 ∷ l1 ∷ l2 ∷ l3 ∷ [])) payload, header_of a b v k n0 n1 n2 n3 l0 l1 l2 l3 payload fits)
+    inr (
+      raw_of (a ∷ b ∷ []) v k (from_le_bytes w32 (n0 ∷ n1 ∷ n2 ∷ n3 ∷ [])) (from_le_bytes w32 (l0 ∷ l1 ∷ l2 ∷ l3 ∷ [])) payload,
+      header_of a b v k n0 n1 n2 n3 l0 l1 l2 l3 payload fits,
+    )
+heads _ fits = inl (omega arith)
 
 -- if the tests of the header pass, the input is split
 split_of : (bytes : List ℕ) (c : Raw) → IsRaw bytes c → (passes : PassesNumber c) → SplitsFrame bytes c.number passes.1.0 c.payload
@@ -240,7 +243,8 @@ header_ends numbers ends bytes c h =
     ]
 
 pub bytes_end : NumbersEnd → OptionEnds → (bytes : List ℕ) → AllByRecursion IsByte bytes → Ends bytes
-bytes_end numbers ends bytes fits = elim (heads bytes fits) [ inl short ↦ inr (fault.Short, short) | inr header ↦ header_ends numbers ends bytes header.0 header.1 ]
+bytes_end numbers ends bytes fits =
+    elim (heads bytes fits) [ inl short ↦ inr (fault.Short, short) | inr header ↦ header_ends numbers ends bytes header.0 header.1 ]
 
 -- ---- what the reader answers
 
@@ -255,30 +259,24 @@ OneFault = (bytes : List ℕ) (f g : FrameFault) → IsFirstFault bytes f → Is
 
 -- out of memory, or another fault
 memory_or_not : (f : FrameFault) → (f ≡ fault.OutOfMemory) ⊎ (f ≢ fault.OutOfMemory)
-memory_or_not fault.Short = inr (λ e. cc)
-memory_or_not fault.BadMagic = inr (λ e. cc)
-memory_or_not fault.BadVersion = inr (λ e. cc)
-memory_or_not fault.TooLong = inr (λ e. cc)
-memory_or_not fault.BadSize = inr (λ e. cc)
-memory_or_not fault.BadKind = inr (λ e. cc)
-memory_or_not fault.BadNumber = inr (λ e. cc)
-memory_or_not fault.BadPayload = inr (λ e. cc)
-memory_or_not (fault.Option x) = inr (λ e. cc)
 memory_or_not fault.OutOfMemory = inl refl
+memory_or_not _ = inr (λ e. cc)
 
 -- what a reader answers is found, or its fault is the first
 pub record IsAnswer (bytes : List ℕ) (result : Result (ℕ × Request) FrameFault) : Type 0 where
   pub found : IfOk result (λ read. SpellsFrame bytes read.0 read.1)
   pub fault : IfErr result (λ f. f ≢ fault.OutOfMemory → IsFirstFault bytes f)
 
-pub only_read : OneRequest → NoRequest → (bytes : List ℕ) (result : Result (ℕ × Request) FrameFault) → IsAnswer bytes result → (number : ℕ) (request : Request) → SpellsFrame bytes number request → IsUnless result (Ok (number, request)) fault.OutOfMemory
+pub only_read : OneRequest → NoRequest → (bytes : List ℕ) (result : Result (ℕ × Request) FrameFault) → IsAnswer bytes result →
+    (number : ℕ) (request : Request) → SpellsFrame bytes number request → IsUnless result (Ok (number, request)) fault.OutOfMemory
 only_read one none bytes (Ok (m, q)) h number request spelled =
     let same = one bytes m number q request h.found spelled in
-    inl (ap (λ (k : ℕ). Ok (k, q)) same.0 ∙ ap (λ (r : Request). Ok (number, r)) same.1)
+    inl (λ i. Ok (same.0 i, same.1 i))
 only_read one none bytes (Err f) h number request spelled =
     elim (memory_or_not f) [ inl memory ↦ inr (ap Err memory) | inr other ↦ absurd (none bytes f number request (h.fault other) spelled) ]
 
-pub only_refused : NoRequest → OneFault → (bytes : List ℕ) (result : Result (ℕ × Request) FrameFault) → IsAnswer bytes result → (f : FrameFault) → IsFirstFault bytes f → IsUnless result (Err f) fault.OutOfMemory
+pub only_refused : NoRequest → OneFault → (bytes : List ℕ) (result : Result (ℕ × Request) FrameFault) → IsAnswer bytes result → (f : FrameFault) →
+    IsFirstFault bytes f → IsUnless result (Err f) fault.OutOfMemory
 only_refused none one bytes (Ok (m, q)) h f first = absurd (none bytes f m q first h.found)
 only_refused none one bytes (Err g) h f first =
     elim (memory_or_not g) [ inl memory ↦ inr (ap Err memory) | inr other ↦ inl (ap Err (one bytes g f (h.fault other) first)) ]

@@ -1,11 +1,14 @@
 -- One request with one number for each spelling, of bytes, and none if there is a fault.
-use Rattle.std.proofs.Common.{◌≡◌, ℕ, ◌<◌, ◌^◌, List, [], ◌++◌, length, refl, ap, subst, ◌∙◌, inl, inr, arith}
-use Rattle.std.specs.Int.{w16, to_le_bytes}
+use Rattle.std.proofs.Common.{◌≡◌, ℕ, ◌<◌, ◌^◌, List, [], ◌++◌, length, refl, ap, subst, inl, inr, arith}
+use Rattle.std.specs.Int.{w16, to_le_bytes, w32}
 use Rattle.std.specs.List.{AllByRecursion}
 use Rattle.uefi_path.specs.Row.{IsByte}
 use Rattle.uefi_option.specs.declared.fault.OptionFault.{OptionFault}
 use Rattle.uefi_option.specs.LoadOption.{OptionParts, IsOption, SpellsOption, option_bytes}
 use Rattle.uefi_option.specs.Fault.{IsFirstFault as IsFirstOptionFault}
+use Rattle.uefi_vars.proofs.Bytes.{AllByRecursion-append}
+use Rattle.uefi_vars.proofs.Numbers.{AreReadAgain, HaveTwoBytes}
+use Rattle.uefi_path.proofs.Numbers.{wide_32}
 use Rattle.boot_requests.specs.declared.fault.FrameFault.{FrameFault}
 use Rattle.boot_requests.specs.declared.request.Request.{Request}
 use Rattle.boot_requests.specs.declared.request.Request.TheVariants.{Add, Replace, Remove, Order, Next, AddFree}
@@ -15,8 +18,7 @@ use Rattle.boot_requests.specs.Request.{IsRequest, kind_of, payload_of}
 use Rattle.boot_requests.specs.Frame.{magic, header_bytes, frame_bytes, SpellsFrame}
 use Rattle.boot_requests.specs.FrameFault.{Raw, IsRaw, IsBadPayload, IsBadOption, IsFirstFault}
 use Rattle.boot_requests.specs.Reader.{raw_of}
-use Rattle.boot_requests.proofs.Frames.ByteLists.{AllByRecursion-append}
-use Rattle.boot_requests.proofs.Frames.TwoBytes.{AreReadAgain, HaveTwoBytes, same_number, same_numbers}
+use Rattle.boot_requests.proofs.Frames.TwoBytes.{same_number, same_numbers}
 use Rattle.boot_requests.proofs.Frames.KindBytes.{version_fits, byte_fits, one_kind, of_kind}
 use Rattle.boot_requests.proofs.Frames.Raws.{same_raw, raw_size, HasOptionFault, Steps, ByTests, by_tests, Passes, no_steps}
 
@@ -33,19 +35,25 @@ is_raw bytes number request spelled = record {
   parts = spelled.is;
 }
 
+-- the header of a frame has the number of its request
+pub number_in : (bytes : List ℕ) (c : Raw) (number : ℕ) (request : Request) → IsRaw bytes c → SpellsFrame bytes number request → c.number ≡ number
+number_in bytes c number request is spelled =
+    ap (λ (d : Raw). d.number) (same_raw bytes c (raw_for number request) is (is_raw bytes number request spelled))
+
 -- ---- one request
 
 abbrev pub OneOption : Type 0
 OneOption = (bytes : List ℕ) (o p : OptionParts) → SpellsOption bytes o → SpellsOption bytes p → o ≡ p
 
-same_entry : OneOption → (m n : ℕ) (o p : OptionParts) → (m < 2 ^ 16) × IsOption o → (n < 2 ^ 16) × IsOption p → to_le_bytes w16 m ++ option_bytes o ≡ to_le_bytes w16 n ++ option_bytes p → (m ≡ n) × (o ≡ p)
+same_entry : OneOption → (m n : ℕ) (o p : OptionParts) → (m < 2 ^ 16) × IsOption o → (n < 2 ^ 16) × IsOption p →
+    to_le_bytes w16 m ++ option_bytes o ≡ to_le_bytes w16 n ++ option_bytes p → (m ≡ n) × (o ≡ p)
 same_entry one m n o p first second e =
     let split = same_number m n (option_bytes o) (option_bytes p) first.0 second.0 e in
     (split.0, one (option_bytes o) o p (first.1, refl) (second.1, split.1))
 
 same_payload : AreReadAgain → OneOption → (q r : Request) → IsRequest q → IsRequest r → kind_of q ≡ kind_of r → payload_of q ≡ payload_of r → q ≡ r
-same_payload again one (Add m o) (Add n p) first second kinds e = let same = same_entry one m n o p first second e in ap (λ (k : ℕ). Add k o) same.0 ∙ ap (λ (t : OptionParts). Add n t) same.1
-same_payload again one (Replace m o) (Replace n p) first second kinds e = let same = same_entry one m n o p first second e in ap (λ (k : ℕ). Replace k o) same.0 ∙ ap (λ (t : OptionParts). Replace n t) same.1
+same_payload again one (Add m o) (Add n p) first second kinds e = let same = same_entry one m n o p first second e in λ i. Add (same.0 i) (same.1 i)
+same_payload again one (Replace m o) (Replace n p) first second kinds e = let same = same_entry one m n o p first second e in λ i. Replace (same.0 i) (same.1 i)
 same_payload again one (Remove m) (Remove n) first second kinds e = ap (λ (k : ℕ). Remove k) (same_number m n [] [] first second e).0
 same_payload again one (Order ms) (Order ns) first second kinds e = ap (λ (t : List ℕ). Order t) (same_numbers again ms ns first second e)
 same_payload again one (Next m) (Next n) first second kinds e = ap (λ (k : ℕ). Next k) (same_number m n [] [] first second e).0
@@ -79,9 +87,11 @@ payload_is_bytes two each (AddFree option) is = option_is_bytes each option is
 
 header_is_bytes : (kind : Kind) (number len : ℕ) → AllByRecursion IsByte (header_bytes kind number len)
 header_is_bytes kind number len =
-    (omega arith, (omega arith, (version_fits kind, (byte_fits kind, (omega arith, (omega arith, (omega arith, (omega arith, (omega arith, (omega arith, (omega arith, (omega arith, tt))))))))))))
+    let numbers = AllByRecursion-append IsByte (to_le_bytes w32 number) (to_le_bytes w32 len) (wide_32.bytes number) (wide_32.bytes len) in
+    (omega arith, (omega arith, (version_fits kind, (byte_fits kind, numbers))))
 
-pub frame_is_bytes : HaveTwoBytes → EachOptionSpelled → (number : ℕ) (request : Request) → IsRequest request → AllByRecursion IsByte (frame_bytes number request)
+pub frame_is_bytes : HaveTwoBytes → EachOptionSpelled → (number : ℕ) (request : Request) → IsRequest request →
+    AllByRecursion IsByte (frame_bytes number request)
 frame_is_bytes two each number request is =
     let kind = kind_of request in
     let len = length (payload_of request) in
@@ -90,12 +100,11 @@ frame_is_bytes two each number request is =
 -- ---- no fault
 
 good_payload : HaveTwoBytes → (request : Request) → IsBadPayload (layout_of (kind_of request)) (payload_of request) → ⊥
-good_payload two (Add entry option) bad = omega (arith, bad)
-good_payload two (Replace entry option) bad = omega (arith, bad)
 good_payload two (Remove entry) bad = bad refl
 good_payload two (Order numbers) bad = bad (omega (arith, (two numbers).1))
 good_payload two (Next entry) bad = bad refl
 good_payload two (AddFree option) bad = bad
+good_payload two _ bad = omega (arith, bad)
 
 abbrev pub NoOptionFault : Type 0
 NoOptionFault = (bytes : List ℕ) (f : OptionFault) (option : OptionParts) → IsFirstOptionFault bytes f → SpellsOption bytes option → ⊥
@@ -117,12 +126,16 @@ passes two bytes number request spelled = record {
   payload = λ bad. good_payload two request (of_kind (kind_of request) (λ k. IsBadPayload (layout_of k) (payload_of request)) bad);
 }
 
-no_tests : HaveTwoBytes → NoOptionFault → (bytes : List ℕ) (f : FrameFault) (number : ℕ) (request : Request) → ByTests bytes f → SpellsFrame bytes number request → ⊥
-no_tests two none bytes f number request (inl short) spelled = omega (arith, short.0, raw_size bytes (raw_for number request) (is_raw bytes number request spelled))
+no_tests : HaveTwoBytes → NoOptionFault → (bytes : List ℕ) (f : FrameFault) (number : ℕ) (request : Request) → ByTests bytes f →
+    SpellsFrame bytes number request → ⊥
+no_tests two none bytes f number request (inl short) spelled =
+    omega (arith, short.0, raw_size bytes (raw_for number request) (is_raw bytes number request spelled))
 no_tests two none bytes f number request (inr (c, is, steps)) spelled =
     let same = same_raw bytes c (raw_for number request) is (is_raw bytes number request spelled) in
-    let last : HasOptionFault (raw_for number request) f → ⊥ = λ has. good_option none request has.0 spelled.valid (of_kind (kind_of request) (λ k. IsBadOption (layout_of k) (payload_of request) has.0) has.2) in
+    let last : HasOptionFault (raw_for number request) f → ⊥ = λ has.
+    good_option none request has.0 spelled.valid (of_kind (kind_of request) (λ k. IsBadOption (layout_of k) (payload_of request) has.0) has.2) in
     no_steps (raw_for number request) f (passes two bytes number request spelled) last (subst (λ (raw : Raw). Steps raw f) same steps)
 
-pub fault_leaves_none : HaveTwoBytes → NoOptionFault → (bytes : List ℕ) (f : FrameFault) (number : ℕ) (request : Request) → IsFirstFault bytes f → SpellsFrame bytes number request → ⊥
+pub fault_leaves_none : HaveTwoBytes → NoOptionFault → (bytes : List ℕ) (f : FrameFault) (number : ℕ) (request : Request) → IsFirstFault bytes f →
+    SpellsFrame bytes number request → ⊥
 fault_leaves_none two none bytes f number request first spelled = no_tests two none bytes f number request (by_tests bytes f first) spelled

@@ -3,12 +3,14 @@ use Rattle.std.proofs.Common.{◌≡◌, ℕ, zero, suc, ◌≤◌, List, [], �
 use Rattle.std.specs.List.{AllByRecursion, flat_map}
 use Rattle.std.proofs.lemmas.List.{length-append}
 use Rattle.uefi_path.specs.Row.{IsByte}
+use Rattle.uefi_vars.proofs.Bytes.{same_size, AllByRecursion-behind}
 use Rattle.boot_requests.specs.declared.fault.FeedFault.{FeedFault}
-use Rattle.boot_requests.specs.FrameFault.{Raw, IsRaw}
+use Rattle.boot_requests.specs.FrameFault.{Raw}
 use Rattle.boot_requests.specs.Stream.{IsDelivery, HasNoDelivery, IsHeaderFaultIfAny, Cut, IsCut}
 use Rattle.boot_requests.specs.Pieces.{IsOpen}
-use Rattle.boot_requests.proofs.Frames.Raws.{same_raw, same_size, raw_size}
-use Rattle.boot_requests.proofs.Streams.Headers.{with_more, more_raw, raw_len, one_header_fault, fault_has_none, open_has_none, open_is_good, HasDelivery, found}
+use Rattle.boot_requests.proofs.Frames.Raws.{same_raw, raw_size}
+use Rattle.boot_requests.proofs.Streams.Headers.{with_more, more_raw, raw_len, one_header_fault, fault_has_none, open_has_none, open_is_good, HasDelivery}
+use Rattle.boot_requests.proofs.Streams.Headers.{found}
 
 abbrev pub joined : List (List ℕ) → List ℕ
 joined deliveries = flat_map (λ delivery. delivery) deliveries
@@ -21,7 +23,7 @@ cut_of deliveries rest fault = record { deliveries = deliveries; rest = rest; fa
 -- deliveries at the start of the same bytes are the same
 pub one_delivery : (d e x y : List ℕ) → IsDelivery d → IsDelivery e → d ++ x ≡ e ++ y → (d ≡ e) × (x ≡ y)
 one_delivery d e x y p q same =
-    let raws = same_raw (e ++ y) (with_more p.raw x) (with_more q.raw y) (subst (λ (t : List ℕ). IsRaw t (with_more p.raw x)) same (more_raw d x p.raw p.is)) (more_raw e y q.raw q.is) in
+    let raws = same_raw (e ++ y) (with_more p.raw x) (with_more q.raw y) (rw same at (more_raw d x p.raw p.is)) (more_raw e y q.raw q.is) in
     let len : p.raw.len ≡ q.raw.len = ap (λ (raw : Raw). raw.len) raws in
     same_size d e x y (omega (arith, len, p.here.2, q.here.2, raw_len d p.raw p.is, raw_len e q.raw q.is)) same
 
@@ -32,7 +34,8 @@ one_fault rest (Some f) None x y = absurd (y f x)
 one_fault rest (Some f) (Some g) x y = ap Some (one_header_fault rest f g x y)
 
 -- the deliveries and the rest are the same if both rests begin with no delivery
-one_row : (ds es : List (List ℕ)) (x y : List ℕ) → AllByRecursion IsDelivery ds → AllByRecursion IsDelivery es → HasNoDelivery x → HasNoDelivery y → joined ds ++ x ≡ joined es ++ y → (ds ≡ es) × (x ≡ y)
+one_row : (ds es : List (List ℕ)) (x y : List ℕ) → AllByRecursion IsDelivery ds → AllByRecursion IsDelivery es → HasNoDelivery x → HasNoDelivery y →
+    joined ds ++ x ≡ joined es ++ y → (ds ≡ es) × (x ≡ y)
 one_row [] [] x y p q no_x no_y same = (refl, same)
 one_row [] (e ∷ es) x y p q no_x no_y same = absurd (no_x e (joined es ++ y) (same ∙ append_assoc e (joined es) y) q.0)
 one_row (d ∷ ds) [] x y p q no_x no_y same = absurd (no_y d (joined ds ++ x) (sym same ∙ append_assoc d (joined ds) x) p.0)
@@ -45,13 +48,9 @@ pub one_cut : (stream : List ℕ) (a b : Cut) → IsCut stream a → IsCut strea
 one_cut stream a b p q =
     let row = one_row a.deliveries b.deliveries a.rest b.rest p.deliveries q.deliveries p.rest q.rest (sym p.parts ∙ q.parts) in
     let fault = one_fault b.rest a.fault b.fault (subst (λ (t : List ℕ). IsHeaderFaultIfAny t a.fault) row.1 p.fault) q.fault in
-    ap (λ (ds : List (List ℕ)). cut_of ds a.rest a.fault) row.0 ∙ ap (λ (t : List ℕ). cut_of b.deliveries t a.fault) row.1 ∙ ap (λ (f : Option FeedFault). cut_of b.deliveries b.rest f) fault
+    λ i. cut_of (row.0 i) (row.1 i) (fault i)
 
 -- ---- a cut of each
-
-AllByRecursion-behind : {X : Type 0} (P : X → Type 0) (xs ys : List X) → AllByRecursion P (xs ++ ys) → AllByRecursion P ys
-AllByRecursion-behind P [] ys h = h
-AllByRecursion-behind P (x ∷ xs) ys h = AllByRecursion-behind P xs ys h.1
 
 pub no_fault_in : (bytes : List ℕ) → IsOpen bytes → IsHeaderFaultIfAny bytes None
 no_fault_in bytes h = λ f bad. open_is_good bytes f h bad
@@ -80,7 +79,7 @@ some_cut (suc fuel) stream small fits =
       | inr (inl bad) ↦ (cut_of [] stream (Some bad.0), record { deliveries = tt; rest = fault_has_none stream bad.0 bad.1; fault = bad.1; parts = refl })
       | inr (inr h) ↦
           let less : length h.behind ≤ fuel = omega (arith, small, ap length h.parts, length-append h.front h.behind, raw_size h.front h.is.raw h.is.is) in
-          let behind = some_cut fuel h.behind less (AllByRecursion-behind IsByte h.front h.behind (subst (λ (t : List ℕ). AllByRecursion IsByte t) h.parts fits)) in
+          let behind = some_cut fuel h.behind less (AllByRecursion-behind IsByte h.front h.behind (rw h.parts at fits)) in
           (cut_of (h.front ∷ behind.0.deliveries) behind.0.rest behind.0.fault, one_more stream h behind.0 behind.1)
     ]
 

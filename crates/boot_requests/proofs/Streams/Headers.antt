@@ -1,5 +1,6 @@
 -- The header at the start of bytes: what is after it doesn't matter, and it is good or has one fault.
-use Rattle.std.proofs.Common.{◌≡◌, ◌⊎◌, ℕ, ◌+◌, ◌-◌, ◌<◌, ◌≤◌, List, [], ◌∷◌, ◌++◌, length, take, drop, refl, sym, ap, subst, ◌∙◌, inl, inr, arith, append_assoc}
+use Rattle.std.proofs.Common.{◌≡◌, ◌⊎◌, ℕ, ◌+◌, ◌-◌, ◌<◌, ◌≤◌, List, [], ◌∷◌, ◌++◌, length, take, drop, refl, sym, ap, subst, ◌∙◌, inl, inr, arith}
+use Rattle.std.proofs.Common.{append_assoc}
 use Rattle.std.specs.Int.{w32, to_le_bytes}
 use Rattle.std.specs.List.{AllByRecursion}
 use Rattle.std.proofs.lemmas.Bool.{cases_lt}
@@ -41,42 +42,35 @@ abbrev pub FaultOf : List ℕ → FeedFault → Type 0
 FaultOf bytes f = IsRawWith bytes (λ raw. FailsHeader raw f)
 
 pub fault_of : (bytes : List ℕ) (f : FeedFault) → IsHeaderFault bytes f → FaultOf bytes f
-fault_of bytes fault.BadMagic h = record { raw = h.raw; is = h.is; here = h.here }
-fault_of bytes fault.BadVersion h = record { raw = h.raw; is = h.is; here = h.here }
-fault_of bytes fault.TooLong h = record { raw = h.raw; is = h.is; here = h.here }
 fault_of bytes fault.OutOfMemory h = absurd h
+fault_of bytes _ h = record { raw = h.raw; is = h.is; here = h.here }
 
 pub is_fault : (bytes : List ℕ) (f : FeedFault) → FaultOf bytes f → IsHeaderFault bytes f
-is_fault bytes fault.BadMagic h = record { raw = h.raw; is = h.is; here = h.here }
-is_fault bytes fault.BadVersion h = record { raw = h.raw; is = h.is; here = h.here }
-is_fault bytes fault.TooLong h = record { raw = h.raw; is = h.is; here = h.here }
 is_fault bytes fault.OutOfMemory h = h.here
+is_fault bytes _ h = record { raw = h.raw; is = h.is; here = h.here }
 
 fails_more : (raw : Raw) (more : List ℕ) (f : FeedFault) → FailsHeader raw f → FailsHeader (with_more raw more) f
 fails_more raw more fault.BadMagic h = h
-fails_more raw more fault.BadVersion h = h
-fails_more raw more fault.TooLong h = h
-fails_more raw more fault.OutOfMemory h = h
+fails_more raw more _ h = h
 
 pub fault_more : (bytes more : List ℕ) (f : FeedFault) → IsHeaderFault bytes f → IsHeaderFault (bytes ++ more) f
 fault_more bytes more f h =
     let first = fault_of bytes f h in
-    is_fault (bytes ++ more) f (record { raw = with_more first.raw more; is = more_raw bytes more first.raw first.is; here = fails_more first.raw more f first.here })
+    is_fault (bytes ++ more) f
+    (record { raw = with_more first.raw more; is = more_raw bytes more first.raw first.is; here = fails_more first.raw more f first.here })
 
 one_fails : (raw : Raw) (f g : FeedFault) → FailsHeader raw f → FailsHeader raw g → f ≡ g
 one_fails raw fault.BadMagic fault.BadMagic x y = refl
 one_fails raw fault.BadMagic fault.BadVersion x y = absurd (x y.0)
 one_fails raw fault.BadMagic fault.TooLong x y = absurd (x y.0.0)
-one_fails raw fault.BadMagic fault.OutOfMemory x y = absurd y
 one_fails raw fault.BadVersion fault.BadMagic x y = absurd (y x.0)
 one_fails raw fault.BadVersion fault.BadVersion x y = refl
 one_fails raw fault.BadVersion fault.TooLong x y = absurd (x.1 y.0.1)
-one_fails raw fault.BadVersion fault.OutOfMemory x y = absurd y
 one_fails raw fault.TooLong fault.BadMagic x y = absurd (y x.0.0)
 one_fails raw fault.TooLong fault.BadVersion x y = absurd (y.1 x.0.1)
 one_fails raw fault.TooLong fault.TooLong x y = refl
-one_fails raw fault.TooLong fault.OutOfMemory x y = absurd y
 one_fails raw fault.OutOfMemory g x y = absurd x
+one_fails raw f fault.OutOfMemory x y = absurd y
 
 pub one_header_fault : (bytes : List ℕ) (f g : FeedFault) → IsHeaderFault bytes f → IsHeaderFault bytes g → f ≡ g
 one_header_fault bytes f g x y =
@@ -97,17 +91,13 @@ good_or_fault front behind f good h =
     let same = front_raw front behind good.raw bad.raw good.is bad.is in
     passes_or_fails (with_more good.raw behind) f good.here (subst (λ (raw : Raw). FailsHeader raw f) (sym same) bad.here)
 
-good_delivery : (bytes : List ℕ) → IsDelivery bytes → IsRawWith bytes PassesLength
-good_delivery bytes d = record { raw = d.raw; is = d.is; here = (d.here.0, d.here.1) }
-
 pub fault_has_none : (bytes : List ℕ) (f : FeedFault) → IsHeaderFault bytes f → HasNoDelivery bytes
-fault_has_none bytes f h = λ front behind e d. good_or_fault front behind f (good_delivery front d) (subst (λ (t : List ℕ). IsHeaderFault t f) e h)
+fault_has_none bytes f h = λ front behind e d. good_or_fault front behind f (record { raw = d.raw; is = d.is; here = (d.here.0, d.here.1) }) (rw e at h)
 
 -- ---- open bytes
 
 open_front : (bytes front behind : List ℕ) → bytes ≡ front ++ behind → IsDelivery front → IsOpen bytes → ⊥
-open_front bytes front behind e d (inl short) =
-    omega (arith, short, raw_size front d.raw d.is, ap length e, length-append front behind)
+open_front bytes front behind e d (inl short) = omega (arith, short, raw_size front d.raw d.is, ap length e, length-append front behind)
 open_front bytes front behind e d (inr part) =
     let same = front_raw front behind d.raw part.raw d.is (subst (λ (t : List ℕ). IsRaw t part.raw) e part.is) in
     let len : d.raw.len ≡ part.raw.len = ap (λ (raw : Raw). raw.len) same in
@@ -152,7 +142,8 @@ cut_payload bytes raw is good whole =
         is = record { two_bytes = is.two_bytes; number = is.number; len = is.len; parts = refl };
         here = (good.0, good.1, length-take raw.len raw.payload ∙ omega (arith, whole));
       };
-      parts = is.parts ∙ ap (λ (t : List ℕ). head ++ t) (sym (take-append-drop raw.len raw.payload)) ∙ sym (append_assoc head payload (drop raw.len raw.payload));
+      parts = is.parts ∙ ap (λ (t : List ℕ). head ++ t) (sym (take-append-drop raw.len raw.payload))
+          ∙ sym (append_assoc head payload (drop raw.len raw.payload));
     }
 
 header_found : (bytes : List ℕ) (raw : Raw) → HasHeader bytes raw → Found bytes
@@ -181,13 +172,19 @@ open_of_missing bytes count (inl short) some = inl short.0
 open_of_missing bytes count (inr part) some = inr (record { raw = part.raw; is = part.is; here = (part.here.0, omega (arith, part.here.1)) })
 
 -- what is taken after a whole header is no longer missing
-pub missing_less : (before front : List ℕ) (count : ℕ) → 12 ≤ length before → length front ≤ count → IsMissing before count → IsMissing (before ++ front) (count - length front)
+pub missing_less : (before front : List ℕ) (count : ℕ) → 12 ≤ length before → length front ≤ count → IsMissing before count →
+    IsMissing (before ++ front) (count - length front)
 missing_less before front count whole few (inl short) = absurd (omega (arith, whole, short.0))
 missing_less before front count whole few (inr part) =
-    inr (record { raw = with_more part.raw front; is = more_raw before front part.raw part.is; here = (part.here.0, omega (arith, part.here.1, length-append part.raw.payload front)) })
+    inr (record {
+      raw = with_more part.raw front;
+      is = more_raw before front part.raw part.is;
+      here = (part.here.0, omega (arith, part.here.1, length-append part.raw.payload front));
+    })
 
 -- with at most as many bytes as were missing, at most as many follow the header as it states
-no_more : (held front : List ℕ) (count : ℕ) (raw : Raw) → IsOpen held → IsMissing held count → length front ≤ count → IsRaw (held ++ front) raw → length raw.payload ≤ raw.len
+no_more : (held front : List ℕ) (count : ℕ) (raw : Raw) → IsOpen held → IsMissing held count → length front ≤ count → IsRaw (held ++ front) raw →
+    length raw.payload ≤ raw.len
 no_more held front count raw (inl short) (inl missing) few is =
     omega (arith, missing.1, raw_len (held ++ front) raw is, length-append held front)
 no_more held front count raw (inl short) (inr missing) few is = absurd (omega (arith, short, raw_size held missing.raw missing.is))
@@ -201,12 +198,14 @@ no_more held front count raw (inr part) (inr missing) few is =
     let more_payload : length (part.raw.payload ++ front) ≡ length raw.payload = ap (λ (r : Raw). length r.payload) more in
     omega (arith, len, payload, more_len, more_payload, length-append part.raw.payload front, missing.here.1, part.here.1)
 
-whole_raw : (held front : List ℕ) (count : ℕ) → IsOpen held → IsMissing held count → length front ≤ count → IsMissing (held ++ front) 0 → IsDelivery (held ++ front)
+whole_raw : (held front : List ℕ) (count : ℕ) → IsOpen held → IsMissing held count → length front ≤ count → IsMissing (held ++ front) 0 →
+    IsDelivery (held ++ front)
 whole_raw held front count h missing few (inl short) = absurd (omega (arith, short.0, short.1))
 whole_raw held front count h missing few (inr none) =
     let most = no_more held front count none.raw h missing few none.is in
     record { raw = none.raw; is = none.is; here = (none.here.0.0, none.here.0.1, omega (arith, most, none.here.1)) }
 
-pub delivery_is : (held front : List ℕ) (count left : ℕ) → IsOpen held → IsMissing held count → length front ≤ count → IsMissing (held ++ front) left → left ≡ 0 → IsDelivery (held ++ front)
+pub delivery_is : (held front : List ℕ) (count left : ℕ) → IsOpen held → IsMissing held count → length front ≤ count → IsMissing (held ++ front) left →
+    left ≡ 0 → IsDelivery (held ++ front)
 delivery_is held front count left h missing few now none =
     whole_raw held front count h missing few (subst (λ (n : ℕ). IsMissing (held ++ front) n) none now)

@@ -1,8 +1,9 @@
 -- What happens has a reply, and a plain state a turn.
 use Rattle.std.proofs.Common.{◌≡◌, ◌≢◌, ℕ, ltb, leb, ◌-◌, ◌⊎◌, inl, inr, Bool, true, false, eqb, List, [], ◌∷◌, Option, Some, None, refl}
-use Rattle.std.specs.Prelude.{if◌then◌else◌, ◌↔◌, IsTrue, MatchBool, MatchOption, IfSome}
+use Rattle.std.specs.Prelude.{if◌then◌else◌, ◌↔◌, IsTrue, MatchBool, IfSome}
 use Rattle.std.specs.List.{AllByRecursion}
 use Rattle.std.specs.FinMap.{get}
+use Rattle.std.proofs.lemmas.Bool.{cases_Bool}
 use Rattle.uefi_path.specs.Row.{IsByte}
 use Rattle.uefi_vars.specs.Vars.{IsData}
 use Rattle.uefi_vars.specs.Order.{IsEntryNumber}
@@ -20,6 +21,7 @@ use Rattle.boot_requests.specs.Run.{accepted_requests, gap_at, is_armed, before_
 use Rattle.boot_requests.specs.Reply.{IsReply}
 use Rattle.boot_requests.specs.Turn.{Plain, plain_start, after_delivery, Turn}
 use Rattle.boot_requests.specs.Keeper.{AreRead}
+use Rattle.boot_requests.proofs.WholeRuns.Told.{IsToldNear, IsToldNew, IsToldOfBoot, Prepares}
 
 -- entries of bytes have a plan
 abbrev pub HaveAPlan : Type 0
@@ -43,24 +45,19 @@ module _ (planned : HaveAPlan) (equal : AreEqualOrNot) where
 
   some_answer : (m : State) (requests : Requests) (gap after number : ℕ) (request : Request) → IsAnswered (IsReplyTo m requests gap after number request)
   some_answer m requests gap after number request =
-      elim (ltb number gap) as (λ b. IsAnswered (λ answer. MatchBool b (answer ≡ again (kept_outcome m number)) (Tail answer))) [
+      elim (ltb number gap) as (λ b.
+      IsAnswered (λ answer. MatchBool b (answer ≡ again (kept_outcome m number)) (IsToldNew m gap after number request (get requests number) answer))) [
         | true ↦ (again (kept_outcome m number), refl)
-        | false ↦ elim (leb width (number - gap)) as (λ b. IsAnswered (λ answer. MatchBool b (answer ≡ reply.Ahead gap) (Found answer (get requests number)))) [
+        | false ↦ elim (leb width (number - gap)) as (λ b. IsAnswered (λ answer. MatchBool b (answer ≡ reply.Ahead gap) (Near answer (get requests number)))) [
           | true ↦ (reply.Ahead gap, refl)
           | false ↦ found (get requests number)
         ]
       ]
     where
-      Found : Reply → Option Request → Type 0
-      Found answer found =
-          MatchOption found
-          (answer ≡ (if eqb number gap then reply.Applied (outcome_of m request) after else reply.Waiting gap))
-          (λ other. ((other ≢ request) × (answer ≡ reply.Conflict)) ⊎ ((other ≡ request) × (answer ≡ reply.Waiting gap)))
+      Near : Reply → Option Request → Type 0
+      Near answer found = IsToldNear m gap after number request found answer
 
-      Tail : Reply → Type 0
-      Tail answer = MatchBool (leb width (number - gap)) (answer ≡ reply.Ahead gap) (Found answer (get requests number))
-
-      found : (o : Option Request) → IsAnswered (λ answer. Found answer o)
+      found : (o : Option Request) → IsAnswered (λ answer. Near answer o)
       found None = ((if eqb number gap then reply.Applied (outcome_of m request) after else reply.Waiting gap), refl)
       found (Some other) = elim (equal other request) [
         | inl same ↦ (reply.Waiting gap, inr (same, refl))
@@ -69,10 +66,10 @@ module _ (planned : HaveAPlan) (equal : AreEqualOrNot) where
 
   module _ (start : State) (run : List Seen) (valid : IsState (state_at start run)) (taken : IsState (state_at start (before_taken run))) where
     some_pending : (plan : Option PlanParts) × IsPending start run plan
-    some_pending = elim (is_armed run) as (λ b. is_armed run ≡ b → (plan : Option PlanParts) × IsPending start run plan) [
-      | true ↦ λ t. let plan = some_plan (state_at start (before_taken run)) taken in (Some plan.0, (t, plan.1))
-      | false ↦ λ t. (None, t)
-    ] refl
+    some_pending = elim (cases_Bool (is_armed run)) [
+      | inl t ↦ let plan = some_plan (state_at start (before_taken run)) taken in (Some plan.0, (t, plan.1))
+      | inr t ↦ (None, t)
+    ]
 
     pub some_reply : (seen : Seen) → IsAnswered (IsReply start run seen)
     some_reply (Came number request) =
@@ -80,7 +77,7 @@ module _ (planned : HaveAPlan) (equal : AreEqualOrNot) where
         some_answer (state_at start run) (accepted_requests first run) (gap_at first run) (gap_at first (Came number request ∷ run)) number request
     some_reply (Malformed fault) = (reply.Malformed fault, refl)
     some_reply Prepare =
-        elim (is_armed run) as (λ b. IsAnswered (λ answer. MatchBool b (answer ≡ reply.AlreadyPrepared) ((plan : PlanParts) × HasPlanOf (state_at start run) plan × (answer ≡ reply.Prepared (choice_count plan))))) [
+        elim (is_armed run) as (λ b. IsAnswered (IsToldOfBoot b (state_at start run))) [
           | true ↦ (reply.AlreadyPrepared, refl)
           | false ↦ let plan = some_plan (state_at start run) valid in (reply.Prepared (choice_count plan.0), (plan.0, plan.1, refl))
         ]
@@ -94,14 +91,7 @@ module _ (planned : HaveAPlan) (equal : AreEqualOrNot) where
   some_turn k (Malformed fault) h = (k, (reply.Malformed fault, (refl, refl)))
   some_turn k Prepare h = prepared k.plan
     where
-      Prepares : Plain → Reply → Option PlanParts → Type 0
-      Prepares to answer found =
-          MatchOption found
-          ((plan : PlanParts) × HasPlanOf k.state plan
-          × (to ≡ record k { state = after_boot k.state; plan = Some plan }) × (answer ≡ reply.Prepared (choice_count plan)))
-          (λ _. (to ≡ k) × (answer ≡ reply.AlreadyPrepared))
-
-      prepared : (found : Option PlanParts) → (to : Plain) × IsAnswered (λ answer. Prepares to answer found)
+      prepared : (found : Option PlanParts) → (to : Plain) × IsAnswered (Prepares k found to)
       prepared None =
           let plan = some_plan k.state h in
           (record k { state = after_boot k.state; plan = Some plan.0 }, (reply.Prepared (choice_count plan.0), (plan.0, plan.1, refl, refl)))
@@ -113,10 +103,8 @@ module _ (planned : HaveAPlan) (equal : AreEqualOrNot) where
 pub before_read : (run : List Seen) → AreRead run → AreRead (before_taken run)
 before_read [] h = tt
 before_read (Came number request ∷ run) h = before_read run h.1
-before_read (Malformed fault ∷ run) h = before_read run h
 before_read (Prepare ∷ run) h = elim (is_armed run) as (λ b. AreRead (if b then before_taken run else run)) [ true ↦ before_read run h | false ↦ h ]
-before_read (Hand ∷ run) h = before_read run h
-before_read (Restart ∷ run) h = before_read run h
+before_read (_ ∷ run) h = before_read run h
 
 -- a test of equality decides it
 pub decided : (test : Request → Request → Bool) → ((a b : Request) → IsTrue (test a b) ↔ (a ≡ b)) → AreEqualOrNot

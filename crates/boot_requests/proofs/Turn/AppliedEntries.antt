@@ -1,16 +1,16 @@
 -- What a request stored that is answered Applied is there, unless one that follows it changes that.
-use Rattle.std.proofs.Common.{◌≡◌, ◌≢◌, ℕ, zero, suc, ltb, leb, ◌+◌, ◌-◌, ◌<◌, ◌≤◌, ◌⊎◌, inl, inr, true, false, cond, eqb, List, ◌∷◌, Option, Some, None, IfSome, refl, sym, ap, subst, ◌∙◌, arith}
-use Rattle.std.specs.Prelude.{if◌then◌else◌, is_some, MatchBool, MatchOption}
+use Rattle.std.proofs.Common.{◌≡◌, ◌≢◌, ℕ, zero, suc, ◌+◌, ◌-◌, ◌<◌, ◌≤◌, true, false, cond, eqb, List, ◌∷◌, Option, Some, None, IfSome, refl, sym, ap, subst}
+use Rattle.std.proofs.Common.{◌∙◌, arith}
+use Rattle.std.specs.Prelude.{is_some}
 use Rattle.std.specs.Option.{option_map}
 use Rattle.std.specs.FinMap.{get, contains_key, insert}
 use Rattle.std.proofs.lemmas.Bool.{false_from_ne_true}
 use Rattle.std.proofs.lemmas.Bool.Decides.{nat_tests}
+use Rattle.std.proofs.lemmas.Option.{none-some}
 use Rattle.uefi_option.specs.LoadOption.{OptionParts, IsOption, option_bytes}
 use Rattle.boot_requests.specs.declared.request.Request.{Request}
 use Rattle.boot_requests.specs.declared.outcome.Outcome.{Outcome}
-use Rattle.boot_requests.specs.declared.reply.Reply.{Reply}
 use Rattle.boot_requests.specs.declared.reply.Reply.TheVariants as reply
-use Rattle.boot_requests.specs.Limits.{width}
 use Rattle.boot_requests.specs.Request.{IsRequest}
 use Rattle.boot_requests.specs.State.{State}
 use Rattle.boot_requests.specs.Apply.{outcome_of, effect, Stored, stores, stored_by, after_request}
@@ -27,6 +27,7 @@ use Rattle.boot_requests.proofs.WholeRuns.NextNumbers.{some_of}
 use Rattle.boot_requests.proofs.Variables.Stored.{request_here, request_apart}
 use Rattle.boot_requests.proofs.Turn.Fills.{settled_state_number}
 use Rattle.boot_requests.proofs.Turn.Steps.{moved_to}
+use Rattle.boot_requests.proofs.WholeRuns.Told.{by_answer}
 
 not_again : (o : Option Outcome) (outcome : Outcome) (after : ℕ) → reply.Applied outcome after ≡ again o → ⊥
 not_again None outcome after e = cc
@@ -37,40 +38,11 @@ applied_next : (m : State) (requests : Requests) (gap after number next : ℕ) (
     IsReplyTo m requests gap after number request (reply.Applied outcome next) →
     (number ≡ gap) × (get requests number ≡ None) × (outcome_of m request ≡ outcome) × (next ≡ after)
 applied_next m requests gap after number next request outcome =
-    elim (ltb number gap) as (λ b. MatchBool b (answer ≡ again (kept_outcome m number)) Tail → Found) [
-      | true ↦ λ h. absurd (not_again (kept_outcome m number) outcome next h)
-      | false ↦ elim (leb width (number - gap)) as (λ b. MatchBool b (answer ≡ reply.Ahead gap) (Held (get requests number)) → Found) [
-        | true ↦ λ h. absurd (let no : answer ≡ reply.Ahead gap = h in cc)
-        | false ↦ elim (get requests number) as (λ o. get requests number ≡ o → Held o → Found) [
-          | None ↦ λ none h. found none h
-          | Some other ↦ λ held h. absurd (elim h [
-            | inl conflict ↦ (let no : answer ≡ reply.Conflict = conflict.1 in cc)
-            | inr waits ↦ (let no : answer ≡ reply.Waiting gap = waits.1 in cc)
-          ])
-        ] refl
-      ]
-    ]
-  where
-    answer : Reply
-    answer = reply.Applied outcome next
-
-    Found : Type 0
-    Found = (number ≡ gap) × (get requests number ≡ None) × (outcome_of m request ≡ outcome) × (next ≡ after)
-
-    Held : Option Request → Type 0
-    Held o =
-        MatchOption o
-        (reply.Applied outcome next ≡ (if eqb number gap then reply.Applied (outcome_of m request) after else reply.Waiting gap))
-        (λ other. ((other ≢ request) × (reply.Applied outcome next ≡ reply.Conflict)) ⊎ ((other ≡ request) × (reply.Applied outcome next ≡ reply.Waiting gap)))
-
-    Tail : Type 0
-    Tail = MatchBool (leb width (number - gap)) (reply.Applied outcome next ≡ reply.Ahead gap) (Held (get requests number))
-
-    found : get requests number ≡ None → reply.Applied outcome next ≡ (if eqb number gap then reply.Applied (outcome_of m request) after else reply.Waiting gap) → Found
-    found none = elim (eqb number gap) as (λ b. eqb number gap ≡ b → reply.Applied outcome next ≡ (if b then reply.Applied (outcome_of m request) after else reply.Waiting gap) → Found) [
-      | true ↦ λ t h. let same : outcome_of m request ≡ outcome = cc in let last : next ≡ after = cc in (grind (arith, nat_tests, t), none, same, last)
-      | false ↦ λ t h. absurd (let no = h in cc)
-    ] refl
+    by_answer m requests gap after number request (reply.Applied outcome next)
+    ((number ≡ gap) × (get requests number ≡ None) × (outcome_of m request ≡ outcome) × (next ≡ after))
+    (λ h. absurd (not_again (kept_outcome m number) outcome next h)) (λ h. absurd cc)
+    (λ none here h. let same : outcome_of m request ≡ outcome = cc in let last : next ≡ after = cc in (here, none, same, last)) (λ h. absurd cc)
+    (λ h. absurd cc)
 
 -- what a request stored of an entry is there
 stands_here : (m : State) (request : Request) (outcome : Outcome) (entry : ℕ) (option : Option OptionParts) → outcome_of m request ≡ outcome →
@@ -96,18 +68,23 @@ entry_kept m request entry bytes alone held =
     let outcome = outcome_of m request in
     entry_after m request outcome entry ∙ stands_apart (stored_by request outcome) entry (get m.entries entry) (alone m (ap is_some held)) ∙ held
 
+-- the request, if there is one, leaves the entry alone
+abbrev IsAlone : ℕ → Option Request → Type 0
+IsAlone entry found = IfSome found (λ request. LeavesAlone request entry)
+
 -- and so it does through those that follow each other without a gap
 entry_stays : (steps from to : ℕ) (m : State) (requests : Requests) (entry : ℕ) (bytes : List ℕ) → from + steps ≡ to →
     ((q : ℕ) → from ≤ q → q < to → contains_key requests q ≡ true) →
-    ((q : ℕ) → from ≤ q → q < to → IfSome (get requests q) (λ request. LeavesAlone request entry)) →
+    ((q : ℕ) → from ≤ q → q < to → IsAlone entry (get requests q)) →
     get m.entries entry ≡ Some bytes → get (after_changes m (changes_between from to requests)).entries entry ≡ Some bytes
 entry_stays zero from to m requests entry bytes is filled off held =
     ap (λ changes. get (after_changes m changes).entries entry) (no_changes from to requests (omega arith)) ∙ held
 entry_stays (suc steps) from to m requests entry bytes is filled off held =
     let first = some_of (get requests from) (filled from (omega arith) (omega arith)) in
-    let alone : LeavesAlone first.0 entry = subst (λ (o : Option Request). IfSome o (λ request. LeavesAlone request entry)) first.1 (off from (omega arith) (omega arith)) in
+    let alone : LeavesAlone first.0 entry = subst (IsAlone entry) first.1 (off from (omega arith) (omega arith)) in
     ap (λ changes. get (after_changes m changes).entries entry) (first_change from to requests first.0 first.1 (omega arith))
-    ∙ entry_stays steps (suc from) to (after_request m first.0) requests entry bytes (omega arith) (λ q l below. filled q (omega arith) below) (λ q l below. off q (omega arith) below)
+    ∙ entry_stays steps (suc from) to (after_request m first.0) requests entry bytes (omega arith) (λ q l below. filled q (omega arith) below)
+    (λ q l below. off q (omega arith) below)
     (entry_kept m first.0 entry bytes alone held)
 
 module _ (m : State) (waiting : Requests) (request : Request) (none : get waiting m.next_number ≡ None) where
@@ -118,13 +95,12 @@ module _ (m : State) (waiting : Requests) (request : Request) (none : get waitin
   after = gap_of m.next_number joined
 
   beyond : m.next_number < after
-  beyond = less (gap_is m.next_number joined).from (λ same. clash (sym (request_here waiting m.next_number request) ∙ ap (get joined) same ∙ (gap_is m.next_number joined).free))
+  beyond =
+      less (gap_is m.next_number joined).from
+      (λ same. none-some request (sym (gap_is m.next_number joined).free ∙ ap (get joined) (sym same) ∙ request_here waiting m.next_number request))
     where
       less : m.next_number ≤ after → (m.next_number ≢ after) → m.next_number < after
       less l apart = omega arith
-
-      clash : ◌≡◌ {A = Option Request} (Some request) None → ⊥
-      clash e = cc
 
   opened : changes_between m.next_number after joined ≡ Applies m.next_number request ∷ changes_between (suc m.next_number) after joined
   opened = first_change m.next_number after joined request (request_here waiting m.next_number request) beyond
@@ -134,8 +110,10 @@ module _ (m : State) (waiting : Requests) (request : Request) (none : get waitin
       get (after_changes m (changes_between m.next_number after joined)).entries entry ≡ Some bytes
   kept_stored entry bytes untouched held =
       ap (λ changes. get (after_changes m changes).entries entry) opened
-      ∙ entry_stays (after - suc m.next_number) (suc m.next_number) after (after_request m request) joined entry bytes (omega (arith, beyond)) (λ q l below. (gap_is m.next_number joined).filled q (omega arith) below)
-      (λ q l below. subst (λ (o : Option Request). IfSome o (λ r. LeavesAlone r entry)) (sym (request_apart waiting m.next_number request q (λ e. omega (arith, e, l)))) (untouched q (omega arith) below)) held
+      ∙ entry_stays (after - suc m.next_number) (suc m.next_number) after (after_request m request) joined entry bytes (omega (arith, beyond))
+      (λ q l below. (gap_is m.next_number joined).filled q (omega arith) below)
+      (λ q l below.
+      subst (IsAlone entry) (sym (request_apart waiting m.next_number request q (λ e. omega (arith, e, l)))) (untouched q (omega arith) below)) held
 
 pub asked : (k to : Plain) (number next entry : ℕ) (request : Request) (outcome : Outcome) (option : OptionParts) → IsRequest request →
     stored_by request outcome ≡ Some (stores entry (Some option)) → IsUntouched k.waiting number next entry →
@@ -145,12 +123,13 @@ asked k to number next entry request outcome option valid stored untouched turn 
     let none : get k.waiting k.state.next_number ≡ None = subst (λ (n : ℕ). get k.waiting n ≡ None) told.0 told.1 in
     let joined : Requests = insert k.waiting k.state.next_number request in
     let moved = moved_to k number request told.0 none in
-    let after : next ≡ gap_of k.state.next_number joined = told.3 ∙ ap (λ (p : Plain). p.state.next_number) moved ∙ settled_state_number k.state joined in
+    let after = told.3 ∙ ap (λ (p : Plain). p.state.next_number) moved ∙ settled_state_number k.state joined in
     let between : IsUntouched k.waiting k.state.next_number (gap_of k.state.next_number joined) entry =
-    subst (λ (n : ℕ). IsUntouched k.waiting n (gap_of k.state.next_number joined) entry) told.0 (subst (λ (n : ℕ). IsUntouched k.waiting number n entry) after untouched) in
+    rw (told.0, after) at untouched in
     let is_option : IsOption option = subst IsValid stored (stored_valid request outcome valid) in (
       option_bytes option,
       ap (λ (p : Plain). get p.state.entries entry) (turn.0 ∙ moved)
-          ∙ kept_stored k.state k.waiting request none entry (option_bytes option) between (stands_here k.state request outcome entry (Some option) told.2 stored),
+          ∙ kept_stored k.state k.waiting request none entry (option_bytes option) between
+          (stands_here k.state request outcome entry (Some option) told.2 stored),
       (is_option, refl),
     )

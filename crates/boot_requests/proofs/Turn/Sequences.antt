@@ -13,7 +13,7 @@ use Rattle.boot_requests.specs.Keeper.{StandsFor}
 use Rattle.boot_requests.proofs.Turn.Turns.{turn_goes_on}
 
 -- what events are read as when one more is after them
-seen_last : (events : List Event) (event : Event) (seen : List Seen) → AreSeen (events ++ event ∷ []) seen →
+pub seen_last : (events : List Event) (event : Event) (seen : List Seen) → AreSeen (events ++ event ∷ []) seen →
     (front : List Seen) × (last : Seen) × (seen ≡ front ++ last ∷ []) × AreSeen events front × IsSeen event last
 seen_last [] event [] h = absurd h
 seen_last [] event (seen ∷ []) h = ([], seen, refl, tt, h.0)
@@ -33,7 +33,7 @@ turns_last k mid to (seen ∷ front) last (other ∷ answers) answer h turn =
     (h.0, h.1, turns_last h.0 mid to front last answers answer h.2 turn)
 
 -- turns go on with the run that a plain state stands for
-turns_go_on : (k to : Plain) (start : State) (before seen : List Seen) (answers : List Reply) →
+pub turns_go_on : (k to : Plain) (start : State) (before seen : List Seen) (answers : List Reply) →
     StandsFor k start before → Turns k seen to answers → StandsFor to start (run_followed_by before seen) × AreAnswers start before seen answers
 turns_go_on k to start before [] answers s h = (subst (λ (p : Plain). StandsFor p start before) (sym h.0) s, h.1)
 turns_go_on k to start before (seen ∷ later) [] s h = absurd h
@@ -48,8 +48,7 @@ pub answers_reply : (start : State) (run seen : List Seen) (replies answers : Li
 answers_reply start run [] replies answers g h = subst (λ (rs : List Reply). AreReplies start run (reverse rs ++ replies)) (sym h) g
 answers_reply start run (seen ∷ later) replies [] g h = absurd h
 answers_reply start run (seen ∷ later) replies (answer ∷ answers) g h =
-    let last : reverse (answer ∷ answers) ++ replies ≡ reverse answers ++ (answer ∷ replies) =
-    ap (λ (rs : List Reply). rs ++ replies) (reverse-append (answer ∷ []) answers) ∙ append_assoc (reverse answers) (answer ∷ []) replies in
+    let last = ap (λ (rs : List Reply). rs ++ replies) (reverse-append (answer ∷ []) answers) ∙ append_assoc (reverse answers) (answer ∷ []) replies in
     subst (λ (rs : List Reply). AreReplies start (run_followed_by (seen ∷ run) later) rs) (sym last)
     (answers_reply start (seen ∷ run) later (answer ∷ replies) answers (h.0, g) h.1)
 
@@ -68,8 +67,8 @@ ran_more from mid to events event before now then answer count ran below here is
   kept = is ∙ ap (λ (rs : List Reply). rs ++ answer ∷ []) ran.kept ∙ append_assoc before ran.answers (answer ∷ []);
   len = omega (arith, length-append ran.answers (answer ∷ []), ran.len);
   turns = λ seen h.
-      let more : take (count + 1) events ≡ take count events ++ event ∷ [] =
-      ap (λ (n : ℕ). take n events) (let next : count + 1 ≡ suc count = omega arith in next) ∙ take-suc events count event below ∙ ap (λ (e : Event). take count events ++ e ∷ []) (sym here) in
+      let more = ap (λ (n : ℕ). take n events) (let next : count + 1 ≡ suc count = omega arith in next) ∙ take-suc events count event below
+      ∙ ap (λ (e : Event). take count events ++ e ∷ []) (sym here) in
       let parts = seen_last (take count events) event seen (subst (λ (es : List Event). AreSeen es seen) more h) in
       subst (λ (t : List Seen). Turns from t to (ran.answers ++ answer ∷ [])) (sym parts.2)
       (turns_last from mid to parts.0 parts.1 ran.answers answer (ran.turns parts.0 parts.3) (turn parts.1 parts.4));
@@ -77,15 +76,13 @@ ran_more from mid to events event before now then answer count ran below here is
 
 -- ---- the answers as what is after the replies that were there
 
-module _ (from : Plain) (events : List Event) (before : List Reply) (count : ℕ) (to : Plain) (now : List Reply) (ran : Ran from events before count to now) where
+module _ (from : Plain) (events : List Event) (before : List Reply) (count : ℕ) (to : Plain) (now : List Reply)
+    (ran : Ran from events before count to now) where
   behind : ran.answers ≡ drop (length before) now
   behind = sym (ap (λ (rs : List Reply). drop (length before) rs) ran.kept ∙ drop-append_seam before ran.answers)
 
-  ran_answers : (seen : List Seen) → AreSeen (take (length ran.answers) events) seen → Turns from seen to ran.answers
-  ran_answers seen h = ran.turns seen (subst (λ (n : ℕ). AreSeen (take n events) seen) ran.len h)
-
   pub ran_turns : let answers = drop (length before) now in (seen : List Seen) → AreSeen (take (length answers) events) seen → Turns from seen to answers
-  ran_turns = subst (λ (rs : List Reply). (seen : List Seen) → AreSeen (take (length rs) events) seen → Turns from seen to rs) behind ran_answers
+  ran_turns = rw (← behind) (λ seen h. ran.turns seen (rw ran.len at h))
 
   pub ran_run : let answers = drop (length before) now in (start : State) (past seen : List Seen) → StandsFor from start past →
       AreSeen (take (length answers) events) seen → StandsFor to start (run_followed_by past seen) × AreAnswers start past seen answers
@@ -93,5 +90,4 @@ module _ (from : Plain) (events : List Event) (before : List Reply) (count : ℕ
 
 pub ran_same : (from : Plain) (events : List Event) (before : List Reply) (count : ℕ) (to other : Plain) (now then : List Reply) →
     Ran from events before count to now → other ≡ to → then ≡ now → Ran from events before count other then
-ran_same from events before count to other now then ran same kept =
-    subst (λ (p : Plain). Ran from events before count p then) (sym same) (subst (λ (rs : List Reply). Ran from events before count to rs) (sym kept) ran)
+ran_same from events before count to other now then ran same kept = rw (same, kept) ran

@@ -1,5 +1,6 @@
 -- The slots of the window: what waits in them under each number, and what an edit of a slot does to that.
-use Rattle.std.proofs.Common.{◌≡◌, ◌≢◌, ℕ, zero, suc, ◌+◌, ◌-◌, ◌<◌, ◌≤◌, inl, inr, List, [], ◌∷◌, length, get_or, replicate, Option, Some, None, IfSome, refl, sym, ap, subst, ◌∙◌, ⊎_elim, true, false, arith}
+use Rattle.std.proofs.Common.{◌≡◌, ◌≢◌, ℕ, zero, suc, ◌+◌, ◌-◌, ◌<◌, ◌≤◌, inl, inr, List, length, replicate, Option, Some, None, refl, sym, ap, subst, ◌∙◌}
+use Rattle.std.proofs.Common.{true, false, arith}
 use Rattle.std.proofs.Math.ListN.{set, length-set}
 use Rattle.std.specs.Prelude.{is_some}
 use Rattle.std.specs.Ordering.{nat_cmp}
@@ -16,7 +17,8 @@ use Rattle.boot_requests.specs.Window.{Requests}
 use Rattle.boot_requests.specs.Keeper.{AreWaiting}
 use Rattle.boot_requests.specs.Slots.{above, reach, place_of, slot_at, with_slot, waiting_in, waiting_of, IsWindow}
 use Rattle.boot_requests.proofs.WholeRuns.Numbers.{same_numbers}
-use Rattle.boot_requests.proofs.Variables.Stored.{request_here, request_apart, request_gone, request_gone_apart, same_number_or_not}
+use Rattle.boot_requests.proofs.Variables.Stored.{request_here, request_apart, request_gone, request_gone_apart, same_number_or_not, IsSentAt}
+use Rattle.boot_requests.proofs.Turn.Fills.{IsWaitingAt}
 
 abbrev Slots : Type 0
 Slots = List (Option Request)
@@ -25,7 +27,8 @@ slot_here : (requests : Requests) (number : ℕ) (slot : Option Request) → get
 slot_here requests number None none = none
 slot_here requests number (Some request) none = request_here requests number request
 
-slot_apart : (requests : Requests) (number : ℕ) (slot : Option Request) (other : ℕ) → number ≢ other → get (with_slot requests number slot) other ≡ get requests other
+slot_apart : (requests : Requests) (number : ℕ) (slot : Option Request) (other : ℕ) → number ≢ other →
+    get (with_slot requests number slot) other ≡ get requests other
 slot_apart requests number None other differ = refl
 slot_apart requests number (Some request) other differ = request_apart requests number request other differ
 
@@ -36,7 +39,8 @@ none_low : (count next : ℕ) (slots : Slots) (q : ℕ) → q ≤ next → get (
 unfolding waiting_in
 none_low zero next slots q low = get-empty nat_cmp q
 none_low (suc count) next slots q low =
-    slot_apart (waiting_in count next slots) (next + suc count) (slot_at slots (place_of (next + suc count))) q (λ e. omega (arith, e, low)) ∙ none_low count next slots q low
+    slot_apart (waiting_in count next slots) (next + suc count) (slot_at slots (place_of (next + suc count))) q (λ e. omega (arith, e, low))
+    ∙ none_low count next slots q low
 
 none_high : (count next : ℕ) (slots : Slots) (q : ℕ) → next + count < q → get (waiting_in count next slots) q ≡ None
 unfolding waiting_in
@@ -50,12 +54,12 @@ unfolding waiting_in
 within zero next slots q low high = absurd (omega arith)
 within (suc count) next slots q low high =
     let number = next + suc count in
-    ⊎_elim
-    (λ same. subst (λ (k : ℕ). get (with_slot (waiting_in count next slots) number (slot_at slots (place_of number))) k ≡ slot_at slots (place_of k)) same
-    (slot_here (waiting_in count next slots) number (slot_at slots (place_of number)) (none_high count next slots number (omega arith))))
-    (λ differ. slot_apart (waiting_in count next slots) number (slot_at slots (place_of number)) q differ
-    ∙ within count next slots q low (let apart : number ≢ q = differ in omega (arith, apart)))
-    (same_number_or_not number q)
+    let slot = slot_at slots (place_of number) in
+    elim (same_number_or_not number q) [
+      | inl same ↦ rw (← same) (slot_here (waiting_in count next slots) number slot (none_high count next slots number (omega arith)))
+      | inr differ ↦ slot_apart (waiting_in count next slots) number slot q differ
+          ∙ within count next slots q low (let apart : number ≢ q = differ in omega (arith, apart))
+    ]
 
 -- numbers that are taken together have slots of their own
 apart_places : (a b : ℕ) → a < b → b < a + width → place_of a ≢ place_of b
@@ -68,14 +72,8 @@ other_places next a b la ha lb hb differ e =
       | inr more ↦ let apart : a ≢ b = differ in apart_places b a (omega (arith, apart)) (omega arith) (sym e)
     ]
 
-same_place : (next : ℕ) → place_of (next + width) ≡ place_of next
-same_place next = omega arith
-
-in_slots : (slots : Slots) (number : ℕ) → length slots ≡ width → place_of number < length slots
-in_slots slots number len = omega (arith, len)
-
 set_here : (slots : Slots) (number : ℕ) (slot : Option Request) → length slots ≡ width → slot_at (set slots (place_of number) slot) (place_of number) ≡ slot
-set_here slots number slot len = get_or-set_same slots (place_of number) slot None (in_slots slots number len)
+set_here slots number slot len = get_or-set_same slots (place_of number) slot None (omega (arith, len))
 
 set_apart : (slots : Slots) (number : ℕ) (slot : Option Request) (other : ℕ) → place_of other ≢ place_of number →
     slot_at (set slots (place_of number) slot) (place_of other) ≡ slot_at slots (place_of other)
@@ -90,6 +88,10 @@ module _ (next : ℕ) (slots : Slots) where
   below_window : (q : ℕ) → q ≤ next → get (waiting_of next slots) q ≡ None
   below_window q low = none_low reach next slots q low
 
+  other_slot : (number : ℕ) (slot : Option Request) (k : ℕ) → next ≤ number → number < next + width → next ≤ k → k < next + width → number ≢ k →
+      slot_at (set slots (place_of number) slot) (place_of k) ≡ slot_at slots (place_of k)
+  other_slot number slot k from to low high differ = set_apart slots number slot k (other_places next k number low high from to (λ e. differ (sym e)))
+
   pub beyond_window : (q : ℕ) → next + width ≤ q → get (waiting_of next slots) q ≡ None
   beyond_window q high = none_high reach next slots q (omega arith)
 
@@ -98,13 +100,13 @@ module _ (next : ℕ) (slots : Slots) where
     are_waiting q =
         elim (cases_lt next q) [
           | inl low ↦ elim (cases_lt q (next + width)) [
-            | inl high ↦ subst (λ (o : Option Request). IfSome o (λ request. (next < q) × (q < next + width) × IsSent q request)) (sym (in_window q low high)) (bounded (slot_at slots (place_of q)) low high (is.sent q low high))
-            | inr high ↦ subst (λ (o : Option Request). IfSome o (λ request. (next < q) × (q < next + width) × IsSent q request)) (sym (beyond_window q high)) tt
+            | inl high ↦ subst (IsWaitingAt next q) (sym (in_window q low high)) (bounded (slot_at slots (place_of q)) low high (is.sent q low high))
+            | inr high ↦ subst (IsWaitingAt next q) (sym (beyond_window q high)) tt
           ]
-          | inr low ↦ subst (λ (o : Option Request). IfSome o (λ request. (next < q) × (q < next + width) × IsSent q request)) (sym (below_window q low)) tt
+          | inr low ↦ subst (IsWaitingAt next q) (sym (below_window q low)) tt
         ]
       where
-        bounded : (o : Option Request) → next < q → q < next + width → IfSome o (IsSent q) → IfSome o (λ request. (next < q) × (q < next + width) × IsSent q request)
+        bounded : (o : Option Request) → next < q → q < next + width → IsSentAt q o → IsWaitingAt next q o
         bounded None low high h = tt
         bounded (Some request) low high h = (low, high, h)
 
@@ -118,16 +120,18 @@ module _ (next : ℕ) (slots : Slots) where
       kept_is = same_numbers _ _ at
         where
           at : (q : ℕ) → get (waiting_of next more) q ≡ get (insert (waiting_of next slots) number request) q
-          at q = elim (same_number_or_not number q) [ inl same ↦ here q same | inr differ ↦ apart q differ ∙ sym (request_apart (waiting_of next slots) number request q differ) ]
+          at q = elim (same_number_or_not number q) [
+            | inl same ↦ rw (← same)
+                (within reach next more number low (omega arith) ∙ set_here slots number (Some request) is.len
+                ∙ sym (request_here (waiting_of next slots) number request))
+            | inr differ ↦ apart q differ ∙ sym (request_apart (waiting_of next slots) number request q differ)
+          ]
             where
-              here : (k : ℕ) → number ≡ k → get (waiting_of next more) k ≡ get (insert (waiting_of next slots) number request) k
-              here k same = subst (λ (j : ℕ). get (waiting_of next more) j ≡ get (insert (waiting_of next slots) number request) j) same
-                  (within reach next more number low (omega arith) ∙ set_here slots number (Some request) is.len ∙ sym (request_here (waiting_of next slots) number request))
-
               apart : (k : ℕ) → number ≢ k → get (waiting_of next more) k ≡ get (waiting_of next slots) k
               apart k differ = elim (cases_lt next k) [
                 | inl l ↦ elim (cases_lt k (next + width)) [
-                  | inl h ↦ within reach next more k l (omega arith) ∙ set_apart slots number (Some request) k (other_places next k number (omega arith) h (omega arith) high (λ e. differ (sym e))) ∙ sym (in_window k l h)
+                  | inl h ↦ within reach next more k l (omega arith) ∙ other_slot number (Some request) k (omega arith) high (omega arith) h differ
+                      ∙ sym (in_window k l h)
                   | inr h ↦ none_high reach next more k (omega arith) ∙ sym (beyond_window k h)
                 ]
                 | inr l ↦ none_low reach next more k l ∙ sym (below_window k l)
@@ -138,8 +142,8 @@ module _ (next : ℕ) (slots : Slots) where
         len = length-set slots (place_of number) (Some request) ∙ is.len;
         free = set_apart slots number (Some request) next (apart_places next number low high) ∙ is.free;
         sent = λ q l h. elim (same_number_or_not number q) [
-          | inl same ↦ subst (λ (j : ℕ). IfSome (slot_at more (place_of j)) (IsSent j)) same (subst (λ (o : Option Request). IfSome o (IsSent number)) (sym (set_here slots number (Some request) is.len)) sent)
-          | inr differ ↦ subst (λ (o : Option Request). IfSome o (IsSent q)) (sym (set_apart slots number (Some request) q (other_places next q number (omega arith) h (omega arith) high (λ e. differ (sym e))))) (is.sent q l h)
+          | inl same ↦ rw (← same) (subst (IsSentAt number) (sym (set_here slots number (Some request) is.len)) sent)
+          | inr differ ↦ subst (IsSentAt q) (sym (other_slot number (Some request) q (omega arith) high (omega arith) h differ)) (is.sent q l h)
         ];
       }
 
@@ -148,30 +152,31 @@ module _ (next : ℕ) (slots : Slots) where
     abbrev fewer : Slots
     fewer = set slots (place_of (next + 1)) None
 
+    last_free : slot_at fewer (place_of (next + width)) ≡ None
+    last_free =
+        ap (slot_at fewer) (let same : place_of (next + width) ≡ place_of next = omega arith in same)
+        ∙ set_apart slots (next + 1) None next (apart_places next (next + 1) (omega arith) (omega arith)) ∙ is.free
+
     pub passed_is : waiting_of (next + 1) fewer ≡ remove (waiting_of next slots) (next + 1)
     passed_is = same_numbers _ _ at
       where
         apart : (q : ℕ) → next + 1 ≢ q → get (waiting_of (next + 1) fewer) q ≡ get (waiting_of next slots) q
         apart q differ = elim (cases_lt (next + 1) q) [
           | inl l ↦ elim (cases_lt q (next + width)) [
-            | inl h ↦ within reach (next + 1) fewer q l (omega arith) ∙ set_apart slots (next + 1) None q (other_places next q (next + 1) (omega arith) h (omega arith) (omega arith) (λ e. differ (sym e))) ∙ sym (in_window q (omega arith) h)
+            | inl h ↦ within reach (next + 1) fewer q l (omega arith) ∙ other_slot (next + 1) None q (omega arith) (omega arith) (omega arith) h differ
+                ∙ sym (in_window q (omega arith) h)
             | inr h ↦ elim (same_number_or_not (next + width) q) [
-              | inl same ↦ last q same ∙ sym (beyond_window q h)
+              | inl same ↦ rw (← same)
+                  (within reach (next + 1) fewer (next + width) (omega arith) (omega arith) ∙ last_free ∙ sym (beyond_window (next + width) (omega arith)))
               | inr other ↦ let far : next + width ≢ q = other in none_high reach (next + 1) fewer q (omega (arith, far)) ∙ sym (beyond_window q h)
             ]
           ]
           | inr l ↦ let far : next + 1 ≢ q = differ in none_low reach (next + 1) fewer q l ∙ sym (below_window q (omega (arith, far)))
         ]
-          where
-            last : (k : ℕ) → next + width ≡ k → get (waiting_of (next + 1) fewer) k ≡ None
-            last k same = subst (λ (j : ℕ). get (waiting_of (next + 1) fewer) j ≡ None) same
-                (within reach (next + 1) fewer (next + width) (omega arith) (omega arith)
-                ∙ ap (λ (p : ℕ). slot_at fewer p) (same_place next)
-                ∙ set_apart slots (next + 1) None next (apart_places next (next + 1) (omega arith) (omega arith)) ∙ is.free)
 
         at : (q : ℕ) → get (waiting_of (next + 1) fewer) q ≡ get (remove (waiting_of next slots) (next + 1)) q
         at q = elim (same_number_or_not (next + 1) q) [
-          | inl same ↦ subst (λ (j : ℕ). get (waiting_of (next + 1) fewer) j ≡ get (remove (waiting_of next slots) (next + 1)) j) same
+          | inl same ↦ rw (← same)
               (none_low reach (next + 1) fewer (next + 1) (omega arith) ∙ sym (request_gone (waiting_of next slots) (next + 1)))
           | inr differ ↦ apart q differ ∙ sym (request_gone_apart (waiting_of next slots) (next + 1) q differ)
         ]
@@ -181,35 +186,32 @@ module _ (next : ℕ) (slots : Slots) where
       len = length-set slots (place_of (next + 1)) None ∙ is.len;
       free = set_here slots (next + 1) None is.len;
       sent = λ q l h. elim (cases_lt q (next + width)) [
-        | inl within ↦ subst (λ (o : Option Request). IfSome o (IsSent q)) (sym (set_apart slots (next + 1) None q (other_places next q (next + 1) (omega arith) within (omega arith) (omega arith) (λ e. omega (arith, e, l))))) (is.sent q (omega arith) within)
-        | inr beyond ↦ let last : next + width ≡ q = omega arith in subst (λ (j : ℕ). IfSome (slot_at fewer (place_of j)) (IsSent j)) last
-            (subst (λ (o : Option Request). IfSome o (IsSent (next + width)))
-            (sym (ap (λ (p : ℕ). slot_at fewer p) (same_place next) ∙ set_apart slots (next + 1) None next (apart_places next (next + 1) (omega arith) (omega arith)) ∙ is.free)) tt)
+        | inl within ↦ subst (IsSentAt q) (sym (other_slot (next + 1) None q (omega arith) (omega arith) (omega arith) within (λ e. omega (arith, e, l))))
+            (is.sent q (omega arith) within)
+        | inr beyond ↦ let last : next + width ≡ q = omega arith in rw (← last) (subst (IsSentAt (next + width)) (sym last_free) tt)
       ];
     }
 
 -- ---- a request that is found
 
-pub found_waiting : (next number : ℕ) (slots : Slots) (request : Request) → IsWindow next slots → Some request ≡ get (waiting_of next slots) number → (next < number) × (number < next + width) × IsSent number request
-found_waiting next number slots request is e =
-    subst (λ (o : Option Request). IfSome o (λ r. (next < number) × (number < next + width) × IsSent number r)) (sym e) (are_waiting next slots is number)
+pub found_waiting : (next number : ℕ) (slots : Slots) (request : Request) → IsWindow next slots → Some request ≡ get (waiting_of next slots) number →
+    (next < number) × (number < next + width) × IsSent number request
+found_waiting next number slots request is e = subst (IsWaitingAt next number) (sym e) (are_waiting next slots is number)
 
 -- ---- slots after a call
 
-pub kept_slots : (old new : Slots) (number : ℕ) (request : Request) → new ≡ set old (place_of number) (Some request) → (next : ℕ) → IsWindow next old → next < number → number < next + width → IsSent number request →
-    IsWindow next new × (waiting_of next new ≡ insert (waiting_of next old) number request)
+pub kept_slots : (old new : Slots) (number : ℕ) (request : Request) → new ≡ set old (place_of number) (Some request) → (next : ℕ) → IsWindow next old →
+    next < number → number < next + width → IsSent number request → IsWindow next new × (waiting_of next new ≡ insert (waiting_of next old) number request)
 kept_slots old new number request e next is low high sent =
-    subst (λ (slots : Slots). IsWindow next slots × (waiting_of next slots ≡ insert (waiting_of next old) number request)) (sym e)
-    (kept_window next old is number request low high sent, kept_is next old is number request low high)
+    rw e (kept_window next old is number request low high sent, kept_is next old is number request low high)
 
 pub passed_slots : (old new : Slots) (next : ℕ) → new ≡ set old (place_of (next + 1)) None → IsWindow next old →
     IsWindow (next + 1) new × (waiting_of (next + 1) new ≡ remove (waiting_of next old) (next + 1))
-passed_slots old new next e is =
-    subst (λ (slots : Slots). IsWindow (next + 1) slots × (waiting_of (next + 1) slots ≡ remove (waiting_of next old) (next + 1))) (sym e)
-    (passed_window next old is, passed_is next old is)
+passed_slots old new next e is = rw e (passed_window next old is, passed_is next old is)
 
 -- the numbers by other names
-pub passed_between : (a b next after : ℕ) (old new : Slots) → a ≡ next → b ≡ after → (IsWindow a old → IsWindow b new × (waiting_of b new ≡ above b (waiting_of a old))) → IsWindow next old →
+pub passed_between : (a b next after : ℕ) (old new : Slots) → a ≡ next → b ≡ after →
+    (IsWindow a old → IsWindow b new × (waiting_of b new ≡ above b (waiting_of a old))) → IsWindow next old →
     IsWindow after new × (waiting_of after new ≡ above after (waiting_of next old))
 passed_between a b next after old new e f h =
     subst (λ (n : ℕ). IsWindow n old → IsWindow after new × (waiting_of after new ≡ above after (waiting_of n old))) e
@@ -228,18 +230,15 @@ no_request zero place = refl
 no_request (suc count) zero = refl
 no_request (suc count) (suc place) = no_request count place
 
-pub nothing_waits : (next : ℕ) → waiting_of next (replicate width None) ≡ empty
-nothing_waits next = none_kept reach next (replicate width None) (no_request width)
-
 pub free_window : (next : ℕ) → IsWindow next (replicate width None)
 free_window next = record {
   len = length-replicate width (let none : Option Request = None in none);
   free = no_request width (place_of next);
-  sent = λ q l h. subst (λ (o : Option Request). IfSome o (IsSent q)) (sym (no_request width (place_of q))) tt;
+  sent = λ q l h. subst (IsSentAt q) (sym (no_request width (place_of q))) tt;
 }
 
 pub free_slots : (slots : Slots) → slots ≡ replicate width None → (next : ℕ) → IsWindow next slots × (waiting_of next slots ≡ empty)
-free_slots slots e next = subst (λ (s : Slots). IsWindow next s × (waiting_of next s ≡ empty)) (sym e) (free_window next, nothing_waits next)
+free_slots slots e next = rw e (free_window next, none_kept reach next (replicate width None) (no_request width))
 
 -- ---- how many wait
 
@@ -248,14 +247,17 @@ abbrev pub slot_count : Option Request → ℕ
 slot_count None = 0
 slot_count (Some request) = 1
 
-counted_slot : (requests : Requests) (number : ℕ) (slot : Option Request) → get requests number ≡ None → len (with_slot requests number slot) ≡ len requests + slot_count slot
+counted_slot : (requests : Requests) (number : ℕ) (slot : Option Request) → get requests number ≡ None →
+    len (with_slot requests number slot) ≡ len requests + slot_count slot
 counted_slot requests number None none = omega arith
 counted_slot requests number (Some request) none = len-insert nat_cmp_total requests number request ∙ cond-false _ _ _ (ap is_some none)
 
-pub one_more_slot : (count next : ℕ) (slots : Slots) → len (waiting_in (suc count) next slots) ≡ len (waiting_in count next slots) + slot_count (slot_at slots (place_of (next + suc count)))
+pub one_more_slot : (count next : ℕ) (slots : Slots) →
+    len (waiting_in (suc count) next slots) ≡ len (waiting_in count next slots) + slot_count (slot_at slots (place_of (next + suc count)))
 unfolding waiting_in
 one_more_slot count next slots =
-    counted_slot (waiting_in count next slots) (next + suc count) (slot_at slots (place_of (next + suc count))) (none_high count next slots (next + suc count) (omega arith))
+    counted_slot (waiting_in count next slots) (next + suc count) (slot_at slots (place_of (next + suc count)))
+    (none_high count next slots (next + suc count) (omega arith))
 
 pub no_slot : (next : ℕ) (slots : Slots) → len (waiting_in zero next slots) ≡ 0
 unfolding waiting_in
@@ -265,12 +267,11 @@ pub one_more_at : (distance next : ℕ) (slots : Slots) → 1 ≤ distance →
     len (waiting_in distance next slots) ≡ len (waiting_in (distance - 1) next slots) + slot_count (slot_at slots (place_of (next + distance)))
 one_more_at distance next slots some =
     let is : suc (distance - 1) ≡ distance = omega arith in
-    subst (λ (d : ℕ). len (waiting_in d next slots) ≡ len (waiting_in (distance - 1) next slots) + slot_count (slot_at slots (place_of (next + d)))) is (one_more_slot (distance - 1) next slots)
+    rw is at (one_more_slot (distance - 1) next slots)
 
 -- what is counted as one more number is looked at
-pub count_more : (count more distance next : ℕ) (slots : Slots) (slot : Option Request) → 1 ≤ distance →
-    count ≡ len (waiting_in (distance - 1) next slots) → slot_at slots (place_of (next + distance)) ≡ slot → more ≡ count + slot_count slot →
-    more ≡ len (waiting_in (distance + 1 - 1) next slots)
+pub count_more : (count more distance next : ℕ) (slots : Slots) (slot : Option Request) → 1 ≤ distance → count ≡ len (waiting_in (distance - 1) next slots) →
+    slot_at slots (place_of (next + distance)) ≡ slot → more ≡ count + slot_count slot → more ≡ len (waiting_in (distance + 1 - 1) next slots)
 count_more count more distance next slots slot some is here sum =
     let same : distance ≡ distance + 1 - 1 = omega arith in
     sum ∙ ap (λ n. n + slot_count slot) is ∙ ap (λ s. len (waiting_in (distance - 1) next slots) + slot_count s) (sym here)
@@ -287,19 +288,15 @@ none_count None h = refl
 -- ---- slots of a vector
 
 -- a vector of which an element was set
-pub edited_is : {X : Type 0} (v : Vec X) (old new : List X) (place at : ℕ) (x : X) → new ≡ set old place x → old ≡ v.items → place ≡ at → (with_items v new).items ≡ set v.items at x
+pub edited_is : {X : Type 0} (v : Vec X) (old new : List X) (place at : ℕ) (x : X) → new ≡ set old place x → old ≡ v.items → place ≡ at →
+    (with_items v new).items ≡ set v.items at x
 edited_is v old new place at x is same here =
     let all : new ≡ set v.items at x = is ∙ ap (λ xs. set xs place x) same ∙ ap (λ p. set v.items p x) here in
     with_items_is v new (ap length all ∙ length-set v.items at x ∙ sym v.ok.0) ∙ all
 
 -- a vector of slots of which each was freed
-pub freed_is : (v : Vec (Option Request)) (old new : Slots) → new ≡ replicate (length old) None → old ≡ v.items → length v.items ≡ width → (with_items v new).items ≡ replicate width None
+pub freed_is : (v : Vec (Option Request)) (old new : Slots) → new ≡ replicate (length old) None → old ≡ v.items → length v.items ≡ width →
+    (with_items v new).items ≡ replicate width None
 freed_is v old new is same len =
     let all : new ≡ replicate width None = is ∙ ap (λ (n : ℕ). replicate n None) (ap length same ∙ len) in
     with_items_is v new (ap length all ∙ length-replicate width (let none : Option Request = None in none) ∙ sym len ∙ sym v.ok.0) ∙ all
-
--- the element at a place doesn't depend on what stands for those past the end
-pub same_slot : (slots : Slots) (place : ℕ) (other : Option Request) → place < length slots → get_or slots place other ≡ slot_at slots place
-same_slot (slot ∷ slots) zero other l = refl
-same_slot (slot ∷ slots) (suc place) other l = same_slot slots place other (omega arith)
-same_slot [] place other l = absurd (omega arith)

@@ -1,9 +1,11 @@
 -- Turns of a keeper, case by case.
-use Rattle.std.proofs.Common.{◌≡◌, ◌≢◌, ◌⊎◌, inl, inr, ℕ, ◌+◌, ◌-◌, ◌<◌, ◌≤◌, ◌==◌, ◌&&◌, nat_lt, nat_le, not, Bool, true, false, if◌then◌else◌, Option, Some, None, Result, Ok, Err, refl, sym, ap, subst, ◌∙◌, arith}
+use Rattle.std.proofs.Common.{◌≡◌, ◌≢◌, inl, inr, ℕ, ◌+◌, ◌-◌, ◌<◌, ◌≤◌, ◌==◌, ◌&&◌, nat_lt, nat_le, not, Bool, true, false, Option, Some, None, Result, Ok}
+use Rattle.std.proofs.Common.{Err, refl, sym, ap, subst, ◌∙◌, arith}
 use Rattle.std.specs.Bool.{MatchBool}
 use Rattle.std.specs.Option.{is_some, option_map, MatchOption}
 use Rattle.std.specs.FinMap.{get, insert}
 use Rattle.std.proofs.lemmas.Bool.{cond-true, cond-false, false≢true, false_from_ne_true, and_parts, leb-true, le-leb, ltb-true, lt-ltb, le-ltb, eq-eqb}
+use Rattle.std.proofs.lemmas.Bool.Decides.{nat_tests}
 use Rattle.uefi_vars.specs.Plan.{PlanParts}
 use Rattle.boot_requests.specs.declared.request.Request.{Request}
 use Rattle.boot_requests.specs.declared.fault.FrameFault.{FrameFault}
@@ -21,11 +23,11 @@ use Rattle.boot_requests.specs.Keeper.{AreWaiting}
 use Rattle.boot_requests.specs.StateOf.{plain_of}
 use Rattle.boot_requests.specs.Edit.{with_mark}
 use Rattle.boot_requests.specs.Marks.{mark_of, mark_in, mark_after}
-use Rattle.std.proofs.lemmas.Bool.Decides.{nat_tests}
 use Rattle.boot_requests.specs.Answer.{IsReplyTo}
 use Rattle.boot_requests.proofs.WholeRuns.NextNumbers.{effect_number, effect_kept}
 use Rattle.boot_requests.proofs.Variables.Stored.{request_apart}
 use Rattle.boot_requests.proofs.Turn.Fills.{none_waits, settled_state_none}
+use Rattle.boot_requests.proofs.WholeRuns.Told.{IsToldNear}
 
 -- ---- which number is open
 
@@ -74,35 +76,30 @@ module _ (k : Plain) (number : ℕ) (r : Request) where
   turn_ahead low high =
       (unmoved (far_test k.waiting next number high), unless _ _ _ (le-ltb number next low) (when _ _ _ (le-leb width (number - next) high) refl))
 
-  -- what is told of a number that is near, as it is held or not
-  abbrev Told : Reply → Option Request → Type 0
-  Told answer found =
-      MatchOption found
-      (answer ≡ (if number == next then reply.Applied (outcome_of k.state r) after else reply.Waiting next))
-      (λ other. ((other ≢ r) × (answer ≡ reply.Conflict)) ⊎ ((other ≡ r) × (answer ≡ reply.Waiting next)))
-
-  near_reply : (answer : Reply) (found : Option Request) → next ≤ number → number < next + width → get k.waiting number ≡ found → Told answer found →
-      IsReplyTo k.state k.waiting next after number r answer
+  near_reply : (answer : Reply) (found : Option Request) → next ≤ number → number < next + width → get k.waiting number ≡ found →
+      IsToldNear k.state next after number r found answer → IsReplyTo k.state k.waiting next after number r answer
   near_reply answer found low high is told =
-      unless _ _ _ (le-ltb number next low) (unless _ _ _ (false_from_ne_true _ (λ wide. let far = leb-true width (number - next) wide in omega (arith, far, low, high)))
-      (subst (λ (o : Option Request). MatchOption o
-      (answer ≡ (if number == next then reply.Applied (outcome_of k.state r) after else reply.Waiting next))
-      (λ other. ((other ≢ r) × (answer ≡ reply.Conflict)) ⊎ ((other ≡ r) × (answer ≡ reply.Waiting next)))) (sym is) told))
+      unless _ _ _ (le-ltb number next low)
+      (unless _ _ _ (false_from_ne_true _ (λ wide. let far = leb-true width (number - next) wide in omega (arith, far, low, high)))
+      (rw is told))
 
   -- another request of the number waits
-  pub turn_conflict : (other : Request) → next ≤ number → number < next + width → get k.waiting number ≡ Some other → other ≢ r → Turn k (Came number r) k reply.Conflict
+  pub turn_conflict : (other : Request) → next ≤ number → number < next + width → get k.waiting number ≡ Some other → other ≢ r →
+      Turn k (Came number r) k reply.Conflict
   turn_conflict other low high held differ =
       (unmoved (held_test k.waiting next number other held), near_reply reply.Conflict (Some other) low high held (inl (differ, refl)))
 
   -- the request waits already
-  pub turn_again : (other : Request) → next ≤ number → number < next + width → get k.waiting number ≡ Some other → other ≡ r → Turn k (Came number r) k (reply.Waiting next)
+  pub turn_again : (other : Request) → next ≤ number → number < next + width → get k.waiting number ≡ Some other → other ≡ r →
+      Turn k (Came number r) k (reply.Waiting next)
   turn_again other low high held same =
       (unmoved (held_test k.waiting next number other held), near_reply (reply.Waiting next) (Some other) low high held (inr (same, refl)))
 
   -- a request of the next number is applied with those that follow it
   pub moved_to : number ≡ next → get k.waiting next ≡ None → after_delivery k number r ≡ settled_state k (insert k.waiting next r)
   moved_to here none =
-      cond-true _ _ _ (taken_test k.waiting next number (ap (get k.waiting) here ∙ none) (omega (arith, here)) (omega (arith, here))) ∙ ap (λ (n : ℕ). settled_state k (insert k.waiting n r)) here
+      cond-true _ _ _ (taken_test k.waiting next number (ap (get k.waiting) here ∙ none) (omega (arith, here)) (omega (arith, here)))
+      ∙ ap (λ (n : ℕ). settled_state k (insert k.waiting n r)) here
 
   module _ (waiting : AreWaiting next k.waiting) where
     -- the request waits from now on
@@ -112,16 +109,16 @@ module _ (k : Plain) (number : ℕ) (r : Request) where
         let below : (q : ℕ) → q ≤ next → get (insert k.waiting number r) q ≡ None =
         λ q l. request_apart k.waiting number r q (λ e. omega (arith, e, l, low)) ∙ none_waits next k.waiting waiting q l in
         let all = settled_state_none k.state (insert k.waiting number r) below in
-        let state : plain_of k.state (insert k.waiting number r) k.plan ≡ after_delivery k number r =
-        ap (λ (p : Plain). plain_of p.state p.waiting k.plan) (sym all) ∙ sym (cond-true _ _ _ (taken_test k.waiting next number none (omega (arith, low)) high)) in
+        let state = ap (λ (p : Plain). plain_of p.state p.waiting k.plan) (sym all)
+        ∙ sym (cond-true _ _ _ (taken_test k.waiting next number none (omega (arith, low)) high)) in
         (state, near_reply (reply.Waiting next) None (omega (arith, low)) high none (sym (cond-false _ _ _ (apart_tests number next low))))
       where
         apart_tests : (a b : ℕ) → b < a → (a == b) ≡ false
         apart_tests a b less = grind (arith, nat_tests)
 
     -- the request and those that follow it are applied
-    pub turn_next : number ≡ next → (to : Plain) (answer : Reply) → to ≡ settled_state k (insert k.waiting next r) → answer ≡ reply.Applied (outcome_of k.state r) to.state.next_number →
-        Turn k (Came number r) to answer
+    pub turn_next : number ≡ next → (to : Plain) (answer : Reply) → to ≡ settled_state k (insert k.waiting next r) →
+        answer ≡ reply.Applied (outcome_of k.state r) to.state.next_number → Turn k (Came number r) to answer
     turn_next here to answer state told =
         let none : get k.waiting number ≡ None = none_waits next k.waiting waiting number (omega (arith, here)) in
         let to_is : to ≡ after_delivery k number r = state ∙ sym (moved_to here (none_waits next k.waiting waiting next (omega arith))) in (
@@ -132,15 +129,13 @@ module _ (k : Plain) (number : ℕ) (r : Request) where
 
 -- ---- the state after a request
 
-with_its_outcome : (m : State) (r : Request) (mark : MarkParts) → mark ≡ mark_after (mark_in m) (outcome_of m r) → with_mark mark (effect m r (outcome_of m r)) ≡ after_request m r
-with_its_outcome m r mark e =
-    let o = outcome_of m r in
-    let same : mark_in m ≡ mark_in (effect m r o) = λ i. mark_of (sym (effect_number m r o) i) (sym (effect_kept m r o) i) in
-    ap (λ (k : MarkParts). with_mark k (effect m r o)) (e ∙ ap (λ (k : MarkParts). mark_after k o) same)
-
-pub after_request_is : (m : State) (r : Request) (outcome : Outcome) (mark : MarkParts) → outcome ≡ outcome_of m r → mark ≡ mark_after (mark_in m) outcome → with_mark mark (effect m r outcome) ≡ after_request m r
+pub after_request_is : (m : State) (r : Request) (outcome : Outcome) (mark : MarkParts) → outcome ≡ outcome_of m r → mark ≡ mark_after (mark_in m) outcome →
+    with_mark mark (effect m r outcome) ≡ after_request m r
 after_request_is m r outcome mark o e =
-    subst (λ (x : Outcome). mark ≡ mark_after (mark_in m) x → with_mark mark (effect m r x) ≡ after_request m r) (sym o) (with_its_outcome m r mark) e
+    let told = outcome_of m r in
+    let same : mark_in m ≡ mark_in (effect m r told) = λ i. mark_of (sym (effect_number m r told) i) (sym (effect_kept m r told) i) in
+    ap (λ (x : Outcome). with_mark mark (effect m r x)) o
+    ∙ ap (λ (k : MarkParts). with_mark k (effect m r told)) (e ∙ ap (mark_after (mark_in m)) o ∙ ap (λ (k : MarkParts). mark_after k told) same)
 
 -- ---- a plan, or none
 
@@ -158,13 +153,8 @@ some_of_map f (Some x) = refl
 
 -- ---- a frame that is read as one request
 
-pair_in : Result (ℕ × Request) FrameFault → ℕ × Request → ℕ × Request
-pair_in (Ok pair) other = pair
-pair_in (Err fault) other = other
-
 pub same_pair : (p q : ℕ × Request) → ◌≡◌ {A = Result (ℕ × Request) FrameFault} (Ok p) (Ok q) → p ≡ q
-unfolding pair_in
-same_pair p q e = ap (λ (r : Result (ℕ × Request) FrameFault). pair_in r p) e
+same_pair p q e = cc
 
 pub not_both : (p : ℕ × Request) (f : FrameFault) → ◌≡◌ {A = Result (ℕ × Request) FrameFault} (Ok p) (Err f) → ⊥
 not_both p f e = cc

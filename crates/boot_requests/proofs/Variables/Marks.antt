@@ -1,11 +1,13 @@
 -- BootKeepState as it is read: the mark of its bytes, and that other bytes are of none.
-use Rattle.std.proofs.Common.{◌≡◌, ◌≢◌, ℕ, zero, suc, ◌-◌, ◌*◌, ◌<◌, ◌≤◌, List, [], ◌∷◌, ◌++◌, length, map, take, drop, get_or, min, Option, Some, None, inl, inr, refl, sym, ap, subst, ◌∙◌, ⊎_elim, append_assoc, arith}
+use Rattle.std.proofs.Common.{◌≡◌, ◌≢◌, ℕ, zero, suc, ◌-◌, ◌*◌, ◌<◌, ◌≤◌, List, [], ◌∷◌, ◌++◌, length, map, take, drop, get_or, min, Option, Some, None, inl}
+use Rattle.std.proofs.Common.{inr, refl, sym, ap, subst, ◌∙◌, ⊎_elim, append_assoc, arith}
 use Rattle.std.specs.Prelude.{MatchOption}
 use Rattle.std.specs.Int.{w32, from_le_bytes, to_le_bytes}
 use Rattle.std.specs.List.{AllByRecursion, flat_map}
 use Rattle.std.specs.FinMap.{get}
-use Rattle.std.proofs.lemmas.List.{append-nil, take_rest}
+use Rattle.std.proofs.lemmas.List.{append-nil, take_rest, length-map}
 use Rattle.std.proofs.lemmas.Nat.{from_le_bytes-to_le_bytes_4}
+use Rattle.std.proofs.lemmas.Option.{none-some}
 use Rattle.uefi_vars.specs.Vars.{Variables}
 use Rattle.boot_requests.specs.declared.outcome.Code.{Code}
 use Rattle.boot_requests.specs.declared.outcome.Outcome.{Outcome}
@@ -17,38 +19,44 @@ use Rattle.boot_requests.specs.State.{MarkParts, IsMark, keep_text}
 use Rattle.boot_requests.specs.StoredState.{IsFirstCode, IsFirstMark, HasSecondMark, HasFirstMark, HasMark, HasBadMark}
 use Rattle.boot_requests.specs.Marks.{mark_of, SpellsMark, SpellsFirstMark, IsMarkIn, SplitsMark}
 use Rattle.boot_requests.proofs.Variables.Edits.{mark_stored}
-use Rattle.boot_requests.proofs.Variables.OutcomeBytes.{first_four, after_outcome, length-outcomes, length-codes, length-without, without_entries}
+use Rattle.boot_requests.proofs.Variables.OutcomeBytes.{first_four, after_outcome, length-outcomes, without_entries}
 
 -- ---- outcomes
 
 -- outcomes whose bytes begin with those of others have more after them
-outcomes_after : (a b : List Outcome) (rest : List ℕ) → AllByRecursion IsOutcome a → flat_map outcome_bytes a ≡ flat_map outcome_bytes b ++ rest → (others : List Outcome) × AllByRecursion IsOutcome others × (flat_map outcome_bytes others ≡ rest)
+outcomes_after : (a b : List Outcome) (rest : List ℕ) → AllByRecursion IsOutcome a → flat_map outcome_bytes a ≡ flat_map outcome_bytes b ++ rest →
+    (others : List Outcome) × AllByRecursion IsOutcome others × (flat_map outcome_bytes others ≡ rest)
 outcomes_after a [] rest p e = (a, p, e)
 outcomes_after [] (r ∷ b) rest p e = absurd (omega (arith, ap length e))
 outcomes_after (o ∷ a) (r ∷ b) rest p e =
     outcomes_after a b rest p.1
-    (sym (after_outcome o (flat_map outcome_bytes a)) ∙ ap (drop 4) (e ∙ append_assoc (outcome_bytes r) (flat_map outcome_bytes b) rest) ∙ after_outcome r (flat_map outcome_bytes b ++ rest))
+    (sym (after_outcome o (flat_map outcome_bytes a)) ∙ ap (drop 4) (e ∙ append_assoc (outcome_bytes r) (flat_map outcome_bytes b) rest)
+    ∙ after_outcome r (flat_map outcome_bytes b ++ rest))
 
 -- if what is left is of no outcomes, the whole is of none
-pub no_outcomes : (bytes rest : List ℕ) (read : List Outcome) → flat_map outcome_bytes read ++ rest ≡ bytes → ((others : List Outcome) → AllByRecursion IsOutcome others → flat_map outcome_bytes others ≢ rest) →
-    (kept : List Outcome) → AllByRecursion IsOutcome kept → flat_map outcome_bytes kept ≢ bytes
+pub no_outcomes : (bytes rest : List ℕ) (read : List Outcome) → flat_map outcome_bytes read ++ rest ≡ bytes →
+    ((others : List Outcome) → AllByRecursion IsOutcome others → flat_map outcome_bytes others ≢ rest) → (kept : List Outcome) → AllByRecursion IsOutcome kept →
+    flat_map outcome_bytes kept ≢ bytes
 no_outcomes bytes rest read is none kept p e =
     let more = outcomes_after kept read rest p (e ∙ sym is) in none more.0 more.1 more.2
 
 -- all of the bytes are read
-pub read_whole : (bytes rest : List ℕ) (kept : List Outcome) → flat_map outcome_bytes kept ++ rest ≡ bytes → length rest ≡ 0 → flat_map outcome_bytes kept ≡ bytes
+pub read_whole : (bytes rest : List ℕ) (kept : List Outcome) → flat_map outcome_bytes kept ++ rest ≡ bytes → length rest ≡ 0 →
+    flat_map outcome_bytes kept ≡ bytes
 read_whole bytes [] kept is none = sym (append-nil (flat_map outcome_bytes kept)) ∙ is
 read_whole bytes (byte ∷ rest) kept is none = absurd (omega (arith, none))
 
 -- bytes whose first four are of no outcome are of no outcomes
-pub no_outcome_first : (rest : List ℕ) → 4 ≤ length rest → ((o : Outcome) → IsOutcome o → outcome_bytes o ≢ get_or rest 0 0 ∷ get_or rest 1 0 ∷ get_or rest 2 0 ∷ get_or rest 3 0 ∷ []) →
-    (others : List Outcome) → AllByRecursion IsOutcome others → flat_map outcome_bytes others ≢ rest
+pub no_outcome_first : (rest : List ℕ) → 4 ≤ length rest →
+    ((o : Outcome) → IsOutcome o → outcome_bytes o ≢ get_or rest 0 0 ∷ get_or rest 1 0 ∷ get_or rest 2 0 ∷ get_or rest 3 0 ∷ []) → (others : List Outcome) →
+    AllByRecursion IsOutcome others → flat_map outcome_bytes others ≢ rest
 no_outcome_first rest some none [] p e = omega (arith, some, ap length e)
 no_outcome_first rest some none (o ∷ others) p e =
     none o p.0 (first_four o (flat_map outcome_bytes others) ∙ ap (λ (t : List ℕ). get_or t 0 0 ∷ get_or t 1 0 ∷ get_or t 2 0 ∷ get_or t 3 0 ∷ []) e)
 
 -- so are fewer than four bytes
-pub too_few : (rest : List ℕ) → 0 < length rest → length rest < 4 → (others : List Outcome) → AllByRecursion IsOutcome others → flat_map outcome_bytes others ≢ rest
+pub too_few : (rest : List ℕ) → 0 < length rest → length rest < 4 → (others : List Outcome) → AllByRecursion IsOutcome others →
+    flat_map outcome_bytes others ≢ rest
 too_few rest some few others p e = omega (arith, length-outcomes others, ap length e)
 
 -- ---- marks
@@ -63,16 +71,9 @@ split_once bytes m n k l x y p q =
     let outcomes : x ≡ y = cc in
     (sym (from_le_bytes-to_le_bytes_4 m p.four_bytes) ∙ ap (from_le_bytes w32) number ∙ from_le_bytes-to_le_bytes_4 n q.four_bytes, count, outcomes)
 
-mark_splits : (bytes : List ℕ) (mark : MarkParts) → SpellsMark (2 ∷ bytes) mark → SplitsMark bytes mark.next_number (length mark.kept) (flat_map outcome_bytes mark.kept)
+mark_splits : (bytes : List ℕ) (mark : MarkParts) → SpellsMark (2 ∷ bytes) mark →
+    SplitsMark bytes mark.next_number (length mark.kept) (flat_map outcome_bytes mark.kept)
 mark_splits bytes mark h = record { some = h.some; four_bytes = h.is.four_bytes; parts = ap (drop 1) h.spelled }
-
--- the outcomes of these bytes are those of a mark of version 2, with this next number and as many as are stated
-pub record IsSecond (next len : ℕ) (outcomes : List ℕ) (kept : List Outcome) : Type 0 where
-  pub valid : AllByRecursion IsOutcome kept
-  pub read : flat_map outcome_bytes kept ≡ outcomes
-  pub least : min kept_min next ≤ len
-  pub most : len ≤ min kept_max next
-  pub whole : length outcomes ≡ 4 * len
 
 module _ (bytes : List ℕ) (next len : ℕ) (outcomes : List ℕ) (split : SplitsMark bytes next len outcomes) where
   -- each outcome of a mark of version 2 has four bytes
@@ -81,39 +82,39 @@ module _ (bytes : List ℕ) (next len : ℕ) (outcomes : List ℕ) (split : Spli
       let same = split_once bytes mark.next_number next (length mark.kept) len (flat_map outcome_bytes mark.kept) outcomes (mark_splits bytes mark h) split in
       sym (ap length same.2) ∙ length-outcomes mark.kept ∙ ap (λ (n : ℕ). 4 * n) same.1
 
-  second_count : (kept : List Outcome) → IsSecond next len outcomes kept → len ≡ length kept
-  second_count kept h = omega (arith, length-outcomes kept, ap length h.read, h.whole)
-
-  pub second_valid : (kept : List Outcome) → IsSecond next len outcomes kept → IsMark next kept
-  second_valid kept h =
-      let count = second_count kept h in
+  -- the outcomes that are read are those of a mark of version 2, if there are as many as are stated
+  pub second_read : (kept : List Outcome) (least most : ℕ) → AllByRecursion IsOutcome kept × (flat_map outcome_bytes kept ≡ outcomes) →
+      least ≡ min kept_min next → least ≤ len → most ≡ min kept_max next → len ≤ most → length outcomes ≡ 4 * len → SpellsMark (2 ∷ bytes) (mark_of next kept)
+  second_read kept least most read least_is low most_is high whole =
+      let count : len ≡ length kept = omega (arith, length-outcomes kept, ap length read.1, whole) in
+      let outcomes_are : outcomes ≡ flat_map outcome_bytes kept = sym read.1 in
+      let same : len ∷ outcomes ≡ length kept ∷ flat_map outcome_bytes kept = cc in
       record {
-        four_bytes = split.four_bytes;
-        least = subst (λ (n : ℕ). min kept_min next ≤ n) count h.least;
-        most = subst (λ (n : ℕ). n ≤ min kept_max next) count h.most;
-        outcomes = h.valid;
+        some = split.some;
+        is = record {
+          four_bytes = split.four_bytes;
+          least = subst (λ (n : ℕ). min kept_min next ≤ n) count (subst (λ (n : ℕ). n ≤ len) least_is low);
+          most = subst (λ (n : ℕ). n ≤ min kept_max next) count (subst (λ (n : ℕ). len ≤ n) most_is high);
+          outcomes = read.0;
+        };
+        spelled = ap (λ (t : List ℕ). 2 ∷ t) (split.parts ∙ ap (λ (t : List ℕ). to_le_bytes w32 next ++ t) same);
       }
 
-  pub second_spelled : (kept : List Outcome) → IsSecond next len outcomes kept → SpellsMark (2 ∷ bytes) (mark_of next kept)
-  second_spelled kept h =
-      let count : len ≡ length kept = second_count kept h in
-      let read : outcomes ≡ flat_map outcome_bytes kept = sym h.read in
-      let same : len ∷ outcomes ≡ length kept ∷ flat_map outcome_bytes kept = cc in
-      record { some = split.some; is = second_valid kept h; spelled = ap (λ (t : List ℕ). 2 ∷ t) (split.parts ∙ ap (λ (t : List ℕ). to_le_bytes w32 next ++ t) same) }
-
   -- the codes of these bytes are those of a mark of version 1
-  pub first_is : (known : List Code) → AllByRecursion IsFirstCode known → map code_byte known ≡ outcomes → len ≡ min kept_min next → length outcomes ≡ len → IsFirstMark next known
+  pub first_is : (known : List Code) → AllByRecursion IsFirstCode known → map code_byte known ≡ outcomes → len ≡ min kept_min next → length outcomes ≡ len →
+      IsFirstMark next known
   first_is known valid read stated whole =
-      record { some = split.some; four_bytes = split.four_bytes; len = sym (length-codes known) ∙ ap length read ∙ whole ∙ stated; known = valid }
+      record { some = split.some; four_bytes = split.four_bytes; len = sym (length-map known code_byte) ∙ ap length read ∙ whole ∙ stated; known = valid }
 
 -- bytes of version 1 aren't those of a mark of version 2
 first_clash : (bytes rest : List ℕ) (mark : MarkParts) → bytes ≡ 1 ∷ rest → SpellsMark bytes mark → ⊥
 first_clash bytes rest mark e h = let clash : ◌≡◌ {A = ℕ} 1 2 = ap (λ (t : List ℕ). get_or t 0 0) (sym e ∙ h.spelled) in omega (arith, clash)
 
 -- what is found of a mark by its version is found of it by either
-pub first_found : (bytes rest : List ℕ) → bytes ≡ 1 ∷ rest → (found : Option MarkParts) → MatchOption found ((mark : MarkParts) → SpellsFirstMark (1 ∷ rest) mark → ⊥) (λ mark. SpellsFirstMark (1 ∷ rest) mark) →
+pub first_found : (bytes rest : List ℕ) → bytes ≡ 1 ∷ rest → (found : Option MarkParts) →
+    MatchOption found ((mark : MarkParts) → SpellsFirstMark (1 ∷ rest) mark → ⊥) (λ mark. SpellsFirstMark (1 ∷ rest) mark) →
     MatchOption found ((mark : MarkParts) → IsMarkIn bytes mark → ⊥) (λ mark. IsMarkIn bytes mark)
-first_found bytes rest e None none = λ mark h. ⊎_elim (λ second. first_clash bytes rest mark e second) (λ first. none mark (subst (λ (b : List ℕ). SpellsFirstMark b mark) e first)) h
+first_found bytes rest e None none = λ mark. ⊎_elim (first_clash bytes rest mark e) (λ first. none mark (rw e at first))
 first_found bytes rest e (Some mark) h = inr (subst (λ (b : List ℕ). SpellsFirstMark b mark) (sym e) h)
 
 -- a byte, and those after it
@@ -124,13 +125,8 @@ one_then (b ∷ bytes) byte some is = ap (λ (n : ℕ). n ∷ bytes) is ∙ ap (
 -- a mark of version 1 is one of version 2 whose outcomes tell no entries
 pub first_valid : (next_number : ℕ) (codes : List Code) → IsFirstMark next_number codes → IsMark next_number (map without_entry codes)
 first_valid next_number codes is =
-    let len : length (map without_entry codes) ≡ min kept_min next_number = length-without codes ∙ is.len in
-    record {
-      four_bytes = is.four_bytes;
-      least = omega (arith, len);
-      most = omega (arith, len);
-      outcomes = without_entries codes;
-    }
+    let len : length (map without_entry codes) ≡ min kept_min next_number = length-map codes without_entry ∙ is.len in
+    record { four_bytes = is.four_bytes; least = omega (arith, len); most = omega (arith, len); outcomes = without_entries codes }
 
 -- ---- either version
 
@@ -143,9 +139,6 @@ mark_valid vars next_number kept has =
 pub same_some : (a b : List ℕ) → ◌≡◌ {A = Option (List ℕ)} (Some a) (Some b) → a ≡ b
 same_some a b e = cc
 
-none_stored : (bytes : List ℕ) → ◌≡◌ {A = Option (List ℕ)} (Some bytes) None → ⊥
-none_stored bytes e = cc
-
 module _ (vars : Variables) (bytes : List ℕ) (is : get vars keep_text ≡ Some bytes) where
   pub has_second : (mark : MarkParts) → SpellsMark bytes mark → HasSecondMark vars mark.next_number mark.kept
   has_second mark h = record { is = h.is; stored = is ∙ ap Some h.spelled ∙ sym (mark_stored mark.next_number mark.kept h.some) }
@@ -154,7 +147,7 @@ module _ (vars : Variables) (bytes : List ℕ) (is : get vars keep_text ≡ Some
   has_first mark h = record { codes = h.known; is = h.is; kept_is = h.kept; stored = is ∙ ap Some h.spelled }
 
   second_in : (next_number : ℕ) (kept : List Outcome) → HasSecondMark vars next_number kept → SpellsMark bytes (mark_of next_number kept)
-  second_in zero kept has = absurd (none_stored bytes (sym is ∙ has.stored))
+  second_in zero kept has = absurd (none-some bytes (sym has.stored ∙ is))
   second_in (suc next_number) kept has =
       record { some = omega arith; is = has.is; spelled = same_some _ _ (sym is ∙ has.stored ∙ mark_stored (suc next_number) kept (omega arith)) }
 
@@ -171,13 +164,12 @@ module _ (vars : Variables) (bytes : List ℕ) (is : get vars keep_text ≡ Some
   found_is (Some mark) h = ⊎_elim (λ second. inl (has_second mark second)) (λ first. inr (has_first mark first)) h
 
 -- if nothing is stored, the mark is one of version 2
-pub none_is_second : (vars : Variables) (next_number : ℕ) (kept : List Outcome) → get vars keep_text ≡ None → HasMark vars next_number kept → HasSecondMark vars next_number kept
-none_is_second vars next_number kept is has = ⊎_elim (λ second. second) (λ first. absurd (none_stored _ (sym first.stored ∙ is))) has
+pub none_is_second : (vars : Variables) (next_number : ℕ) (kept : List Outcome) → get vars keep_text ≡ None → HasMark vars next_number kept →
+    HasSecondMark vars next_number kept
+none_is_second vars next_number kept is has = ⊎_elim (λ second. second) (λ first. absurd (none-some _ (sym is ∙ first.stored))) has
 
 -- ---- faults
 
 pub no_memory : (f : OpenFault) → (f ≢ fault.OutOfMemory → ⊥) → f ≡ fault.OutOfMemory
-no_memory fault.BadOrder h = absurd (h (λ e. cc))
-no_memory fault.BadNext h = absurd (h (λ e. cc))
-no_memory fault.BadState h = absurd (h (λ e. cc))
 no_memory fault.OutOfMemory h = refl
+no_memory _ h = absurd (h (λ e. cc))

@@ -1,17 +1,19 @@
 -- Lists of numbers, one number after the other: whether one is there, and whether one is there twice.
-use Rattle.std.proofs.Common.{◌≡◌, ◌≢◌, ℕ, ◌+◌, ◌<◌, ◌≤◌, ◌==◌, not, zero, suc, Bool, true, false, cond, List, [], ◌∷◌, ◌++◌, length, take, drop, get_or, refl, sym, ap, subst, ◌∙◌, ⊎_elim, arith}
+use Rattle.std.proofs.Common.{◌≡◌, ◌≢◌, ℕ, ◌+◌, ◌<◌, ◌≤◌, ◌==◌, not, suc, Bool, true, false, cond, List, [], ◌∷◌, ◌++◌, length, take, drop, get_or, refl, sym}
+use Rattle.std.proofs.Common.{ap, subst, ◌∙◌, ⊎_elim, arith, inl, inr}
 use Rattle.std.proofs.Math.ListN.{set}
 use Rattle.std.proofs.Math.Seq.{drop-cons}
-use Rattle.std.proofs.lemmas.List.{take_more, take-append-drop, get_or-set_same, get_or-set_other}
-use Rattle.std.proofs.lemmas.Bool.{cases_eq, cond-true, cond-false, lt-ltb, le-ltb, false≢true, eqb-true, eqb-false, eq-eqb, ne_eqb, or_cases, or_parts, or_from, or_left, or_right}
+use Rattle.std.proofs.lemmas.List.{take_more, take-append-drop, get_or-set_same, get_or-set_other, get_or_default}
+use Rattle.std.proofs.lemmas.Bool.{cases_eq, cond-true, cond-false, lt-ltb, le-ltb, false≢true, eqb-true, eqb-false, eq-eqb, ne_eqb, or_cases, or_parts}
+use Rattle.std.proofs.lemmas.Bool.{or_from, or_left, or_right}
 use Rattle.uefi_vars.specs.Order.{order_max}
 use Rattle.uefi_path.specs.Units.{units_bytes}
+use Rattle.uefi_vars.proofs.Numbers.{HaveTwoBytes}
 use Rattle.boot_requests.specs.declared.request.Request.{Request}
 use Rattle.boot_requests.specs.declared.request.Request.TheVariants.{Order}
 use Rattle.boot_requests.specs.Limits.{payload_max}
 use Rattle.boot_requests.specs.Request.{payload_of}
 use Rattle.boot_requests.specs.Apply.{is_in, repeats, order_with, without}
-use Rattle.boot_requests.proofs.Frames.TwoBytes.{HaveTwoBytes}
 
 pub stands_there : (before : List ℕ) (number : ℕ) (rest : List ℕ) → is_in (before ++ number ∷ rest) number ≡ true
 stands_there [] number rest = or_left _ _ (eq-eqb number number refl)
@@ -38,7 +40,8 @@ as_before before number other differ =
 pub repeats_found : (before : List ℕ) (number : ℕ) (rest : List ℕ) → is_in before number ≡ true → repeats (before ++ number ∷ rest) ≡ true
 repeats_found [] number rest h = absurd (false≢true h)
 repeats_found (first ∷ before) number rest h =
-    ⊎_elim (λ here. or_left _ _ (subst (λ (k : ℕ). is_in (before ++ number ∷ rest) k ≡ true) (sym (eqb-true first number here)) (stands_there before number rest)))
+    ⊎_elim (λ here.
+    or_left _ _ (subst (λ (k : ℕ). is_in (before ++ number ∷ rest) k ≡ true) (sym (eqb-true first number here)) (stands_there before number rest)))
     (λ later. or_right _ _ (repeats_found before number rest later)) (or_cases (first == number) (is_in before number) h)
 
 pub repeats_none : (before : List ℕ) (number : ℕ) → repeats before ≡ false → is_in before number ≡ false → repeats (before ++ number ∷ []) ≡ false
@@ -78,24 +81,30 @@ parts numbers i within = ap (λ (t : List ℕ). take i numbers ++ t) (sym (drop-
 
 module _ (numbers : List ℕ) (i : ℕ) (within : i < length numbers) where
   pub twice : is_in (take i numbers) (get_or numbers i 0) ≡ true → repeats numbers ≡ true
-  twice found = subst (λ (xs : List ℕ). repeats xs ≡ true) (parts numbers i within) (repeats_found (take i numbers) (get_or numbers i 0) (drop (suc i) numbers) found)
+  twice found = rw (parts numbers i within) at (repeats_found (take i numbers) (get_or numbers i 0) (drop (suc i) numbers) found)
 
   pub once_more : repeats (take i numbers) ≡ false → is_in (take i numbers) (get_or numbers i 0) ≡ false → repeats (take (i + 1) numbers) ≡ false
   once_more none new = ap repeats (take_more numbers i 0 within) ∙ repeats_none (take i numbers) (get_or numbers i 0) none new
 
-  pub marks_more : (marked : List Bool) → length marked ≡ 65536 → get_or numbers i 0 < 65536 → ((k : ℕ) → k < 65536 → get_or marked k false ≡ is_in (take i numbers) k)
-      → (k : ℕ) → k < 65536 → get_or (set marked (get_or numbers i 0) true) k false ≡ is_in (take (i + 1) numbers) k
+  pub marks_more : (marked : List Bool) → length marked ≡ 65536 → get_or numbers i 0 < 65536 →
+      ((k : ℕ) → k < 65536 → get_or marked k false ≡ is_in (take i numbers) k) → (k : ℕ) → k < 65536 →
+      get_or (set marked (get_or numbers i 0) true) k false ≡ is_in (take (i + 1) numbers) k
   marks_more marked len fits before k h =
       let number = get_or numbers i 0 in
-      ⊎_elim (λ same. subst (λ (j : ℕ). get_or (set marked number true) j false ≡ is_in (take (i + 1) numbers) j) same
-      (get_or-set_same marked number true false (omega (arith, len, fits)) ∙ sym (ap (λ (xs : List ℕ). is_in xs number) (take_more numbers i 0 within) ∙ stands_there (take i numbers) number [])))
-      (λ differ. get_or-set_other marked number k true false (λ e. differ (sym e)) ∙ before k h ∙ sym (ap (λ (xs : List ℕ). is_in xs k) (take_more numbers i 0 within) ∙ as_before (take i numbers) number k differ))
-      (cases_eq number k)
+      elim (cases_eq number k) [
+        | inl same ↦ rw (← same)
+            (get_or-set_same marked number true false (omega (arith, len, fits))
+            ∙ sym (ap (λ (xs : List ℕ). is_in xs number) (take_more numbers i 0 within) ∙ stands_there (take i numbers) number []))
+        | inr differ ↦ get_or-set_other marked number k true false (λ e. differ (sym e)) ∙ before k h
+            ∙ sym (ap (λ (xs : List ℕ). is_in xs k) (take_more numbers i 0 within) ∙ as_before (take i numbers) number k differ)
+      ]
 
-pub same_item : (xs : List Bool) (i : ℕ) (d e : Bool) → i < length xs → get_or xs i d ≡ get_or xs i e
-same_item [] i d e h = absurd (omega (arith, h))
-same_item (x ∷ xs) zero d e h = refl
-same_item (x ∷ xs) (suc i) d e h = same_item xs i d e (omega (arith, h))
+  -- what is read of the marks at a number is whether it was there before
+  pub was_there : (marked : List Bool) → length marked ≡ 65536 → ((k : ℕ) → k < 65536 → get_or marked k false ≡ is_in (take i numbers) k) →
+      (place : ℕ) (read : Bool) → place < 65536 → place ≡ get_or numbers i 0 → read ≡ get_or marked place read →
+      read ≡ is_in (take i numbers) (get_or numbers i 0)
+  was_there marked len before place read fits is e =
+      subst (λ (k : ℕ). read ≡ is_in (take i numbers) k) is (e ∙ get_or_default marked place read false (omega (arith, len, fits)) ∙ before place fits)
 
 -- ---- a payload's numbers
 

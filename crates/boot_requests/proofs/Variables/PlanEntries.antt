@@ -27,7 +27,9 @@ module _ (m : State) (choice : Choice) (stored : IsStored (Some choice.option) (
   in_next one plan has names =
       let first : IsNextChoice (get m.entries) m.boot_next (Some choice) =
       subst (λ (next : Option ℕ). IsNextChoice (get m.entries) next (Some choice)) (sym names) (refl, option_there) in
-      ap (λ (p : PlanParts). p.next) (one (get m.entries) m.order m.boot_next plan (plan_parts (Some choice) plan.normal) has (record { first = first; others = has.others }))
+      ap (λ (p : PlanParts). p.next)
+      (one (get m.entries) m.order m.boot_next plan (plan_parts (Some choice) plan.normal) has (record { first = first; others = has.others }))
 
-  pub in_normal : HasEachNormal → (plan : PlanParts) → HasPlanOf m plan → Contains m.order choice.number → IsNormal choice.option.attributes → Contains plan.normal choice
+  pub in_normal : HasEachNormal → (plan : PlanParts) → HasPlanOf m plan → Contains m.order choice.number → IsNormal choice.option.attributes →
+      Contains plan.normal choice
   in_normal each plan has among normal = each (get m.entries) m.order m.boot_next plan choice has among ((refl, option_there), normal)

@@ -1,21 +1,43 @@
 -- What is stored under names and numbers after an edit, and which names are apart.
-use Rattle.std.proofs.Common.{◌≡◌, ◌≢◌, ◌⊎◌, ℕ, ◌/◌, ◌%◌, ◌<◌, ◌^◌, true, false, List, length, Option, Some, None, inl, inr, refl, sym, ap, subst, ◌∙◌, ⊎_elim, arith}
+use Rattle.std.proofs.Common.{◌≡◌, ◌≢◌, ◌⊎◌, ℕ, ◌/◌, ◌%◌, ◌<◌, true, false, List, length, Option, Some, None, IfSome, inl, inr, refl, sym, ap, subst, ◌∙◌}
+use Rattle.std.proofs.Common.{⊎_elim, arith}
 use Rattle.std.specs.declared.cmp.Ordering.{Ordering}
 use Rattle.std.specs.Ordering.{eq_by_cmp}
 use Rattle.std.specs.Cmp.{IsTotalOrder}
-use Rattle.std.specs.FinMap.{FinMap, get, insert, remove, get-insert, get-remove, same_map, nat_cmp-IsAntisymmetric, slice_cmp-IsAntisymmetric}
+use Rattle.std.specs.FinMap.{FinMap, get, insert, remove, get-insert, get-remove, same_map}
 use Rattle.std.proofs.lemmas.Bool.{cond-true, cond-false, false≢true, false_from_ne_true}
 use Rattle.std.proofs.lemmas.Bool.Decides.{nat_tests}
 use Rattle.std.proofs.lemmas.Cmp.{eq_by_cmp_equiv, nat_cmp_total, nat_list_cmp_total}
 use Rattle.std.proofs.lemmas.Map.Lookups.{CmpEqualImpliesEq, exact_bytes, exact_unsigned}
 use Rattle.std.proofs.lemmas.Map.Views.{tells_apart}
 use Rattle.uefi_vars.specs.Name.{upper_digit, entry_text, order_text, next_text}
-use Rattle.uefi_vars.specs.Vars.{Variables}
+use Rattle.uefi_vars.specs.Vars.{Variables, IsData, IsVariable}
+use Rattle.uefi_vars.specs.Order.{IsEntryNumber}
 use Rattle.uefi_vars.specs.NameChanges.{with_data}
+use Rattle.uefi_vars.proofs.Maps.{name_cmp-IsAntisymmetric}
 use Rattle.boot_requests.specs.declared.request.Request.{Request}
-use Rattle.boot_requests.specs.State.{keep_text}
+use Rattle.boot_requests.specs.State.{keep_text, IsBootName}
 use Rattle.boot_requests.specs.Window.{Requests}
 use Rattle.boot_requests.specs.StateOf.{Entries, with_entry}
+use Rattle.boot_requests.specs.Frame.{IsSent}
+
+-- ---- what may be stored
+
+-- what is stored under the number, if anything, is the data of an entry
+abbrev pub IsEntryAt : ℕ → Option (List ℕ) → Type 0
+IsEntryAt number stored = IfSome stored (λ bytes. IsEntryNumber number × IsData bytes)
+
+-- what is stored under the name, if anything, is the data of a variable
+abbrev pub IsVariableAt : List ℕ → Option (List ℕ) → Type 0
+IsVariableAt name stored = IfSome stored (λ value. IsVariable (name, value))
+
+-- and of one that is no part of a state
+abbrev pub IsOtherAt : List ℕ → Option (List ℕ) → Type 0
+IsOtherAt name stored = IfSome stored (λ bytes. IsVariable (name, bytes) × (¬ IsBootName name))
+
+-- the request under the number, if there is one, was read off a frame
+abbrev pub IsSentAt : ℕ → Option Request → Type 0
+IsSentAt number found = IfSome found (IsSent number)
 
 -- ---- maps
 
@@ -31,16 +53,16 @@ module _ {K : Type 0} {R : K → K → Ordering} (o : IsTotalOrder R) (exact : C
       ] refl
 
   module _ {X : Type 0} (m : FinMap R X) where
-    insert_here : (k : K) (v : X) → get (insert m k v) k ≡ Some v
+    pub insert_here : (k : K) (v : X) → get (insert m k v) k ≡ Some v
     insert_here k v = get-insert o m k v k ∙ cond-true _ _ _ ((eq_by_cmp_equiv o).refl k)
 
-    insert_apart : (k : K) (v : X) (q : K) → k ≢ q → get (insert m k v) q ≡ get m q
+    pub insert_apart : (k : K) (v : X) (q : K) → k ≢ q → get (insert m k v) q ≡ get m q
     insert_apart k v q differ = get-insert o m k v q ∙ cond-false _ _ _ (unequal q k (λ e. differ (sym e)))
 
-    remove_here : (k : K) → get (remove m k) k ≡ None
+    pub remove_here : (k : K) → get (remove m k) k ≡ None
     remove_here k = get-remove o m k k ∙ cond-true _ _ _ ((eq_by_cmp_equiv o).refl k)
 
-    remove_apart : (k q : K) → k ≢ q → get (remove m k) q ≡ get m q
+    pub remove_apart : (k q : K) → k ≢ q → get (remove m k) q ≡ get m q
     remove_apart k q differ = get-remove o m k q ∙ cond-false _ _ _ (unequal q k (λ e. differ (sym e)))
 
 pub same_name_or_not : (a b : List ℕ) → (a ≡ b) ⊎ (a ≢ b)
@@ -55,13 +77,18 @@ pub stored_here : (vars : Variables) (name : List ℕ) (stored : Option (List �
 stored_here vars name None = remove_here nat_list_cmp_total exact_bytes vars name
 stored_here vars name (Some bytes) = insert_here nat_list_cmp_total exact_bytes vars name bytes
 
-pub stored_apart : (vars : Variables) (name : List ℕ) (stored : Option (List ℕ)) (other : List ℕ) → name ≢ other → get (with_data vars name stored) other ≡ get vars other
+pub stored_apart : (vars : Variables) (name : List ℕ) (stored : Option (List ℕ)) (other : List ℕ) → name ≢ other →
+    get (with_data vars name stored) other ≡ get vars other
 stored_apart vars name None other differ = remove_apart nat_list_cmp_total exact_bytes vars name other differ
 stored_apart vars name (Some bytes) other differ = insert_apart nat_list_cmp_total exact_bytes vars name bytes other differ
 
+pub stored_beside : (vars : Variables) (name : List ℕ) (stored : Option (List ℕ)) (other : List ℕ) → other ≢ name →
+    get (with_data vars name stored) other ≡ get vars other
+stored_beside vars name stored other differ = stored_apart vars name stored other (λ e. differ (sym e))
+
 -- what is stored already changes nothing
 pub stored_again : (vars : Variables) (name : List ℕ) → with_data vars name (get vars name) ≡ vars
-stored_again vars name = same_map nat_list_cmp_total (slice_cmp-IsAntisymmetric nat_cmp-IsAntisymmetric) _ _ (λ other. ⊎_elim
+stored_again vars name = same_map nat_list_cmp_total name_cmp-IsAntisymmetric _ _ (λ other. ⊎_elim
     (λ same. subst (λ (n : List ℕ). get (with_data vars name (get vars name)) n ≡ get vars n) same (stored_here vars name (get vars name)))
     (λ differ. stored_apart vars name (get vars name) other differ)
     (same_name_or_not name other))
@@ -74,25 +101,15 @@ still_none vars name other none =
 
 -- ---- entries
 
-pub entry_here : (entries : Entries) (number : ℕ) (stored : Option (List ℕ)) → get entries number ≡ None → get (with_entry entries number stored) number ≡ stored
+pub entry_here : (entries : Entries) (number : ℕ) (stored : Option (List ℕ)) → get entries number ≡ None →
+    get (with_entry entries number stored) number ≡ stored
 entry_here entries number None none = none
 entry_here entries number (Some bytes) none = insert_here nat_cmp_total exact_unsigned entries number bytes
 
-pub entry_apart : (entries : Entries) (number : ℕ) (stored : Option (List ℕ)) (other : ℕ) → number ≢ other → get (with_entry entries number stored) other ≡ get entries other
+pub entry_apart : (entries : Entries) (number : ℕ) (stored : Option (List ℕ)) (other : ℕ) → number ≢ other →
+    get (with_entry entries number stored) other ≡ get entries other
 entry_apart entries number None other differ = refl
 entry_apart entries number (Some bytes) other differ = insert_apart nat_cmp_total exact_unsigned entries number bytes other differ
-
-pub entry_put : (entries : Entries) (number : ℕ) (bytes : List ℕ) → get (insert entries number bytes) number ≡ Some bytes
-entry_put entries number bytes = insert_here nat_cmp_total exact_unsigned entries number bytes
-
-pub entry_put_apart : (entries : Entries) (number : ℕ) (bytes : List ℕ) (other : ℕ) → number ≢ other → get (insert entries number bytes) other ≡ get entries other
-entry_put_apart entries number bytes other differ = insert_apart nat_cmp_total exact_unsigned entries number bytes other differ
-
-pub entry_gone : (entries : Entries) (number : ℕ) → get (remove entries number) number ≡ None
-entry_gone entries number = remove_here nat_cmp_total exact_unsigned entries number
-
-pub entry_gone_apart : (entries : Entries) (number other : ℕ) → number ≢ other → get (remove entries number) other ≡ get entries other
-entry_gone_apart entries number other differ = remove_apart nat_cmp_total exact_unsigned entries number other differ
 
 -- ---- requests
 
@@ -109,17 +126,6 @@ pub request_apart : (requests : Requests) (number : ℕ) (r : Request) (other : 
 request_apart requests number r other differ = insert_apart nat_cmp_total exact_unsigned requests number r other differ
 
 -- ---- names that are apart
-
-digits_apart : (a b : ℕ) → upper_digit a ≡ upper_digit b → a ≡ b
-digits_apart a b e = grind (arith, nat_tests)
-
-pub names_apart : (m n : ℕ) → m < 2 ^ 16 → n < 2 ^ 16 → entry_text m ≡ entry_text n → m ≡ n
-names_apart m n p q e =
-    let a : m / 0x1000 ≡ n / 0x1000 = digits_apart _ _ (cc e) in
-    let b : m / 0x100 % 0x10 ≡ n / 0x100 % 0x10 = digits_apart _ _ (cc e) in
-    let c : m / 0x10 % 0x10 ≡ n / 0x10 % 0x10 = digits_apart _ _ (cc e) in
-    let d : m % 0x10 ≡ n % 0x10 = digits_apart _ _ (cc e) in
-    omega arith
 
 no_small_e : (a : ℕ) → a < 16 → upper_digit a ≡ 0x65 → ⊥
 no_small_e a h e = grind (arith, nat_tests)

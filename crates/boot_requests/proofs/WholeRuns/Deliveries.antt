@@ -1,15 +1,17 @@
 -- A request that comes: what it does to the accepted requests, and to those of them that wait.
-use Rattle.std.proofs.Common.{◌≡◌, ℕ, suc, leb, ltb, ◌-◌, ◌<◌, ◌≤◌, inl, inr, Bool, true, false, cond, eqb, List, [], ◌∷◌, map, Option, Some, None, refl, sym, ap, ◌∙◌, arith}
+use Rattle.std.proofs.Common.{◌≡◌, ℕ, suc, leb, ltb, ◌-◌, ◌<◌, ◌≤◌, inl, inr, Bool, true, false, cond, eqb, List, [], ◌∷◌, map, Option, Some, None, refl, sym}
+use Rattle.std.proofs.Common.{ap, ◌∙◌, arith}
 use Rattle.std.specs.Prelude.{◌&&◌, not, is_some}
-use Rattle.std.specs.Ordering.{nat_cmp}
-use Rattle.std.specs.FinMap.{empty, get, insert, retain_keys, entries}
+use Rattle.std.specs.FinMap.{get, insert, retain_keys, entries}
 use Rattle.std.proofs.lemmas.Bool.Decides.{nat_tests}
 use Rattle.std.proofs.lemmas.Bool.{cases_lt}
+use Rattle.std.proofs.Math.Bool.{and-false}
 use Rattle.boot_requests.specs.declared.request.Request.{Request}
 use Rattle.boot_requests.specs.Limits.{width}
 use Rattle.boot_requests.specs.Window.{Requests, gap_of, is_open}
 use Rattle.boot_requests.specs.Changes.{Applies, changes_between}
-use Rattle.boot_requests.proofs.WholeRuns.Numbers.{is_between, get_between, between_first, between_none, get_inserted, get_retained, same_numbers, entries_of_empty}
+use Rattle.boot_requests.proofs.WholeRuns.Numbers.{is_between, get_between, between_first, between_none, get_inserted, get_retained, same_numbers}
+use Rattle.boot_requests.proofs.WholeRuns.Numbers.{entries_of_empty}
 use Rattle.boot_requests.proofs.WholeRuns.Gaps.{IsGap, gap_is, gap_one}
 
 -- those of the accepted requests that wait
@@ -27,21 +29,22 @@ module _ (requests : Requests) (gap : ℕ) (free : get requests gap ≡ None) wh
         ap (λ b. cond b (get requests q) None) no ∙ sym (ap (get requests) at ∙ free)
   ]
 
-  pub get_waiting_with : (number : ℕ) (request : Request) (q : ℕ) → gap ≤ q → get (insert (above_gap requests gap) number request) q ≡ get (insert requests number request) q
+  pub get_waiting_with : (number : ℕ) (request : Request) (q : ℕ) → gap ≤ q →
+      get (insert (above_gap requests gap) number request) q ≡ get (insert requests number request) q
   get_waiting_with number request q l =
       get_inserted _ number request q ∙ ap (cond (eqb q number) (Some request)) (get_waiting q l) ∙ sym (get_inserted requests number request q)
 
   -- a number is open among the waiting ones if it is among the accepted ones
   pub open_waiting : (number : ℕ) → is_open (above_gap requests gap) gap number ≡ is_open requests gap number
   open_waiting number =
-      elim (leb gap number) as (λ b. leb gap number ≡ b → (not (is_some (get (above_gap requests gap) number)) && (b && ltb (number - gap) width)) ≡ (not (is_some (get requests number)) && (b && ltb (number - gap) width))) [
-        | true ↦ λ t. let l : gap ≤ number = grind (arith, nat_tests, t) in ap (λ o. not (is_some o) && (true && ltb (number - gap) width)) (get_waiting number l)
-        | false ↦ λ t. none _ ∙ sym (none _)
+      elim (leb gap number) as (λ b.
+      leb gap number ≡ b →
+      (not (is_some (get (above_gap requests gap) number)) && (b && ltb (number - gap) width))
+      ≡ (not (is_some (get requests number)) && (b && ltb (number - gap) width))) [
+        | true ↦ λ t.
+            let l : gap ≤ number = grind (arith, nat_tests, t) in ap (λ o. not (is_some o) && (true && ltb (number - gap) width)) (get_waiting number l)
+        | false ↦ λ t. and-false _ ∙ sym (and-false _)
       ] refl
-    where
-      none : (b : Bool) → (b && false) ≡ false
-      none true = refl
-      none false = refl
 
 -- requests that are the same between two numbers have the same changes there
 pub same_within : (from to : ℕ) (m n : Requests) → ((q : ℕ) → from ≤ q → q < to → get m q ≡ get n q) → changes_between from to m ≡ changes_between from to n
@@ -73,13 +76,13 @@ same_above from to m n l same = same_numbers _ _ (λ q.
 
 -- no changes are between a number and one that isn't greater
 pub no_changes : (from to : ℕ) (m : Requests) → to ≤ from → changes_between from to m ≡ []
-no_changes from to m l = ap (λ (x : Requests). map (λ entry. Applies entry.0 entry.1) (entries x)) (between_none m from to l) ∙ none_of_empty
-  where
-    none_of_empty : map (λ entry. Applies entry.0 entry.1) (entries (empty {X = Request} {R = nat_cmp})) ≡ []
-    none_of_empty = ap (λ (es : List (ℕ × Request)). map (λ entry. Applies entry.0 entry.1) es) entries_of_empty
+no_changes from to m l =
+    ap (λ (x : Requests). map (λ entry. Applies entry.0 entry.1) (entries x)) (between_none m from to l)
+    ∙ ap (λ (es : List (ℕ × Request)). map (λ entry. Applies entry.0 entry.1) es) entries_of_empty
 
 -- the first of the changes between two numbers, and the others
-pub first_change : (from to : ℕ) (m : Requests) (request : Request) → get m from ≡ Some request → from < to → changes_between from to m ≡ Applies from request ∷ changes_between (suc from) to m
+pub first_change : (from to : ℕ) (m : Requests) (request : Request) → get m from ≡ Some request → from < to →
+    changes_between from to m ≡ Applies from request ∷ changes_between (suc from) to m
 first_change from to m request held l = ap (map (λ entry. Applies entry.0 entry.1)) (between_first m from to request held l)
 
 -- ---- a request whose number is open

@@ -7,7 +7,7 @@ use Rattle.std.specs.FinMap.{get, get-remove}
 use Rattle.std.proofs.lemmas.Bool.Decides.{nat_tests}
 use Rattle.uefi_option.specs.LoadOption.{OptionParts, IsOption, option_bytes}
 use Rattle.boot_requests.specs.declared.request.Request.{Request}
-use Rattle.boot_requests.specs.declared.request.Request.TheVariants.{Add, Replace, Remove, Order, Next, AddFree}
+use Rattle.boot_requests.specs.declared.request.Request.TheVariants.{Add, Replace, Remove, AddFree, Order, Next}
 use Rattle.boot_requests.specs.declared.outcome.Code.{Code}
 use Rattle.boot_requests.specs.declared.outcome.Code.TheVariants.{Done, NoFree}
 use Rattle.boot_requests.specs.declared.outcome.Outcome.{Outcome}
@@ -28,12 +28,8 @@ free_valid number =
     ] refl
 
 pub outcome_valid : (m : State) (request : Request) → IsOutcome (outcome_of m request)
-outcome_valid m (Add entry option) = tt
-outcome_valid m (Replace entry option) = tt
-outcome_valid m (Remove entry) = tt
-outcome_valid m (Order numbers) = tt
-outcome_valid m (Next entry) = tt
 outcome_valid m (AddFree option) = free_valid (free_number m)
+outcome_valid m _ = tt
 
 -- what is under an entry's number once this was stored, if that was there before
 abbrev pub stands_after : Option Stored → ℕ → Option (List ℕ) → Option (List ℕ)
@@ -44,7 +40,8 @@ entry_by : (m : State) (request : Request) (code : Code) (told : Option ℕ) (en
     get (effect_by m request code told).entries entry ≡ stands_after (stored_as request code told) entry (get m.entries entry)
 entry_by m (Add number option) Done told entry = get_inserted m.entries number (option_bytes option) entry
 entry_by m (Replace number option) Done told entry = get_inserted m.entries number (option_bytes option) entry
-entry_by m (Remove number) Done told entry = get-remove nat_cmp_total m.entries number entry ∙ ap (λ b. cond b None (get m.entries entry)) (tie_test entry number)
+entry_by m (Remove number) Done told entry =
+    get-remove nat_cmp_total m.entries number entry ∙ ap (λ b. cond b None (get m.entries entry)) (tie_test entry number)
 entry_by m (Order numbers) Done told entry = refl
 entry_by m (Next number) Done told entry = refl
 entry_by m (AddFree option) Done None entry = refl

@@ -1,10 +1,11 @@
 -- The least number from the first one on that a map lacks.
-use Rattle.std.proofs.Common.{◌≡◌, ◌≢◌, ℕ, ◌+◌, ◌<◌, ◌≤◌, true, false, cond, T, eqb, List, [], ◌∷◌, map, Some, None, refl, sym, ap, ◌∙◌, arith}
+use Rattle.std.proofs.Common.{◌≡◌, ◌≢◌, ℕ, ◌+◌, ◌<◌, ◌≤◌, true, false, cond, T, eqb, List, [], ◌∷◌, map, Some, None, refl, sym, ap, ◌∙◌, arith, inl, inr}
 use Rattle.std.specs.Prelude.{is_some}
 use Rattle.std.specs.Ordering.{nat_cmp}
 use Rattle.std.specs.FinMap.{FinMap, get, contains_key, entries, entries_sorted, keys, get-entries}
 use Rattle.std.specs.FinMap.Entries.{find, is_sorted}
 use Rattle.std.proofs.lemmas.Bool.Decides.{nat_tests}
+use Rattle.std.proofs.lemmas.Bool.{cases_Bool}
 use Rattle.boot_requests.specs.Window.{gap_from}
 use Rattle.boot_requests.proofs.WholeRuns.Numbers.{AreAbove, sorted_parts, found_at, found_behind}
 
@@ -55,15 +56,16 @@ module _ {X : Type 0} where
   gap_filled gap [] h q from below = absurd (omega arith)
   gap_filled gap (e ∷ es) h q from below =
       let parts = sorted_parts e es h in
-      elim (eqb q e.0) as (λ b. eqb q e.0 ≡ b → is_some (find nat_cmp q (e ∷ es)) ≡ true) [
-        | true ↦ λ t. ap is_some (found_at q e es ∙ ap (λ b. cond b (Some e.1) (find nat_cmp q es)) t)
-        | false ↦ λ t.
+      elim (cases_Bool (eqb q e.0)) [
+        | inl t ↦ ap is_some (found_at q e es ∙ ap (λ b. cond b (Some e.1) (find nat_cmp q es)) t)
+        | inr t ↦
             let off : q ≢ e.0 = λ is. grind (arith, nat_tests, t, is) in
-            ap is_some (found_behind q e es off) ∙ elim (eqb e.0 gap) as (λ b. eqb e.0 gap ≡ b → q < gap_from (cond b (gap + 1) gap) (numbers es) → is_some (find nat_cmp q es) ≡ true) [
+            ap is_some (found_behind q e es off)
+            ∙ elim (eqb e.0 gap) as (λ b. eqb e.0 gap ≡ b → q < gap_from (cond b (gap + 1) gap) (numbers es) → is_some (find nat_cmp q es) ≡ true) [
               | true ↦ λ at less. let is : e.0 ≡ gap = grind (arith, nat_tests, at) in gap_filled (gap + 1) es parts.1 q (omega arith) less
               | false ↦ λ at less. gap_filled gap es parts.1 q from less
             ] refl below
-      ] refl
+      ]
 
   -- this is the least number from the first one on that the map lacks
   pub record IsGap (first : ℕ) (m : FinMap nat_cmp X) (gap : ℕ) : Type 0 where

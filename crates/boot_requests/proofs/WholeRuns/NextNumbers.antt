@@ -1,18 +1,20 @@
 -- Whole runs: the state after a run has its gap as its next number.
-use Rattle.std.proofs.Common.{◌≡◌, ℕ, zero, suc, ltb, ◌+◌, ◌-◌, ◌<◌, ◌≤◌, Bool, true, false, cond, List, [], ◌∷◌, ◌++◌, Option, Some, None, refl, sym, ap, ◌∙◌, arith}
+use Rattle.std.proofs.Common.{◌≡◌, ℕ, zero, suc, ltb, ◌+◌, ◌-◌, ◌<◌, ◌≤◌, Bool, true, false, cond, List, [], ◌∷◌, ◌++◌, Option, Some, None, refl, sym, ap, ◌∙◌}
+use Rattle.std.proofs.Common.{arith, inl, inr}
 use Rattle.std.specs.Prelude.{is_some}
 use Rattle.std.specs.Ordering.{nat_cmp}
 use Rattle.std.specs.FinMap.{empty, get, contains_key, insert, retain_keys, get-empty}
 use Rattle.std.proofs.lemmas.Bool.Decides.{nat_tests}
 use Rattle.std.proofs.lemmas.List.{append-nil}
+use Rattle.std.proofs.lemmas.Bool.{false≢true, cases_Bool}
 use Rattle.boot_requests.specs.declared.request.Request.{Request}
-use Rattle.boot_requests.specs.declared.request.Request.TheVariants.{Add, Replace, Remove, Order, Next, AddFree}
+use Rattle.boot_requests.specs.declared.request.Request.TheVariants.{AddFree}
 use Rattle.boot_requests.specs.declared.outcome.Code.{Code}
-use Rattle.boot_requests.specs.declared.outcome.Code.TheVariants.{Done, Exists, Missing, OrderRepeats, OrderUnknown, NoFree}
+use Rattle.boot_requests.specs.declared.outcome.Code.TheVariants.{Done}
 use Rattle.boot_requests.specs.declared.outcome.Outcome.{Outcome}
 use Rattle.boot_requests.specs.State.{State}
 use Rattle.boot_requests.specs.Apply.{outcome_of, effect_if_done, effect_by, effect, after_request, after_boot}
-use Rattle.boot_requests.specs.Seen.{Seen, Came, Malformed, Prepare, Hand, Restart}
+use Rattle.boot_requests.specs.Seen.{Seen, Came, Prepare, Restart}
 use Rattle.boot_requests.specs.Window.{Requests, gap_of, is_open}
 use Rattle.boot_requests.specs.Changes.{Change, Applies, Boots, changes_between, after_changes}
 use Rattle.boot_requests.specs.Run.{accepted_requests, gap_at, is_armed, new_changes, history, state_at}
@@ -36,21 +38,12 @@ keeps_number_here : (m : State) → IsCountedAs m m
 keeps_number_here m = record { next_number = refl; kept = refl }
 
 effect_keeps_number : (m : State) (request : Request) (told : Option ℕ) → IsCountedAs m (effect_if_done m request told)
-effect_keeps_number m (Add entry option) told = record { next_number = refl; kept = refl }
-effect_keeps_number m (Replace entry option) told = record { next_number = refl; kept = refl }
-effect_keeps_number m (Remove entry) told = record { next_number = refl; kept = refl }
-effect_keeps_number m (Order numbers) told = record { next_number = refl; kept = refl }
-effect_keeps_number m (Next entry) told = record { next_number = refl; kept = refl }
 effect_keeps_number m (AddFree option) None = keeps_number_here m
-effect_keeps_number m (AddFree option) (Some entry) = record { next_number = refl; kept = refl }
+effect_keeps_number m _ _ = record { next_number = refl; kept = refl }
 
 effect_by_keeps_number : (m : State) (request : Request) (code : Code) (told : Option ℕ) → IsCountedAs m (effect_by m request code told)
 effect_by_keeps_number m request Done told = effect_keeps_number m request told
-effect_by_keeps_number m request Exists told = keeps_number_here m
-effect_by_keeps_number m request Missing told = keeps_number_here m
-effect_by_keeps_number m request OrderRepeats told = keeps_number_here m
-effect_by_keeps_number m request OrderUnknown told = keeps_number_here m
-effect_by_keeps_number m request NoFree told = keeps_number_here m
+effect_by_keeps_number m request _ told = keeps_number_here m
 
 pub effect_number : (m : State) (request : Request) (outcome : Outcome) → (effect m request outcome).next_number ≡ m.next_number
 effect_number m request outcome = (effect_by_keeps_number m request outcome.code outcome.entry).next_number
@@ -63,10 +56,7 @@ after_request_number m request = ap (λ n. n + 1) (effect_number m request (outc
 
 pub some_of : {A : Type 0} (o : Option A) → is_some o ≡ true → (x : A) × (o ≡ Some x)
 some_of (Some x) h = (x, refl)
-some_of None h = absurd (false_true h)
-  where
-    false_true : false ≡ true → ⊥
-    false_true e = cc
+some_of None h = absurd (false≢true h)
 
 -- requests that follow each other without a gap are each counted
 pub changes_number : (steps from to : ℕ) (m : State) (requests : Requests) → from + steps ≡ to →
@@ -156,8 +146,8 @@ gap_kept first requests =
 pub history_number : (first : ℕ) (run : List Seen) (m : State) → m.next_number ≡ first → (after_changes m (history first run)).next_number ≡ gap_at first run
 history_number first [] m is = is ∙ sym (gap_of_none first)
 history_number first (Came number request ∷ run) m is =
-    elim (is_open (accepted_requests first run) (gap_at first run) number) as (λ b. is_open (accepted_requests first run) (gap_at first run) number ≡ b → (after_changes m (history first (Came number request ∷ run))).next_number ≡ gap_at first (Came number request ∷ run)) [
-      | true ↦ λ t.
+    elim (cases_Bool (is_open (accepted_requests first run) (gap_at first run) number)) [
+      | inl t ↦
           let from : ℕ = gap_at first run in
           let all : Requests = insert (above_gap (accepted_requests first run) from) number request in
           let to : ℕ = gap_of from all in
@@ -167,18 +157,21 @@ history_number first (Came number request ∷ run) m is =
           ∙ ap (λ (s : State). s.next_number) (after_changes-append m (history first run) (changes_between from to all))
           ∙ changes_number (to - from) from to (after_changes m (history first run)) all (omega arith) inner.filled
           ∙ ap (λ n. n + (to - from)) (history_number first run m is) ∙ omega arith ∙ sym (gap_open first run number request t)
-      | false ↦ λ t.
+      | inr t ↦
           ap (λ (changes : List Change). (after_changes m changes).next_number) (history_closed first run number request t)
           ∙ history_number first run m is ∙ sym (gap_closed first run number request t)
-    ] refl
-history_number first (Malformed fault ∷ run) m is = ap (λ (changes : List Change). (after_changes m changes).next_number) (append-nil (history first run)) ∙ history_number first run m is
+    ]
 history_number first (Prepare ∷ run) m is =
     ap (λ (s : State). s.next_number) (after_changes-append m (history first run) (chosen (is_armed run) [] (Boots ∷ [])))
-    ∙ elim (is_armed run) as (λ b. (after_changes (after_changes m (history first run)) (chosen b [] (Boots ∷ []))).next_number ≡ (after_changes m (history first run)).next_number) [ true ↦ refl | false ↦ refl ]
+    ∙ elim (is_armed run) as (λ b.
+    (after_changes (after_changes m (history first run)) (chosen b [] (Boots ∷ []))).next_number ≡ (after_changes m (history first run)).next_number)
+    [ true ↦ refl | false ↦ refl ]
     ∙ history_number first run m is
-history_number first (Hand ∷ run) m is = ap (λ (changes : List Change). (after_changes m changes).next_number) (append-nil (history first run)) ∙ history_number first run m is
 history_number first (Restart ∷ run) m is =
-    ap (λ (changes : List Change). (after_changes m changes).next_number) (append-nil (history first run)) ∙ history_number first run m is ∙ sym (gap_kept first (accepted_requests first run))
+    ap (λ (changes : List Change). (after_changes m changes).next_number) (append-nil (history first run)) ∙ history_number first run m is
+    ∙ sym (gap_kept first (accepted_requests first run))
+history_number first (_ ∷ run) m is =
+    ap (λ (changes : List Change). (after_changes m changes).next_number) (append-nil (history first run)) ∙ history_number first run m is
 
 -- the next number after a run is its gap
 pub state_number : (start : State) (run : List Seen) → (state_at start run).next_number ≡ gap_at start.next_number run

@@ -1,21 +1,21 @@
 -- Finite maps from numbers.
-use Rattle.std.proofs.Common.{◌≡◌, ◌≢◌, ℕ, suc, leb, ltb, ◌<◌, ◌≤◌, inl, inr, Bool, true, false, cond, T, eqb, List, [], ◌∷◌, length, Option, Some, None, refl, sym, ap, subst, ◌∙◌, arith}
+use Rattle.std.proofs.Common.{◌≡◌, ◌≢◌, ℕ, suc, leb, ltb, ◌<◌, ◌≤◌, Bool, true, false, cond, T, eqb, List, [], ◌∷◌, Option, Some, None, refl, sym, ap, subst}
+use Rattle.std.proofs.Common.{◌∙◌, arith, inl, inr}
 use Rattle.std.specs.Prelude.{◌&&◌, IfSome}
 use Rattle.std.specs.List.{AllByRecursion}
 use Rattle.std.specs.Ordering.{nat_cmp, eq_by_cmp, is_lt}
 use Rattle.std.specs.Cmp.{nat_cmp_total}
-use Rattle.std.specs.FinMap.{FinMap, empty, get, insert, retain_keys, entries, entries_sorted, get-empty, get-insert, get-retain_keys, get-entries, len-entries, len-empty, same_map, nat_cmp-IsAntisymmetric}
+use Rattle.std.specs.FinMap.{FinMap, empty, get, insert, retain_keys, entries, entries_sorted, get-empty, get-insert, get-retain_keys, get-entries, len-entries}
+use Rattle.std.specs.FinMap.{len-empty, same_map, nat_cmp-IsAntisymmetric}
 use Rattle.std.specs.FinMap.Entries.{find, is_sorted, below_all, same_entries}
 use Rattle.std.proofs.lemmas.Bool.Decides.{nat_tests}
 use Rattle.std.proofs.lemmas.Bool.{cases_lt}
+use Rattle.uefi_vars.proofs.Maps.{T_parts, T_from_parts}
+use Rattle.uefi_vars.proofs.NameChanges.{none_of}
 
 -- two numbers tie if they are equal
 pub tie_test : (a b : ℕ) → eq_by_cmp nat_cmp a b ≡ eqb a b
 tie_test a b = grind (arith, nat_tests)
-
-pub T_parts : (a b : Bool) → T (a && b) → T a × T b
-T_parts true b h = (tt, h)
-T_parts false b h = absurd h
 
 pub T_is : (b : Bool) → T b → b ≡ true
 T_is true h = refl
@@ -51,10 +51,6 @@ module _ {X : Type 0} where
   pub same_numbers : (m n : FinMap nat_cmp X) → ((q : ℕ) → get m q ≡ get n q) → m ≡ n
   same_numbers m n h = same_map nat_cmp_total nat_cmp-IsAntisymmetric m n h
 
-T_and : (a b : Bool) → T a → T b → T (a && b)
-T_and true b g h = h
-T_and false b g h = absurd g
-
 less_test : (n k : ℕ) → n < k → is_lt (nat_cmp n k) ≡ true
 less_test n k l = grind (arith, nat_tests, l)
 
@@ -65,7 +61,7 @@ is_between from to = λ q. leb from q && ltb q to
 module _ {X : Type 0} where
   pub below_from : (n : ℕ) (es : List (ℕ × X)) → AreAbove n es → T (below_all nat_cmp n es)
   below_from n [] h = tt
-  below_from n (e ∷ es) h = T_and _ _ (T_of _ (less_test n e.0 h.0)) (below_from n es h.1)
+  below_from n (e ∷ es) h = T_from_parts _ _ (T_of _ (less_test n e.0 h.0)) (below_from n es h.1)
 
   pub found_at : (q : ℕ) (e : ℕ × X) (es : List (ℕ × X)) → find nat_cmp q (e ∷ es) ≡ cond (eqb q e.0) (Some e.1) (find nat_cmp q es)
   found_at q e es = ap (λ b. cond b (Some e.1) (find nat_cmp q es)) (tie_test q e.0)
@@ -75,51 +71,20 @@ module _ {X : Type 0} where
       let no : eqb q e.0 ≡ false = grind (arith, nat_tests, apart) in
       found_at q e es ∙ ap (λ b. cond b (Some e.1) (find nat_cmp q es)) no
 
-  pub found_here : (e : ℕ × X) (es : List (ℕ × X)) → find nat_cmp e.0 (e ∷ es) ≡ Some e.1
-  found_here e es =
-      let yes : eqb e.0 e.0 ≡ true = grind (arith, nat_tests) in
-      found_at e.0 e es ∙ ap (λ b. cond b (Some e.1) (find nat_cmp e.0 es)) yes
-
   -- a number that is not above the others' least isn't found
-  pub found_below : (n q : ℕ) (es : List (ℕ × X)) → AreAbove n es → q ≤ n → find nat_cmp q es ≡ None
+  found_below : (n q : ℕ) (es : List (ℕ × X)) → AreAbove n es → q ≤ n → find nat_cmp q es ≡ None
   found_below n q [] h l = refl
   found_below n q (e ∷ es) h l = found_behind q e es (λ is. omega (arith, h.0)) ∙ found_below n q es h.1 l
 
-  -- what holds of each number that is found holds of each entry
-  pub each_number : (P : ℕ → Type 0) (es : List (ℕ × X)) → T (is_sorted nat_cmp es) → ((q : ℕ) → IfSome (find nat_cmp q es) (λ _. P q)) → AllByRecursion (λ e. P e.0) es
-  each_number P [] h each = tt
-  each_number P (e ∷ es) h each =
-      let parts = sorted_parts e es h in
-      let here : P e.0 = subst (λ (o : Option X). IfSome o (λ _. P e.0)) (found_here e es) (each e.0) in
-      (here, each_number P es parts.1 (λ q. rest q parts.0))
-    where
-      rest : (q : ℕ) → AreAbove e.0 es → IfSome (find nat_cmp q es) (λ _. P q)
-      rest q above = elim (cases_lt e.0 q) [
-        | inl l ↦ subst (λ (o : Option X). IfSome o (λ _. P q)) (found_behind q e es (λ is. omega arith)) (each q)
-        | inr l ↦ subst (λ (o : Option X). IfSome o (λ _. P q)) (sym (found_below e.0 q es above l)) tt
-      ]
-
-  pub get_between : (m : FinMap nat_cmp X) (from to q : ℕ) → get (retain_keys m (is_between from to)) q ≡ cond (is_between from to q) (get m q) None
-  get_between m from to q = get_retained m (is_between from to) q
-
-  between_rest : (m : FinMap nat_cmp X) (from to : ℕ) → AreAbove from (entries (retain_keys m (is_between (suc from) to)))
-  between_rest m from to =
-      let rest = retain_keys m (is_between (suc from) to) in
-      each_number (λ q. from < q) (entries rest) (entries_sorted rest) (λ q.
-      subst (λ (o : Option X). IfSome o (λ _. from < q)) (sym (sym (get-entries rest q) ∙ get_between m (suc from) to q)) (above q))
-    where
-      above : (q : ℕ) → IfSome (cond (is_between (suc from) to q) (get m q) None) (λ _. from < q)
-      above q = elim (is_between (suc from) to q) as (λ b. is_between (suc from) to q ≡ b → IfSome (cond b (get m q) None) (λ _. from < q)) [
-        | true ↦ λ t. let l : from < q = grind (arith, nat_tests, t) in elim (get m q) as (λ o. IfSome o (λ _. from < q)) [ Some v ↦ l | None ↦ tt ]
-        | false ↦ λ t. tt
-      ] refl
-
   -- what holds of what is found under each number holds of each entry
-  pub each_entry : (P : ℕ → X → Type 0) (es : List (ℕ × X)) → T (is_sorted nat_cmp es) → ((q : ℕ) → IfSome (find nat_cmp q es) (P q)) → AllByRecursion (λ e. P e.0 e.1) es
+  each_entry : (P : ℕ → X → Type 0) (es : List (ℕ × X)) → T (is_sorted nat_cmp es) → ((q : ℕ) → IfSome (find nat_cmp q es) (P q)) →
+      AllByRecursion (λ e. P e.0 e.1) es
   each_entry P [] h each = tt
   each_entry P (e ∷ es) h each =
       let parts = sorted_parts e es h in
-      let here : P e.0 e.1 = subst (λ (o : Option X). IfSome o (P e.0)) (found_here e es) (each e.0) in
+      let yes : eqb e.0 e.0 ≡ true = grind (arith, nat_tests) in
+      let here : P e.0 e.1 =
+      subst (λ (o : Option X). IfSome o (P e.0)) (found_at e.0 e es ∙ ap (λ b. cond b (Some e.1) (find nat_cmp e.0 es)) yes) (each e.0) in
       (here, each_entry P es parts.1 (λ q. rest q parts.0))
     where
       rest : (q : ℕ) → AreAbove e.0 es → IfSome (find nat_cmp q es) (P q)
@@ -128,11 +93,28 @@ module _ {X : Type 0} where
         | inr l ↦ subst (λ (o : Option X). IfSome o (P q)) (sym (found_below e.0 q es above l)) tt
       ]
 
+  pub get_between : (m : FinMap nat_cmp X) (from to q : ℕ) → get (retain_keys m (is_between from to)) q ≡ cond (is_between from to q) (get m q) None
+  get_between m from to q = get_retained m (is_between from to) q
+
+  between_rest : (m : FinMap nat_cmp X) (from to : ℕ) → AreAbove from (entries (retain_keys m (is_between (suc from) to)))
+  between_rest m from to =
+      let rest = retain_keys m (is_between (suc from) to) in
+      each_entry (λ q _. from < q) (entries rest) (entries_sorted rest) (λ q.
+      subst (λ (o : Option X). IfSome o (λ _. from < q)) (sym (sym (get-entries rest q) ∙ get_between m (suc from) to q)) (above q))
+    where
+      above : (q : ℕ) → IfSome (cond (is_between (suc from) to q) (get m q) None) (λ _. from < q)
+      above q = elim (is_between (suc from) to q) as (λ b. is_between (suc from) to q ≡ b → IfSome (cond b (get m q) None) (λ _. from < q)) [
+        | true ↦ λ t. let l : from < q = grind (arith, nat_tests, t) in elim (get m q) as (λ o. IfSome o (λ _. from < q)) [ Some v ↦ l | None ↦ tt ]
+        | false ↦ λ t. tt
+      ] refl
+
   -- what holds of what a map has under each number holds of its entries between two numbers
-  pub each_between : (P : ℕ → X → Type 0) (m : FinMap nat_cmp X) (from to : ℕ) → ((q : ℕ) → IfSome (get m q) (P q)) → AllByRecursion (λ e. P e.0 e.1) (entries (retain_keys m (is_between from to)))
+  pub each_between : (P : ℕ → X → Type 0) (m : FinMap nat_cmp X) (from to : ℕ) → ((q : ℕ) → IfSome (get m q) (P q)) →
+      AllByRecursion (λ e. P e.0 e.1) (entries (retain_keys m (is_between from to)))
   each_between P m from to each =
       let some = retain_keys m (is_between from to) in
-      each_entry P (entries some) (entries_sorted some) (λ q. subst (λ (o : Option X). IfSome o (P q)) (sym (sym (get-entries some q) ∙ get_between m from to q)) (within q))
+      each_entry P (entries some) (entries_sorted some)
+      (λ q. subst (λ (o : Option X). IfSome o (P q)) (sym (sym (get-entries some q) ∙ get_between m from to q)) (within q))
     where
       within : (q : ℕ) → IfSome (cond (is_between from to q) (get m q) None) (P q)
       within q = elim (is_between from to q) as (λ b. IfSome (cond b (get m q) None) (P q)) [ true ↦ each q | false ↦ tt ]
@@ -144,19 +126,22 @@ module _ {X : Type 0} where
       let all = retain_keys m (is_between from to) in
       let rest = retain_keys m (is_between (suc from) to) in
       same_entries nat_cmp nat_cmp_total nat_cmp-IsAntisymmetric (entries all) ((from, v) ∷ entries rest) (entries_sorted all)
-      (T_and _ _ (below_from from (entries rest) (between_rest m from to)) (entries_sorted rest)) (λ q.
-      sym (get-entries all q) ∙ get_between m from to q ∙ same q ∙ ap (cond (eqb q from) (Some v)) (sym (get_between m (suc from) to q) ∙ get-entries rest q) ∙ sym (found_at q (from, v) (entries rest)))
+      (T_from_parts _ _ (below_from from (entries rest) (between_rest m from to)) (entries_sorted rest)) (λ q.
+      sym (get-entries all q) ∙ get_between m from to q ∙ same q ∙ ap (cond (eqb q from) (Some v)) (sym (get_between m (suc from) to q) ∙ get-entries rest q)
+      ∙ sym (found_at q (from, v) (entries rest)))
     where
       same : (q : ℕ) → cond (is_between from to q) (get m q) None ≡ cond (eqb q from) (Some v) (cond (is_between (suc from) to q) (get m q) None)
-      same q = elim (eqb q from) as (λ b. eqb q from ≡ b → cond (is_between from to q) (get m q) None ≡ cond b (Some v) (cond (is_between (suc from) to q) (get m q) None)) [
-        | true ↦ λ t.
-            let is : q ≡ from = grind (arith, nat_tests, t) in
-            let in_range : is_between from to q ≡ true = grind (arith, nat_tests, l, is) in
-            ap (λ b. cond b (get m q) None) in_range ∙ ap (get m) is ∙ held
-        | false ↦ λ t.
-            let same_range : is_between from to q ≡ is_between (suc from) to q = grind (arith, nat_tests, t) in
-            ap (λ b. cond b (get m q) None) same_range
-      ] refl
+      same q =
+          elim (eqb q from) as (λ b.
+          eqb q from ≡ b → cond (is_between from to q) (get m q) None ≡ cond b (Some v) (cond (is_between (suc from) to q) (get m q) None)) [
+            | true ↦ λ t.
+                let is : q ≡ from = grind (arith, nat_tests, t) in
+                let in_range : is_between from to q ≡ true = grind (arith, nat_tests, l, is) in
+                ap (λ b. cond b (get m q) None) in_range ∙ ap (get m) is ∙ held
+            | false ↦ λ t.
+                let same_range : is_between from to q ≡ is_between (suc from) to q = grind (arith, nat_tests, t) in
+                ap (λ b. cond b (get m q) None) same_range
+          ] refl
 
   -- between a number and one that isn't greater there is none
   pub between_none : (m : FinMap nat_cmp X) (from to : ℕ) → to ≤ from → retain_keys m (is_between from to) ≡ empty
@@ -165,8 +150,4 @@ module _ {X : Type 0} where
       get_between m from to q ∙ ap (λ b. cond b (get m q) None) out ∙ sym (get-empty nat_cmp q))
 
   pub entries_of_empty : entries (empty {X = X} {R = nat_cmp}) ≡ []
-  entries_of_empty = nil_of (entries empty) (sym (len-entries (empty {X = X} {R = nat_cmp})) ∙ len-empty nat_cmp X)
-    where
-      nil_of : (es : List (ℕ × X)) → length es ≡ 0 → es ≡ []
-      nil_of [] h = refl
-      nil_of (e ∷ es) h = absurd (omega arith)
+  entries_of_empty = none_of (entries (empty {X = X} {R = nat_cmp})) (sym (len-entries (empty {X = X} {R = nat_cmp})) ∙ len-empty nat_cmp X)

@@ -1,19 +1,18 @@
 -- A plan is handed out only after a boot that was taken, with no hand and no restart in between.
-use Rattle.std.proofs.Common.{◌≡◌, ◌≢◌, ℕ, ltb, leb, ◌-◌, ◌⊎◌, inl, inr, true, false, eqb, List, [], ◌∷◌, ◌++◌, Option, Some, None, refl, ap, subst}
-use Rattle.std.specs.Prelude.{if◌then◌else◌, MatchBool, MatchOption}
-use Rattle.std.specs.FinMap.{get}
+use Rattle.std.proofs.Common.{◌≡◌, ◌≢◌, ℕ, ◌-◌, true, false, List, [], ◌∷◌, ◌++◌, Option, Some, None, refl, ap, subst}
+use Rattle.std.specs.Prelude.{if◌then◌else◌}
 use Rattle.uefi_vars.specs.Plan.{PlanParts}
 use Rattle.boot_requests.specs.declared.request.Request.{Request}
 use Rattle.boot_requests.specs.declared.outcome.Outcome.{Outcome}
 use Rattle.boot_requests.specs.declared.reply.Reply.TheVariants as reply
-use Rattle.boot_requests.specs.Limits.{width}
 use Rattle.boot_requests.specs.State.{State}
-use Rattle.boot_requests.specs.Apply.{outcome_of, HasPlanOf}
+use Rattle.boot_requests.specs.Apply.{HasPlanOf}
 use Rattle.boot_requests.specs.Seen.{Seen, Came, Malformed, Prepare, Hand, Restart}
 use Rattle.boot_requests.specs.Window.{Requests}
 use Rattle.boot_requests.specs.Run.{accepted_requests, gap_at, is_armed, HaveNoHandOrRestart, before_taken, state_at, IsPending}
-use Rattle.boot_requests.specs.Answer.{IsReplyTo, again, kept_outcome, choice_count, reply_to_hand}
+use Rattle.boot_requests.specs.Answer.{IsReplyTo, again, kept_outcome, reply_to_hand}
 use Rattle.boot_requests.specs.Reply.{IsReply}
+use Rattle.boot_requests.proofs.WholeRuns.Told.{IsToldOfBoot, by_answer}
 
 -- the run has a boot that was taken before these, and since then neither a hand nor a restart
 pub record IsTaken (run before : List Seen) : Type 0 where
@@ -32,7 +31,6 @@ still seen run before hand restart h = record {
 
 -- if a plan is prepared, a boot was taken
 taken : (run : List Seen) → is_armed run ≡ true → IsTaken run (before_taken run)
-taken [] h = absurd (let no : false ≡ true = h in cc)
 taken (Came number request ∷ run) h = still (Came number request) run (before_taken run) (λ e. cc) (λ e. cc) (taken run h)
 taken (Malformed fault ∷ run) h = still (Malformed fault) run (before_taken run) (λ e. cc) (λ e. cc) (taken run h)
 taken (Prepare ∷ run) h =
@@ -40,8 +38,7 @@ taken (Prepare ∷ run) h =
       | true ↦ λ t. still Prepare run (before_taken run) (λ e. cc) (λ e. cc) (taken run t)
       | false ↦ λ t. record { later = []; parts = refl; quiet = tt; unarmed = t }
     ] refl
-taken (Hand ∷ run) h = absurd (let no : false ≡ true = h in cc)
-taken (Restart ∷ run) h = absurd (let no : false ≡ true = h in cc)
+taken _ h = absurd (let no : false ≡ true = h in cc)
 
 -- ---- no other event is answered so
 
@@ -52,40 +49,20 @@ module _ (plan : PlanParts) where
 
   no_plan : (m : State) (requests : Requests) (gap after number : ℕ) (request : Request) → IsReplyTo m requests gap after number request (reply.Plan plan) → ⊥
   no_plan m requests gap after number request =
-      elim (ltb number gap) as (λ b. MatchBool b (reply.Plan plan ≡ again (kept_outcome m number)) Tail → ⊥) [
-        | true ↦ λ h. not_again (kept_outcome m number) h
-        | false ↦ tail
-      ]
-    where
-      Found : Option Request → Type 0
-      Found found =
-          MatchOption found
-          (reply.Plan plan ≡ (if eqb number gap then reply.Applied (outcome_of m request) after else reply.Waiting gap))
-          (λ other. ((other ≢ request) × (reply.Plan plan ≡ reply.Conflict)) ⊎ ((other ≡ request) × (reply.Plan plan ≡ reply.Waiting gap)))
-
-      Tail : Type 0
-      Tail = MatchBool (leb width (number - gap)) (reply.Plan plan ≡ reply.Ahead gap) (Found (get requests number))
-
-      found : (o : Option Request) → Found o → ⊥
-      found None h = elim (eqb number gap) as (λ b. reply.Plan plan ≡ (if b then reply.Applied (outcome_of m request) after else reply.Waiting gap) → ⊥) [ true ↦ λ e. cc | false ↦ λ e. cc ] h
-      found (Some other) h = elim h [ inl l ↦ (let e = l.1 in cc) | inr r ↦ (let e = r.1 in cc) ]
-
-      tail : Tail → ⊥
-      tail = elim (leb width (number - gap)) as (λ b. MatchBool b (reply.Plan plan ≡ reply.Ahead gap) (Found (get requests number)) → ⊥) [
-        | true ↦ λ h. (let e : reply.Plan plan ≡ reply.Ahead gap = h in cc)
-        | false ↦ found (get requests number)
-      ]
+      by_answer m requests gap after number request (reply.Plan plan) ⊥
+      (not_again (kept_outcome m number)) (λ h. cc) (λ none here h. cc) (λ h. cc) (λ h. cc)
 
   not_prepared : (start : State) (run : List Seen) → IsReply start run Prepare (reply.Plan plan) → ⊥
   not_prepared start run =
-      elim (is_armed run) as (λ b. MatchBool b (reply.Plan plan ≡ reply.AlreadyPrepared) ((p : PlanParts) × HasPlanOf (state_at start run) p × (reply.Plan plan ≡ reply.Prepared (choice_count p))) → ⊥) [
+      elim (is_armed run) as (λ b. IsToldOfBoot b (state_at start run) (reply.Plan plan) → ⊥) [
         | true ↦ λ h. (let e : reply.Plan plan ≡ reply.AlreadyPrepared = h in cc)
         | false ↦ λ h. (let e = h.2 in cc)
       ]
 
   pub by_hand : (start : State) (run : List Seen) (seen : Seen) → IsReply start run seen (reply.Plan plan) → seen ≡ Hand
   by_hand start run (Came number request) h =
-      absurd (no_plan (state_at start run) (accepted_requests start.next_number run) (gap_at start.next_number run) (gap_at start.next_number (Came number request ∷ run)) number request h)
+      absurd (no_plan (state_at start run) (accepted_requests start.next_number run) (gap_at start.next_number run)
+      (gap_at start.next_number (Came number request ∷ run)) number request h)
   by_hand start run (Malformed fault) h = absurd (let e : reply.Plan plan ≡ reply.Malformed fault = h in cc)
   by_hand start run Prepare h = absurd (not_prepared start run h)
   by_hand start run Hand h = refl
@@ -103,7 +80,7 @@ module _ (plan : PlanParts) where
       (later : List Seen) × (before : List Seen) × (run ≡ later ++ Prepare ∷ before) × HaveNoHandOrRestart later × (is_armed before ≡ false)
       × HasPlanOf (state_at start before) plan
   after_boot start run seen h =
-      let told : IsReply start run Hand (reply.Plan plan) = subst (λ (s : Seen). IsReply start run s (reply.Plan plan)) (by_hand start run seen h) h in
+      let told : IsReply start run Hand (reply.Plan plan) = rw (by_hand start run seen h) at h in
       let there = pending start run told.0 told.1 told.2 in
       let boot = taken run there.0 in
       (boot.later, before_taken run, boot.parts, boot.quiet, boot.unarmed, there.1)

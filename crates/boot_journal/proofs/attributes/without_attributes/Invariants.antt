@@ -1,3 +1,4 @@
+-- What is there, with what is still to be set, is what is wanted, and what is still to come is there.
 use Rattle.std.proofs.Common.{◌≡◌}
 use Rattle.uefi_vars.specs.Iter.{variables_left}
 use Rattle.uefi_vars.specs.NameChanges.{after_each}
@@ -5,7 +6,6 @@ use Rattle.boot_journal.specs.Attributes.{data_in, data_of}
 use Rattle.boot_journal.proofs.WithAttributes.{AreIn, rewritten}
 use Rattle.boot_journal.proofs.attributes.without_attributes.Given as goal
 
--- what is there, with what is still to be set, and what is still to come
 abbrev pub invariant-loop-name : goal.invariant-loop-name
 invariant-loop-name l = record {
   all : AreIn l.vars (variables_left l.name-iterator);

@@ -1,3 +1,4 @@
+-- Attributes and data fit where there is room for both.
 use Rattle.std.proofs.Common.{◌+◌, ◌≤◌, length, subst, arith}
 use Rattle.std.specs.List.{AllByRecursion}
 use Rattle.std.specs.Option.{option_map}

@@ -1,3 +1,4 @@
+-- `==` on names is the comparison of their bytes.
 use Rattle.std.proofs.Common.{sym, ◌∙◌}
 use Rattle.std.proofs.lemmas.Map.Text.{is_eq-slice_cmp}
 use Rattle.boot_journal.proofs.change.is_same.Goals as goal

@@ -1,3 +1,4 @@
+-- Each item of a slice of bytes is a byte.
 use Rattle.std.proofs.Common.{arith}
 use Rattle.uefi_vars.proofs.Bytes.{recursion_from_bytes}
 use Rattle.boot_journal.proofs.change.prove_bytes.Goals as goal

@@ -1,3 +1,4 @@
+-- So far those that were spent are of what the iterator gave.
 use Rattle.std.proofs.Common.{◌≡◌, map}
 use Rattle.boot_journal.specs.Changes.{spent}
 use Rattle.boot_journal.proofs.journal.all_spent.Given as goal

@@ -1,3 +1,4 @@
+-- So far what is kept is of the first changes.
 use Rattle.std.proofs.Common.{◌≡◌, map, take}
 use Rattle.std.specs.List.{AllByRecursion}
 use Rattle.boot_journal.specs.JournalAttributes.{change_kept}

@@ -1,3 +1,4 @@
+-- So far the copies are of the first changes.
 use Rattle.std.proofs.Common.{◌≡◌, take}
 use Rattle.boot_journal.proofs.journal.copy_all.Given as goal
 

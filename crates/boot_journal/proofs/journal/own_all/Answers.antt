@@ -1,7 +1,8 @@
+-- Each change is of a boot variable, so the one at the index is.
 use Rattle.std.proofs.Common.{arith}
 use Rattle.var_stores.specs.BootChange.{change_parts}
 use Rattle.boot_journal.specs.Values.{IsBootChange}
-use Rattle.boot_journal.proofs.Valid.{each_at}
+use Rattle.boot_journal.proofs.KeptChanges.{each_at}
 use Rattle.boot_journal.proofs.journal.own_all.Goals as goal
 
 pub new-requires : goal.new-requires

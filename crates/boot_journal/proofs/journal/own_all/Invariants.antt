@@ -1,3 +1,4 @@
+-- So far the changes that were made are of the first ones.
 use Rattle.std.proofs.Common.{◌≡◌, map, take}
 use Rattle.var_stores.specs.BootChange.{change_parts}
 use Rattle.boot_journal.proofs.journal.own_all.Given as goal

@@ -1,3 +1,4 @@
+-- The reader answers the fault, and would answer the journal.
 use Rattle.boot_journal.proofs.JournalFiles.{no_journal}
 use Rattle.boot_journal.proofs.laws.a_fault_leaves_no_journal.Goals as goal
 

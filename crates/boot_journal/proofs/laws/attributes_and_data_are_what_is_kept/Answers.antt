@@ -1,3 +1,4 @@
+-- By what is found under each name, with its attributes put on and taken off.
 use Rattle.boot_journal.proofs.WithAttributes.{data_back, attributes_kept, on_again}
 use Rattle.boot_journal.proofs.laws.attributes_and_data_are_what_is_kept.Goals as goal
 

@@ -1,3 +1,4 @@
+-- Its bytes spell it, and fit since names of boot variables are names.
 use Rattle.std.proofs.Common.{refl}
 use Rattle.var_stores.proofs.AfterWriting.{boot_is_name}
 use Rattle.boot_journal.specs.Bytes.{file_bytes}

@@ -1,3 +1,4 @@
+-- By what is found under each name.
 use Rattle.boot_journal.proofs.Firmware.{others_stay, made_over}
 use Rattle.boot_journal.proofs.laws.firmware_keeps_its_own.Goals as goal
 

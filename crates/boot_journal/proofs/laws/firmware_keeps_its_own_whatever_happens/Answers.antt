@@ -1,3 +1,4 @@
+-- By induction over the events, for a name that no change is of, and by what is found under each name.
 use Rattle.boot_journal.proofs.Own.{owned, due_over, back_over}
 use Rattle.boot_journal.proofs.laws.firmware_keeps_its_own_whatever_happens.Goals as goal
 

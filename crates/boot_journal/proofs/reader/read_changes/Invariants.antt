@@ -1,3 +1,4 @@
+-- What was read, and what is left, is on the way to what `changes_at` gives; what is left gets shorter.
 use Rattle.std.proofs.Common.{length}
 use Rattle.std.specs.List.{AllByRecursion}
 use Rattle.boot_journal.specs.Values.{IsBootChange}

@@ -1,3 +1,4 @@
+-- The length that was tested is that of the identity, and its characters were tested.
 use Rattle.std.proofs.Common.{◌≡◌, length, sym, ap, ◌∙◌, arith}
 use Rattle.boot_journal.proofs.Fields.{printing_bytes}
 use Rattle.boot_journal.proofs.reader.split_identity.Goals as goal

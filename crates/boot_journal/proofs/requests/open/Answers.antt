@@ -1,3 +1,4 @@
+-- What is refused is refused since attributes are missing, or for the fault that the set has.
 use Rattle.boot_journal.specs.Cause.{IfRefused}
 use Rattle.boot_journal.specs.RunFault.{IsOpenRefusal}
 use Rattle.boot_journal.proofs.Running.{err_then, refused_then, refused_without}
@@ -10,4 +11,5 @@ returns-in_err-set-clause-refused c =
 
 pub returns-in-Err-clause-refused : goal.returns-in-Err-clause-refused
 returns-in-Err-clause-refused c =
-    refused_then c.open_error.result c.in-Err.refused.fault c.args.vars.now c.in_ok-set.set c.in_ok-set.ensures.set c.open_error.ensures c.in-Err.ensures.fault
+    refused_then c.open_error.result c.in-Err.refused.fault c.args.vars.now c.in_ok-set.set c.in_ok-set.ensures.set c.open_error.ensures
+    c.in-Err.ensures.fault

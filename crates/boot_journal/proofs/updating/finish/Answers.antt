@@ -1,3 +1,4 @@
+-- Where a cut comes as the changes are made, and as the journal is replaced then.
 use Rattle.boot_journal.specs.Moves.{IsMaking}
 use Rattle.boot_journal.proofs.Moments.{then, weaker}
 use Rattle.boot_journal.proofs.Moves.{front_is_making, made_is_making}

@@ -1,6 +1,5 @@
-use Rattle.std.proofs.Common.{List, sym, subst, ◌∙◌}
-use Rattle.var_stores.specs.BootChange.{ChangeParts}
-use Rattle.boot_journal.specs.Moves.{IsMaking}
+-- Where a cut comes in `finish`, and then in `take_back`, is where one comes in going on.
+use Rattle.std.proofs.Common.{sym, ◌∙◌}
 use Rattle.boot_journal.specs.Working.{IsGoingOn}
 use Rattle.boot_journal.proofs.Moments.{then, weaker}
 use Rattle.boot_journal.proofs.Settling.{making_going, carrying_going}
@@ -8,38 +7,36 @@ use Rattle.boot_journal.proofs.updating.go_on.Goals as goal
 
 pub returns-in-Ok-clause-moments : goal.returns-in-Ok-clause-moments
 returns-in-Ok-clause-moments g c =
-    weaker _ _ _ _ (λ s making. making_going c.args.work.now c.args.back.now (g.M.Machine.store c.args.machine.now) s
-    (subst (λ (l : List ChangeParts). IsMaking l c.args.work.now.last (g.M.Machine.store c.args.machine.now) s) c.deref.ensures.value making)) c.finish.ensures.moments
+    weaker _ _ _ _ (λ s. making_going c.args.work.now c.args.back.now (g.M.Machine.store c.args.machine.now) s c.deref.ensures.value)
+    c.finish.ensures.moments
 
 pub returns-then-is_making-clause-moments : goal.returns-then-is_making-clause-moments
 returns-then-is_making-clause-moments g c =
-    let P = IsGoingOn c.args.work.now c.args.back.now (g.M.Machine.store c.args.machine.now) in
-    then P _ _ _
-    (weaker _ P _ _ (λ s making. making_going c.args.work.now c.args.back.now (g.M.Machine.store c.args.machine.now) s
-    (subst (λ (l : List ChangeParts). IsMaking l c.args.work.now.last (g.M.Machine.store c.args.machine.now) s) c.deref.ensures.value making)) c.finish.ensures.moments)
-    (weaker _ P _ _ (λ s carrying. carrying_going c.args.work.now c.args.back.now (g.M.Machine.store c.args.machine.now) (g.M.Machine.store c.finish.new.machine) s
-    (sym c.is_making.ensures ∙ c.if-is_making.true)
-    (subst (λ (l : List ChangeParts). IsMaking l c.args.work.now.last (g.M.Machine.store c.args.machine.now) (g.M.Machine.store c.finish.new.machine)) c.deref.ensures.value c.finish.ensures.amid)
-    carrying) c.take_back.ensures.moments)
+    let work = c.args.work.now in
+    let back = c.args.back.now in
+    let s = g.M.Machine.store c.args.machine.now in
+    let P = IsGoingOn work back s in
+    then P _ _ _ (weaker _ P _ _ (λ t. making_going work back s t c.deref.ensures.value) c.finish.ensures.moments)
+    (weaker _ P _ _ (λ t. carrying_going work back s (g.M.Machine.store c.finish.new.machine) t (sym c.is_making.ensures ∙ c.if-is_making.true)
+    c.deref.ensures.value c.finish.ensures.amid) c.take_back.ensures.moments)
 
 pub returns-else-is_making-clause-moments : goal.returns-else-is_making-clause-moments
 returns-else-is_making-clause-moments g c =
-    weaker _ _ _ _ (λ s making. making_going c.args.work.now c.args.back.now (g.M.Machine.store c.args.machine.now) s
-    (subst (λ (l : List ChangeParts). IsMaking l c.args.work.now.last (g.M.Machine.store c.args.machine.now) s) c.deref.ensures.value making)) c.finish.ensures.moments
+    weaker _ _ _ _ (λ s. making_going c.args.work.now c.args.back.now (g.M.Machine.store c.args.machine.now) s c.deref.ensures.value)
+    c.finish.ensures.moments
 
 pub returns-in-Ok-clause-left : goal.returns-in-Ok-clause-left
 returns-in-Ok-clause-left g c =
     making_going c.args.work.now c.args.back.now (g.M.Machine.store c.args.machine.now) (g.M.Machine.store c.finish.new.machine)
-    (subst (λ (l : List ChangeParts). IsMaking l c.args.work.now.last (g.M.Machine.store c.args.machine.now) (g.M.Machine.store c.finish.new.machine)) c.deref.ensures.value c.finish.ensures.amid)
+    c.deref.ensures.value c.finish.ensures.amid
 
 pub returns-then-is_making-clause-left : goal.returns-then-is_making-clause-left
 returns-then-is_making-clause-left g c =
-    carrying_going c.args.work.now c.args.back.now (g.M.Machine.store c.args.machine.now) (g.M.Machine.store c.finish.new.machine) (g.M.Machine.store c.take_back.new.machine)
-    (sym c.is_making.ensures ∙ c.if-is_making.true)
-    (subst (λ (l : List ChangeParts). IsMaking l c.args.work.now.last (g.M.Machine.store c.args.machine.now) (g.M.Machine.store c.finish.new.machine)) c.deref.ensures.value c.finish.ensures.amid)
+    carrying_going c.args.work.now c.args.back.now (g.M.Machine.store c.args.machine.now) (g.M.Machine.store c.finish.new.machine)
+    (g.M.Machine.store c.take_back.new.machine) (sym c.is_making.ensures ∙ c.if-is_making.true) c.deref.ensures.value c.finish.ensures.amid
     c.take_back.ensures.amid
 
 pub returns-else-is_making-clause-left : goal.returns-else-is_making-clause-left
 returns-else-is_making-clause-left g c =
     making_going c.args.work.now c.args.back.now (g.M.Machine.store c.args.machine.now) (g.M.Machine.store c.finish.new.machine)
-    (subst (λ (l : List ChangeParts). IsMaking l c.args.work.now.last (g.M.Machine.store c.args.machine.now) (g.M.Machine.store c.finish.new.machine)) c.deref.ensures.value c.finish.ensures.amid)
+    c.deref.ensures.value c.finish.ensures.amid

@@ -1,3 +1,4 @@
+-- So far the first changes are made, and each moment is one after some of them.
 use Rattle.std.proofs.Common.{◌≡◌, ◌≤◌, take}
 use Rattle.boot_journal.specs.Moments.{Leaves}
 use Rattle.boot_journal.specs.Store.{with_made, IsFrontStore}

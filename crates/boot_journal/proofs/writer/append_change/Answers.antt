@@ -1,3 +1,4 @@
+-- A name of a boot variable is a name, and so isn't too long.
 use Rattle.std.proofs.Common.{◌≤◌, length, sym, subst}
 use Rattle.uefi_vars.specs.Name.{name_max, IsName}
 use Rattle.var_stores.proofs.AfterWriting.{boot_is_name}

@@ -1,3 +1,4 @@
+-- So far the bytes of the first changes are appended.
 use Rattle.std.proofs.Common.{◌≡◌, ◌++◌, take}
 use Rattle.boot_journal.specs.Bytes.{changes_bytes}
 use Rattle.boot_journal.proofs.writer.append_changes.Given as goal

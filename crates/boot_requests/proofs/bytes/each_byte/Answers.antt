@@ -1,5 +1,5 @@
 use Rattle.std.proofs.Common.{arith}
-use Rattle.boot_requests.proofs.Frames.ByteLists.{recursion_from_bytes}
+use Rattle.uefi_vars.proofs.Bytes.{recursion_from_bytes}
 use Rattle.boot_requests.proofs.bytes.each_byte.Goals as goal
 
 pub returns-clause-valid : goal.returns-clause-valid

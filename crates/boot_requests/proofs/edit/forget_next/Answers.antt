@@ -9,5 +9,6 @@ returns-then-not-names_next c = λ m h. next_kept m _ _ (next_other m.boot_next 
 
 pub returns : goal.returns
 returns c = λ m h.
-    subst (λ (o : Option ℕ). IsStateOf (record m { boot_next = o }) (with_changes c.args.vars.now c.remove.new.self)) (sym (next_named m.boot_next c.args.number (sym (c.names_next.ensures m h) ∙ c.if-not-names_next.false)))
+    subst (λ (o : Option ℕ). IsStateOf (record m { boot_next = o }) (with_changes c.args.vars.now c.remove.new.self))
+    (sym (next_named m.boot_next c.args.number (sym (c.names_next.ensures m h) ∙ c.if-not-names_next.false)))
     (next_deleted m _ _ (c.in_ok-remove.ensures.removed c.args.vars.now) h)

@@ -1,7 +1,6 @@
-use Rattle.std.proofs.Common.{◌≡◌, ℕ, List, length, false, sym, ap, subst, ◌∙◌, arith}
-use Rattle.uefi_vars.specs.NameChanges.{with_changes}
+-- BootOrder is without the number, or stays as it is if it has none.
+use Rattle.std.proofs.Common.{◌≡◌, ℕ, List, length, sym, ap, ◌∙◌, arith}
 use Rattle.boot_requests.specs.Apply.{is_in, without}
-use Rattle.boot_requests.specs.Keeper.{IsStateOf}
 use Rattle.boot_requests.proofs.Variables.Edits.{order_kept}
 use Rattle.boot_requests.proofs.Variables.OrderLists.{no_longer, without_absent}
 use Rattle.boot_requests.proofs.edit.remove_number.Goals as goal
@@ -15,11 +14,11 @@ store_order-requires c =
 pub returns-then-not-is_in : goal.returns-then-not-is_in
 returns-then-not-is_in c = λ m h.
     let order = c.deref.ensures.value ∙ c.in_ok-order.ensures.order m h in
-    let none : is_in m.order c.args.number ≡ false = ap (λ (o : List ℕ). is_in o c.args.number) (sym order) ∙ sym c.is_in.ensures ∙ c.if-not-is_in.true in
+    let none = ap (λ (o : List ℕ). is_in o c.args.number) (sym order) ∙ sym c.is_in.ensures ∙ c.if-not-is_in.true in
     order_kept m _ _ (without_absent m.order c.args.number none) h
 
 pub returns : goal.returns
 returns c = λ m h.
     let order = c.deref-2.ensures.value ∙ c.in_ok-order.ensures.order m h in
     let others = c.deref-3.ensures.value ∙ c.in_ok-others.ensures ∙ ap (λ (o : List ℕ). without o c.args.number) order in
-    subst (λ (o : List ℕ). IsStateOf (record m { order = o }) (with_changes c.args.vars.now c.store_order.new.changes)) others (c.in_ok-store_order.ensures c.args.vars.now m h)
+    rw others at (c.in_ok-store_order.ensures c.args.vars.now m h)

@@ -10,4 +10,5 @@ pub returns : goal.returns
 returns c = λ vars m h.
     let fits : c.args.number < 2 ^ 16 = omega (arith, c.ranges.number.fits) in
     entry_stored m _ _ c.args.number _ fits
-    (c.in-Ok.ensures.put vars ∙ ap (λ (b : List ℕ). insert (with_changes vars c.args.changes.now) (entry_text c.args.number) b) (c.in_ok-bytes.ensures.written)) (subst IsData (c.in_ok-bytes.ensures.written) c.in-Ok.ensures.valid.1) h
+    (c.in-Ok.ensures.put vars ∙ ap (λ (b : List ℕ). insert (with_changes vars c.args.changes.now) (entry_text c.args.number) b) (c.in_ok-bytes.ensures.written))
+    (subst IsData (c.in_ok-bytes.ensures.written) c.in-Ok.ensures.valid.1) h

@@ -9,5 +9,6 @@ use Rattle.boot_requests.proofs.edit.store_next.Goals as goal
 pub returns-in-Ok : goal.returns-in-Ok
 returns-in-Ok c = λ vars m h.
     let fits : c.args.number < 2 ^ 16 = omega (arith, c.ranges.number.fits) in
-    let put : with_changes vars c.put.new.self ≡ insert (with_changes vars c.args.changes.now) next_text (to_le_bytes w16 c.args.number) = cc (c.in-Ok.ensures.put vars) in
+    let put : with_changes vars c.put.new.self ≡ insert (with_changes vars c.args.changes.now) next_text (to_le_bytes w16 c.args.number) =
+    cc (c.in-Ok.ensures.put vars) in
     next_stored m _ _ c.args.number fits put h

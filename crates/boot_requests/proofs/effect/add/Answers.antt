@@ -7,5 +7,7 @@ pub returns-then-is_there : goal.returns-then-is_there
 returns-then-is_there c = rw c.of.ensures (λ m h. (ap without_entry (sym (cond-true _ _ _ (sym (c.is_there.ensures m h) ∙ c.if-is_there.true))), h))
 
 pub returns : goal.returns
-returns c = rw c.of-2.ensures (λ m h.
-    (ap without_entry (sym (cond-false _ _ _ (sym (c.is_there.ensures m h) ∙ c.if-is_there.false))), c.in_ok-append_number.ensures _ (c.in_ok-store_entry.ensures c.args.vars.now m h)))
+returns c = rw c.of-2.ensures (λ m h. (
+  ap without_entry (sym (cond-false _ _ _ (sym (c.is_there.ensures m h) ∙ c.if-is_there.false))),
+  c.in_ok-append_number.ensures _ (c.in_ok-store_entry.ensures c.args.vars.now m h),
+))

@@ -1,8 +1,7 @@
-use Rattle.std.proofs.Common.{◌≡◌, ◌<◌, ℕ, List, true, length, sym, subst, ◌∙◌, arith}
+use Rattle.std.proofs.Common.{◌<◌, true, length, sym, ◌∙◌, arith}
 use Rattle.std.proofs.lemmas.Bool.{and_from}
 use Rattle.std.proofs.lemmas.List.Folds.{list_all_more, list_all_at}
 use Rattle.std.proofs.lemmas.List.{take_all}
-use Rattle.std.specs.List.{list_all}
 use Rattle.boot_requests.specs.Apply.{is_there}
 use Rattle.boot_requests.proofs.effect.are_there.Goals as goal
 
@@ -14,8 +13,9 @@ returns-then-not-is_there c = λ m h.
 pub loop-number-preserved : goal.loop-number-preserved
 loop-number-preserved c = λ m h.
     let within : c.loop-number.number-index < length c.args.numbers.now = omega arith in
-    list_all_more (is_there m) c.args.numbers.now c.loop-number.number-index 0 within ∙ and_from _ _ (c.loop-number.invariant m h) (sym (c.is_there.ensures m h) ∙ c.if-not-is_there.false)
+    list_all_more (is_there m) c.args.numbers.now c.loop-number.number-index 0 within
+    ∙ and_from _ _ (c.loop-number.invariant m h) (sym (c.is_there.ensures m h) ∙ c.if-not-is_there.false)
 
 pub returns : goal.returns
 returns c = λ m h.
-    sym (subst (λ (xs : List ℕ). list_all (is_there m) xs ≡ true) (take_all c.loop-number.number-index c.args.numbers.now (omega arith)) (c.loop-number.invariant m h))
+    sym (rw (take_all c.loop-number.number-index c.args.numbers.now (omega arith)) at (c.loop-number.invariant m h))

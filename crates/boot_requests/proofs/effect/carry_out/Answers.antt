@@ -5,4 +5,5 @@ use Rattle.boot_requests.proofs.effect.carry_out.Goals as goal
 
 pub set_order-requires : goal.set_order-requires
 set_order-requires c =
-    subst (λ (ns : List ℕ). length ns ≤ order_max) (sym c.numbers.ensures.numbers) (order_fits c.units_have_two_bytes_each.ensures c.args.request.now _ c.in-Order.is c.requires)
+    subst (λ (ns : List ℕ). length ns ≤ order_max) (sym c.numbers.ensures.numbers)
+    (order_fits c.units_have_two_bytes_each.ensures c.args.request.now _ c.in-Order.is c.requires)

@@ -1,3 +1,4 @@
+-- A request is applied to the state that the changed variables stand for: its outcome, its effect, and the mark after it.
 use Rattle.std.proofs.Common.{refl, sym, subst, ◌∙◌}
 use Rattle.uefi_vars.specs.NameChanges.{with_changes}
 use Rattle.boot_requests.specs.declared.outcome.Outcome.{Outcome}
@@ -18,7 +19,8 @@ pub returns-clause-state : goal.returns-clause-state
 returns-clause-state c =
     let m = state_of (with_changes c.args.vars.now c.args.changes.now) c.args.mark.now in
     let edited = c.in_ok-outcome.ensures m c.requires.stands in
-    read_again _ _ _ refl (c.in_ok-store_mark.ensures.changes c.args.vars.now _ edited.1) ∙ after_request_is m c.args.request.now c.in_ok-outcome.outcome c.in_ok-after.after edited.0 c.in_ok-after.ensures
+    read_again _ _ _ refl (c.in_ok-store_mark.ensures.changes c.args.vars.now _ edited.1)
+    ∙ after_request_is m c.args.request.now c.in_ok-outcome.outcome c.in_ok-after.after edited.0 c.in_ok-after.ensures
 
 pub returns-clause-stands : goal.returns-clause-stands
 returns-clause-stands c =

@@ -10,4 +10,5 @@ returns-clause-count c = λ before front parts taken missing.
     let few = c.requires.few in
     let whole = c.if-held-taken-lt-HEADER_LEN.false in
     let less = missing_less before front c.args.before (omega (arith, len, taken, whole)) (omega (arith, taken, few)) missing in
-    subst (λ (t : List ℕ). IsMissing t (c.args.before - c.args.taken)) (sym parts) (subst (λ (n : ℕ). IsMissing (before ++ front) (c.args.before - n)) taken less)
+    subst (λ (t : List ℕ). IsMissing t (c.args.before - c.args.taken)) (sym parts)
+    (subst (λ (n : ℕ). IsMissing (before ++ front) (c.args.before - n)) taken less)

@@ -12,7 +12,8 @@ returns-in-Some-clause-current c = λ next_number kept current has.
 
 pub returns-in-Some-clause-other : goal.returns-in-Some-clause-other
 returns-in-Some-clause-other c = λ next_number kept other has.
-    ((c.is_current.ensures (mark_of next_number kept) (mark_in_bytes c.args.vars.now c.in-Some.bytes.now (sym c.in-Some.ensures.value) next_number kept has)).1 other).is.some
+    ((c.is_current.ensures (mark_of next_number kept)
+    (mark_in_bytes c.args.vars.now c.in-Some.bytes.now (sym c.in-Some.ensures.value) next_number kept has)).1 other).is.some
 
 pub returns-in-None-clause-current : goal.returns-in-None-clause-current
 returns-in-None-clause-current c = λ next_number kept current has. none_is_second c.args.vars.now next_number kept (sym c.in-None.ensures.value) has

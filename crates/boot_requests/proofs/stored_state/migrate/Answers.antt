@@ -19,5 +19,6 @@ returns-clause-put c =
     let vars = c.args.vars.now in
     let mark = c.args.mark.now in
     let some = c.is_current.ensures.other mark.next_number mark.kept c.if-is_current.false c.requires in
-    c.in_ok-make.ensures.made ∙ c.in_ok-store_mark.ensures.put vars ∙ ap (λ (v : Variables). insert v keep_text (mark_bytes mark.next_number mark.kept)) (c.new-changes.ensures vars)
+    c.in_ok-make.ensures.made ∙ c.in_ok-store_mark.ensures.put vars
+    ∙ ap (λ (v : Variables). insert v keep_text (mark_bytes mark.next_number mark.kept)) (c.new-changes.ensures vars)
     ∙ ap (with_data vars keep_text) (sym (mark_stored mark.next_number mark.kept some))

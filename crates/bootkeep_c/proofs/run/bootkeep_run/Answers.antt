@@ -4,12 +4,11 @@ use Rattle.uefi_vars.proofs.Sets.{fault_leaves_none}
 use Rattle.bootkeep_c.specs.Refusals.{set_failure, open_failure}
 use Rattle.bootkeep_c.specs.Runs.{GivesBoth}
 use Rattle.bootkeep_c.proofs.Telling.{only_memory, only_failure, not_memory}
-use Rattle.bootkeep_c.proofs.Streams.{frames_have_no_failure}
-use Rattle.bootkeep_c.proofs.Openings.{opened_without_fault, run_failure_is_of_set, run_failure_is_of_stream, run_failure_is, no_run_failure}
+use Rattle.bootkeep_c.proofs.Openings.{opened_without_fault, events_have_no_failure, run_failure_is_of_set, run_failure_is_of_stream, run_failure_is, no_run_failure}
 use Rattle.bootkeep_c.proofs.run.bootkeep_run.Goals as goal
 
 pub returns-in-Ok-clause-runs : goal.returns-in-Ok-clause-runs
-returns-in-Ok-clause-runs c = λ vars m frames spelled are opens. elim c.give_both.ensures.given [
+returns-in-Ok-clause-runs c = λ vars m events spelled are opens. elim c.give_both.ensures.given [
   | inl given ↦ inl given.0
   | inr long ↦ inr (inl long.0)
 ]
@@ -32,12 +31,12 @@ returns-in-Ok-clause-set_fault c = λ fault first.
 pub returns-in-Ok-clause-stream_fault : goal.returns-in-Ok-clause-stream_fault
 returns-in-Ok-clause-stream_fault c = λ vars failed spelled why.
     let ran = c.in-Ok.ensures.ran in
-    absurd (frames_have_no_failure c.a_stream_has_one_cut.ensures c.args.stream.now ran.ran.frames failed ran.ran.cut why)
+    absurd (events_have_no_failure c.args.stream.now ran.events failed ran.read why)
 
 pub returns-in-Ok-clause-open_fault : goal.returns-in-Ok-clause-open_fault
-returns-in-Ok-clause-open_fault c = λ vars frames fault spelled are is.
+returns-in-Ok-clause-open_fault c = λ vars events fault spelled are is.
     let ran = c.in-Ok.ensures.ran in
-    absurd (opened_without_fault c.what_opens_has_no_fault.ensures c.args.set.now ran.vars vars ran.ran.start fault ran.spelled ran.ran.opened spelled is)
+    absurd (opened_without_fault c.what_opens_has_no_fault.ensures c.args.set.now ran.vars vars ran.happens.start fault ran.spelled ran.happens.opened spelled is)
 
 pub returns-in-Ok-clause-told : goal.returns-in-Ok-clause-told
 returns-in-Ok-clause-told c = λ is. elim c.give_both.ensures.given [
@@ -52,9 +51,9 @@ returns-in-Ok-clause-untouched c = λ other. elim c.give_both.ensures.given [
 ]
 
 pub returns-in-Err-clause-runs : goal.returns-in-Err-clause-runs
-returns-in-Err-clause-runs c = λ vars m frames spelled are opens.
+returns-in-Err-clause-runs c = λ vars m events spelled are opens.
     inr (inr (only_memory c.in-Err.failure c.tell.result c.args.refusal.now c.tell.new.refusal c.tell.ensures
-    (λ other. no_run_failure c.a_stream_has_one_cut.ensures c.what_opens_has_no_fault.ensures c.args.set.now c.args.stream.now vars m frames c.in-Err.failure spelled opens are
+    (λ other. no_run_failure c.what_opens_has_no_fault.ensures c.args.set.now c.args.stream.now vars m events c.in-Err.failure spelled opens are
     (c.in-Err.ensures.fault other))))
 
 pub returns-in-Err-clause-set_fault : goal.returns-in-Err-clause-set_fault
@@ -65,12 +64,12 @@ returns-in-Err-clause-set_fault c = λ fault first.
 pub returns-in-Err-clause-stream_fault : goal.returns-in-Err-clause-stream_fault
 returns-in-Err-clause-stream_fault c = λ vars failed spelled why.
     only_failure c.in-Err.failure failed c.tell.result c.args.refusal.now c.tell.new.refusal c.tell.ensures
-    (λ other. run_failure_is_of_stream c.a_stream_has_one_cut.ensures c.args.set.now c.args.stream.now vars failed c.in-Err.failure spelled why (c.in-Err.ensures.fault other))
+    (λ other. run_failure_is_of_stream c.args.set.now c.args.stream.now vars failed c.in-Err.failure spelled why (c.in-Err.ensures.fault other))
 
 pub returns-in-Err-clause-open_fault : goal.returns-in-Err-clause-open_fault
-returns-in-Err-clause-open_fault c = λ vars frames fault spelled are is.
+returns-in-Err-clause-open_fault c = λ vars events fault spelled are is.
     only_failure c.in-Err.failure (open_failure fault) c.tell.result c.args.refusal.now c.tell.new.refusal c.tell.ensures
-    (λ other. run_failure_is c.a_stream_has_one_cut.ensures c.args.set.now c.args.stream.now vars frames fault c.in-Err.failure spelled are is (c.in-Err.ensures.fault other))
+    (λ other. run_failure_is c.args.set.now c.args.stream.now vars events fault c.in-Err.failure spelled are is (c.in-Err.ensures.fault other))
 
 pub returns-in-Err-clause-told : goal.returns-in-Err-clause-told
 returns-in-Err-clause-told c = λ is.

@@ -1,3 +1,4 @@
+-- The characters of a name are UTF-8.
 use Rattle.uefi_vars.proofs.Names.{IsUtf8-name}
 use Rattle.boot_journal.proofs.boot_id.BootId.from_name.Goals as goal
 

@@ -1,16 +1,15 @@
-use Rattle.std.proofs.Common.{◌≡◌, sym, ap}
+-- What is kept is what the record with the journal leads to.
+use Rattle.std.proofs.Common.{sym}
 use Rattle.boot_journal.specs.declared.recorded.Move.TheVariants.{Replaced}
-use Rattle.boot_journal.specs.Recorded.{done_to}
 use Rattle.boot_journal.specs.RecordedValue.{store_of}
-use Rattle.boot_journal.specs.Store.{Store}
 use Rattle.boot_journal.proofs.Records.{keeps}
 use Rattle.boot_journal.proofs.recorded.Recorded.keep_journal.Goals as goal
 
 pub invariant_of-self : goal.invariant_of-self
 invariant_of-self g c =
     let s = c.args.self.now in
-    let is : store_of s.now ≡ done_to (store_of s.first) s.moves.items = λ i. record { variables = s.vars_are i; journal = s.journal_is i } in
-    let new : Store = record { variables = s.now.vars; journal = c.args.journal } in
-    let kept = keeps (store_of s.first) (store_of s.now) new s.moves.items c.push_reserved.new.self.items (Replaced c.args.kept) is c.push_reserved.ensures.items
-    (λ i. record { variables = s.now.vars; journal = sym c.requires.same i }) in
-    record { vars_are = ap (λ (t : Store). t.variables) kept; journal_is = ap (λ (t : Store). t.journal) kept }
+    let kept =
+    keeps (store_of s.first) (store_of s.now) (record { variables = s.now.vars; journal = c.args.journal }) s.moves.items c.push_reserved.new.self.items
+    (Replaced c.args.kept)
+    s.vars_are s.journal_is c.push_reserved.ensures.items (λ i. record { variables = s.now.vars; journal = sym c.requires.same i }) in
+    record { vars_are = kept.0; journal_is = kept.1 }

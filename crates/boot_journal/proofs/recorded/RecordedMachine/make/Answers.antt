@@ -1,173 +1,99 @@
-use Rattle.std.proofs.Common.{◌≡◌, ◌+◌, inl, inr, true, false, is_ok, List, [], ◌∷◌, ◌++◌, refl, ap, ◌∙◌}
-use Rattle.var_stores.specs.BootChange.{ChangeParts}
-use Rattle.boot_journal.specs.declared.recorded.Move.{Move}
+-- The three ends of `make` once the device was asked to make the change: it did, it did but says that it failed, or it
+-- didn't. For each, which moves the record got, and what it was asked; the rest follows from the moves.
+use Rattle.std.proofs.Common.{inl, inr, true, false, is_ok, [], ◌∷◌, refl, ap, ◌∙◌}
 use Rattle.boot_journal.specs.declared.recorded.Move.TheVariants.{Made, Refused}
 use Rattle.boot_journal.specs.Asked.{ToMake, HasMade, and_then}
-use Rattle.boot_journal.specs.Recorded.{refusals_in}
 use Rattle.boot_journal.specs.RecordedValue.{store_of}
-use Rattle.boot_journal.specs.Store.{Store, with_made, IsEither}
-use Rattle.boot_journal.proofs.Moments.{then}
-use Rattle.boot_journal.proofs.Records.{Step, step_moments, step_now, step_is, no_refusal, one_refusal, count_made, count_refused, asked_twice, told_once, told_twice}
+use Rattle.boot_journal.specs.Store.{with_made, IsEither}
+use Rattle.boot_journal.proofs.Records.{Goes, moments, ends, no_refusal, one_refusal, asked_twice, told_once, told_twice}
 use Rattle.boot_journal.proofs.recorded.RecordedMachine.make.Goals as goal
 
-pub returns-in-Ok-clause-cause : goal.returns-in-Ok-clause-cause
-returns-in-Ok-clause-cause g c =
-    no_refusal _ _ (count_made c.reserve.new.self.moves.items c.keep_change.new.self.moves.items c.in_ok-copy.copy c.keep_change.ensures.moves ∙ ap refusals_in c.reserve.ensures.moves)
-
-pub returns-in-Ok-clause-recorded : goal.returns-in-Ok-clause-recorded
-returns-in-Ok-clause-recorded g c =
+pub returns-in-Ok : goal.returns-in-Ok
+returns-in-Ok g c =
     let s = c.args.self.now in
-    let now = store_of s.now in
-    let first = store_of s.first in
     let k = c.keep_change.new.self in
-    let x = c.in_ok-copy.copy in
-    let step : Step first now (store_of k.first) (store_of k.now) s.moves.items k.moves.items (Made x) = record {
+    let goes : Goes (store_of s.first) (store_of s.now) (store_of k.first) (store_of k.now) s.moves.items k.moves.items (Made c.args.change.now ∷ []) =
+    record {
       is = λ i. record { variables = s.vars_are i; journal = s.journal_is i };
       same = ap store_of (c.keep_change.ensures.first ∙ c.reserve.ensures.first);
-      pushed = c.keep_change.ensures.moves ∙ ap (λ (l : List Move). l ++ Made x ∷ []) c.reserve.ensures.moves;
-      goes = c.keep_change.ensures.store ∙ ap (λ (t : Store). with_made (x ∷ []) t) c.reserve.ensures.now;
+      told = told_once _ _ _ _ _ c.reserve.ensures.moves (ap Made c.in_ok-copy.ensures) c.keep_change.ensures.moves;
+      leads = c.keep_change.ensures.store ∙ (λ i. with_made (c.in_ok-copy.ensures i ∷ []) (c.reserve.ensures.now i));
     } in
-    let there : store_of k.now ≡ with_made (c.args.change.now ∷ []) now = step.goes ∙ ap (λ (x : ChangeParts). with_made (x ∷ []) now) c.in_ok-copy.ensures in
-    inl (step_now first now (store_of k.first) (store_of k.now) s.moves.items k.moves.items (Made x) step)
+    record {
+      cause = no_refusal goes;
+      made = goes.leads;
+      recorded = inl (ends goes);
+      whole = inr goes.leads;
+      moments = moments (IsEither (store_of s.now) (with_made (c.args.change.now ∷ []) (store_of s.now))) goes (inr refl, tt);
+      asked = record {
+        asks = ap g.D.Device.asked c.keep_change.ensures.device ∙ c.make.ensures
+            ∙ (λ i. and_then (g.D.Device.asked (c.reserve.ensures.device i)) (ToMake c.args.change.now (is_ok (c.in-Ok.is i)) ∷ []));
+        told = goes.told;
+      };
+      refused = tt;
+    }
 
-pub returns-in-Ok-clause-moments : goal.returns-in-Ok-clause-moments
-returns-in-Ok-clause-moments g c =
+pub returns-then-has_made : goal.returns-then-has_made
+returns-then-has_made g c =
     let s = c.args.self.now in
+    let k = c.keep_change-then-has_made in
+    let r = c.keep_refusal in
     let now = store_of s.now in
-    let first = store_of s.first in
-    let k = c.keep_change.new.self in
-    let x = c.in_ok-copy.copy in
-    let step : Step first now (store_of k.first) (store_of k.now) s.moves.items k.moves.items (Made x) = record {
+    let goes : Goes (store_of s.first) now (store_of r.new.self.first) (store_of r.new.self.now) s.moves.items r.new.self.moves.items
+    (Made c.args.change.now ∷ Refused ∷ []) = record {
       is = λ i. record { variables = s.vars_are i; journal = s.journal_is i };
-      same = ap store_of (c.keep_change.ensures.first ∙ c.reserve.ensures.first);
-      pushed = c.keep_change.ensures.moves ∙ ap (λ (l : List Move). l ++ Made x ∷ []) c.reserve.ensures.moves;
-      goes = c.keep_change.ensures.store ∙ ap (λ (t : Store). with_made (x ∷ []) t) c.reserve.ensures.now;
+      same = ap store_of (r.ensures.first ∙ k.ensures.first ∙ c.reserve.ensures.first);
+      told = told_twice _ _ _ _ _ (told_once _ _ _ _ _ c.reserve.ensures.moves (ap Made c.in_ok-copy.ensures) k.ensures.moves) r.ensures.moves;
+      leads = r.ensures.store ∙ k.ensures.store ∙ (λ i. with_made (c.in_ok-copy.ensures i ∷ []) (c.reserve.ensures.now i));
     } in
-    let there : store_of k.now ≡ with_made (c.args.change.now ∷ []) now = step.goes ∙ ap (λ (x : ChangeParts). with_made (x ∷ []) now) c.in_ok-copy.ensures in
-    step_moments (IsEither now (with_made (c.args.change.now ∷ []) now)) first now (store_of k.first) (store_of k.now) s.moves.items k.moves.items (Made x) step (inr there)
+    record {
+      cause = one_refusal c.in-Err.error goes refl;
+      made = tt;
+      recorded = inl (ends goes);
+      whole = inr goes.leads;
+      moments = moments (IsEither now (with_made (c.args.change.now ∷ []) now)) goes (inr refl, (inr refl, tt));
+      asked = tt;
+      refused = inr (
+        true,
+        record {
+          asks = ap g.D.Device.asked (r.ensures.device ∙ k.ensures.device) ∙ asked_twice _ _ _ _ _
+              (c.make.ensures
+              ∙ ap (λ r. and_then (g.D.Device.asked c.reserve.new.self.device) (ToMake c.args.change.now (is_ok r) ∷ [])) c.in-Err.is
+              ∙ ap (λ d. and_then (g.D.Device.asked d) (ToMake c.args.change.now false ∷ [])) c.reserve.ensures.device)
+              (c.has_made.ensures ∙ ap (λ b. and_then (g.D.Device.asked c.make.new.self) (HasMade c.args.change.now b ∷ [])) c.if-has_made.true);
+          told = goes.told;
+        },
+      );
+    }
 
-pub returns-then-has_made-clause-cause : goal.returns-then-has_made-clause-cause
-returns-then-has_made-clause-cause g c =
-    one_refusal _ _ c.in-Err.error (count_refused c.keep_change-then-has_made.new.self.moves.items c.keep_refusal.new.self.moves.items c.keep_refusal.ensures.moves
-    ∙ ap (λ n. 1 + n) (count_made c.reserve.new.self.moves.items c.keep_change-then-has_made.new.self.moves.items c.in_ok-copy.copy c.keep_change-then-has_made.ensures.moves ∙ ap refusals_in c.reserve.ensures.moves))
-
-pub returns-then-has_made-clause-moments : goal.returns-then-has_made-clause-moments
-returns-then-has_made-clause-moments g c =
+pub returns-else-has_made : goal.returns-else-has_made
+returns-else-has_made g c =
     let s = c.args.self.now in
+    let r = c.keep_refusal-else-has_made in
     let now = store_of s.now in
-    let first = store_of s.first in
-    let k = c.keep_change-then-has_made.new.self in
-    let x = c.in_ok-copy.copy in
-    let step : Step first now (store_of k.first) (store_of k.now) s.moves.items k.moves.items (Made x) = record {
+    let goes : Goes (store_of s.first) now (store_of r.new.self.first) (store_of r.new.self.now) s.moves.items r.new.self.moves.items (Refused ∷ []) =
+    record {
       is = λ i. record { variables = s.vars_are i; journal = s.journal_is i };
-      same = ap store_of (c.keep_change-then-has_made.ensures.first ∙ c.reserve.ensures.first);
-      pushed = c.keep_change-then-has_made.ensures.moves ∙ ap (λ (l : List Move). l ++ Made x ∷ []) c.reserve.ensures.moves;
-      goes = c.keep_change-then-has_made.ensures.store ∙ ap (λ (t : Store). with_made (x ∷ []) t) c.reserve.ensures.now;
+      same = ap store_of (r.ensures.first ∙ c.reserve.ensures.first);
+      told = told_once _ _ _ _ _ c.reserve.ensures.moves refl r.ensures.moves;
+      leads = r.ensures.store ∙ c.reserve.ensures.now;
     } in
-    let there : store_of k.now ≡ with_made (c.args.change.now ∷ []) now = step.goes ∙ ap (λ (x : ChangeParts). with_made (x ∷ []) now) c.in_ok-copy.ensures in
-    let r = c.keep_refusal.new.self in
-    let step2 : Step (store_of k.first) (store_of k.now) (store_of r.first) (store_of r.now) k.moves.items r.moves.items Refused = record {
-      is = step_is first now (store_of k.first) (store_of k.now) s.moves.items k.moves.items (Made x) step;
-      same = ap store_of c.keep_refusal.ensures.first;
-      pushed = c.keep_refusal.ensures.moves;
-      goes = c.keep_refusal.ensures.store;
-    } in
-    then (IsEither now (with_made (c.args.change.now ∷ []) now)) _ _ _
-    (step_moments (IsEither now (with_made (c.args.change.now ∷ []) now)) first now (store_of k.first) (store_of k.now) s.moves.items k.moves.items (Made x) step (inr there))
-    (step_moments (IsEither now (with_made (c.args.change.now ∷ []) now)) (store_of k.first) (store_of k.now) (store_of r.first) (store_of r.now) k.moves.items r.moves.items Refused step2 (inr (step2.goes ∙ there)))
-
-pub returns-else-has_made-clause-cause : goal.returns-else-has_made-clause-cause
-returns-else-has_made-clause-cause g c =
-    one_refusal _ _ c.in-Err.error (count_refused c.reserve.new.self.moves.items c.keep_refusal-else-has_made.new.self.moves.items c.keep_refusal-else-has_made.ensures.moves
-    ∙ ap (λ n. 1 + n) (ap refusals_in c.reserve.ensures.moves))
-
-pub returns-else-has_made-clause-moments : goal.returns-else-has_made-clause-moments
-returns-else-has_made-clause-moments g c =
-    let s = c.args.self.now in
-    let now = store_of s.now in
-    let r = c.keep_refusal-else-has_made.new.self in
-    let step : Step (store_of s.first) now (store_of r.first) (store_of r.now) s.moves.items r.moves.items Refused = record {
-      is = λ i. record { variables = s.vars_are i; journal = s.journal_is i };
-      same = ap store_of (c.keep_refusal-else-has_made.ensures.first ∙ c.reserve.ensures.first);
-      pushed = c.keep_refusal-else-has_made.ensures.moves ∙ ap (λ (l : List Move). l ++ Refused ∷ []) c.reserve.ensures.moves;
-      goes = c.keep_refusal-else-has_made.ensures.store ∙ c.reserve.ensures.now;
-    } in
-    step_moments (IsEither now (with_made (c.args.change.now ∷ []) now)) (store_of s.first) now (store_of r.first) (store_of r.now) s.moves.items r.moves.items Refused step (inl step.goes)
-
-pub returns-then-has_made-clause-recorded : goal.returns-then-has_made-clause-recorded
-returns-then-has_made-clause-recorded g c =
-    let s = c.args.self.now in
-    let now = store_of s.now in
-    let first = store_of s.first in
-    let k = c.keep_change-then-has_made.new.self in
-    let x = c.in_ok-copy.copy in
-    let step : Step first now (store_of k.first) (store_of k.now) s.moves.items k.moves.items (Made x) = record {
-      is = λ i. record { variables = s.vars_are i; journal = s.journal_is i };
-      same = ap store_of (c.keep_change-then-has_made.ensures.first ∙ c.reserve.ensures.first);
-      pushed = c.keep_change-then-has_made.ensures.moves ∙ ap (λ (l : List Move). l ++ Made x ∷ []) c.reserve.ensures.moves;
-      goes = c.keep_change-then-has_made.ensures.store ∙ ap (λ (t : Store). with_made (x ∷ []) t) c.reserve.ensures.now;
-    } in
-    let there : store_of k.now ≡ with_made (c.args.change.now ∷ []) now = step.goes ∙ ap (λ (x : ChangeParts). with_made (x ∷ []) now) c.in_ok-copy.ensures in
-    let r = c.keep_refusal.new.self in
-    let step2 : Step (store_of k.first) (store_of k.now) (store_of r.first) (store_of r.now) k.moves.items r.moves.items Refused = record {
-      is = step_is first now (store_of k.first) (store_of k.now) s.moves.items k.moves.items (Made x) step;
-      same = ap store_of c.keep_refusal.ensures.first;
-      pushed = c.keep_refusal.ensures.moves;
-      goes = c.keep_refusal.ensures.store;
-    } in
-    inl (step_now (store_of k.first) (store_of k.now) (store_of r.first) (store_of r.now) k.moves.items r.moves.items Refused step2)
-
-pub returns-else-has_made-clause-recorded : goal.returns-else-has_made-clause-recorded
-returns-else-has_made-clause-recorded g c =
-    let s = c.args.self.now in
-    let now = store_of s.now in
-    let r = c.keep_refusal-else-has_made.new.self in
-    let step : Step (store_of s.first) now (store_of r.first) (store_of r.now) s.moves.items r.moves.items Refused = record {
-      is = λ i. record { variables = s.vars_are i; journal = s.journal_is i };
-      same = ap store_of (c.keep_refusal-else-has_made.ensures.first ∙ c.reserve.ensures.first);
-      pushed = c.keep_refusal-else-has_made.ensures.moves ∙ ap (λ (l : List Move). l ++ Refused ∷ []) c.reserve.ensures.moves;
-      goes = c.keep_refusal-else-has_made.ensures.store ∙ c.reserve.ensures.now;
-    } in
-    inl (step_now (store_of s.first) now (store_of r.first) (store_of r.now) s.moves.items r.moves.items Refused step)
-
-pub returns-in-Ok-clause-asked : goal.returns-in-Ok-clause-asked
-returns-in-Ok-clause-asked g c = record {
-  asks =
-      ap g.D.Device.asked c.keep_change.ensures.device
-      ∙ c.make.ensures
-      ∙ ap (λ r. and_then (g.D.Device.asked c.reserve.new.self.device) (ToMake c.args.change.now (is_ok r) ∷ [])) c.in-Ok.is
-      ∙ ap (λ d. and_then (g.D.Device.asked d) (ToMake c.args.change.now true ∷ [])) c.reserve.ensures.device;
-  told = told_once _ _ _ _ _ c.reserve.ensures.moves (ap Made c.in_ok-copy.ensures) c.keep_change.ensures.moves;
-}
-
-pub returns-then-has_made-clause-refused : goal.returns-then-has_made-clause-refused
-returns-then-has_made-clause-refused g c = inr (
-  true,
-  record {
-    asks =
-        ap g.D.Device.asked (c.keep_refusal.ensures.device ∙ c.keep_change-then-has_made.ensures.device)
-        ∙ asked_twice _ _ _ _ _
-        (c.make.ensures
-        ∙ ap (λ r. and_then (g.D.Device.asked c.reserve.new.self.device) (ToMake c.args.change.now (is_ok r) ∷ [])) c.in-Err.is
-        ∙ ap (λ d. and_then (g.D.Device.asked d) (ToMake c.args.change.now false ∷ [])) c.reserve.ensures.device)
-        (c.has_made.ensures ∙ ap (λ b. and_then (g.D.Device.asked c.make.new.self) (HasMade c.args.change.now b ∷ [])) c.if-has_made.true);
-    told = told_twice _ _ _ _ _
-        (told_once _ _ _ _ _ c.reserve.ensures.moves (ap Made c.in_ok-copy.ensures) c.keep_change-then-has_made.ensures.moves)
-        c.keep_refusal.ensures.moves;
-  },
-)
-
-pub returns-else-has_made-clause-refused : goal.returns-else-has_made-clause-refused
-returns-else-has_made-clause-refused g c = inr (
-  false,
-  record {
-    asks =
-        ap g.D.Device.asked c.keep_refusal-else-has_made.ensures.device
-        ∙ asked_twice _ _ _ _ _
-        (c.make.ensures
-        ∙ ap (λ r. and_then (g.D.Device.asked c.reserve.new.self.device) (ToMake c.args.change.now (is_ok r) ∷ [])) c.in-Err.is
-        ∙ ap (λ d. and_then (g.D.Device.asked d) (ToMake c.args.change.now false ∷ [])) c.reserve.ensures.device)
-        (c.has_made.ensures ∙ ap (λ b. and_then (g.D.Device.asked c.make.new.self) (HasMade c.args.change.now b ∷ [])) c.if-has_made.false);
-    told = told_once _ _ _ _ _ c.reserve.ensures.moves refl c.keep_refusal-else-has_made.ensures.moves;
-  },
-)
+    record {
+      cause = one_refusal c.in-Err.error goes refl;
+      made = tt;
+      recorded = inl (ends goes);
+      whole = inl goes.leads;
+      moments = moments (IsEither now (with_made (c.args.change.now ∷ []) now)) goes (inl refl, tt);
+      asked = tt;
+      refused = inr (
+        false,
+        record {
+          asks = ap g.D.Device.asked r.ensures.device ∙ asked_twice _ _ _ _ _
+              (c.make.ensures
+              ∙ ap (λ r. and_then (g.D.Device.asked c.reserve.new.self.device) (ToMake c.args.change.now (is_ok r) ∷ [])) c.in-Err.is
+              ∙ ap (λ d. and_then (g.D.Device.asked d) (ToMake c.args.change.now false ∷ [])) c.reserve.ensures.device)
+              (c.has_made.ensures ∙ ap (λ b. and_then (g.D.Device.asked c.make.new.self) (HasMade c.args.change.now b ∷ [])) c.if-has_made.false);
+          told = goes.told;
+        },
+      );
+    }

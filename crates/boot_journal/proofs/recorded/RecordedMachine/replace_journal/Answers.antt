@@ -1,173 +1,101 @@
-use Rattle.std.proofs.Common.{◌≡◌, ◌+◌, inl, inr, true, false, is_ok, List, [], ◌∷◌, ◌++◌, refl, ap, ◌∙◌}
-use Rattle.boot_journal.specs.declared.recorded.Move.{Move}
+-- The three ends of `replace_journal` once the device was asked to replace it, as those of `make`: it did, it did but says that
+-- it failed, or it didn't. For each, which moves the record got, and what it was asked; the rest follows from the moves.
+use Rattle.std.proofs.Common.{inl, inr, true, false, is_ok, [], ◌∷◌, refl, ap, ◌∙◌}
 use Rattle.boot_journal.specs.declared.recorded.Move.TheVariants.{Replaced, Refused}
-use Rattle.boot_journal.specs.Journal.{JournalParts}
 use Rattle.boot_journal.specs.Asked.{ToReplace, HasReplaced, and_then}
-use Rattle.boot_journal.specs.Recorded.{refusals_in}
 use Rattle.boot_journal.specs.RecordedValue.{store_of}
-use Rattle.boot_journal.specs.Store.{Store, with_journal, IsEither}
-use Rattle.boot_journal.proofs.Moments.{then}
-use Rattle.boot_journal.proofs.Records.{Step, step_moments, step_now, step_is, no_refusal, one_refusal, count_replaced, count_refused, asked_twice, told_once, told_twice}
+use Rattle.boot_journal.specs.Store.{with_journal, IsEither}
+use Rattle.boot_journal.proofs.Records.{Goes, moments, ends, no_refusal, one_refusal, asked_twice, told_once, told_twice}
 use Rattle.boot_journal.proofs.recorded.RecordedMachine.replace_journal.Goals as goal
 
-pub returns-in-Ok-clause-cause : goal.returns-in-Ok-clause-cause
-returns-in-Ok-clause-cause g c =
-    no_refusal _ _ (count_replaced c.reserve.new.self.moves.items c.keep_journal.new.self.moves.items c.in_ok-copy.copy c.keep_journal.ensures.moves ∙ ap refusals_in c.reserve.ensures.moves)
-
-pub returns-in-Ok-clause-recorded : goal.returns-in-Ok-clause-recorded
-returns-in-Ok-clause-recorded g c =
+pub returns-in-Ok : goal.returns-in-Ok
+returns-in-Ok g c =
     let s = c.args.self.now in
-    let now = store_of s.now in
-    let first = store_of s.first in
     let k = c.keep_journal.new.self in
-    let x = c.in_ok-copy.copy in
-    let step : Step first now (store_of k.first) (store_of k.now) s.moves.items k.moves.items (Replaced x) = record {
+    let goes : Goes (store_of s.first) (store_of s.now) (store_of k.first) (store_of k.now) s.moves.items k.moves.items (Replaced c.args.journal.now ∷ []) =
+    record {
       is = λ i. record { variables = s.vars_are i; journal = s.journal_is i };
       same = ap store_of (c.keep_journal.ensures.first ∙ c.reserve.ensures.first);
-      pushed = c.keep_journal.ensures.moves ∙ ap (λ (l : List Move). l ++ Replaced x ∷ []) c.reserve.ensures.moves;
-      goes = c.keep_journal.ensures.store ∙ ap (λ (t : Store). with_journal x t) c.reserve.ensures.now;
+      told = told_once _ _ _ _ _ c.reserve.ensures.moves (ap Replaced c.in_ok-copy.ensures) c.keep_journal.ensures.moves;
+      leads = c.keep_journal.ensures.store ∙ (λ i. with_journal (c.in_ok-copy.ensures i) (c.reserve.ensures.now i));
     } in
-    let there : store_of k.now ≡ with_journal c.args.journal.now now = step.goes ∙ ap (λ (x : JournalParts). with_journal x now) c.in_ok-copy.ensures in
-    inl (step_now first now (store_of k.first) (store_of k.now) s.moves.items k.moves.items (Replaced x) step)
+    record {
+      cause = no_refusal goes;
+      replaced = goes.leads;
+      recorded = inl (ends goes);
+      whole = inr goes.leads;
+      moments = moments (IsEither (store_of s.now) (with_journal c.args.journal.now (store_of s.now))) goes (inr refl, tt);
+      asked = record {
+        asks = ap g.D.Device.asked c.keep_journal.ensures.device ∙ c.replace_journal.ensures
+            ∙ (λ i. and_then (g.D.Device.asked (c.reserve.ensures.device i)) (ToReplace c.args.journal.now (is_ok (c.in-Ok.is i)) ∷ []));
+        told = goes.told;
+      };
+      refused = tt;
+    }
 
-pub returns-in-Ok-clause-moments : goal.returns-in-Ok-clause-moments
-returns-in-Ok-clause-moments g c =
+pub returns-then-has_replaced : goal.returns-then-has_replaced
+returns-then-has_replaced g c =
     let s = c.args.self.now in
+    let k = c.keep_journal-then-has_replaced in
+    let r = c.keep_refusal in
     let now = store_of s.now in
-    let first = store_of s.first in
-    let k = c.keep_journal.new.self in
-    let x = c.in_ok-copy.copy in
-    let step : Step first now (store_of k.first) (store_of k.now) s.moves.items k.moves.items (Replaced x) = record {
+    let goes : Goes (store_of s.first) now (store_of r.new.self.first) (store_of r.new.self.now) s.moves.items r.new.self.moves.items
+    (Replaced c.args.journal.now ∷ Refused ∷ []) = record {
       is = λ i. record { variables = s.vars_are i; journal = s.journal_is i };
-      same = ap store_of (c.keep_journal.ensures.first ∙ c.reserve.ensures.first);
-      pushed = c.keep_journal.ensures.moves ∙ ap (λ (l : List Move). l ++ Replaced x ∷ []) c.reserve.ensures.moves;
-      goes = c.keep_journal.ensures.store ∙ ap (λ (t : Store). with_journal x t) c.reserve.ensures.now;
+      same = ap store_of (r.ensures.first ∙ k.ensures.first ∙ c.reserve.ensures.first);
+      told = told_twice _ _ _ _ _ (told_once _ _ _ _ _ c.reserve.ensures.moves (ap Replaced c.in_ok-copy.ensures) k.ensures.moves) r.ensures.moves;
+      leads = r.ensures.store ∙ k.ensures.store ∙ (λ i. with_journal (c.in_ok-copy.ensures i) (c.reserve.ensures.now i));
     } in
-    let there : store_of k.now ≡ with_journal c.args.journal.now now = step.goes ∙ ap (λ (x : JournalParts). with_journal x now) c.in_ok-copy.ensures in
-    step_moments (IsEither now (with_journal c.args.journal.now now)) first now (store_of k.first) (store_of k.now) s.moves.items k.moves.items (Replaced x) step (inr there)
+    record {
+      cause = one_refusal c.in-Err.error goes refl;
+      replaced = tt;
+      recorded = inl (ends goes);
+      whole = inr goes.leads;
+      moments = moments (IsEither now (with_journal c.args.journal.now now)) goes (inr refl, (inr refl, tt));
+      asked = tt;
+      refused = inr (
+        true,
+        record {
+          asks = ap g.D.Device.asked (r.ensures.device ∙ k.ensures.device) ∙ asked_twice _ _ _ _ _
+              (c.replace_journal.ensures
+              ∙ ap (λ r. and_then (g.D.Device.asked c.reserve.new.self.device) (ToReplace c.args.journal.now (is_ok r) ∷ [])) c.in-Err.is
+              ∙ ap (λ d. and_then (g.D.Device.asked d) (ToReplace c.args.journal.now false ∷ [])) c.reserve.ensures.device)
+              (c.has_replaced.ensures
+              ∙ ap (λ b. and_then (g.D.Device.asked c.replace_journal.new.self) (HasReplaced c.args.journal.now b ∷ [])) c.if-has_replaced.true);
+          told = goes.told;
+        },
+      );
+    }
 
-pub returns-then-has_replaced-clause-cause : goal.returns-then-has_replaced-clause-cause
-returns-then-has_replaced-clause-cause g c =
-    one_refusal _ _ c.in-Err.error (count_refused c.keep_journal-then-has_replaced.new.self.moves.items c.keep_refusal.new.self.moves.items c.keep_refusal.ensures.moves
-    ∙ ap (λ n. 1 + n) (count_replaced c.reserve.new.self.moves.items c.keep_journal-then-has_replaced.new.self.moves.items c.in_ok-copy.copy c.keep_journal-then-has_replaced.ensures.moves ∙ ap refusals_in c.reserve.ensures.moves))
-
-pub returns-then-has_replaced-clause-moments : goal.returns-then-has_replaced-clause-moments
-returns-then-has_replaced-clause-moments g c =
+pub returns-else-has_replaced : goal.returns-else-has_replaced
+returns-else-has_replaced g c =
     let s = c.args.self.now in
+    let r = c.keep_refusal-else-has_replaced in
     let now = store_of s.now in
-    let first = store_of s.first in
-    let k = c.keep_journal-then-has_replaced.new.self in
-    let x = c.in_ok-copy.copy in
-    let step : Step first now (store_of k.first) (store_of k.now) s.moves.items k.moves.items (Replaced x) = record {
+    let goes : Goes (store_of s.first) now (store_of r.new.self.first) (store_of r.new.self.now) s.moves.items r.new.self.moves.items (Refused ∷ []) =
+    record {
       is = λ i. record { variables = s.vars_are i; journal = s.journal_is i };
-      same = ap store_of (c.keep_journal-then-has_replaced.ensures.first ∙ c.reserve.ensures.first);
-      pushed = c.keep_journal-then-has_replaced.ensures.moves ∙ ap (λ (l : List Move). l ++ Replaced x ∷ []) c.reserve.ensures.moves;
-      goes = c.keep_journal-then-has_replaced.ensures.store ∙ ap (λ (t : Store). with_journal x t) c.reserve.ensures.now;
+      same = ap store_of (r.ensures.first ∙ c.reserve.ensures.first);
+      told = told_once _ _ _ _ _ c.reserve.ensures.moves refl r.ensures.moves;
+      leads = r.ensures.store ∙ c.reserve.ensures.now;
     } in
-    let there : store_of k.now ≡ with_journal c.args.journal.now now = step.goes ∙ ap (λ (x : JournalParts). with_journal x now) c.in_ok-copy.ensures in
-    let r = c.keep_refusal.new.self in
-    let step2 : Step (store_of k.first) (store_of k.now) (store_of r.first) (store_of r.now) k.moves.items r.moves.items Refused = record {
-      is = step_is first now (store_of k.first) (store_of k.now) s.moves.items k.moves.items (Replaced x) step;
-      same = ap store_of c.keep_refusal.ensures.first;
-      pushed = c.keep_refusal.ensures.moves;
-      goes = c.keep_refusal.ensures.store;
-    } in
-    then (IsEither now (with_journal c.args.journal.now now)) _ _ _
-    (step_moments (IsEither now (with_journal c.args.journal.now now)) first now (store_of k.first) (store_of k.now) s.moves.items k.moves.items (Replaced x) step (inr there))
-    (step_moments (IsEither now (with_journal c.args.journal.now now)) (store_of k.first) (store_of k.now) (store_of r.first) (store_of r.now) k.moves.items r.moves.items Refused step2 (inr (step2.goes ∙ there)))
-
-pub returns-else-has_replaced-clause-cause : goal.returns-else-has_replaced-clause-cause
-returns-else-has_replaced-clause-cause g c =
-    one_refusal _ _ c.in-Err.error (count_refused c.reserve.new.self.moves.items c.keep_refusal-else-has_replaced.new.self.moves.items c.keep_refusal-else-has_replaced.ensures.moves
-    ∙ ap (λ n. 1 + n) (ap refusals_in c.reserve.ensures.moves))
-
-pub returns-else-has_replaced-clause-moments : goal.returns-else-has_replaced-clause-moments
-returns-else-has_replaced-clause-moments g c =
-    let s = c.args.self.now in
-    let now = store_of s.now in
-    let r = c.keep_refusal-else-has_replaced.new.self in
-    let step : Step (store_of s.first) now (store_of r.first) (store_of r.now) s.moves.items r.moves.items Refused = record {
-      is = λ i. record { variables = s.vars_are i; journal = s.journal_is i };
-      same = ap store_of (c.keep_refusal-else-has_replaced.ensures.first ∙ c.reserve.ensures.first);
-      pushed = c.keep_refusal-else-has_replaced.ensures.moves ∙ ap (λ (l : List Move). l ++ Refused ∷ []) c.reserve.ensures.moves;
-      goes = c.keep_refusal-else-has_replaced.ensures.store ∙ c.reserve.ensures.now;
-    } in
-    step_moments (IsEither now (with_journal c.args.journal.now now)) (store_of s.first) now (store_of r.first) (store_of r.now) s.moves.items r.moves.items Refused step (inl step.goes)
-
-pub returns-then-has_replaced-clause-recorded : goal.returns-then-has_replaced-clause-recorded
-returns-then-has_replaced-clause-recorded g c =
-    let s = c.args.self.now in
-    let now = store_of s.now in
-    let first = store_of s.first in
-    let k = c.keep_journal-then-has_replaced.new.self in
-    let x = c.in_ok-copy.copy in
-    let step : Step first now (store_of k.first) (store_of k.now) s.moves.items k.moves.items (Replaced x) = record {
-      is = λ i. record { variables = s.vars_are i; journal = s.journal_is i };
-      same = ap store_of (c.keep_journal-then-has_replaced.ensures.first ∙ c.reserve.ensures.first);
-      pushed = c.keep_journal-then-has_replaced.ensures.moves ∙ ap (λ (l : List Move). l ++ Replaced x ∷ []) c.reserve.ensures.moves;
-      goes = c.keep_journal-then-has_replaced.ensures.store ∙ ap (λ (t : Store). with_journal x t) c.reserve.ensures.now;
-    } in
-    let there : store_of k.now ≡ with_journal c.args.journal.now now = step.goes ∙ ap (λ (x : JournalParts). with_journal x now) c.in_ok-copy.ensures in
-    let r = c.keep_refusal.new.self in
-    let step2 : Step (store_of k.first) (store_of k.now) (store_of r.first) (store_of r.now) k.moves.items r.moves.items Refused = record {
-      is = step_is first now (store_of k.first) (store_of k.now) s.moves.items k.moves.items (Replaced x) step;
-      same = ap store_of c.keep_refusal.ensures.first;
-      pushed = c.keep_refusal.ensures.moves;
-      goes = c.keep_refusal.ensures.store;
-    } in
-    inl (step_now (store_of k.first) (store_of k.now) (store_of r.first) (store_of r.now) k.moves.items r.moves.items Refused step2)
-
-pub returns-else-has_replaced-clause-recorded : goal.returns-else-has_replaced-clause-recorded
-returns-else-has_replaced-clause-recorded g c =
-    let s = c.args.self.now in
-    let now = store_of s.now in
-    let r = c.keep_refusal-else-has_replaced.new.self in
-    let step : Step (store_of s.first) now (store_of r.first) (store_of r.now) s.moves.items r.moves.items Refused = record {
-      is = λ i. record { variables = s.vars_are i; journal = s.journal_is i };
-      same = ap store_of (c.keep_refusal-else-has_replaced.ensures.first ∙ c.reserve.ensures.first);
-      pushed = c.keep_refusal-else-has_replaced.ensures.moves ∙ ap (λ (l : List Move). l ++ Refused ∷ []) c.reserve.ensures.moves;
-      goes = c.keep_refusal-else-has_replaced.ensures.store ∙ c.reserve.ensures.now;
-    } in
-    inl (step_now (store_of s.first) now (store_of r.first) (store_of r.now) s.moves.items r.moves.items Refused step)
-
-pub returns-in-Ok-clause-asked : goal.returns-in-Ok-clause-asked
-returns-in-Ok-clause-asked g c = record {
-  asks =
-      ap g.D.Device.asked c.keep_journal.ensures.device
-      ∙ c.replace_journal.ensures
-      ∙ ap (λ r. and_then (g.D.Device.asked c.reserve.new.self.device) (ToReplace c.args.journal.now (is_ok r) ∷ [])) c.in-Ok.is
-      ∙ ap (λ d. and_then (g.D.Device.asked d) (ToReplace c.args.journal.now true ∷ [])) c.reserve.ensures.device;
-  told = told_once _ _ _ _ _ c.reserve.ensures.moves (ap Replaced c.in_ok-copy.ensures) c.keep_journal.ensures.moves;
-}
-
-pub returns-then-has_replaced-clause-refused : goal.returns-then-has_replaced-clause-refused
-returns-then-has_replaced-clause-refused g c = inr (
-  true,
-  record {
-    asks =
-        ap g.D.Device.asked (c.keep_refusal.ensures.device ∙ c.keep_journal-then-has_replaced.ensures.device)
-        ∙ asked_twice _ _ _ _ _
-        (c.replace_journal.ensures
-        ∙ ap (λ r. and_then (g.D.Device.asked c.reserve.new.self.device) (ToReplace c.args.journal.now (is_ok r) ∷ [])) c.in-Err.is
-        ∙ ap (λ d. and_then (g.D.Device.asked d) (ToReplace c.args.journal.now false ∷ [])) c.reserve.ensures.device)
-        (c.has_replaced.ensures ∙ ap (λ b. and_then (g.D.Device.asked c.replace_journal.new.self) (HasReplaced c.args.journal.now b ∷ [])) c.if-has_replaced.true);
-    told = told_twice _ _ _ _ _
-        (told_once _ _ _ _ _ c.reserve.ensures.moves (ap Replaced c.in_ok-copy.ensures) c.keep_journal-then-has_replaced.ensures.moves)
-        c.keep_refusal.ensures.moves;
-  },
-)
-
-pub returns-else-has_replaced-clause-refused : goal.returns-else-has_replaced-clause-refused
-returns-else-has_replaced-clause-refused g c = inr (
-  false,
-  record {
-    asks =
-        ap g.D.Device.asked c.keep_refusal-else-has_replaced.ensures.device
-        ∙ asked_twice _ _ _ _ _
-        (c.replace_journal.ensures
-        ∙ ap (λ r. and_then (g.D.Device.asked c.reserve.new.self.device) (ToReplace c.args.journal.now (is_ok r) ∷ [])) c.in-Err.is
-        ∙ ap (λ d. and_then (g.D.Device.asked d) (ToReplace c.args.journal.now false ∷ [])) c.reserve.ensures.device)
-        (c.has_replaced.ensures ∙ ap (λ b. and_then (g.D.Device.asked c.replace_journal.new.self) (HasReplaced c.args.journal.now b ∷ [])) c.if-has_replaced.false);
-    told = told_once _ _ _ _ _ c.reserve.ensures.moves refl c.keep_refusal-else-has_replaced.ensures.moves;
-  },
-)
+    record {
+      cause = one_refusal c.in-Err.error goes refl;
+      replaced = tt;
+      recorded = inl (ends goes);
+      whole = inl goes.leads;
+      moments = moments (IsEither now (with_journal c.args.journal.now now)) goes (inl refl, tt);
+      asked = tt;
+      refused = inr (
+        false,
+        record {
+          asks = ap g.D.Device.asked r.ensures.device ∙ asked_twice _ _ _ _ _
+              (c.replace_journal.ensures
+              ∙ ap (λ r. and_then (g.D.Device.asked c.reserve.new.self.device) (ToReplace c.args.journal.now (is_ok r) ∷ [])) c.in-Err.is
+              ∙ ap (λ d. and_then (g.D.Device.asked d) (ToReplace c.args.journal.now false ∷ [])) c.reserve.ensures.device)
+              (c.has_replaced.ensures
+              ∙ ap (λ b. and_then (g.D.Device.asked c.replace_journal.new.self) (HasReplaced c.args.journal.now b ∷ [])) c.if-has_replaced.false);
+          told = goes.told;
+        },
+      );
+    }

@@ -5,15 +5,19 @@ use Rattle.boot_journal.proofs.requests.RequestsRun.run.Goals as goal
 
 pub returns-clause-done : goal.returns-clause-done
 returns-clause-done c =
-    let opened = c.in_ok-keeper.ensures.opened in
-    answered c.a_start_stands_for_no_events.ensures c.variables_open_as_one_state.ensures c.args.vars.now c.into_vars.result c.in_ok-to.to c.in_ok-keeper.keeper c.in_ok-keeper-2.keeper
-    c.args.self.now.events.now c.in_ok-keeper-2.answers.items opened.0 opened.1 c.in_ok-keeper-2.ensures c.into_vars.ensures.image c.in_ok-to.ensures.kept
+    let first = c.in_ok-keeper in
+    let last = c.in_ok-keeper-2 in
+    let opened = first.ensures.opened in
+    answered c.a_start_stands_for_no_events.ensures first.keeper last.keeper c.args.self.now.events.now last.answers.items opened.0 last.ensures.answered
+    c.variables_open_as_one_state.ensures c.args.vars.now c.into_vars.result c.in_ok-to.to opened.1 c.into_vars.ensures.image c.in_ok-to.ensures.kept
 
 pub returns-in_err-to-clause-refused : goal.returns-in_err-to-clause-refused
 returns-in_err-to-clause-refused c =
-    let opened = c.in_ok-keeper.ensures.opened in
+    let first = c.in_ok-keeper in
+    let last = c.in_ok-keeper-2 in
+    let opened = first.ensures.opened in
     let events = c.args.self.now.events.now in
     err_then c.from_residual-in_err-to.result _ (λ error. IfRefused error (IsRunFault events c.args.vars.now)) c.from_residual-in_err-to.ensures.1
     (λ error is. refused_with error c.in_err-to.field-0.0 events c.args.vars.now c.into_vars.result is c.in_err-to.ensures.fault
-    (too_far c.a_start_stands_for_no_events.ensures c.args.vars.now c.into_vars.result c.in_ok-keeper.keeper c.in_ok-keeper-2.keeper events c.in_ok-keeper-2.answers.items
-    opened.0 opened.1 c.in_ok-keeper-2.ensures c.into_vars.ensures.image))
+    (too_far c.a_start_stands_for_no_events.ensures first.keeper last.keeper events last.answers.items opened.0 last.ensures.answered
+    c.args.vars.now c.into_vars.result opened.1 c.into_vars.ensures.image))

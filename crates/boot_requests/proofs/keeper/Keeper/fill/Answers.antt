@@ -1,3 +1,4 @@
+-- A request of the next number is applied, and then those that follow it: together they lead to the settled state.
 use Rattle.std.proofs.Common.{◌≡◌, ◌-◌, ℕ, sym, ap, subst, ◌∙◌, arith}
 use Rattle.std.specs.FinMap.{insert}
 use Rattle.uefi_vars.specs.Vars.{Variables}
@@ -35,14 +36,16 @@ returns-clause-state c =
     let changes = c.apply_followers.new.changes in
     let to = state_of (with_changes inside.vars changes) mark in
     let one = with_changes inside.vars c.apply.new.changes in
-    let same_state : state_of (with_changes inside.vars c.new-changes.result) inside.mark ≡ m = ap (λ (v : Variables). state_of v inside.mark) (c.new-changes.ensures inside.vars) in
-    let after_first : state_of one first ≡ after_request m r = c.in_ok-outcome.ensures.state ∙ ap (λ (s : State). after_request s r) same_state in
+    let same_state = ap (λ (v : Variables). state_of v inside.mark) (c.new-changes.ensures inside.vars) in
+    let after_first = c.in_ok-outcome.ensures.state ∙ ap (λ (s : State). after_request s r) same_state in
     let before : first.next_number - 1 ≡ next = omega (arith, c.in_ok-outcome.ensures.number) in
     let is = c.in_ok-mark.ensures.state ∙ ap (λ (n : ℕ). (settled_state (plain_start (state_of one first)) (waiting_of n inside.window)).state) before
     ∙ ap (λ (s : State). (settled_state (plain_start s) waiting).state) after_first in
     let all = settled_state_is (after_request m r) to waiting is ∙ sym (settled_state_filled m waiting r) in
     let image = image_again m inside.vars c.self.invariant.stands in
-    subst (λ (k : Plain). plain_of (state_of (with_changes (image_of k.state) changes) mark) (above mark.next_number k.waiting) k.plan ≡ settled_state k (insert k.waiting k.state.next_number r)) c.self.view_is
+    subst (λ (k : Plain).
+    plain_of (state_of (with_changes (image_of k.state) changes) mark) (above mark.next_number k.waiting) k.plan
+    ≡ settled_state k (insert k.waiting k.state.next_number r)) c.self.view_is
     (ap (λ (v : Variables). plain_of (state_of (with_changes v changes) mark) (above mark.next_number waiting) inside.plan) image
     ∙ ap (λ (p : Plain). plain_of p.state p.waiting inside.plan) all)
 
@@ -50,8 +53,10 @@ pub returns-clause-answer : goal.returns-clause-answer
 returns-clause-answer c =
     let inside = c.self.inside in
     let r = c.args.request.now in
-    let outcome = c.in_ok-outcome.ensures.outcome ∙ ap (λ (v : Variables). outcome_of (state_of v inside.mark) r) (c.new-changes.ensures inside.vars) ∙ ap (λ (k : Plain). outcome_of k.state r) c.self.view_is in
-    ap (λ (n : ℕ). reply.Applied c.in_ok-outcome.outcome n) c.next_number-after.ensures ∙ ap (λ (o : Outcome). reply.Applied o c.in_ok-mark.mark.next_number) outcome
+    let outcome = c.in_ok-outcome.ensures.outcome ∙ ap (λ (v : Variables). outcome_of (state_of v inside.mark) r) (c.new-changes.ensures inside.vars)
+    ∙ ap (λ (k : Plain). outcome_of k.state r) c.self.view_is in
+    ap (λ (n : ℕ). reply.Applied c.in_ok-outcome.outcome n) c.next_number-after.ensures
+    ∙ ap (λ (o : Outcome). reply.Applied o c.in_ok-mark.mark.next_number) outcome
 
 pub returns-clause-fits : goal.returns-clause-fits
 returns-clause-fits c =
@@ -59,7 +64,9 @@ returns-clause-fits c =
     let mark = c.in_ok-mark.mark in
     let changes = c.apply_followers.new.changes in
     let image = image_again (state_of inside.vars inside.mark) inside.vars c.self.invariant.stands in
-    let stands = subst (λ (v : Variables). IsStateOf (state_of (with_changes v changes) mark) (with_changes v changes)) (sym image) c.in_ok-mark.ensures.stands in (
+    let stands = subst (λ (v : Variables). IsStateOf (state_of (with_changes v changes) mark) (with_changes v changes))
+    (sym image) c.in_ok-mark.ensures.stands in (
       omega (arith, ap (λ (k : Plain). k.state.next_number) c.self.view_is, c.in_ok-outcome.ensures.number, c.in_ok-mark.ensures.number),
-      subst (λ (k : Plain). IsStateOf (state_of (with_changes (image_of k.state) changes) mark) (with_changes (image_of k.state) changes)) c.self.view_is stands,
+      subst (λ (k : Plain).
+          IsStateOf (state_of (with_changes (image_of k.state) changes) mark) (with_changes (image_of k.state) changes)) c.self.view_is stands,
     )

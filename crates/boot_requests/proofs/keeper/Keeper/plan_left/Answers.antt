@@ -7,7 +7,8 @@ use Rattle.boot_requests.proofs.keeper.Keeper.plan_left.Goals as goal
 
 pub returns-in_ok-plan-in-Nothing : goal.returns-in_ok-plan-in-Nothing
 returns-in_ok-plan-in-Nothing c =
-    ap (λ (plan : Option PlanParts). after_update (with_plan c.args.self.now plan) c.args.update.now) (c.in_ok-plan-in-Nothing.ensures ∙ ap (λ (k : Plain). k.plan) c.self.view_is)
+    ap (λ (plan : Option PlanParts). after_update (with_plan c.args.self.now plan) c.args.update.now)
+    (c.in_ok-plan-in-Nothing.ensures ∙ ap (λ (k : Plain). k.plan) c.self.view_is)
 
 -- the plan goes, whatever it is
 abbrev Goes : Plain → Update → Type 0

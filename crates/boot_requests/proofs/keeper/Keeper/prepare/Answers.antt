@@ -15,5 +15,9 @@ pub returns-clause-turn : goal.returns-clause-turn
 returns-clause-turn c =
     let m = state_of c.self.inside.vars c.self.inside.mark in
     let plan = c.in_ok-plan.plan in
-    plan_gone c.args.self.now.plan _ _ (ap (λ (k : Plain). is_some k.plan) (sym c.self.view_is) ∙ sym c.is_some.ensures ∙ c.if-is_some.false)
-    (plan, subst (λ (k : Plain). HasPlanOf k.state plan) c.self.view_is (c.in_ok-plan.ensures m c.self.invariant.stands), refl, ap reply.Prepared c.choice_count-count.ensures)
+    plan_gone c.args.self.now.plan _ _ (ap (λ (k : Plain). is_some k.plan) (sym c.self.view_is) ∙ sym c.is_some.ensures ∙ c.if-is_some.false) (
+      plan,
+      subst (λ (k : Plain). HasPlanOf k.state plan) c.self.view_is (c.in_ok-plan.ensures m c.self.invariant.stands),
+      refl,
+      ap reply.Prepared c.choice_count-count.ensures,
+    )

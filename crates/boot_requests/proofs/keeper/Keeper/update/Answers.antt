@@ -1,3 +1,4 @@
+-- Each update leaves a keeper that holds the plain state after it: its slots and its variables stand for the parts of that state.
 use Rattle.std.proofs.Common.{Option, refl, sym, ap, subst, ◌∙◌, arith}
 use Rattle.std.specs.FinMap.{empty}
 use Rattle.uefi_vars.specs.Plan.{PlanParts}
@@ -43,9 +44,12 @@ invariant_of-self-in-Applied c =
     let inside = c.self.inside in
     let mark = c.in-Applied.mark in
     let changes = c.in-Applied.changes in
-    let passed = passed_between c.next_number.result c.next_number-in-Applied.result inside.mark.next_number mark.next_number inside.window c.pass_to.new.self c.next_number.ensures c.next_number-in-Applied.ensures c.pass_to.ensures c.self.invariant.waits in
+    let passed =
+    passed_between c.next_number.result c.next_number-in-Applied.result inside.mark.next_number mark.next_number inside.window c.pass_to.new.self
+    c.next_number.ensures c.next_number-in-Applied.ensures c.pass_to.ensures c.self.invariant.waits in
     let fits = subst (λ (u : Update). Fits c.args.self.now u) c.in-Applied.is c.requires in
-    let image = ap (λ (k : Plain). image_of k.state) (sym c.self.view_is) ∙ image_again (state_of inside.vars inside.mark) inside.vars c.self.invariant.stands in
+    let image = ap (λ (k : Plain). image_of k.state) (sym c.self.view_is)
+    ∙ image_again (state_of inside.vars inside.mark) inside.vars c.self.invariant.stands in
     let with_changes_is = ap (λ (v : Variables). with_changes v changes) image ∙ sym c.in_ok-make-in-Applied.ensures.made in
     record { stands = subst (λ (v : Variables). IsStateOf (state_of v mark) v) with_changes_is fits.1; waits = passed.0 }
 
@@ -54,7 +58,9 @@ returns-in_ok-make-in-Applied-clause-updated c =
     let inside = c.self.inside in
     let mark = c.in-Applied.mark in
     let changes = c.in-Applied.changes in
-    let passed = passed_between c.next_number.result c.next_number-in-Applied.result inside.mark.next_number mark.next_number inside.window c.pass_to.new.self c.next_number.ensures c.next_number-in-Applied.ensures c.pass_to.ensures c.self.invariant.waits in
+    let passed =
+    passed_between c.next_number.result c.next_number-in-Applied.result inside.mark.next_number mark.next_number inside.window c.pass_to.new.self
+    c.next_number.ensures c.next_number-in-Applied.ensures c.pass_to.ensures c.self.invariant.waits in
     let image = image_again (state_of inside.vars inside.mark) inside.vars c.self.invariant.stands in
     let with_changes_is = c.in_ok-make-in-Applied.ensures.made ∙ ap (λ (v : Variables). with_changes v changes) (sym image) in
     ap (λ (v : Variables). plain_of (state_of v mark) (waiting_of mark.next_number c.pass_to.new.self) inside.plan) with_changes_is

@@ -6,4 +6,5 @@ use Rattle.boot_requests.proofs.mark.Mark.read.Goals as goal
 pub returns-in-1 : goal.returns-in-1
 returns-in-1 c =
     let bytes = c.args.bytes.now in
-    IfOk-weaker c.read_first.result _ _ (first_found bytes (take (length bytes - 1) (drop 1 bytes)) (one_then bytes 1 c.in-len1-up.len_at_least c.in-1.is)) c.read_first.ensures
+    IfOk-weaker c.read_first.result _ _
+    (first_found bytes (take (length bytes - 1) (drop 1 bytes)) (one_then bytes 1 c.in-len1-up.len_at_least c.in-1.is)) c.read_first.ensures

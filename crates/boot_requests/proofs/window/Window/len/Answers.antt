@@ -1,6 +1,8 @@
-use Rattle.std.proofs.Common.{◌≡◌, ◌<◌, ◌+◌, ◌≤◌, length, sym, ap, ◌∙◌, arith}
+-- The slots are looked at number by number: each that is taken counts one more request that waits.
+use Rattle.std.proofs.Common.{◌≡◌, ◌<◌, ◌+◌, ◌≤◌, length, sym, ap, ◌∙◌, arith, None}
+use Rattle.std.proofs.lemmas.List.{get_or_default}
 use Rattle.boot_requests.specs.Slots.{place_of, slot_at}
-use Rattle.boot_requests.proofs.Turn.Slots.{no_slot, count_more, some_count, none_count, same_slot}
+use Rattle.boot_requests.proofs.Turn.Slots.{no_slot, count_more, some_count, none_count}
 use Rattle.boot_requests.proofs.window.Window.len.Goals.{then-is_taken, else-is_taken}
 use Rattle.boot_requests.proofs.window.Window.len.Goals as goal
 
@@ -15,7 +17,7 @@ loop-distance-preserved c =
     let count = c.loop-distance.count in
     let there : c.place_of.result < length slots = omega (arith, c.place_of.ensures.below, c.self.invariant) in
     let slot : slot_at slots (place_of (next + distance)) ≡ c.index.result.now =
-    sym (c.index.ensures ∙ same_slot slots c.place_of.result c.index.result.now there ∙ ap (slot_at slots) c.place_of.ensures.is) in
+    sym (c.index.ensures ∙ get_or_default slots c.place_of.result c.index.result.now None there ∙ ap (slot_at slots) c.place_of.ensures.is) in
     let some : 1 ≤ distance = omega arith in
     elim c.if-is_taken.branch [
       | then-is_taken w ↦ record {

@@ -1,5 +1,0 @@
-use Rattle.boot_commands.proofs.Scripts.{no_script}
-use Rattle.boot_commands.proofs.laws.a_bad_line_leaves_no_script.Goals as goal
-
-pub returns : goal.returns
-returns c = no_script

@@ -1,5 +1,0 @@
-use Rattle.boot_commands.proofs.Scripts.{one_bad_line}
-use Rattle.boot_commands.proofs.laws.a_text_has_one_first_bad_line.Goals as goal
-
-pub returns : goal.returns
-returns c = one_bad_line

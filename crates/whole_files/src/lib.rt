@@ -1,0 +1,18 @@
+//! Files that are read whole up to a limit, locked, and replaced whole.
+//!
+//! [`read_file`] and [`read_input`] read what has at most so many bytes; of a file of the user's that is [`LIMIT`].
+//! [`write_file`] replaces a whole file, which [`lock_file`] has locked: whoever changes a file this way reads it in
+//! between, and nobody's change is lost. [`rewrite_file`] keeps the lock, for one change after the other, and
+//! [`replace_file`] replaces a file that the caller keeps others from by other means. [`sync_file`] and
+//! [`sync_folder`] bring to the disk what was written otherwise. What fails is told by the system's reason.
+#![tactic(auto)]
+
+mod input;
+mod lock;
+mod output;
+mod sync;
+
+pub use input::{LIMIT, read_file, read_input};
+pub use lock::{FileLock, OutputFile, lock_file};
+pub use output::{replace_file, rewrite_file, write_file};
+pub use sync::{sync_file, sync_folder};
