@@ -30,7 +30,8 @@ def about(file: Path) -> Optional[str]:
 
 def is_listed(file: Path, folder: Path) -> bool:
     """Whether a file below a folder is listed: any but Lib.antt, which names others, and answers for single functions
-    in proofs/, whose folders are named as the modules of the code are and so begin with a small letter."""
+    in proofs/, whose folders are named as the modules of the code are and so begin with a small letter.
+    """
     if file.suffix not in MARKS or file.name == "Lib.antt":
         return False
     folders = file.relative_to(folder).parts[:-1]
