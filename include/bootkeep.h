@@ -322,6 +322,19 @@ uint32_t bootkeep_set_plan(const uint8_t *set, size_t set_len, uint16_t *numbers
                            uint32_t *next, struct bootkeep_refusal *refusal);
 
 /*
+ * The entries that a start of firmware may write over or delete. In `numbers` first come those that neither BootOrder
+ * nor BootNext names, `*unnamed` of them: firmware that gives an entry of its own the lowest number that neither names
+ * may write over them. After them come those of BootOrder that are no load option, which firmware may delete. Each of
+ * the two parts rises, and no number is in both. edk2 was seen to do both; the standard asks for neither. `cap` and
+ * `*len` count numbers, of which there are 65536 at most.
+ *
+ *     BOOTKEEP_DONE, BOOTKEEP_NO_ROOM, BOOTKEEP_NO_MEMORY
+ *     BOOTKEEP_REFUSED   a number of sets, BOOTKEEP_VARS_BAD_ORDER or BOOTKEEP_VARS_BAD_NEXT
+ */
+uint32_t bootkeep_set_at_risk(const uint8_t *set, size_t set_len, uint16_t *numbers, size_t cap, size_t *len,
+                              size_t *unnamed, struct bootkeep_refusal *refusal);
+
+/*
  * The data of the variable of this name.
  *
  *     BOOTKEEP_DONE, BOOTKEEP_NO_ROOM, BOOTKEEP_NO_MEMORY

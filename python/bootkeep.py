@@ -33,6 +33,7 @@ from typing import Callable, Optional, Union
 
 __all__ = [
     "VERSION",
+    "AtRisk",
     "Closed",
     "Error",
     "Keeper",
@@ -41,6 +42,7 @@ __all__ = [
     "Plan",
     "Refused",
     "check_path",
+    "entries_at_risk",
     "library_version",
     "option",
     "path_text",
@@ -201,6 +203,7 @@ _CALLS = {
     "bootkeep_option_parts": (*_IN, POINTER(_Parts), _WHY),
     "bootkeep_option_description": (*_IN, *_OUT, _WHY),
     "bootkeep_set_plan": (*_IN, POINTER(c_uint16), c_size_t, POINTER(c_size_t), POINTER(c_uint32), _WHY),
+    "bootkeep_set_at_risk": (*_IN, POINTER(c_uint16), c_size_t, POINTER(c_size_t), POINTER(c_size_t), _WHY),
     "bootkeep_set_get": (*_IN, *_IN, *_OUT, _WHY),
     "bootkeep_set_put": (*_IN, *_IN, *_IN, *_OUT, _WHY),
     "bootkeep_set_remove": (*_IN, *_IN, *_OUT, _WHY),
@@ -391,12 +394,38 @@ class Plan:
 
 def plan(variables: Bytes) -> Plan:
     """What a boot would try with the variables of a set file, all its bytes."""
-    first, count, refusal, given, room = c_uint32(), c_size_t(), _Refusal(), _given(variables), _ROOM
+    first, refusal, given = c_uint32(), _Refusal(), _given(variables)
+    normal = _numbers_of(lambda *out: _library.bootkeep_set_plan(*given, *out, byref(first), byref(refusal)), refusal)
+    return Plan(None if first.value == _NO_ENTRY else first.value, normal)
+
+
+@dataclass(frozen=True)
+class AtRisk:
+    """The entries that a start of firmware may write over or delete, by their numbers, which rise."""
+
+    #: Those that neither BootOrder nor BootNext names: firmware may write over them.
+    unnamed: tuple[int, ...]
+    #: Those of BootOrder that are no load option: firmware may delete them.
+    undecodable: tuple[int, ...]
+
+
+def entries_at_risk(variables: Bytes) -> AtRisk:
+    """The entries of a set file, all its bytes, that a start of firmware may write over or delete."""
+    unnamed, refusal, given = c_size_t(), _Refusal(), _given(variables)
+    numbers = _numbers_of(
+        lambda *out: _library.bootkeep_set_at_risk(*given, *out, byref(unnamed), byref(refusal)), refusal
+    )
+    return AtRisk(numbers[: unnamed.value], numbers[unnamed.value :])
+
+
+def _numbers_of(call: Callable[..., int], refusal: _Refusal) -> tuple[int, ...]:
+    """The numbers that a call puts into its buffer: a second call is made if the first has no room for them."""
+    count, room = c_size_t(), _ROOM
     while True:
         numbers = (c_uint16 * max(room, 1))()
-        status = _library.bootkeep_set_plan(*given, numbers, room, byref(count), byref(first), byref(refusal))
+        status = call(numbers, room, byref(count))
         if status == _DONE:
-            return Plan(None if first.value == _NO_ENTRY else first.value, tuple(numbers[: count.value]))
+            return tuple(numbers[: count.value])
         if status != _NO_ROOM:
             raise _fail(status, refusal)
         room = count.value

@@ -88,6 +88,7 @@ static void *make(size_t len)
 
 #define GIVEN(which) call->given[which].at, call->given[which].len
 #define OUT(which) call->told.out[which], call->told.cap[which], &call->told.len[which]
+#define NUMBERS (uint16_t *)(void *)call->told.out[0], call->told.cap[0], &call->told.len[0]
 
 static bool is(const struct call *call, const char *name)
 {
@@ -98,10 +99,12 @@ static bool is(const struct call *call, const char *name)
 static uint32_t once_set(struct call *call)
 {
     uint32_t number = (uint32_t)call->told.extra, status = UINT32_MAX;
+    size_t count = (size_t)call->told.extra;
 
     if (is(call, "set_plan"))
-        status = bootkeep_set_plan(GIVEN(0), (uint16_t *)(void *)call->told.out[0], call->told.cap[0],
-                                   &call->told.len[0], &number, &call->refusal);
+        status = bootkeep_set_plan(GIVEN(0), NUMBERS, &number, &call->refusal);
+    else if (is(call, "set_at_risk"))
+        status = bootkeep_set_at_risk(GIVEN(0), NUMBERS, &count, &call->refusal);
     else if (is(call, "set_get"))
         status = bootkeep_set_get(GIVEN(0), GIVEN(1), OUT(0), &call->refusal);
     else if (is(call, "set_put"))
@@ -110,7 +113,7 @@ static uint32_t once_set(struct call *call)
         status = bootkeep_set_remove(GIVEN(0), GIVEN(1), OUT(0), &call->refusal);
     else
         complain("no such call");
-    call->told.extra = number;
+    call->told.extra = is(call, "set_at_risk") ? count : number;
     return status;
 }
 
@@ -174,7 +177,7 @@ static uint32_t once(struct call *call)
 /* How many bytes an element of the first buffer has. */
 static size_t unit(const struct call *call)
 {
-    return is(call, "set_plan") ? sizeof(uint16_t) : 1;
+    return is(call, "set_plan") || is(call, "set_at_risk") ? sizeof(uint16_t) : 1;
 }
 
 /* Compares what has to stay as it was after a call with this status. */

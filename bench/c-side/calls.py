@@ -2,7 +2,7 @@
 answer, as calls.c does by the header."""
 
 import sys
-from typing import Callable
+from typing import Callable, Iterable
 
 import bootkeep
 
@@ -56,10 +56,18 @@ def option_parts(data: bytes) -> str:
     return f"{option.attributes} 6 {description} {start} {paths} {start + paths} {len(option.optional)}"
 
 
+def digits_of(numbers: Iterable[int]) -> str:
+    return digits(b"".join(number.to_bytes(2, "little") for number in numbers))
+
+
 def set_plan(data: bytes) -> str:
     plan = bootkeep.plan(data)
-    numbers = b"".join(number.to_bytes(2, "little") for number in plan.normal)
-    return f"{digits(numbers)} {NO_ENTRY if plan.next is None else plan.next}"
+    return f"{digits_of(plan.normal)} {NO_ENTRY if plan.next is None else plan.next}"
+
+
+def set_at_risk(data: bytes) -> str:
+    risk = bootkeep.entries_at_risk(data)
+    return f"{digits_of(risk.unnamed + risk.undecodable)} {len(risk.unnamed)}"
 
 
 def run(data: bytes, stream: bytes) -> str:
@@ -75,6 +83,7 @@ CALLS = {
     "option_parts": option_parts,
     "option_description": lambda data: digits(bootkeep.option(data).description.encode()),
     "set_plan": set_plan,
+    "set_at_risk": set_at_risk,
     "set_get": lambda data, name: digits(bootkeep.set_get(data, text_of(name))),
     "set_put": lambda data, name, value: digits(bootkeep.set_put(data, text_of(name), value)),
     "set_remove": lambda data, name: digits(bootkeep.set_remove(data, text_of(name))),

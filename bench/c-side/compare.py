@@ -14,6 +14,7 @@ import subprocess
 import sys
 import tempfile
 from pathlib import Path
+from typing import Iterable
 
 FAMILIES = {
     "path": ["PATH"],
@@ -116,6 +117,20 @@ def set_of(variables: list[tuple[str, bytes]]) -> bytes:
     return b"BVS1" + b"".join(records)
 
 
+def numbers_of(data: bytes) -> list[int]:
+    """The numbers of BootOrder or BootNext."""
+    return [int.from_bytes(data[at : at + 2], "little") for at in range(0, len(data), 2)]
+
+
+def number_bytes(numbers: Iterable[int]) -> bytes:
+    return b"".join(number.to_bytes(2, "little") for number in numbers)
+
+
+def entries_of(variables: list[tuple[str, bytes]]) -> dict[int, bytes]:
+    """The data of the entries, by their numbers."""
+    return {int(name[4:], 16): data for name, data in variables if re.fullmatch("Boot[0-9A-F]{4}", name)}
+
+
 def places_of(option: bytes) -> tuple[int, ...]:
     """Where the description, the list and the optional data of a load option are that is one, each with its length."""
     end = 6
@@ -199,8 +214,31 @@ class Cases:
         if status:
             return line, [self.side.refusal("set", told)]
         first, normal = re.search(r"^plan next (\S+) normal (.*)$", out, re.M).groups()
-        numbers = b"" if normal == "-" else b"".join(int(word, 16).to_bytes(2, "little") for word in normal.split())
+        numbers = number_bytes([] if normal == "-" else (int(word, 16) for word in normal.split()))
         return line, [f"done {digits(numbers)} {0x10000 if first == '-' else int(first, 16)}"]
+
+    def risk_case(self) -> tuple[str, list[str]]:
+        data = damage(self.chance, set_of(self.reordered()))
+        status, _, told = self.side.ask("show", self.side.file("set", data))
+        line = f"set_at_risk {digits(data)}"
+        if status:
+            return line, [self.side.refusal("set", told)]
+        variables = variables_of(data)
+        order, first = (numbers_of(dict(variables).get(name, b"")) for name in ("BootOrder", "BootNext"))
+        entries = entries_of(variables)
+        unnamed = sorted(set(entries).difference(order, first))
+        undecodable = sorted(number for number in set(order) & set(entries) if not self.is_option(entries[number]))
+        return line, [f"done {digits(number_bytes(unnamed + undecodable))} {len(unnamed)}"]
+
+    def reordered(self) -> list[tuple[str, bytes]]:
+        """The variables of the set with another BootOrder and BootNext, or without."""
+        stored = dict(variables_of(self.set))
+        numbers = [*entries_of(variables_of(self.set)), 0x77]
+        for name, most in (("BootOrder", 6), ("BootNext", 1)):
+            chosen = self.chance.choices(numbers, k=self.chance.randrange(most + 1))
+            stored.pop(name, None)
+            stored.update({name: number_bytes(chosen)} if chosen else {})
+        return list(stored.items())
 
     def name(self) -> bytes:
         """A name of the set, or one that it hasn't, or what is no name."""
@@ -289,8 +327,8 @@ def main() -> int:
     with tempfile.TemporaryDirectory() as work:
         cases = Cases(given.root, Side(given.root, given.command, Path(work)), random.Random(given.seed))
         makers = [
-            cases.path_case, cases.text_case, cases.option_case, cases.plan_case, cases.change_case, cases.run_case,
-            cases.keeper_case,
+            cases.path_case, cases.text_case, cases.option_case, cases.plan_case, cases.risk_case, cases.change_case,
+            cases.run_case, cases.keeper_case,
         ]
         made = [maker() for _ in range(given.cases) for maker in makers]
     asked = "".join(f"{line}\n" for line, _ in made)

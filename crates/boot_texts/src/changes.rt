@@ -1,6 +1,7 @@
 //! What differs between two sets of variables, by `bootvars diff`.
 
-use crate::content::{Content, DataText, EntryDigits, Quoted};
+use crate::at_risk::{EntryName, NamingChange, Risk, naming_change};
+use crate::content::{Content, DataText, EntryDigits, Quoted, digits_of};
 use crate::json::{
     JsonObject, Leaf, append_leaf, append_leaves, append_object, append_objects, json_line,
 };
@@ -18,12 +19,23 @@ struct ShownDiff<'a> {
     equal: bool,
     /// The changes from the first set to the second, in the order in which a machine can make them.
     changes: Vec<ShownChange<'a>>,
+    /// The entries of the second set that are in no order there, and weren't in the first.
+    unnamed: Vec<EntryDigits>,
+    /// The entries of the second set that were in no order in the first, and are named there.
+    named: Vec<EntryDigits>,
 }
 
 impl JsonObject for ShownDiff<'_> {
     fn append_members<S: Serializer>(&self, out: &mut S) -> Result<(), S::Error> {
         append_leaf("equal", Leaf::Flag(self.equal), out)?;
-        append_objects("changes", &self.changes, out)
+        append_objects("changes", &self.changes, out)?;
+        append_leaves(
+            &[
+                ("unnamed", Leaf::Entries(Some(&self.unnamed))),
+                ("named", Leaf::Entries(Some(&self.named))),
+            ],
+            out,
+        )
     }
 }
 
@@ -123,7 +135,9 @@ fn content_of(
 }
 
 /// Shows which of Boot####, BootOrder and BootNext differ in two sets (UEFI 2.10, 3.3), as lines for a person, in the
-/// order of [`boot_changes`]: nothing if they are equal. The lines of each change are those of [`change_report`].
+/// order of [`boot_changes`]: nothing if they are equal. The lines of each change are those of [`change_report`]. After
+/// them a line tells of each entry that is in no order in the second set and wasn't in the first, and of each that no
+/// longer is, by [`naming_change`]. docs/formats.md has each line.
 ///
 /// # Errors
 ///
@@ -133,7 +147,23 @@ pub fn diff_report(alloc: Global, from: &Vars, to: &Vars) -> Result<String, Allo
     for change in &boot_changes(alloc, from, to)? {
         append_change(alloc, change, &mut report)?;
     }
+    append_naming(&naming_change(alloc, from, to)?, &mut report)?;
     Ok(report)
+}
+
+/// Appends the lines of what changes of entries in no order.
+fn append_naming(change: &NamingChange, report: &mut String) -> Result<(), AllocError> {
+    for number in &change.unnamed {
+        writeln!(report, "{} {}", EntryName(*number), Risk::Unnamed)?;
+    }
+    for number in &change.named {
+        writeln!(
+            report,
+            "{} named by BootOrder or BootNext now",
+            EntryName(*number)
+        )?;
+    }
+    Ok(())
 }
 
 /// Shows which of Boot####, BootOrder and BootNext differ in two sets as JSON, an object on one line that ends with a
@@ -148,8 +178,14 @@ pub fn diff_json(alloc: Global, from: &Vars, to: &Vars) -> Result<String, AllocE
     for change in &boot_changes {
         changes.push(ShownChange::new(alloc, change)?)?;
     }
-    let equal = changes.is_empty();
-    json_line(alloc, &ShownDiff { equal, changes })
+    let NamingChange { unnamed, named } = naming_change(alloc, from, to)?;
+    let shown = ShownDiff {
+        equal: changes.is_empty(),
+        changes,
+        unnamed: digits_of(alloc, &unnamed)?,
+        named: digits_of(alloc, &named)?,
+    };
+    json_line(alloc, &shown)
 }
 
 /// Shows one change of a variable of the boot manager as lines for a person. The first has `+` for a variable that is

@@ -165,7 +165,9 @@ impl JsonObject for Content {
         append_leaf("kind", Leaf::Word(Some(self.kind())), out)?;
         match self {
             Content::LoadOption(option) => option.append_members(out),
-            Content::Order { entries } => { append_leaf("entries", Leaf::Entries(entries), out) }
+            Content::Order { entries } => {
+                append_leaf("entries", Leaf::Entries(Some(entries)), out)
+            }
             Content::Next { entry } => append_leaf("entry", Leaf::Entry(Some(*entry)), out),
             Content::Undecodable(fault) => fault.append_members(out),
         }

@@ -371,7 +371,7 @@ impl JsonObject for ShownRequest {
             append_leaf("entry", Leaf::Entry(Some(entry)), out)?;
         }
         if let Some(entries) = &self.entries {
-            append_leaf("entries", Leaf::Entries(entries), out)?;
+            append_leaf("entries", Leaf::Entries(Some(entries)), out)?;
         }
         match &self.option {
             Some(option) => append_object("option", Some(&**option), out),

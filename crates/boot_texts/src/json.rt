@@ -20,7 +20,7 @@ pub(crate) enum Leaf<'a> {
     Text(Option<&'a str>),
     Texts(&'a [String]),
     Entry(Option<EntryDigits>),
-    Entries(&'a [EntryDigits]),
+    Entries(Option<&'a [EntryDigits]>),
 }
 
 impl Leaf<'_> {

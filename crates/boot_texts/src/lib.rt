@@ -3,14 +3,16 @@
 //!
 //! [`vars_report`] shows variables, [`diff_report`] what differs between two sets, [`change_report`] one change, and
 //! [`explain_report`] what the frames of a script or a stream ask for, each as lines for a person. [`vars_json`],
-//! [`diff_json`] and [`explain_json`] have the same as JSON, [`reply_json`] shows the answer to an event, and docs/formats.md
-//! has each line and each field.
+//! [`diff_json`] and [`explain_json`] have the same as JSON, [`reply_json`] shows the answer to an event, and
+//! docs/formats.md has each line and each field. [`naming_change`] tells which entries a change leaves in no order, of
+//! which the [`Risk`] is that a start of firmware writes over them.
 //!
 //! [`option_bytes`] makes a load option of words, and [`frame_bytes`] a frame, which [`frame_line`] puts into a line of
 //! a script. [`attribute_bits`], [`attributes_of_text`], [`optional_text`], [`entry_of_digits`] and
 //! [`number_of_digits`] read the words that these take. Faults are told in words for a person, by `{}`.
 #![tactic(auto)]
 
+mod at_risk;
 mod changes;
 mod content;
 mod digits;
@@ -24,6 +26,7 @@ mod replies;
 mod shown_option;
 mod shown_vars;
 
+pub use at_risk::{EntryName, NamingChange, Risk, naming_change};
 pub use changes::{change_report, diff_json, diff_report};
 pub use digits::{DigitsFault, attributes_of_text, entry_of_digits, number_of_digits};
 pub use explain::{Explained, explain_json, explain_report};

@@ -1,7 +1,9 @@
 //! Replies to requests, as `bootvars update` prints them in JSON.
 
-use crate::content::EntryDigits;
-use crate::json::{JsonObject, Leaf, append_leaves, append_object, append_objects, json_line};
+use crate::content::{EntryDigits, digits_of};
+use crate::json::{
+    JsonObject, Leaf, append_leaf, append_leaves, append_object, append_objects, json_line,
+};
 use crate::place::Place;
 use crate::shown_vars::ShownPlan;
 use boot_requests::{Answer, Outcome, Reply};
@@ -32,6 +34,8 @@ struct ShownReply {
     options: Option<usize>,
     /// The plan that is handed out.
     plan: Option<ShownPlan>,
+    /// The entries that the update left in no order, if this is its last reply.
+    unnamed: Option<Vec<EntryDigits>>,
 }
 
 /// A request that had waited and was applied right after another one.
@@ -57,7 +61,8 @@ impl JsonObject for ShownReply {
             ],
             out,
         )?;
-        append_object("plan", self.plan.as_ref(), out)
+        append_object("plan", self.plan.as_ref(), out)?;
+        append_leaf("unnamed", Leaf::Entries(self.unnamed.as_deref()), out)
     }
 }
 
@@ -76,13 +81,23 @@ impl JsonObject for Follower {
 
 /// Shows the answer to the event at this place as JSON, an object on one line that ends with a line feed. Its followers
 /// are the outcomes of the requests that had waited and were applied right after the event's own, of which the last is the
-/// one below the next number. docs/formats.md has each member.
+/// one below the next number. The last reply of an update also has the entries that the update left in no order
+/// ([`naming_change`](crate::naming_change)), and for others `unnamed` is `None`. docs/formats.md has each member.
 ///
 /// # Errors
 ///
 /// [`AllocError`] if memory was refused.
-pub fn reply_json(alloc: Global, place: Place, answer: &Answer) -> Result<String, AllocError> {
-    json_line(alloc, &ShownReply::new(alloc, place, answer)?)
+pub fn reply_json(
+    alloc: Global,
+    place: Place,
+    answer: &Answer,
+    unnamed: Option<&[u16]>,
+) -> Result<String, AllocError> {
+    let mut shown = ShownReply::new(alloc, place, answer)?;
+    if let Some(unnamed) = unnamed {
+        shown.unnamed = Some(digits_of(alloc, unnamed)?);
+    }
+    json_line(alloc, &shown)
 }
 
 impl ShownReply {
@@ -113,6 +128,7 @@ impl ShownReply {
                 Reply::Plan(plan) => Some(shown_plan(alloc, plan)?),
                 _ => None,
             },
+            unnamed: None,
         })
     }
 

@@ -1,5 +1,6 @@
 //! Variables as they are shown, by `bootvars show`.
 
+use crate::at_risk::{Risk, known_risks};
 use crate::content::{
     ByteCount, Content, DataText, EntryDigits, NumberList, ShownFault, digits_of,
 };
@@ -9,7 +10,7 @@ use crate::json::{
 use crate::shown_option::{AttributeWords, ShownOption};
 use serde::Serializer;
 use std::alloc::{AllocError, Global};
-use uefi_vars::{BOOT_NEXT, BOOT_ORDER, VarFault, Vars, entry_number, plan_numbers};
+use uefi_vars::{AtRisk, BOOT_NEXT, BOOT_ORDER, VarFault, Vars, entry_number, plan_numbers};
 
 /// Variables as they are shown.
 #[derive(Drop)]
@@ -39,6 +40,8 @@ struct ShownEntry<'a> {
     name: &'a str,
     /// Its number.
     entry: EntryDigits,
+    /// What a start of firmware may do to it, if anything is known.
+    risk: Option<Risk>,
     /// What it holds.
     content: Content,
 }
@@ -49,6 +52,7 @@ impl JsonObject for ShownEntry<'_> {
             &[
                 ("name", Leaf::Text(Some(self.name))),
                 ("entry", Leaf::Entry(Some(self.entry))),
+                ("at_risk", Leaf::Word(self.risk.map(Risk::word))),
             ],
             out,
         )?;
@@ -70,7 +74,7 @@ impl JsonObject for ShownPlan {
         append_leaves(
             &[
                 ("next", Leaf::Entry(self.next)),
-                ("normal", Leaf::Entries(&self.normal)),
+                ("normal", Leaf::Entries(Some(&self.normal))),
             ],
             out,
         )
@@ -127,19 +131,27 @@ impl<'a> ShownVars<'a> {
             faults: Vec::new(alloc),
             others: Vec::new(alloc),
         };
+        let at_risk = known_risks(alloc, vars)?;
         for (name, data) in vars.iter() {
-            shown.push(alloc, name, data)?;
+            shown.push(alloc, at_risk.as_ref(), name, data)?;
         }
         shown.missing = missing_of(alloc, vars, &shown.order, shown.next)?;
         Ok(shown)
     }
 
-    /// Adds a variable to what is shown.
-    fn push(&mut self, alloc: Global, name: &'a str, data: &[u8]) -> Result<(), AllocError> {
+    /// Adds a variable to what is shown, where these entries are at risk, if that is known.
+    fn push(
+        &mut self,
+        alloc: Global,
+        at_risk: Option<&AtRisk>,
+        name: &'a str,
+        data: &[u8],
+    ) -> Result<(), AllocError> {
         if let Some(number) = entry_number(name) {
             self.entries.push(ShownEntry {
                 name,
                 entry: EntryDigits(number),
+                risk: at_risk.and_then(|at_risk| Risk::of(at_risk, number)),
                 content: Content::of_entry(alloc, data)?,
             })?;
             return Ok(());
@@ -182,13 +194,13 @@ impl JsonObject for ShownVars<'_> {
         append_objects("entries", &self.entries, out)?;
         append_leaves(
             &[
-                ("order", Leaf::Entries(&self.order)),
+                ("order", Leaf::Entries(Some(&self.order))),
                 ("next", Leaf::Entry(self.next)),
             ],
             out,
         )?;
         append_object("plan", self.plan.as_ref(), out)?;
-        append_leaf("missing", Leaf::Entries(&self.missing), out)?;
+        append_leaf("missing", Leaf::Entries(Some(&self.missing)), out)?;
         append_objects("faults", &self.faults, out)?;
         append_objects("others", &self.others, out)
     }
@@ -237,7 +249,9 @@ fn push_missing(
 
 /// Shows variables (UEFI 2.10, 3.3) as lines for a person: those of `bootkeep show`, and after the line of an entry
 /// indented ones with its attributes in words, each of its paths and its optional data, or with the data that are no
-/// load option. Whatever the variables hold is told, and nothing is refused. docs/formats.md has each line.
+/// load option. A line tells of each entry that a start of firmware may write over or delete, by
+/// [`entries_at_risk`](uefi_vars::entries_at_risk).
+/// Whatever the variables hold is told, and nothing is refused. docs/formats.md has each line.
 ///
 /// # Errors
 ///
@@ -275,6 +289,11 @@ fn append_vars(shown: &ShownVars<'_>, report: &mut String) -> Result<(), AllocEr
     append_plan(shown, report)?;
     if !shown.missing.is_empty() {
         writeln!(report, "missing{}", NumberList(&shown.missing))?;
+    }
+    for entry in &shown.entries {
+        if let Some(risk) = entry.risk {
+            writeln!(report, "{} {risk}", entry.name)?;
+        }
     }
     for other in &shown.others {
         writeln!(report, "other {} {}", other.name, ByteCount(other.length))?;

@@ -13,6 +13,7 @@ mod left_out;
 mod opened;
 mod owner;
 mod replies;
+mod requests_run;
 mod script;
 mod state_folder;
 mod told;

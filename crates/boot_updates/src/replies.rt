@@ -7,6 +7,7 @@ ghost use Rattle.boot_requests.specs.Followers.{request_of};
 ghost use Rattle.boot_requests.specs.Seen.{Seen, IsSeen};
 ghost use Rattle.boot_updates.specs.Replies.{IsBelow, IsCarriedOut, IsDone};
 
+use crate::requests_run::Answered;
 use crate::script::Script;
 use boot_requests::{Answer, Code, Outcome, Reply, append_reply_line};
 use boot_texts::reply_json;
@@ -35,7 +36,8 @@ pub(crate) fn answer_lines(alloc: Global, answers: &[Answer]) -> Result<String, 
     Ok(text)
 }
 
-/// The answers to the events of the script as JSON, an object on a line each.
+/// The answers to the events of the script as JSON, an object on a line each, of which the last has the entries that
+/// are left in no order.
 ///
 /// # Errors
 ///
@@ -43,11 +45,13 @@ pub(crate) fn answer_lines(alloc: Global, answers: &[Answer]) -> Result<String, 
 pub(crate) fn answers_json(
     alloc: Global,
     script: &Script<'_>,
-    answers: &[Answer],
+    answered: &Answered,
 ) -> Result<String, AllocError> {
     let mut text = String::new(alloc);
-    for (at, answer) in script.places.iter().zip(answers) {
-        text.push_str(&reply_json(alloc, script.form.place(*at), answer)?)?;
+    let last = answered.answers.len().checked_sub(1);
+    for (index, (at, answer)) in script.places.iter().zip(&answered.answers).enumerate() {
+        let unnamed = (Some(index) == last).then_some(answered.unnamed.as_slice());
+        text.push_str(&reply_json(alloc, script.form.place(*at), answer, unnamed)?)?;
     }
     Ok(text)
 }

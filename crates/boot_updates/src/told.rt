@@ -1,6 +1,7 @@
-//! What is told before an earlier update is finished.
+//! What is told before an earlier update is finished, and after an update is made.
 
 use boot_journal::{BootId, Change, Journal};
+use boot_texts::{EntryName, Risk};
 use std::alloc::AllocError;
 use uefi_vars::{BOOT_NEXT, Vars};
 use var_places::note;
@@ -43,6 +44,17 @@ pub(crate) fn tell_of_settling<R: Eprint + AllocGlobal>(
         );
     }
     Ok(())
+}
+
+/// Tells on standard error that an update of this place left these entries in no order.
+pub(crate) fn tell_of_unnamed<R: Eprint>(rt: &R, place: &str, unnamed: &[u16]) {
+    for number in unnamed {
+        note(
+            rt,
+            place,
+            format_args!("{} {}", EntryName(*number), Risk::Unnamed),
+        );
+    }
 }
 
 /// Whether a change that is due, and was begun as this one, changes a variable that is neither what it was before nor what

@@ -3,10 +3,11 @@
 use crate::failures::{of_command, of_settling};
 use crate::opened::open_machine;
 use crate::replies::{Ended, answer_lines, answers_json, ending, last_next};
+use crate::requests_run::{Answered, RequestsRun};
 use crate::script::{Script, read_events};
 use crate::state_folder::lock_folder;
+use crate::told::tell_of_unnamed;
 use boot_journal::{Requests, command, settle};
-use boot_requests::Answer;
 use boot_texts::Form;
 use std::rt::Files;
 use var_places::{Failure, print};
@@ -50,8 +51,9 @@ pub enum Job<'a> {
 }
 
 /// Makes or takes back what earlier updates of a place have left to do, and then does its job: runs a script over the
-/// place's variables and makes what it leads to, and prints the replies; or prints the next number. Whatever is cut off
-/// when, the next update goes on with what is left. The folder of the journal is locked meanwhile.
+/// place's variables and makes what it leads to, prints the replies, and tells on standard error which entries it left in no
+/// order; or prints the next number. Whatever is cut off when, the next update goes on with what is left. The folder of the
+/// journal is locked meanwhile.
 ///
 /// # Errors
 ///
@@ -91,22 +93,23 @@ fn run_script<R: Files<File: OutputFile> + Input + Print + Eprint + AllocGlobal>
     script: &Script<'_>,
     json: bool,
 ) -> Result<Ended, Failure> {
-    let answers = run_events(rt, words, script)?;
-    print_answers(rt, script, &answers, json)?;
-    Ok(ending(&answers))
+    let answered = run_events(rt, words, script)?;
+    tell_of_unnamed(rt, words.place, &answered.unnamed);
+    print_answers(rt, script, &answered, json)?;
+    Ok(ending(&answered.answers))
 }
 
 /// Prints the replies to the events of the script.
 fn print_answers<R: Print + AllocGlobal>(
     rt: &R,
     script: &Script<'_>,
-    answers: &[Answer],
+    answered: &Answered,
     json: bool,
 ) -> Result<(), Failure> {
     let text = if json {
-        answers_json(rt.alloc(), script, answers)?
+        answers_json(rt.alloc(), script, answered)?
     } else {
-        answer_lines(rt.alloc(), answers)?
+        answer_lines(rt.alloc(), &answered.answers)?
     };
     print(rt, text.as_bytes())
 }
@@ -127,8 +130,8 @@ fn next_number<R: Files<File: OutputFile> + Input + Print + Eprint + AllocGlobal
     rt: &R,
     words: &UpdateWords<'_>,
 ) -> Result<u32, Failure> {
-    let answers = run_events(rt, words, &Script::restart(rt.alloc())?)?;
-    Ok(last_next(&answers))
+    let answered = run_events(rt, words, &Script::restart(rt.alloc())?)?;
+    Ok(last_next(&answered.answers))
 }
 
 /// Does what is left of earlier updates, and runs the events of the script.
@@ -136,7 +139,7 @@ fn run_events<R: Files<File: OutputFile> + Input + Print + Eprint + AllocGlobal>
     rt: &R,
     words: &UpdateWords<'_>,
     script: &Script<'_>,
-) -> Result<Vec<Answer>, Failure> {
+) -> Result<Answered, Failure> {
     let folder = lock_folder(rt, words.state)?;
     run_locked(rt, words, folder.journal(), script)
 }
@@ -147,13 +150,15 @@ fn run_locked<R: Files<File: OutputFile> + Input + Print + Eprint + AllocGlobal>
     words: &UpdateWords<'_>,
     journal_path: &str,
     script: &Script<'_>,
-) -> Result<Vec<Answer>, Failure> {
+) -> Result<Answered, Failure> {
     let alloc = rt.alloc();
     let (mut machine, boot) = open_machine(rt, words, journal_path, script)?;
-    let requests = Requests {
-        events: &script.events,
+    let run = RequestsRun {
+        requests: Requests {
+            events: &script.events,
+        },
     };
-    command(alloc, &mut machine, &requests, &boot).map_err(|error| of_command(alloc, words, error))
+    command(alloc, &mut machine, &run, &boot).map_err(|error| of_command(alloc, words, error))
 }
 
 /// Does what is left of earlier updates.

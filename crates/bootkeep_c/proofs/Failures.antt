@@ -1,5 +1,5 @@
 -- Why a call on a set is refused: if bytes are a set, or have a fault, there is one failure at most.
-use Rattle.std.proofs.Common.{◌≡◌, ◌≢◌, ℕ, List, length, inl, inr, refl, ap, subst, ◌∙◌, arith, Option, Some, None}
+use Rattle.std.proofs.Common.{◌≡◌, ◌≢◌, ℕ, List, ◌++◌, length, inl, inr, refl, ap, subst, ◌∙◌, arith, Option, Some, None}
 use Rattle.std.specs.Option.{option_map}
 use Rattle.uefi_vars.specs.declared.fault.SetFault.{SetFault}
 use Rattle.uefi_vars.specs.declared.fault.VarFault.{VarFault}
@@ -12,16 +12,18 @@ use Rattle.uefi_vars.specs.Set.{SpellsSet}
 use Rattle.uefi_vars.specs.Fault.{IsFirstFault}
 use Rattle.uefi_vars.specs.Order.{HasOrder, HasNext, HasBadOrder, HasBadNext}
 use Rattle.uefi_vars.specs.Plan.{PlanParts, HasPlan}
+use Rattle.uefi_vars.specs.AtRisk.{IsUnnamed, IsUndecodable}
 use Rattle.boot_requests.specs.declared.script_fault.ScriptFault.{ScriptFault}
 use Rattle.boot_requests.specs.declared.script_fault.ScriptFault.TheVariants as script
 use Rattle.boot_requests.specs.EventStream.{IsStreamFault}
+use Rattle.uefi_vars.proofs.EntriesAtRisk.{one_list}
 use Rattle.uefi_vars.proofs.Sets.{same_set, fault_leaves_none, same_first_fault}
 use Rattle.bootkeep_c.specs.declared.failure.Failure.{Failure}
 use Rattle.bootkeep_c.specs.declared.failure.Failure.TheVariants as failure
 use Rattle.bootkeep_c.specs.Refusals.{set_failure, vars_failure, put_failure, stream_failure}
 use Rattle.bootkeep_c.specs.Runs.{IsStreamFailure}
 use Rattle.bootkeep_c.specs.Plans.{number_or_none, next_number, normal_numbers}
-use Rattle.bootkeep_c.specs.Sets.{IsSetFailure, IsVarsFault, IsPlanFailure, HasPlanNumbers, IsPut, IsPutFault, IsPutFailure}
+use Rattle.bootkeep_c.specs.Sets.{IsSetFailure, IsVarsFault, IsPlanFailure, HasPlanNumbers, AreAtRisk, HasAtRisk, IsPut, IsPutFault, IsPutFailure}
 
 -- ---- sets
 
@@ -59,18 +61,22 @@ vars_failed set vars var.BadOrder spelled order next other = inr (vars, var.BadO
 vars_failed set vars var.BadNext spelled order next other = inr (vars, var.BadNext, spelled, next refl, refl)
 vars_failed set vars var.OutOfMemory spelled order next other = absurd (other refl)
 
+no_vars_fault : (vars : Variables) (fault : VarFault) → ¬ HasBadOrder vars → ¬ HasBadNext vars → IsVarsFault vars fault → ⊥
+no_vars_fault vars var.BadOrder order next is = order is
+no_vars_fault vars var.BadNext order next is = next is.1
+no_vars_fault vars var.OutOfMemory order next is = is
+
+-- variables with a good BootOrder and a good BootNext aren't at fault
+pub no_vars_failure : (set : List ℕ) (vars : Variables) (failed : Failure) → SpellsSet set vars → ¬ HasBadOrder vars → ¬ HasBadNext vars → IsPlanFailure set failed → ⊥
+no_vars_failure set vars failed spelled order next (inl why) = no_set_failure set vars failed spelled why
+no_vars_failure set vars failed spelled order next (inr why) =
+    no_vars_fault vars why.1 order next (subst (λ (v : Variables). IsVarsFault v why.1) (same_set set why.0 vars why.2 spelled) why.3)
+
 module _ (no_order : (vars : Variables) (order : List ℕ) → HasBadOrder vars → HasOrder vars order → ⊥)
     (no_next : (vars : Variables) (next : Option ℕ) → HasBadNext vars → HasNext vars next → ⊥) where
-  no_vars_fault : (vars : Variables) (plan : PlanParts) (fault : VarFault) → HasPlan vars plan → IsVarsFault vars fault → ⊥
-  no_vars_fault vars plan var.BadOrder has is = no_order vars has.order is has.has_order
-  no_vars_fault vars plan var.BadNext has is = no_next vars has.next is.1 has.has_next
-  no_vars_fault vars plan var.OutOfMemory has is = is
-
   pub no_plan_failure : (set : List ℕ) (vars : Variables) (plan : PlanParts) (failed : Failure) → SpellsSet set vars → HasPlan vars plan → IsPlanFailure set failed → ⊥
-  no_plan_failure set vars plan failed spelled has (inl why) = no_set_failure set vars failed spelled why
-  no_plan_failure set vars plan failed spelled has (inr why) =
-      let same = same_set set vars why.0 spelled why.2 in
-      no_vars_fault why.0 plan why.1 (subst (λ (v : Variables). HasPlan v plan) same has) why.3
+  no_plan_failure set vars plan failed spelled has =
+      no_vars_failure set vars failed spelled (λ bad. no_order vars has.order bad has.has_order) (λ bad. no_next vars has.next bad has.has_next)
 
 next_of_choice : (next : Option Choice) (plan : PlanParts) → plan.next ≡ next → number_or_none (option_map (λ (choice : Choice). choice.number) next) ≡ next_number plan
 next_of_choice None plan is = rw (is) refl
@@ -95,6 +101,17 @@ module _ (one_plan : (vars : Variables) (p q : PlanParts) → HasPlan vars p →
       → number_or_none next ≡ next_number plan
   next_of set next normal vars plan has spelled is =
       ap number_or_none has.numbers.first ∙ next_is has.plan ∙ ap next_number (same_plan set next normal vars plan has spelled is)
+
+-- ---- entries at risk
+
+-- the numbers that are found are those of the variables
+pub risk_of : (set numbers : List ℕ) (count : ℕ) (vars : Variables) (unnamed undecodable : List ℕ) → HasAtRisk set numbers count → SpellsSet set vars → AreAtRisk vars unnamed undecodable
+    → (numbers ≡ unnamed ++ undecodable) × (count ≡ length unnamed)
+risk_of set numbers count vars unnamed undecodable has spelled are =
+    let mine = subst (λ (v : Variables). AreAtRisk v has.unnamed has.undecodable) (same_set set has.vars vars has.spelled spelled) has.are in
+    let first = one_list (IsUnnamed vars) has.unnamed unnamed mine.are_unnamed are.are_unnamed in
+    let others = one_list (IsUndecodable vars) has.undecodable undecodable mine.are_undecodable are.are_undecodable in
+    (has.numbers_are ∙ ap (λ (a : List ℕ). a ++ has.undecodable) first ∙ ap (λ (b : List ℕ). unnamed ++ b) others, has.count_is ∙ ap length first)
 
 -- ---- variables that are put
 

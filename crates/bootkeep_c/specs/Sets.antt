@@ -1,5 +1,5 @@
 -- Why a call on a set is refused.
-use Rattle.std.specs.Prelude.{◌≡◌, ◌≢◌, ◌⊎◌, ℕ, ◌<◌, ◌≤◌, List, [], length, Option, Some, None}
+use Rattle.std.specs.Prelude.{◌≡◌, ◌≢◌, ◌⊎◌, ℕ, ◌<◌, ◌≤◌, List, [], ◌++◌, length, Option, Some, None}
 use Rattle.std.specs.FinMap as map
 use Rattle.uefi_vars.specs.declared.fault.SetFault.{SetFault}
 use Rattle.uefi_vars.specs.declared.fault.VarFault.{VarFault}
@@ -12,6 +12,7 @@ use Rattle.uefi_vars.specs.Set.{SpellsSet}
 use Rattle.uefi_vars.specs.Fault.{IsFirstFault}
 use Rattle.uefi_vars.specs.Order.{HasBadOrder, HasBadNext}
 use Rattle.uefi_vars.specs.Plan.{PlanParts, HasPlan, AreNumbersOf}
+use Rattle.uefi_vars.specs.AtRisk.{IsUnnamed, IsUndecodable, AreThose}
 use Rattle.bootkeep_c.specs.declared.failure.Failure.{Failure}
 use Rattle.bootkeep_c.specs.Status.{absent}
 use Rattle.bootkeep_c.specs.Refusals.{set_failure, vars_failure, put_failure}
@@ -23,13 +24,13 @@ IsSetFailure set failed = (fault : SetFault) × IsFirstFault set fault × (faile
 
 -- ---- plans
 
--- why variables have no plan
+-- why variables have no plan, and no entries at risk
 abbrev pub IsVarsFault : Variables → VarFault → Type 0
 IsVarsFault vars var.BadOrder = HasBadOrder vars
 IsVarsFault vars var.BadNext = (¬ HasBadOrder vars) × HasBadNext vars
 IsVarsFault vars var.OutOfMemory = ⊥
 
--- the bytes aren't a set, or its variables have no plan
+-- the bytes aren't a set, or its variables have no plan, and no entries at risk
 abbrev pub IsPlanFailure : List ℕ → Failure → Type 0
 IsPlanFailure set failed =
     IsSetFailure set failed
@@ -42,6 +43,25 @@ pub record HasPlanNumbers (set : List ℕ) (next : Option ℕ) (normal : List �
   pub spelled : SpellsSet set vars
   pub has : HasPlan vars plan
   pub numbers : AreNumbersOf plan next normal
+
+-- ---- entries at risk
+
+-- neither BootOrder nor BootNext is bad, and these are the entries that a start of firmware may write over or delete
+pub record AreAtRisk (vars : Variables) (unnamed undecodable : List ℕ) : Type 0 where
+  pub good_order : ¬ HasBadOrder vars
+  pub good_next : ¬ HasBadNext vars
+  pub are_unnamed : AreThose (IsUnnamed vars) unnamed
+  pub are_undecodable : AreThose (IsUndecodable vars) undecodable
+
+-- the set has these at risk, of which this many are unnamed
+pub record HasAtRisk (set numbers : List ℕ) (count : ℕ) : Type 0 where
+  pub vars : Variables
+  pub unnamed : List ℕ
+  pub undecodable : List ℕ
+  pub spelled : SpellsSet set vars
+  pub are : AreAtRisk vars unnamed undecodable
+  pub numbers_are : numbers ≡ unnamed ++ undecodable
+  pub count_is : count ≡ length unnamed
 
 -- ---- variables that are put
 

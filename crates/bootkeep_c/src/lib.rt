@@ -31,6 +31,9 @@ pub use option::{OptionPlaces, bootkeep_option_description, bootkeep_option_part
 pub use path::{bootkeep_path_check, bootkeep_path_text};
 pub use refusal::Refusal;
 pub use run::bootkeep_run;
-pub use set::{bootkeep_set_get, bootkeep_set_plan, bootkeep_set_put, bootkeep_set_remove};
+pub use set::{
+    bootkeep_set_at_risk, bootkeep_set_get, bootkeep_set_plan, bootkeep_set_put,
+    bootkeep_set_remove,
+};
 pub use text::bootkeep_text_path;
 pub use version::{VERSION, bootkeep_version};

@@ -1,6 +1,6 @@
 //! Sets of variables: their plans and their data, and sets with one variable changed.
 
-ghost use Rattle.std.specs.Prelude.{◌≡◌, ◌≢◌, ◌⊎◌, ◌<◌, ℕ, List, [], length, Option, Some, None, IfOk, IfErr, IfSome, IfNone, OnOk, true, false};
+ghost use Rattle.std.specs.Prelude.{◌≡◌, ◌≢◌, ◌⊎◌, ◌<◌, ℕ, List, [], ◌++◌, length, Option, Some, None, IfOk, IfErr, IfSome, IfNone, OnOk, true, false};
 ghost use Rattle.std.specs.Option.{option_map};
 ghost use Rattle.std.specs.FinMap as map;
 ghost use Rattle.uefi_vars.specs.declared.fault.SetFault.{SetFault};
@@ -17,7 +17,7 @@ ghost use Rattle.bootkeep_c.specs.Status.{done, refused, no_room, absent, no_mem
 ghost use Rattle.bootkeep_c.specs.Refusals.{set_failure, vars_failure, put_failure, Tells, TellsUnless};
 ghost use Rattle.bootkeep_c.specs.Buffer.{IsInFront, Gives, GivesUnless};
 ghost use Rattle.bootkeep_c.specs.Plans.{number_or_none, next_number, normal_numbers};
-ghost use Rattle.bootkeep_c.specs.Sets.{IsPlanFailure, HasPlanNumbers, IsPut, IsPutFault, IsPutFailure, IsNameText, GivesValue};
+ghost use Rattle.bootkeep_c.specs.Sets.{IsPlanFailure, HasPlanNumbers, AreAtRisk, HasAtRisk, IsPut, IsPutFault, IsPutFailure, IsNameText, GivesValue};
 
 use crate::buffer::{give, give_numbers};
 use crate::failure::Failure;
@@ -25,7 +25,9 @@ use crate::refusal::Refusal;
 use crate::status::{ABSENT, DONE};
 use std::alloc::Global;
 use std::str;
-use uefi_vars::{PlanNumbers, PutFault, Vars, laws, plan_numbers, read_set, write_set};
+use uefi_vars::{
+    AtRisk, PlanNumbers, PutFault, Vars, entries_at_risk, laws, plan_numbers, read_set, write_set,
+};
 
 /// What stands for the number of no entry.
 const NO_ENTRY: u32 = 0x10000;
@@ -96,6 +98,76 @@ fn planned(alloc: Global, set: &[u8]) -> Result<PlanNumbers, Failure>
     let vars = read_set(alloc, set)?;
     let numbers = plan_numbers(alloc, &vars)?;
     Ok(numbers)
+}
+
+/// The entries that a start of firmware may write over or delete (UEFI 2.10, 3.3): those that neither BootOrder nor
+/// BootNext names, and after them those of BootOrder that are no load option.
+#[unsafe(no_mangle)]
+pub extern "C" fn bootkeep_set_at_risk(
+    alloc: Global,
+    set: &[u8],
+    numbers: &mut [u16],
+    len: &mut usize,
+    unnamed: &mut usize,
+    refusal: &mut Refusal,
+) -> u32
+    // Of variables with a good BootOrder and a good BootNext, the numbers are given.
+    ensures numbers { (vars : Variables) (first others : List ℕ) → SpellsSet set.now vars → AreAtRisk vars first others →
+        GivesUnless result (first ++ others) numbers.old numbers.new len.old len.new
+        × (result ≡ done → unnamed.new ≡ length first) }
+    // The first fault is told: that of the set, or otherwise that of its variables.
+    ensures fault { (fault : SetFault) → IsFirstFault set.now fault →
+        TellsUnless (set_failure fault) result refusal.old refusal.new }
+    ensures bad_order { (vars : Variables) → SpellsSet set.now vars → HasBadOrder vars →
+        TellsUnless (vars_failure VarFault.BadOrder) result refusal.old refusal.new }
+    ensures bad_next { (vars : Variables) → SpellsSet set.now vars → ¬ HasBadOrder vars → HasBadNext vars →
+        TellsUnless (vars_failure VarFault.BadNext) result refusal.old refusal.new }
+    ensures found { result ≡ done → (vars : Variables) × (first : List ℕ) × (others : List ℕ) × SpellsSet set.now vars
+        × AreAtRisk vars first others × IsInFront (first ++ others) numbers.old numbers.new len.new
+        × (unnamed.new ≡ length first) }
+    ensures told { result ≡ refused → (failed : Failure)
+        × IsPlanFailure set.now failed × Tells failed result refusal.old refusal.new }
+    ensures status { IsGiveStatus result }
+    // What isn't told stays as it was.
+    ensures untouched { result ≢ done → (numbers.new ≡ numbers.old) × (unnamed.new ≡ unnamed.old) }
+    ensures len { result ≡ done ⊎ (result ≡ no_room ⊎ (len.new ≡ len.old)) }
+    ensures refusal { result ≢ refused → refusal.new ≡ refusal.old }
+{
+    laws::bytes_spell_one_set();
+    match at_risk(alloc, set) {
+        Ok(risk) => {
+            let status = give_numbers(&risk.numbers, numbers, len);
+            if status == DONE {
+                *unnamed = risk.unnamed;
+            }
+            status
+        }
+        Err(failure) => failure.tell(refusal),
+    }
+}
+
+/// The entries at risk as C is told them: the unnamed ones, and after them the undecodable ones.
+#[derive(Drop)]
+struct Listed {
+    numbers: Vec<u16>,
+    /// How many of them are unnamed.
+    unnamed: usize,
+}
+
+/// The entries of a set that are at risk.
+fn at_risk(alloc: Global, set: &[u8]) -> Result<Listed, Failure>
+    ensures found { IfOk result (λ listed. HasAtRisk set.now listed.numbers.items listed.unnamed) }
+    ensures fault { IfErr result (λ failed. failed ≢ Failure.Memory → IsPlanFailure set.now failed) }
+{
+    let vars = read_set(alloc, set)?;
+    let risk = entries_at_risk(alloc, &vars)?;
+    let AtRisk {
+        unnamed: mut numbers,
+        undecodable,
+    } = risk;
+    let unnamed = numbers.len();
+    numbers.extend_from_slice(&undecodable)?;
+    Ok(Listed { numbers, unnamed })
 }
 
 /// The data of the variable of this name.

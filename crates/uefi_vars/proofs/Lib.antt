@@ -1,5 +1,6 @@
 pub mod Bytes
 pub mod Chosen
+pub mod EntriesAtRisk
 pub mod Faults
 pub mod LowestFree
 pub mod NameChanges

@@ -64,7 +64,7 @@ module _ (vars : Variables) (i : ℕ) (p : Pair) (at : slice_get (entries vars) 
     IsLower q = name_cmp q.0 (entry_text number) ≡ Less
 
     -- those before it have lower names
-    below : AllByRecursion IsLower (take i (entries vars))
+    pub below : AllByRecursion IsLower (take i (entries vars))
     below = sorted_below name_cmp nat_list_cmp_total (entry_text number) (entries vars) i (entries_sorted vars) (rw at named)
 
     -- it is stored

@@ -1,5 +1,5 @@
 -- Finite maps and lists of entries in the order of their keys: a fact of what is stored under each key is one of each entry.
-use Rattle.std.proofs.Common.{◌≡◌, ℕ, Bool, true, false, cond, not, ◌&&◌, T, List, [], ◌∷◌, length, Option, Some, None, IfSome, refl, sym, ap, subst, ◌∙◌}
+use Rattle.std.proofs.Common.{◌≡◌, ℕ, Bool, true, false, cond, not, ◌&&◌, T, List, [], ◌∷◌, length, Contains, Option, Some, None, IfSome, refl, sym, ap, subst, ◌∙◌}
 use Rattle.std.specs.List.{AllByRecursion, filter}
 use Rattle.std.specs.Ordering.{is_eq, is_lt, eq_by_cmp}
 use Rattle.std.specs.declared.cmp.Ordering.{Ordering}
@@ -9,6 +9,7 @@ use Rattle.std.specs.FinMap.{IsAntisymmetric, empty, entries, entries_sorted, en
 use Rattle.std.specs.FinMap.Entries.{find, put, by_order, is_sorted, below_all, is_sorted-put, is_sorted-where_key, find-where_key}
 use Rattle.std.proofs.lemmas.Cmp.{tied_itself, alike_right, eq_by_cmp_equiv, nat_list_cmp_total}
 use Rattle.std.proofs.lemmas.List.{length-map}
+use Rattle.std.proofs.lemmas.List.Elements.{All-contains, All-contains_itself, All-from_recursion, recursion_from_All}
 use Rattle.uefi_vars.specs.declared.named.Named.{Named}
 use Rattle.uefi_vars.specs.Vars.{Variables, name_cmp, IsVariable, IsVars}
 use Rattle.uefi_vars.specs.Records.{pair_of, pairs_of, AreVariables, vars_of, without}
@@ -82,6 +83,10 @@ module _ {K X : Type 0} {R : K → K → Ordering} (same : IsAntisymmetric R) (P
         | Greater ↦ λ t. (h.0, put_each key value es p h.1)
       ] refl
 
+some_itself : {X : Type 0} (o : Option X) → IfSome o (λ x. o ≡ Some x)
+some_itself None = tt
+some_itself (Some x) = refl
+
 filter_each : {E : Type 0} (P : E → Type 0) (test : E → Bool) (es : List E) → AllByRecursion P es → AllByRecursion P (filter test es)
 filter_each P test [] h = tt
 filter_each P test (e ∷ es) h =
@@ -95,6 +100,19 @@ flipped false x y = refl
 pub entries-AllByRecursion : (vars : Variables) → IsVars vars → AllByRecursion IsVariable (entries vars)
 entries-AllByRecursion vars h =
     each_found name_cmp-IsAntisymmetric IsVariable nat_list_cmp_total (entries vars) (entries_sorted vars) (λ q. subst (IsEach IsVariable q) (get-entries vars q) (h q))
+
+-- what an entry of a map holds is found under its name
+pub get_contained : (vars : Variables) (p : List ℕ × List ℕ) → Contains (entries vars) p → get vars p.0 ≡ Some p.1
+get_contained vars p among =
+    let IsFound : List ℕ × List ℕ → Type 0 = λ q. get vars q.0 ≡ Some q.1 in
+    let each = each_found name_cmp-IsAntisymmetric IsFound nat_list_cmp_total (entries vars) (entries_sorted vars) (λ q. subst (IsEach IsFound q) (get-entries vars q) (some_itself (get vars q))) in
+    All-contains IsFound (entries vars) p (All-from_recursion IsFound (entries vars) each) among
+
+-- and what is found is an entry
+pub contained : (vars : Variables) (name value : List ℕ) → get vars name ≡ Some value → Contains (entries vars) (name, value)
+contained vars name value is =
+    let Among : List ℕ × List ℕ → Type 0 = Contains (entries vars) in
+    subst (IsEach Among name) (sym (get-entries vars name) ∙ is) (found_each name_cmp-IsAntisymmetric Among (entries vars) (recursion_from_All Among (entries vars) (All-contains_itself (entries vars))) name)
 
 -- sorted variables are a map of variables
 pub IsVars-from_sorted : (pairs : List (List ℕ × List ℕ)) → T (is_sorted name_cmp pairs) → AllByRecursion IsVariable pairs → IsVars (from_sorted pairs)

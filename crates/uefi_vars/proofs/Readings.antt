@@ -117,7 +117,7 @@ rises_is variables last name r at rising is =
 -- ---- the records so far
 
 pub none_read : (bytes : List ℕ) (variables : List (Named (List ℕ))) (rest : List ℕ) → variables ≡ [] → rest ≡ bytes → HasRecords bytes (pairs_of variables) rest
-none_read bytes variables rest none all = rw none (record { whole = tt; rising = none_rise; parts = sym all })
+none_read bytes variables rest none all = rw none (record { whole = tt; rising = none_rise name_cmp; parts = sym all })
 
 pub one_read : (bytes : List ℕ) (variables more : List (Named (List ℕ))) (v : Named (List ℕ)) (rest name after value behind : List ℕ) → HasRecords bytes (pairs_of variables) rest → more ≡ variables ++ v ∷ [] → pair_of v ≡ (name, value) → SplitsName rest name after → IsAbove (names_of (pairs_of variables)) name → SplitsData after value behind
     → HasRecords bytes (pairs_of more) behind

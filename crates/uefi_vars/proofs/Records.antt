@@ -66,9 +66,9 @@ length-records_bytes-take (v ∷ variables) (suc i) variable within is =
 
 -- ---- names that rise
 
-pub none_rise : IsStrictlySortedBy name_cmp []
+pub none_rise : {K : Type 0} (R : K → K → Ordering) → IsStrictlySortedBy R []
 unfolding IsStrictlySortedBy
-none_rise = tt
+none_rise R = tt
 
 -- each of rising names is above those before it
 pub above_front : (names : List (List ℕ)) (name : List ℕ) (others : List (List ℕ)) → IsStrictlySortedBy name_cmp (names ++ name ∷ others) → IsAbove names name
@@ -77,12 +77,12 @@ above_front [] name others rising = tt
 above_front (n ∷ names) name others rising =
     ((AllByRecursion-behind (λ (m : List ℕ). name_cmp n m ≡ Less) names (name ∷ others) rising.0).0, above_front names name others rising.1)
 
--- a name above rising names
-pub one_above : (names : List (List ℕ)) (name : List ℕ) → IsStrictlySortedBy name_cmp names → IsAbove names name → IsStrictlySortedBy name_cmp (names ++ name ∷ [])
+-- a key above rising keys, as a name above rising names
+pub one_above : {K : Type 0} (R : K → K → Ordering) (keys : List K) (key : K) → IsStrictlySortedBy R keys → AllByRecursion (λ before. R before key ≡ Less) keys → IsStrictlySortedBy R (keys ++ key ∷ [])
 unfolding IsStrictlySortedBy
-one_above [] name rising above = (tt, tt)
-one_above (n ∷ names) name rising above =
-    (AllByRecursion-append (λ (m : List ℕ). name_cmp n m ≡ Less) names (name ∷ []) rising.0 (above.0, tt), one_above names name rising.1 above.1)
+one_above R [] key rising above = (tt, tt)
+one_above R (k ∷ keys) key rising above =
+    (AllByRecursion-append (λ m. R k m ≡ Less) keys (key ∷ []) rising.0 (above.0, tt), one_above R keys key rising.1 above.1)
 
 -- what is above the last of rising names is above each
 pub above_last : (names : List (List ℕ)) (last name : List ℕ) → IsStrictlySortedBy name_cmp (names ++ last ∷ []) → name_cmp last name ≡ Less → IsAbove (names ++ last ∷ []) name

@@ -198,7 +198,7 @@ one_record bytes pairs rest v behind has is above parts =
     let more : records_bytes (pairs ++ v ∷ []) ≡ records_bytes pairs ++ record_bytes v = flat_map-append record_bytes pairs (v ∷ []) ∙ ap (λ (t : List ℕ). records_bytes pairs ++ t) (append-nil (record_bytes v)) in
     record {
       whole = AllByRecursion-append IsVariable pairs (v ∷ []) has.whole (is, tt);
-      rising = subst (IsStrictlySortedBy name_cmp) (sym (map-append (λ (p : Pair). p.0) pairs (v ∷ []))) (one_above (names_of pairs) v.0 has.rising above);
+      rising = subst (IsStrictlySortedBy name_cmp) (sym (map-append (λ (p : Pair). p.0) pairs (v ∷ []))) (one_above name_cmp (names_of pairs) v.0 has.rising above);
       parts = has.parts ∙ ap (λ (t : List ℕ). records_bytes pairs ++ t) parts ∙ sym (append_assoc (records_bytes pairs) (record_bytes v) behind) ∙ ap (λ (t : List ℕ). t ++ behind) (sym more);
     }
 
@@ -224,7 +224,7 @@ IsSetOrFault bytes = ((vars : Variables) × SpellsSet bytes vars) ⊎ ((f : SetF
 
 behind_ends : (input behind : List ℕ) → AllByRecursion IsByte behind → input ≡ magic ++ behind → IsSetOrFault input
 behind_ends input behind fits parts =
-    elim (records_end 4 (length behind + 1) behind [] behind (omega arith) fits (record { whole = tt; rising = none_rise; parts = refl })) [
+    elim (records_end 4 (length behind + 1) behind [] behind (omega arith) fits (record { whole = tt; rising = none_rise name_cmp; parts = refl })) [
       | inl read ↦ inl (from_sorted read.0, records_spell input behind read.0 parts read.1)
       | inr stop ↦ inr (stop.0, records_fault_is input behind stop.0 parts stop.1)
     ]

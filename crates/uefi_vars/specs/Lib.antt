@@ -8,6 +8,7 @@ pub mod Fault
 pub mod Order
 pub mod Free
 pub mod Plan
+pub mod AtRisk
 pub mod Words
 pub mod Equality
 pub mod PlanEquality
@@ -17,3 +18,4 @@ pub mod ChangeRecords
 pub mod Reader
 pub mod ByNumber
 pub mod NormalEntry
+pub mod RiskOfVariable

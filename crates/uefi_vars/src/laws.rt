@@ -15,6 +15,7 @@ ghost use Rattle.uefi_vars.specs.Set.{SpellsSet};
 ghost use Rattle.uefi_vars.specs.Fault.{IsFirstFault};
 ghost use Rattle.uefi_vars.specs.Order.{order_max, IsEntryNumber, HasOrder, HasNext, HasBadOrder, HasBadNext};
 ghost use Rattle.uefi_vars.specs.Plan.{PlanParts, IsNormalChoice, IsPlan, HasPlan};
+ghost use Rattle.uefi_vars.specs.AtRisk.{IsUnnamed, IsUndecodable, AreThose};
 
 use crate::boot_plan::{BootPlan, Choice};
 use crate::fault::{PutFault, SetFault, VarFault};
@@ -266,6 +267,25 @@ pub fn variables_have_one_plan()
     variables_have_one_next();
     entries_have_one_plan();
 }
+
+/// The entries of variables that neither BootOrder nor BootNext names have one list, and so have those of BootOrder that are
+/// no load option.
+pub fn variables_have_one_list_of_entries_at_risk()
+    ensures unnamed { (vars : Variables) (a b : List ℕ) →
+        AreThose (IsUnnamed vars) a → AreThose (IsUnnamed vars) b → a ≡ b }
+    ensures undecodable { (vars : Variables) (a b : List ℕ) →
+        AreThose (IsUndecodable vars) a → AreThose (IsUndecodable vars) b → a ≡ b }
+{}
+
+/// An entry that BootOrder or BootNext names is none of those that neither names.
+pub fn a_named_entry_is_not_unnamed()
+    ensures order { (vars : Variables) (order : List ℕ) (number : ℕ) →
+        HasOrder vars order → Contains order number → IsUnnamed vars number → ⊥ }
+    ensures next { (vars : Variables) (number : ℕ) →
+        HasNext vars (Some number) → IsUnnamed vars number → ⊥ }
+    ensures undecodable { (vars : Variables) (number : ℕ) →
+        IsUndecodable vars number → IsUnnamed vars number → ⊥ }
+{}
 
 /// `==` on choices tells whether they are equal.
 pub fn choices_compare_as_values()

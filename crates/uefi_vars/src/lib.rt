@@ -6,9 +6,11 @@
 //! it. Copies share the bytes of names and of data, and so do a set and the copy of the file that it was read from.
 //! Load options are stored under the names that [`entry_name`] gives, and [`entry_option`] reads one; [`lowest_free`]
 //! finds a number for one more. [`boot_order`] and [`boot_next`] read which of them are to be tried, [`plan`] puts
-//! together what a boot would try, and [`plan_numbers`] its numbers alone.
+//! together what a boot would try, and [`plan_numbers`] its numbers alone. [`entries_at_risk`] tells which of them a
+//! start of firmware may write over or delete.
 #![tactic(auto)]
 
+mod at_risk;
 mod boot_plan;
 mod by_number;
 mod changes;
@@ -25,6 +27,7 @@ mod shared;
 mod vars;
 mod writer;
 
+pub use at_risk::{AtRisk, entries_at_risk};
 pub use boot_plan::{BootPlan, Choice, PlanNumbers};
 pub use changes::Changes;
 pub use fault::{PutFault, PutRefusal, SetFault, VarFault};

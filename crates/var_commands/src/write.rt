@@ -1,7 +1,7 @@
 //! The command `write`, which makes the boot variables of a place those of a set.
 
 use crate::action::WriteWords;
-use boot_texts::change_report;
+use boot_texts::{EntryName, Risk, change_report, diff_report, naming_change};
 use std::alloc::{AllocError, Global};
 use std::rt::Files;
 use std::{fs, io};
@@ -15,7 +15,8 @@ use var_places::{
 use var_stores::{BootChange, boot_changes};
 use whole_files::OutputFile;
 
-/// Makes the boot variables of a place those of a set, and prints each change; or prints them alone, for a dry run.
+/// Makes the boot variables of a place those of a set, and prints each change; or prints how the two differ, for a dry run.
+/// Tells on standard error which entries will be in no order, and aren't so before.
 ///
 /// # Errors
 ///
@@ -68,6 +69,21 @@ fn note_keep_state<R: Eprint>(rt: &R, words: &WriteWords<'_>, to: &Vars) {
     }
 }
 
+/// Tells which entries are in no order in the set, and aren't so in the place.
+fn note_unnamed<R: Eprint + AllocGlobal>(
+    rt: &R,
+    place: &str,
+    from: &Vars,
+    to: &Vars,
+) -> Result<(), AllocError> {
+    let change = naming_change(rt.alloc(), from, to)?;
+    for number in &change.unnamed {
+        let text = format_args!("{} will be {}", EntryName(*number), Risk::Unnamed);
+        note(rt, place, text);
+    }
+    Ok(())
+}
+
 /// Writes to a set file or an emulator's variable file. It is locked from before it is read until it is replaced, unless
 /// nothing is to be written.
 fn write_to_file<R: Files<File: OutputFile> + Input + Print + Eprint + AllocGlobal>(
@@ -112,8 +128,13 @@ fn plan_file<R: Files + Input + Eprint + AllocGlobal>(
     let from = file_vars(rt, words.place, &bytes)?;
     let changes = boot_changes(rt.alloc(), &from, to)?;
     let bytes = changed_bytes(rt, words, &bytes, (&from, to), &changes)?;
+    note_unnamed(rt, words.place, &from, to)?;
     Ok(PlannedFile {
-        report: report(rt.alloc(), &changes)?,
+        report: if words.dry_run {
+            diff_report(rt.alloc(), &from, to)?
+        } else {
+            report(rt.alloc(), &changes)?
+        },
         bytes,
         changes: !changes.is_empty(),
     })
@@ -173,8 +194,9 @@ fn write_folder<R: Files + Print + Eprint + AllocGlobal>(
     let changes = boot_changes(alloc, &folder.found.vars, to)?;
     check_changes(alloc, name_of(words.set), &changes)?;
     note_keep_state(rt, words, to);
+    note_unnamed(rt, words.place, &folder.found.vars, to)?;
     if words.dry_run {
-        return print(rt, report(alloc, &changes)?.as_bytes());
+        return print(rt, diff_report(alloc, &folder.found.vars, to)?.as_bytes());
     }
     make_changes(rt, words.place, &folder, &changes)
 }

@@ -1,0 +1,106 @@
+//! Entries that a start of firmware may write over or delete, as they are shown, and changes that make them so.
+
+use std::alloc::{AllocError, Global};
+use std::fmt;
+use uefi_vars::{AtRisk, VarFault, Vars, entries_at_risk};
+
+/// What a start of firmware may do to an entry.
+#[derive(Clone, Copy, Debug, PartialEq, Eq)]
+pub enum Risk {
+    /// It may write over the entry, which neither BootOrder nor BootNext names.
+    Unnamed,
+    /// It may delete the entry, which BootOrder names, and which is no load option.
+    Undecodable,
+}
+
+impl Risk {
+    /// What it may do to the entry of this number, if anything.
+    pub(crate) fn of(at_risk: &AtRisk, number: u16) -> Option<Risk> {
+        if at_risk.unnamed.binary_search(&number).is_ok() {
+            Some(Risk::Unnamed)
+        } else if at_risk.undecodable.binary_search(&number).is_ok() {
+            Some(Risk::Undecodable)
+        } else {
+            None
+        }
+    }
+
+    /// What its JSON calls it.
+    pub(crate) fn word(self) -> &'static str {
+        match self {
+            Risk::Unnamed => "unnamed",
+            Risk::Undecodable => "undecodable",
+        }
+    }
+}
+
+/// The words for a person that go on from the entry's name.
+impl fmt::Display for Risk {
+    fn fmt<W: fmt::Write>(&self, f: &mut fmt::Formatter<W>) -> fmt::Result {
+        match self {
+            Risk::Unnamed => f.write_str("in no order: firmware may write over it"),
+            Risk::Undecodable => f.write_str("undecodable, in the order: firmware may delete it"),
+        }
+    }
+}
+
+/// The number of an entry, shown as the name of its variable (UEFI 2.10, 3.1.1).
+#[derive(Clone, Copy, Debug, PartialEq, Eq)]
+pub struct EntryName(pub u16);
+
+impl fmt::Display for EntryName {
+    fn fmt<W: fmt::Write>(&self, f: &mut fmt::Formatter<W>) -> fmt::Result {
+        write!(f, "Boot{:04X}", self.0)
+    }
+}
+
+/// Which entries are in no order after a change of variables and weren't before it, and which the other way round. In
+/// no order are those that neither BootOrder nor BootNext names (UEFI 2.10, 3.3). Each list has its numbers in rising
+/// order, without repetition.
+#[derive(Debug, PartialEq, Eq, Drop)]
+pub struct NamingChange {
+    /// The entries after the change that are in no order then, and that were named before it or weren't there.
+    pub unnamed: Vec<u16>,
+    /// The entries after the change that are named then, and that were in no order before it.
+    pub named: Vec<u16>,
+}
+
+/// What a change from the first set to the second makes of entries in no order. A set whose BootOrder or BootNext can't
+/// be read counts as one that has no entry in no order; if that is the second set, both lists are empty.
+///
+/// # Errors
+///
+/// [`AllocError`] if memory was refused.
+pub fn naming_change(alloc: Global, from: &Vars, to: &Vars) -> Result<NamingChange, AllocError> {
+    let mut change = NamingChange {
+        unnamed: Vec::new(alloc),
+        named: Vec::new(alloc),
+    };
+    let Some(after) = known_risks(alloc, to)? else {
+        return Ok(change);
+    };
+    let before = match known_risks(alloc, from)? {
+        Some(before) => before.unnamed,
+        None => Vec::new(alloc),
+    };
+    for number in &after.unnamed {
+        if before.binary_search(number).is_err() {
+            change.unnamed.push(*number)?;
+        }
+    }
+    for number in &before {
+        if to.entry(*number).is_some() && after.unnamed.binary_search(number).is_err() {
+            change.named.push(*number)?;
+        }
+    }
+    Ok(change)
+}
+
+/// Which entries are at risk, or `None` if BootOrder or BootNext can't be read.
+pub(crate) fn known_risks(alloc: Global, vars: &Vars) -> Result<Option<AtRisk>, AllocError> {
+    match entries_at_risk(alloc, vars) {
+        Ok(at_risk) => Ok(Some(at_risk)),
+        Err(VarFault::BadOrder | VarFault::BadNext) => Ok(None),
+        Err(VarFault::OutOfMemory) => Err(AllocError),
+    }
+}
