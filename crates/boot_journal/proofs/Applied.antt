@@ -12,7 +12,7 @@ use Rattle.std.proofs.lemmas.Bool.{true≢false, or_parts, or_left, or_right}
 use Rattle.uefi_vars.specs.Name.{entry_text, order_text, next_text}
 use Rattle.uefi_vars.specs.Vars.{Variables, IsVariable}
 use Rattle.uefi_vars.specs.NameChanges.{with_data, after_each}
-use Rattle.var_stores.specs.BootChange.{same_name, is_entry_name, is_boot_name, changes_from}
+use Rattle.uefi_vars.specs.BootChange.{same_name, is_entry_name, is_boot_name, changes_from}
 use Rattle.boot_requests.specs.declared.request.Request.{Request}
 use Rattle.boot_requests.specs.declared.request.Request.TheVariants.{Add, Replace, Remove, Order, Next, AddFree}
 use Rattle.boot_requests.specs.declared.outcome.Code.{Code}

@@ -8,7 +8,7 @@ use Rattle.std.proofs.lemmas.Cmp.{nat_list_cmp_total, eq_by_cmp_equiv}
 use Rattle.uefi_vars.specs.Name.{next_text}
 use Rattle.uefi_vars.specs.Vars.{Variables}
 use Rattle.uefi_vars.specs.NameChanges.{after_each}
-use Rattle.var_stores.specs.BootChange.{ChangeParts, same_name, new_data}
+use Rattle.uefi_vars.specs.BootChange.{ChangeParts, same_name, new_data}
 use Rattle.boot_journal.specs.Changes.{made, taken_back, spent, TellWhatIsThere, IsFront, is_of_next}
 use Rattle.boot_journal.specs.Journal.{JournalParts, PendingParts, Makes, TakesBack, begun, due, due_by, turned, turned_by}
 use Rattle.boot_journal.specs.Store.{Store}

@@ -9,7 +9,7 @@ use Rattle.std.specs.FinMap.{get, get-remove}
 use Rattle.uefi_vars.specs.Name.{next_text}
 use Rattle.uefi_vars.specs.Vars.{Variables}
 use Rattle.uefi_vars.specs.NameChanges.{after_each}
-use Rattle.var_stores.specs.BootChange.{same_name}
+use Rattle.uefi_vars.specs.BootChange.{same_name}
 use Rattle.boot_journal.specs.Events.{without_next}
 use Rattle.boot_journal.proofs.Single.{Single, over, one_name, same_variables, get-each}
 

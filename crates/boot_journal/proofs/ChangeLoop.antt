@@ -3,7 +3,7 @@ use Rattle.std.proofs.Common.{◌≡◌, ℕ, zero, suc, ◌<◌, ◌≤◌, Lis
 use Rattle.std.specs.List.{AllByRecursion}
 use Rattle.std.proofs.lemmas.List.{append-nil, nil_from_length}
 use Rattle.uefi_vars.proofs.Bytes.{AllByRecursion-append}
-use Rattle.var_stores.specs.BootChange.{ChangeParts}
+use Rattle.uefi_vars.specs.BootChange.{ChangeParts}
 use Rattle.boot_journal.specs.declared.fault.JournalFault.{JournalFault}
 use Rattle.boot_journal.specs.declared.fault.JournalFault.TheVariants as fault
 use Rattle.boot_journal.specs.Values.{IsBootChange}

@@ -1,5 +1,5 @@
 -- What BootOrder and BootNext name between the moves of an update. The variables are those after the first of its changes (`front_before`,
--- `front_after`), for which var_stores has the law, of sets; here it is carried over to what a machine keeps, with attributes and
+-- `front_after`), for which uefi_vars has the law, of sets; here it is carried over to what a machine keeps, with attributes and
 -- with BootKeepState elsewhere (`order_law`, `next_law`).
 use Rattle.std.proofs.Common.{◌≡◌, ◌≢◌, ◌⊎◌, ◌<◌, ◌^◌, map, inl, inr, ⊎_elim, ℕ, Bool, true, false, List, [], ◌∷◌, take, length, Option, Some, None, is_some}
 use Rattle.std.proofs.Common.{Contains, refl, sym, ap, subst, ◌∙◌, arith}
@@ -11,10 +11,10 @@ use Rattle.std.proofs.lemmas.List.{take-map}
 use Rattle.uefi_vars.specs.Name.{entry_text, order_text, next_text}
 use Rattle.uefi_vars.specs.Vars.{Variables}
 use Rattle.uefi_vars.specs.NameChanges.{after_each}
-use Rattle.var_stores.specs.BootChange.{ChangeParts, same_name, new_data, changed_names, change_under, changes_from, is_boot_name, IsNeeded, order_in}
-use Rattle.var_stores.specs.BootChange.{DanglesInOrder, DanglesAsNext}
-use Rattle.var_stores.proofs.Afterwards.{get_after}
-use Rattle.var_stores.proofs.Fronts.{now_under, order_alike, next_alike}
+use Rattle.uefi_vars.specs.BootChange.{ChangeParts, same_name, new_data, changed_names, change_under, changes_from, is_boot_name, IsNeeded, order_in}
+use Rattle.uefi_vars.specs.BootChange.{DanglesInOrder, DanglesAsNext}
+use Rattle.uefi_vars.proofs.Afterwards.{get_after}
+use Rattle.uefi_vars.proofs.Fronts.{now_under, order_alike, next_alike}
 use Rattle.boot_requests.specs.State.{keep_text}
 use Rattle.boot_journal.specs.Attributes.{data_in, data_of}
 use Rattle.boot_journal.specs.Changes.{made, IsFront}

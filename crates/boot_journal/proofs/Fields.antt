@@ -15,7 +15,7 @@ use Rattle.uefi_vars.specs.Set.{name_bytes, data_bytes}
 use Rattle.uefi_vars.specs.Fault.{StatesLength}
 use Rattle.uefi_vars.proofs.Bytes.{IsBytes, recursion_from_bytes, AllByRecursion-first, AllByRecursion-behind}
 use Rattle.uefi_vars.proofs.Faults.{four_state}
-use Rattle.var_stores.specs.BootChange.{is_boot_name}
+use Rattle.uefi_vars.specs.BootChange.{is_boot_name}
 use Rattle.boot_journal.specs.declared.fault.JournalFault.{JournalFault}
 use Rattle.boot_journal.specs.declared.fault.JournalFault.TheVariants as fault
 use Rattle.boot_journal.specs.MachineName.{machine_name_max, IsMachineName}

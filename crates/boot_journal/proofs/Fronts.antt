@@ -10,7 +10,7 @@ use Rattle.std.proofs.lemmas.Bool.{cases_lt}
 use Rattle.std.proofs.lemmas.List.{take-append-le, take_all, length-append}
 use Rattle.uefi_vars.specs.Vars.{Variables}
 use Rattle.uefi_vars.specs.NameChanges.{with_data, after_each}
-use Rattle.var_stores.specs.BootChange.{same_name}
+use Rattle.uefi_vars.specs.BootChange.{same_name}
 use Rattle.boot_journal.proofs.Single.{Single, over, as_they_were, back, back-cons, one_name, same_variables, get-each, get-with_data, taken_back}
 
 -- no change is of this name

@@ -12,7 +12,7 @@ use Rattle.uefi_vars.specs.Name.{IsNameByte, IsName}
 use Rattle.uefi_vars.specs.Vars.{IsData}
 use Rattle.uefi_vars.specs.Set.{name_bytes}
 use Rattle.uefi_vars.proofs.Bytes.{AllByRecursion-append}
-use Rattle.var_stores.specs.BootChange.{ChangeParts, is_boot_name}
+use Rattle.uefi_vars.specs.BootChange.{ChangeParts, is_boot_name}
 use Rattle.boot_journal.specs.declared.fault.JournalFault.{JournalFault}
 use Rattle.boot_journal.specs.declared.fault.JournalFault.TheVariants as fault
 use Rattle.boot_journal.specs.declared.journal_file.JournalFile.{JournalFile}

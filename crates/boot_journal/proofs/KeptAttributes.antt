@@ -6,7 +6,7 @@ use Rattle.std.proofs.lemmas.Bool.{true≢false}
 use Rattle.uefi_vars.specs.Name.{next_text}
 use Rattle.uefi_vars.specs.Vars.{Variables}
 use Rattle.uefi_vars.specs.NameChanges.{after_each}
-use Rattle.var_stores.specs.BootChange.{same_name, is_boot_name, changes_from}
+use Rattle.uefi_vars.specs.BootChange.{same_name, is_boot_name, changes_from}
 use Rattle.boot_requests.specs.State.{keep_text}
 use Rattle.boot_journal.specs.Attributes.{attributes_len, attributes_in, KeepAttributes}
 use Rattle.boot_journal.specs.Changes.{made}

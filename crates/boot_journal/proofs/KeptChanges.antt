@@ -7,7 +7,7 @@ use Rattle.std.specs.FinMap.{get}
 use Rattle.std.proofs.lemmas.List.{length-append}
 use Rattle.uefi_path.specs.Row.{IsByte}
 use Rattle.uefi_vars.specs.Vars.{Variables, IsData, data_max}
-use Rattle.var_stores.specs.BootChange.{ChangeParts, is_boot_name}
+use Rattle.uefi_vars.specs.BootChange.{ChangeParts, is_boot_name}
 use Rattle.boot_journal.specs.declared.attributes.AttributesFault.{AttributesFault}
 use Rattle.boot_journal.specs.declared.attributes.AttributesFault.TheVariants.{NoData, TooLong, OutOfMemory}
 use Rattle.boot_journal.specs.Attributes.{attributes_len, attributes_in}

@@ -8,7 +8,7 @@ use Rattle.std.proofs.lemmas.Cmp.{nat_list_cmp_total, eq_by_cmp_equiv}
 use Rattle.std.proofs.lemmas.List.{take-map}
 use Rattle.uefi_vars.specs.Vars.{Variables}
 use Rattle.uefi_vars.specs.NameChanges.{after_each}
-use Rattle.var_stores.specs.BootChange.{ChangeParts, same_name, is_boot_name, new_data}
+use Rattle.uefi_vars.specs.BootChange.{ChangeParts, same_name, is_boot_name, new_data}
 use Rattle.boot_requests.specs.State.{keep_text}
 use Rattle.boot_journal.specs.Changes.{made, taken_back, spent, TellWhatIsThere}
 use Rattle.boot_journal.specs.Journal.{JournalParts, PendingParts, Makes, TakesBack, idle, due, due_by, turned_by, is_making}

@@ -5,7 +5,7 @@ use Rattle.std.proofs.lemmas.List.{append-nil, take_more}
 use Rattle.uefi_vars.specs.Vars.{Variables}
 use Rattle.uefi_vars.specs.NameChanges.{with_data}
 use Rattle.uefi_vars.proofs.Bytes.{AllByRecursion-append}
-use Rattle.var_stores.specs.BootChange.{ChangeParts}
+use Rattle.uefi_vars.specs.BootChange.{ChangeParts}
 use Rattle.boot_journal.specs.Changes.{made}
 use Rattle.boot_journal.specs.Moments.{Leaves}
 use Rattle.boot_journal.specs.Store.{Store, with_made, IsFrontStore}

@@ -1,7 +1,7 @@
 -- Where a cut comes as changes are made and the journal is replaced then: each moment is so many moves further.
 use Rattle.std.proofs.Common.{◌≡◌, ◌⊎◌, ⊎_elim, ℕ, zero, suc, List, [], ◌∷◌, take, length, refl, sym, ap, ◌∙◌}
 use Rattle.std.proofs.Math.Seq.{take-length}
-use Rattle.var_stores.specs.BootChange.{ChangeParts}
+use Rattle.uefi_vars.specs.BootChange.{ChangeParts}
 use Rattle.boot_journal.specs.Journal.{JournalParts}
 use Rattle.boot_journal.specs.Store.{Store, with_made, with_journal, IsFrontStore}
 use Rattle.boot_journal.specs.Moves.{cut_making, IsMaking, IsCarrying}

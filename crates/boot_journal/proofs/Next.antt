@@ -7,7 +7,7 @@ use Rattle.std.proofs.lemmas.List.{take-map}
 use Rattle.uefi_vars.specs.Name.{next_text}
 use Rattle.uefi_vars.specs.Vars.{Variables}
 use Rattle.uefi_vars.specs.NameChanges.{after_each}
-use Rattle.var_stores.specs.BootChange.{ChangeParts, same_name, new_data}
+use Rattle.uefi_vars.specs.BootChange.{ChangeParts, same_name, new_data}
 use Rattle.boot_journal.specs.Changes.{made, taken_back, spent}
 use Rattle.boot_journal.specs.Journal.{PendingParts, Makes, TakesBack, due, BeganUnderAnother}
 use Rattle.boot_journal.specs.Store.{Store}

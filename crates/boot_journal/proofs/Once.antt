@@ -4,7 +4,7 @@ use Rattle.std.proofs.Common.{◌≡◌, inl, ℕ, ◌-◌, false, List, [], ◌
 use Rattle.std.specs.FinMap.{get}
 use Rattle.uefi_vars.specs.Vars.{Variables}
 use Rattle.uefi_vars.specs.NameChanges.{after_each}
-use Rattle.var_stores.specs.BootChange.{is_boot_name, changes_from}
+use Rattle.uefi_vars.specs.BootChange.{is_boot_name, changes_from}
 use Rattle.boot_requests.specs.Changes.{numbers_in, numbers_from}
 use Rattle.boot_requests.specs.Keeper.{AreRead}
 use Rattle.boot_requests.specs.Marks.{mark_of, mark_in}

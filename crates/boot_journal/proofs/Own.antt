@@ -8,7 +8,7 @@ use Rattle.std.proofs.lemmas.List.Folds.{list_any-append}
 use Rattle.std.proofs.lemmas.Bool.{or_parts}
 use Rattle.uefi_vars.specs.Vars.{Variables}
 use Rattle.uefi_vars.specs.NameChanges.{after_each}
-use Rattle.var_stores.specs.BootChange.{ChangeParts, same_name, new_data, changes_from}
+use Rattle.uefi_vars.specs.BootChange.{ChangeParts, same_name, new_data, changes_from}
 use Rattle.boot_journal.specs.Changes.{made, undone, taken_back, spent, LeaveAlone}
 use Rattle.boot_journal.specs.Journal.{JournalParts, PendingParts, Makes, TakesBack, due, turned, turned_by, changes_of}
 use Rattle.boot_journal.specs.Store.{Store, with_state, seen, stands_for, falls_back_to, journal_to}

@@ -6,7 +6,7 @@ use Rattle.std.proofs.lemmas.List.{take-map, map-append, reverse-append}
 use Rattle.uefi_vars.specs.Name.{next_text}
 use Rattle.uefi_vars.specs.Vars.{Variables}
 use Rattle.uefi_vars.specs.NameChanges.{after_each}
-use Rattle.var_stores.specs.BootChange.{ChangeParts, same_name, new_data}
+use Rattle.uefi_vars.specs.BootChange.{ChangeParts, same_name, new_data}
 use Rattle.boot_journal.specs.Changes.{made, undone, taken_back, spent, is_of_next, TellWhatIsThere}
 use Rattle.boot_journal.specs.Events.{without_next}
 use Rattle.boot_journal.proofs.Single.{Single, over, as_they_were, back, Forgets, Keeps, first_keeps, none_keeps, over-append, same_variables, get-each}

@@ -4,7 +4,7 @@ use Rattle.std.proofs.Common.{◌≡◌, inl, inr, ⊎_elim, ℕ, zero, suc, Boo
 use Rattle.std.proofs.Common.{subst, ◌∙◌}
 use Rattle.std.proofs.Math.Seq.{take-length}
 use Rattle.uefi_vars.specs.Vars.{Variables}
-use Rattle.var_stores.specs.BootChange.{ChangeParts}
+use Rattle.uefi_vars.specs.BootChange.{ChangeParts}
 use Rattle.boot_journal.specs.Changes.{made}
 use Rattle.boot_journal.specs.Journal.{JournalParts, PendingParts, Makes, TakesBack, idle, due, turned, turned_by, is_making}
 use Rattle.boot_journal.specs.Store.{Store, with_made, with_journal, with_state, IsIdle, stands_for, falls_back_to, IsSettledOrTakenBack}

@@ -10,7 +10,7 @@ use Rattle.std.specs.FinMap.{get, get-insert, get-remove, get_tied, same_map, Is
 use Rattle.std.proofs.lemmas.List.{reverse-append}
 use Rattle.uefi_vars.specs.Vars.{Variables, name_cmp}
 use Rattle.uefi_vars.specs.NameChanges.{with_data, after_each}
-use Rattle.var_stores.specs.BootChange.{same_name}
+use Rattle.uefi_vars.specs.BootChange.{same_name}
 
 -- a name, and its new data, or that it is taken out
 abbrev pub Single : Type 0

@@ -7,7 +7,7 @@ use Rattle.std.proofs.lemmas.List.{length-append, append-nil}
 use Rattle.uefi_vars.specs.Name.{IsName}
 use Rattle.uefi_vars.specs.Vars.{IsData}
 use Rattle.uefi_vars.specs.Set.{name_bytes}
-use Rattle.var_stores.specs.BootChange.{ChangeParts}
+use Rattle.uefi_vars.specs.BootChange.{ChangeParts}
 use Rattle.boot_journal.specs.declared.fault.JournalFault.{JournalFault}
 use Rattle.boot_journal.specs.declared.fault.JournalFault.TheVariants as fault
 use Rattle.boot_journal.specs.declared.journal_file.JournalFile.{JournalFile}

@@ -4,7 +4,7 @@
 use Rattle.std.proofs.Common.{⊎_elim, ℕ, zero, suc, List, length, take, Option, Some, None, sym, subst}
 use Rattle.std.proofs.Math.Seq.{take-length}
 use Rattle.uefi_vars.specs.Vars.{Variables}
-use Rattle.var_stores.specs.BootChange.{ChangeParts}
+use Rattle.uefi_vars.specs.BootChange.{ChangeParts}
 use Rattle.boot_journal.specs.Changes.{made}
 use Rattle.boot_journal.specs.Journal.{JournalParts, PendingParts, Makes, TakesBack, idle, due, turned, turned_by, BeganUnderAnother}
 use Rattle.boot_journal.specs.Store.{Store, with_journal}

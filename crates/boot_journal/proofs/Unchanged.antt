@@ -4,7 +4,7 @@ use Rattle.std.specs.List.{AllByRecursion, IsDistinct}
 use Rattle.std.specs.FinMap.{get}
 use Rattle.uefi_vars.specs.Vars.{Variables}
 use Rattle.uefi_vars.specs.NameChanges.{with_data}
-use Rattle.var_stores.specs.BootChange.{ChangeParts, same_name, new_data, is_boot_name, changes_from, IsNeeded}
+use Rattle.uefi_vars.specs.BootChange.{ChangeParts, same_name, new_data, is_boot_name, changes_from, IsNeeded}
 use Rattle.boot_requests.specs.State.{keep_text}
 use Rattle.boot_journal.specs.Changes.{made, TellWhatIsThere}
 use Rattle.boot_journal.specs.Journal.{JournalParts, ChangesNothing}

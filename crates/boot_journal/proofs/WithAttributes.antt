@@ -14,7 +14,7 @@ use Rattle.std.proofs.Math.Seq.{drop-append_seam, take-append_seam}
 use Rattle.uefi_vars.specs.Vars.{Variables, name_cmp, IsVariable, IsVars}
 use Rattle.uefi_vars.specs.NameChanges.{with_data, after_each}
 use Rattle.uefi_vars.proofs.Maps.{sorted_parts, find_below, entries-AllByRecursion}
-use Rattle.var_stores.specs.BootChange.{same_name, is_boot_name}
+use Rattle.uefi_vars.specs.BootChange.{same_name, is_boot_name}
 use Rattle.var_stores.specs.Rewriting.{boot_attributes}
 use Rattle.boot_journal.specs.Attributes.{attributes_len, attributes_in, with_values, data_in, data_of, kept_with, with_attributes, KeepAttributes}
 use Rattle.boot_journal.specs.Attributes.{HaveAttributes}

@@ -1,7 +1,7 @@
 -- What a device was asked, and what it answered.
 use Rattle.std.specs.Prelude.{◌++◌, Bool, List, Option}
 use Rattle.std.specs.Option.{option_map}
-use Rattle.var_stores.specs.BootChange.{ChangeParts}
+use Rattle.uefi_vars.specs.BootChange.{ChangeParts}
 use Rattle.boot_journal.specs.Journal.{JournalParts}
 
 -- a call of a device, and whether it answered that it did that, or has it

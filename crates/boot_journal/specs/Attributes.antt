@@ -3,7 +3,7 @@
 use Rattle.std.specs.Prelude.{◌≡◌, ℕ, ◌+◌, ◌<◌, ◌≤◌, leb, true, if◌then◌else◌, List, [], ◌++◌, length, map, take, drop, Option, Some, None, IfSome}
 use Rattle.std.specs.FinMap.{get, entries, from_entries}
 use Rattle.uefi_vars.specs.Vars.{Variables, data_max}
-use Rattle.var_stores.specs.BootChange.{is_boot_name}
+use Rattle.uefi_vars.specs.BootChange.{is_boot_name}
 use Rattle.var_stores.specs.Rewriting.{boot_attributes}
 use Rattle.boot_journal.specs.declared.attributes.AttributesFault.{AttributesFault}
 use Rattle.boot_journal.specs.declared.attributes.AttributesFault.TheVariants.{NoData, TooLong, OutOfMemory}

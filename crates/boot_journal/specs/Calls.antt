@@ -3,7 +3,7 @@ use Rattle.std.specs.Prelude.{◌≡◌, ◌⊎◌, ℕ, Bool, true, false, List
 use Rattle.std.specs.Global.{Global}
 use Rattle.uefi_vars.specs.Name.{next_text}
 use Rattle.uefi_vars.specs.Vars.{Variables}
-use Rattle.var_stores.specs.BootChange.{changes_from}
+use Rattle.uefi_vars.specs.BootChange.{changes_from}
 use Rattle.boot_requests.specs.declared.answer.Answer.{Answer}
 use Rattle.boot_requests.specs.declared.event.Event.{Event}
 use Rattle.boot_requests.specs.Seen.{AreSeen}

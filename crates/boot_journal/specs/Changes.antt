@@ -5,7 +5,7 @@ use Rattle.std.specs.FinMap.{get}
 use Rattle.uefi_vars.specs.Name.{next_text}
 use Rattle.uefi_vars.specs.Vars.{Variables}
 use Rattle.uefi_vars.specs.NameChanges.{after_each}
-use Rattle.var_stores.specs.BootChange.{ChangeParts, same_name, new_data}
+use Rattle.uefi_vars.specs.BootChange.{ChangeParts, same_name, new_data}
 
 -- the variables once the changes are made, the first of them first
 abbrev pub made : List ChangeParts → Variables → Variables

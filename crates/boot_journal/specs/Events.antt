@@ -5,7 +5,7 @@ use Rattle.std.specs.FinMap.{remove}
 use Rattle.uefi_vars.specs.Name.{next_text}
 use Rattle.uefi_vars.specs.Vars.{Variables}
 use Rattle.uefi_vars.specs.NameChanges.{after_each}
-use Rattle.var_stores.specs.BootChange.{same_name, changes_from}
+use Rattle.uefi_vars.specs.BootChange.{same_name, changes_from}
 use Rattle.boot_journal.specs.Changes.{LeaveAlone}
 use Rattle.boot_journal.specs.Journal.{PendingParts, BeganUnderAnother}
 use Rattle.boot_journal.specs.Store.{Store, seen, journal_to}

@@ -5,7 +5,7 @@ use Rattle.uefi_vars.specs.Name.{IsNameByte, name_max, IsName}
 use Rattle.uefi_vars.specs.Vars.{data_max, IsData}
 use Rattle.uefi_vars.specs.Set.{name_bytes}
 use Rattle.uefi_vars.specs.Fault.{StatesLength}
-use Rattle.var_stores.specs.BootChange.{is_boot_name}
+use Rattle.uefi_vars.specs.BootChange.{is_boot_name}
 use Rattle.boot_journal.specs.declared.fault.JournalFault.{JournalFault}
 use Rattle.boot_journal.specs.declared.fault.JournalFault.TheVariants as fault
 use Rattle.boot_journal.specs.Journal.{JournalParts}

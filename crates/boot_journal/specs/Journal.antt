@@ -1,6 +1,6 @@
 -- What a journal tells.
 use Rattle.std.specs.Prelude.{◌≡◌, ℕ, Bool, true, false, List, [], map, Option, Some, None, if◌then◌else◌}
-use Rattle.var_stores.specs.BootChange.{ChangeParts, same_name}
+use Rattle.uefi_vars.specs.BootChange.{ChangeParts, same_name}
 use Rattle.boot_journal.specs.Changes.{taken_back, spent}
 
 -- What is still to be done, and under which identity of the machine's start that began.

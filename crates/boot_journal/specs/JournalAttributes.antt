@@ -3,7 +3,7 @@ use Rattle.std.specs.Prelude.{ℕ, ◌+◌, ◌≤◌, List, map, length, Option
 use Rattle.std.specs.List.{AllByRecursion}
 use Rattle.std.specs.Option.{option_map}
 use Rattle.uefi_vars.specs.Vars.{Variables, data_max}
-use Rattle.var_stores.specs.BootChange.{ChangeParts}
+use Rattle.uefi_vars.specs.BootChange.{ChangeParts}
 use Rattle.boot_journal.specs.declared.attributes.AttributesFault.{AttributesFault}
 use Rattle.boot_journal.specs.declared.attributes.AttributesFault.TheVariants.{NoData, TooLong, OutOfMemory}
 use Rattle.boot_journal.specs.Attributes.{attributes_len, kept_with}

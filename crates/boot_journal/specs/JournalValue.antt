@@ -5,7 +5,7 @@ use Rattle.std.specs.List.{AllByRecursion}
 use Rattle.std.specs.Option.{option_map}
 use Rattle.uefi_vars.specs.Name.{IsName}
 use Rattle.uefi_vars.specs.Vars.{IsData}
-use Rattle.var_stores.specs.BootChange.{ChangeParts}
+use Rattle.uefi_vars.specs.BootChange.{ChangeParts}
 use Rattle.boot_journal.specs.declared.journal.Course.{Course}
 use Rattle.boot_journal.specs.declared.journal.Course.TheVariants.{Making, TakingBack}
 use Rattle.boot_journal.specs.declared.journal.Pending.{Pending}

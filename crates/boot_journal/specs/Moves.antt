@@ -1,7 +1,7 @@
 -- Where a cut comes: after a number of moves, each of which is a change of one variable or replaces the journal.
 use Rattle.std.specs.Prelude.{◌≡◌, ℕ, zero, suc, List, [], ◌∷◌, Option, Some, None}
 use Rattle.uefi_vars.specs.Vars.{Variables}
-use Rattle.var_stores.specs.BootChange.{ChangeParts}
+use Rattle.uefi_vars.specs.BootChange.{ChangeParts}
 use Rattle.boot_journal.specs.Journal.{JournalParts, PendingParts, Makes, TakesBack, idle, due, turned}
 use Rattle.boot_journal.specs.Store.{Store, with_made, with_journal, journal_to}
 

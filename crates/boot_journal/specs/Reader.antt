@@ -6,7 +6,7 @@ use Rattle.std.specs.Int.{w32, from_le_bytes}
 use Rattle.std.specs.List.{list_all, starts_with}
 use Rattle.uefi_vars.specs.Name.{name_max}
 use Rattle.uefi_vars.specs.Vars.{data_max}
-use Rattle.var_stores.specs.BootChange.{ChangeParts, is_boot_name}
+use Rattle.uefi_vars.specs.BootChange.{ChangeParts, is_boot_name}
 use Rattle.boot_journal.specs.declared.fault.JournalFault.{JournalFault}
 use Rattle.boot_journal.specs.declared.fault.JournalFault.TheVariants as fault
 use Rattle.boot_journal.specs.declared.journal_file.JournalFile.{JournalFile}

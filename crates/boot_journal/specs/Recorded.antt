@@ -1,6 +1,6 @@
 -- What was done to a machine, from the first on.
 use Rattle.std.specs.Prelude.{◌≡◌, ℕ, ◌+◌, Bool, true, false, List, [], ◌∷◌, ◌++◌, Option}
-use Rattle.var_stores.specs.BootChange.{ChangeParts}
+use Rattle.uefi_vars.specs.BootChange.{ChangeParts}
 use Rattle.boot_journal.specs.Asked.{Ask, ToMake, HasMade, ToReplace, HasReplaced, and_then}
 use Rattle.boot_journal.specs.Journal.{JournalParts}
 use Rattle.boot_journal.specs.declared.recorded.Move.{Move}

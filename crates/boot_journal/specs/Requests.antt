@@ -4,7 +4,7 @@ use Rattle.std.specs.Prelude.{◌≡◌, ◌⊎◌, ℕ, false, List, [], ◌∷
 use Rattle.std.specs.FinMap.{get}
 use Rattle.std.specs.List.{AllByRecursion}
 use Rattle.uefi_vars.specs.NameChanges.{IsChange}
-use Rattle.var_stores.specs.BootChange.{same_name, is_boot_name}
+use Rattle.uefi_vars.specs.BootChange.{same_name, is_boot_name}
 use Rattle.boot_requests.specs.declared.answer.Answer.{Answer}
 use Rattle.boot_requests.specs.declared.event.Event.{Event}
 use Rattle.uefi_vars.specs.Vars.{Variables}

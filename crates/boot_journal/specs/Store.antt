@@ -3,7 +3,7 @@ use Rattle.std.specs.Prelude.{◌≡◌, ◌⊎◌, ℕ, List, take, Option, Non
 use Rattle.std.specs.FinMap.{get}
 use Rattle.uefi_vars.specs.Vars.{Variables}
 use Rattle.uefi_vars.specs.NameChanges.{with_data}
-use Rattle.var_stores.specs.BootChange.{ChangeParts, changes_from}
+use Rattle.uefi_vars.specs.BootChange.{ChangeParts, changes_from}
 use Rattle.boot_requests.specs.State.{keep_text}
 use Rattle.boot_journal.specs.Changes.{made}
 use Rattle.boot_journal.specs.Journal.{JournalParts, idle, begun, due, turned}

@@ -4,7 +4,7 @@ use Rattle.std.specs.Global.{Global}
 use Rattle.std.specs.Option.{option_map}
 use Rattle.std.specs.String.{string_bytes}
 use Rattle.uefi_vars.specs.Vars.{IsData}
-use Rattle.var_stores.specs.BootChange.{ChangeParts, is_boot_name}
+use Rattle.uefi_vars.specs.BootChange.{ChangeParts, is_boot_name}
 
 abbrev pub bytes_of : Option (Vec ℕ Global) → Option (List ℕ)
 bytes_of bytes = option_map (λ b. b.items) bytes

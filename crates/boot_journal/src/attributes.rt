@@ -9,8 +9,8 @@ ghost use Rattle.boot_journal.specs.declared.attributes.AttributesFault.TheVaria
 
 use std::alloc::{AllocError, AllocFailed, Global};
 use thiserror::Error;
-use uefi_vars::{PutFault, Vars};
-use var_stores::{BOOT_ATTRIBUTES, is_boot_name, laws as store_laws};
+use uefi_vars::{PutFault, Vars, is_boot_name};
+use var_stores::{BOOT_ATTRIBUTES, laws as store_laws};
 
 /// How many bytes the attributes of a variable have (UEFI 2.10, 8.2).
 pub const ATTRIBUTES_LEN: usize = 4;

@@ -5,7 +5,7 @@ ghost use Rattle.std.specs.List.{AllByRecursion};
 ghost use Rattle.std.specs.Option.{option_map};
 ghost use Rattle.uefi_path.specs.Row.{IsByte};
 ghost use Rattle.uefi_vars.specs.Vars.{IsData};
-ghost use Rattle.var_stores.specs.BootChange.{change_parts, same_name};
+ghost use Rattle.uefi_vars.specs.BootChange.{change_parts, same_name};
 ghost use Rattle.boot_journal.specs.Attributes.{attributes_in};
 ghost use Rattle.boot_journal.specs.Changes.{undone, spent};
 ghost use Rattle.boot_journal.specs.JournalAttributes.{change_kept, IsFaultOfChanges, IsFaultOfData};
@@ -14,8 +14,7 @@ ghost use Rattle.boot_journal.specs.Values.{bytes_of, change_of, IsBootChange};
 use crate::attributes::{ATTRIBUTES_LEN, AttributesFault, joined};
 use std::alloc::{AllocError, Global};
 use std::marker::Model;
-use uefi_vars::{BOOT_NEXT, DATA_MAX, Vars, laws as vars_laws};
-use var_stores::BootChange;
+use uefi_vars::{BOOT_NEXT, BootChange, DATA_MAX, Vars, laws as vars_laws};
 
 /// A change of one variable of the boot manager: Boot####, BootOrder or BootNext (UEFI 2.10, 3.3). What is there before
 /// and after it is what a machine keeps: the variable's attributes, in [`ATTRIBUTES_LEN`](crate::ATTRIBUTES_LEN) bytes,
@@ -28,7 +27,7 @@ pub struct Change {
 }
 
 impl Model for Change {
-    ghost use Rattle.var_stores.specs.BootChange.{ChangeParts};
+    ghost use Rattle.uefi_vars.specs.BootChange.{ChangeParts};
     ghost use Rattle.boot_journal.specs.Values.{change_of, IsBootChange};
 
     ghost Value = { ChangeParts };

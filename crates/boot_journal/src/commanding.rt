@@ -14,8 +14,7 @@ use crate::laws::keep_is_no_boot_name;
 use crate::machine::{CallError, CommandError, Machine};
 use crate::updating::{settle, update};
 use std::alloc::Global;
-use uefi_vars::Vars;
-use var_stores::laws as store_laws;
+use uefi_vars::{Vars, laws as vars_laws};
 
 /// What is run over a machine's variables. It sees them, and gives them, as a machine keeps them: those of the boot
 /// manager with their attributes.
@@ -86,7 +85,7 @@ pub fn command<M: Machine, R: Run>(
     ensures moves { Leaves (IsCommanding (λ from to. (answer : R.Answer) × R.leads run.now from to answer) boot.now (M.store machine.old))
         (M.history machine.old) (M.history machine.new) }
 {
-    store_laws::each_change_is_needed();
+    vars_laws::each_change_is_needed();
     keep_is_no_boot_name();
     match settle(alloc, machine, boot) {
         Ok(()) => run_settled(alloc, machine, run, boot),

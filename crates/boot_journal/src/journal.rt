@@ -5,7 +5,7 @@ ghost use Rattle.std.specs.Option.{option_map};
 ghost use Rattle.std.specs.List.{AllByRecursion};
 ghost use Rattle.std.specs.FinMap as map;
 ghost use Rattle.uefi_vars.specs.Vars.{IsData, IsVars};
-ghost use Rattle.var_stores.specs.BootChange.{change_parts, changes_from};
+ghost use Rattle.uefi_vars.specs.BootChange.{change_parts, changes_from};
 ghost use Rattle.boot_requests.specs.State.{keep_text};
 ghost use Rattle.boot_journal.specs.Changes.{taken_back, spent};
 ghost use Rattle.boot_journal.specs.Journal.{JournalParts, idle, begun, due, turned, is_making, began_under, ChangesNothing};
@@ -18,8 +18,7 @@ use crate::boot_id::BootId;
 use crate::change::{Change, copied, is_same, is_same_data};
 use std::alloc::{AllocError, Global};
 use std::marker::Model;
-use uefi_vars::Vars;
-use var_stores::{BootChange, boot_changes, laws as store_laws};
+use uefi_vars::{BootChange, Vars, boot_changes, laws as vars_laws};
 
 /// The variable in which a set keeps which requests were applied. Firmware refuses it, so a journal keeps its bytes.
 pub const KEEP_STATE: &str = "BootKeepState";
@@ -333,7 +332,7 @@ fn owned_changes(alloc: Global, from: &Vars, to: &Vars) -> Result<Vec<Change>, A
     ensures changes { IfOk result (λ changes. changes.items ≡ changes_from from.now to.now) }
     ensures valid { IfOk result (λ changes. AllByRecursion IsBootChange changes.items) }
 {
-    store_laws::each_change_is_needed();
+    vars_laws::each_change_is_needed();
     let changes = boot_changes(alloc, from, to)?;
     prove_valid(from, to);
     own_all(alloc, &changes)

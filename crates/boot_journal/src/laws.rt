@@ -7,7 +7,7 @@ ghost use Rattle.uefi_path.specs.Row.{IsByte};
 ghost use Rattle.uefi_vars.specs.Name.{next_text};
 ghost use Rattle.uefi_vars.specs.Vars.{Variables};
 ghost use Rattle.uefi_vars.specs.NameChanges.{after_each};
-ghost use Rattle.var_stores.specs.BootChange.{ChangeParts, same_name, is_boot_name, changes_from, DanglesInOrder, DanglesAsNext};
+ghost use Rattle.uefi_vars.specs.BootChange.{ChangeParts, same_name, is_boot_name, changes_from, DanglesInOrder, DanglesAsNext};
 ghost use Rattle.boot_requests.specs.Run.{state_at};
 ghost use Rattle.boot_requests.specs.Seen.{Seen};
 ghost use Rattle.boot_requests.specs.State.{State, MarkParts, keep_text};
@@ -37,7 +37,6 @@ use crate::machine_name::MACHINE_NAME_MAX;
 use crate::requests::RunFault;
 use boot_requests::laws as request_laws;
 use uefi_vars::laws as vars_laws;
-use var_stores::laws as store_laws;
 
 /// All or nothing. Over every list of updates and settlings that are cut off after any number of moves, of updates that
 /// fail and whose taking back is cut off, of starts and of what firmware does by itself: a machine stands for the turns that
@@ -49,7 +48,7 @@ pub fn updates_are_whole_or_do_not_happen()
         stands_for (all_happen w events).boot (all_happen w events).store
         ≡ after_turns (stands_for w.boot w.store) (happened w events) }
 {
-    store_laws::each_change_is_needed();
+    vars_laws::each_change_is_needed();
     keep_is_no_boot_name();
 }
 
@@ -82,8 +81,8 @@ pub fn variables_are_those_after_some_changes()
         (front : Variables) × (gone : Bool) × IsFront (changes_from (seen s) to) s.variables front
         × ((all_happen (all_happen (world boot s) (update ∷ settlings)) (Starts next_boot deletes ∷ later)).store.variables ≡ without_next gone front) }
 {
-    store_laws::each_change_is_needed();
-    store_laws::each_change_is_of_another_variable();
+    vars_laws::each_change_is_needed();
+    vars_laws::each_change_is_of_another_variable();
     keep_is_no_boot_name();
 }
 
@@ -150,7 +149,7 @@ pub fn each_request_is_applied_once()
         (now : State) × KeepsState (stands_for (all_happen w events).boot (all_happen w events).store) now
         × AgreesButForNext now (state_at start run) }
 {
-    store_laws::each_change_is_needed();
+    vars_laws::each_change_is_needed();
     turns_apply_each_request_once();
     keep_is_no_boot_name();
 }
@@ -167,7 +166,7 @@ pub fn each_number_is_applied_once_whatever_firmware_does()
         (last : MarkParts) × HasMark (stands_for (all_happen w events).boot (all_happen w events).store) last.next_number last.kept
         × AreAppliedOnce first last updates }
 {
-    store_laws::each_change_is_needed();
+    vars_laws::each_change_is_needed();
     keep_is_no_boot_name();
     request_laws::a_run_leads_to_a_state();
 }
@@ -189,7 +188,7 @@ pub fn calls_apply_each_number_once()
         × (last : MarkParts) × HasMark (stands_for (world_after w steps).boot (world_after w steps).store) last.next_number last.kept
         × AreAppliedOnce first last updates }
 {
-    store_laws::each_change_is_needed();
+    vars_laws::each_change_is_needed();
     keep_is_no_boot_name();
     request_laws::a_run_leads_to_a_state();
 }
@@ -205,7 +204,7 @@ pub fn calls_apply_each_request_once()
         × (now : State) × KeepsState (stands_for (world_after w steps).boot (world_after w steps).store) now
         × AgreesButForNext now (state_at start (run_of updates)) }
 {
-    store_laws::each_change_is_needed();
+    vars_laws::each_change_is_needed();
     turns_apply_each_request_once();
     keep_is_no_boot_name();
 }
@@ -227,8 +226,8 @@ pub fn updates_keep_attributes()
         attributes_in (map.get (stands_for (all_happen w events).boot (all_happen w events).store) name)
         ≡ attributes_in (map.get (stands_for w.boot w.store) name) }
 {
-    store_laws::each_change_is_needed();
-    store_laws::all_changes_lead_to_the_other_set();
+    vars_laws::each_change_is_needed();
+    vars_laws::all_changes_lead_to_the_other_set();
     keep_is_no_boot_name();
 }
 
@@ -306,8 +305,8 @@ fn turns_apply_each_request_once()
         (now : State) × KeepsState (after_turns vars turns) now × AgreesButForNext now (state_at start run) }
 {
     keep_is_no_boot_name();
-    store_laws::all_changes_lead_to_the_other_set();
-    store_laws::entry_names_are_those_of_numbers();
+    vars_laws::all_changes_lead_to_the_other_set();
+    vars_laws::entry_names_are_those_of_numbers();
     vars_laws::order_and_next_are_no_entries();
     request_laws::a_run_leads_to_a_state();
     request_laws::each_plain_state_has_a_turn();
@@ -320,6 +319,6 @@ fn turns_apply_each_request_once()
 pub(crate) fn keep_is_no_boot_name()
     ensures { is_boot_name keep_text ≡ false }
 {
-    store_laws::entry_names_are_those_of_numbers();
+    vars_laws::entry_names_are_those_of_numbers();
     vars_laws::order_and_next_are_no_entries();
 }

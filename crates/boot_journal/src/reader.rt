@@ -6,7 +6,7 @@ ghost use Rattle.std.specs.Option.{option_map};
 ghost use Rattle.uefi_path.specs.Answer.{IsUnless};
 ghost use Rattle.uefi_vars.specs.Name.{IsName};
 ghost use Rattle.uefi_vars.specs.Vars.{IsData};
-ghost use Rattle.var_stores.specs.BootChange.{is_boot_name};
+ghost use Rattle.uefi_vars.specs.BootChange.{is_boot_name};
 ghost use Rattle.boot_journal.specs.declared.fault.JournalFault.{JournalFault};
 ghost use Rattle.boot_journal.specs.declared.journal_file.JournalFile.{JournalFile};
 ghost use Rattle.boot_journal.specs.JournalValue.{pending_of, IsPending};
@@ -24,8 +24,7 @@ use crate::journal_file::JournalFile;
 use crate::machine_name::{MACHINE_NAME_MAX, MachineName};
 use crate::writer::{MAGIC_1, MAGIC_2, MAKING, TAKING_BACK};
 use std::alloc::Global;
-use uefi_vars::{DATA_MAX, NAME_MAX, laws as vars_laws};
-use var_stores::is_boot_name;
+use uefi_vars::{DATA_MAX, NAME_MAX, is_boot_name, laws as vars_laws};
 
 /// The place of the bytes with which a file of this length ends.
 fn place_of(end: usize, bytes: &[u8]) -> usize

@@ -17,8 +17,7 @@ use crate::laws::keep_is_no_boot_name;
 use crate::machine::{CallError, Machine, UpdateError};
 use crate::work::Work;
 use std::alloc::Global;
-use uefi_vars::Vars;
-use var_stores::laws as store_laws;
+use uefi_vars::{Vars, laws as vars_laws};
 
 /// Makes the changes, one after the other.
 fn make_all<M: Machine>(machine: &mut M, changes: &[Change]) -> Result<(), CallError<M::Refusal>>
@@ -210,8 +209,8 @@ pub fn update<M: Machine>(
     ensures left { IsUpdating boot.now to.now (M.store machine.old) (M.store machine.new) }
     ensures moves { Leaves (IsUpdating boot.now to.now (M.store machine.old)) (M.history machine.old) (M.history machine.new) }
 {
-    store_laws::each_change_is_needed();
-    store_laws::each_change_is_of_another_variable();
+    vars_laws::each_change_is_needed();
+    vars_laws::each_change_is_of_another_variable();
     keep_is_no_boot_name();
     let from = machine.read_vars(alloc)?;
     let journal = Journal::begin(alloc, &from, to, boot)?;

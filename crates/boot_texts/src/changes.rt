@@ -9,8 +9,7 @@ use crate::shown_option::{AttributeWords, ShownOption};
 use serde::Serializer;
 use std::alloc::{AllocError, Global};
 use std::fmt::{self, Display};
-use uefi_vars::{Vars, entry_number};
-use var_stores::{BootChange, boot_changes};
+use uefi_vars::{BootChange, Vars, boot_changes, entry_number};
 
 /// What differs between two sets, as it is shown.
 #[derive(Drop)]

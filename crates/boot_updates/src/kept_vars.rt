@@ -2,9 +2,9 @@
 
 use boot_journal::{ATTRIBUTES_LEN, AttributesFault, with_attributes};
 use std::alloc::{AllocError, Global};
-use uefi_vars::{DATA_MAX, Vars, entry_number};
+use uefi_vars::{DATA_MAX, Vars, entry_number, is_boot_name};
 use var_places::{Failure, PlaceVars};
-use var_stores::{BOOT_ATTRIBUTES, is_boot_name};
+use var_stores::BOOT_ATTRIBUTES;
 
 /// The variables of a machine, as it keeps them.
 #[derive(Drop)]

@@ -7,6 +7,12 @@ pub mod NameChanges
 pub mod MapChanges
 pub mod Maps
 pub mod Names
+pub mod NameTests
+pub mod Distinct
+pub mod Afterwards
+pub mod Members
+pub mod Fronts
+pub mod BootChanges
 pub mod Next
 pub mod Numbers
 pub mod Places

@@ -2,6 +2,7 @@
 pub mod Name
 pub mod Vars
 pub mod NameChanges
+pub mod BootChange
 pub mod Iter
 pub mod Set
 pub mod Fault

@@ -1,7 +1,7 @@
 //! Laws of the definitions. Each function's contract is one law; calling it does nothing.
 
-ghost use Rattle.std.specs.Prelude.{◌≡◌, ◌≢◌, ◌⊎◌, ◌↔◌, ℕ, ◌<◌, ◌^◌, List, length, Contains, Option, Some, None, IfSome, IsTrue};
-ghost use Rattle.std.specs.List.{AllByRecursion};
+ghost use Rattle.std.specs.Prelude.{◌≡◌, ◌≢◌, ◌⊎◌, ◌↔◌, ℕ, ◌<◌, ◌^◌, true, false, List, [], length, map, take, slice_get, Contains, Option, Some, None, IfSome, IsTrue};
+ghost use Rattle.std.specs.List.{AllByRecursion, IsDistinct};
 ghost use Rattle.std.specs.FinMap as map;
 ghost use Rattle.std.specs.declared.cmp.Ordering.TheVariants.{Less};
 ghost use Rattle.uefi_path.specs.Row.{IsByte};
@@ -11,6 +11,8 @@ ghost use Rattle.uefi_vars.specs.declared.fault.SetFault.{SetFault};
 ghost use Rattle.uefi_vars.specs.declared.fault.VarFault.{VarFault};
 ghost use Rattle.uefi_vars.specs.Name.{name_max, IsName, entry_text, order_text, next_text};
 ghost use Rattle.uefi_vars.specs.Vars.{Variables, name_cmp, data_max, IsVars, entry_of};
+ghost use Rattle.uefi_vars.specs.NameChanges.{after_each};
+ghost use Rattle.uefi_vars.specs.BootChange.{ChangeParts, same_name, is_entry_name, is_boot_name, changes_from, new_data, IsNeeded, DanglesInOrder, DanglesAsNext};
 ghost use Rattle.uefi_vars.specs.Set.{SpellsSet};
 ghost use Rattle.uefi_vars.specs.Fault.{IsFirstFault};
 ghost use Rattle.uefi_vars.specs.Order.{order_max, IsEntryNumber, HasOrder, HasNext, HasBadOrder, HasBadNext};
@@ -184,6 +186,12 @@ pub fn order_and_next_are_no_entries()
     ensures apart { order_text ≢ next_text }
 {}
 
+/// The names of entries are those of the numbers of two bytes.
+pub fn entry_names_are_those_of_numbers()
+    ensures { (name : List ℕ) →
+        (is_entry_name name ≡ true) ↔ ((number : ℕ) × (number < 2 ^ 16) × (name ≡ entry_text number)) }
+{}
+
 /// To put an entry sets it, and leaves the others.
 pub fn a_put_sets_one_entry()
     ensures here { (vars : Variables) (k : ℕ) (value : List ℕ) →
@@ -218,6 +226,56 @@ pub fn changes_of_entries_leave_order_and_next()
         HasOrder (map.remove vars (entry_text k)) order ↔ HasOrder vars order }
     ensures removed_next { (vars : Variables) (k : ℕ) (next : Option ℕ) →
         HasNext (map.remove vars (entry_text k)) next ↔ HasNext vars next }
+{
+    order_and_next_are_no_entries();
+}
+
+/// No two changes are of one variable.
+pub fn each_change_is_of_another_variable()
+    ensures { (from to : Variables) →
+        IsDistinct same_name (map (λ change. change.name) (changes_from from to)) }
+{
+    order_and_next_are_no_entries();
+}
+
+/// Each change is of a variable of the boot manager, tells its data in the two sets, and these differ.
+pub fn each_change_is_needed()
+    ensures { (from to : Variables) → AllByRecursion (IsNeeded from to) (changes_from from to) }
+{}
+
+/// There is no change exactly if the boot manager's variables of the two sets are equal.
+pub fn equal_variables_need_no_change()
+    ensures { (from to : Variables) → (changes_from from to ≡ [])
+        ↔ ((name : List ℕ) → is_boot_name name ≡ true → map.get from name ≡ map.get to name) }
+{}
+
+/// All changes in their order lead from the one set to the boot manager's variables of the other, and leave the variables
+/// of other names as they are.
+pub fn all_changes_lead_to_the_other_set()
+    ensures boot { (from to : Variables) (name : List ℕ) → is_boot_name name ≡ true →
+        map.get (after_each from (new_data (changes_from from to))) name ≡ map.get to name }
+    ensures others { (from to : Variables) (name : List ℕ) → is_boot_name name ≡ false →
+        map.get (after_each from (new_data (changes_from from to))) name ≡ map.get from name }
+{}
+
+/// What is there right before a change is made is what the change tells of before.
+pub fn each_change_replaces_what_is_there()
+    ensures { (from to : Variables) (place : ℕ) (change : ChangeParts) →
+        slice_get (changes_from from to) place ≡ Some change →
+        map.get (after_each from (new_data (take place (changes_from from to)))) change.name ≡ change.before }
+{
+    order_and_next_are_no_entries();
+}
+
+/// However many of the changes are made, BootOrder and BootNext name an entry that isn't there only if they did before all
+/// of them, or do after them.
+pub fn nothing_dangles_in_between()
+    ensures order { (from to : Variables) (made number : ℕ) → number < 2 ^ 16 →
+        DanglesInOrder (after_each from (new_data (take made (changes_from from to)))) number →
+        DanglesInOrder from number ⊎ DanglesInOrder to number }
+    ensures next { (from to : Variables) (made number : ℕ) → number < 2 ^ 16 →
+        DanglesAsNext (after_each from (new_data (take made (changes_from from to)))) number →
+        DanglesAsNext from number ⊎ DanglesAsNext to number }
 {
     order_and_next_are_no_entries();
 }

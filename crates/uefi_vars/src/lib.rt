@@ -7,10 +7,13 @@
 //! Load options are stored under the names that [`entry_name`] gives, and [`entry_option`] reads one; [`lowest_free`]
 //! finds a number for one more. [`boot_order`] and [`boot_next`] read which of them are to be tried, [`plan`] puts
 //! together what a boot would try, and [`plan_numbers`] its numbers alone. [`entries_at_risk`] tells which of them a
-//! start of firmware may write over or delete.
+//! start of firmware may write over or delete. [`boot_changes`] lists the single changes of Boot####, BootOrder and
+//! BootNext that lead from one set to another, in an order in which a machine can make them: after each of them,
+//! BootOrder and BootNext name a missing entry only if they did before all of them or do after them.
 #![tactic(auto)]
 
 mod at_risk;
+mod boot_change;
 mod boot_plan;
 mod by_number;
 mod changes;
@@ -28,6 +31,7 @@ mod vars;
 mod writer;
 
 pub use at_risk::{AtRisk, entries_at_risk};
+pub use boot_change::{BootChange, boot_changes, is_boot_name};
 pub use boot_plan::{BootPlan, Choice, PlanNumbers};
 pub use changes::Changes;
 pub use fault::{PutFault, PutRefusal, SetFault, VarFault};

@@ -14,12 +14,11 @@ use clap::error::ErrorKind;
 use std::alloc::{AllocError, Global};
 use std::rt::{Env, Files};
 use std::{env, io};
-use uefi_vars::{BOOT_NEXT, BOOT_ORDER, Changes, Vars, entry_number, write_set};
+use uefi_vars::{BOOT_NEXT, BOOT_ORDER, Changes, Vars, boot_changes, entry_number, write_set};
 use var_places::{
     Failure, KEEP_STATE, Output, Reason, SHOWN_MAX, STANDARD, Shortened, has_keep_state, lock,
     name_of, print, read_place, write,
 };
-use var_stores::boot_changes;
 use whole_files::OutputFile;
 
 /// How the program ends if it did what it was asked to.

@@ -13,10 +13,12 @@ use std::io::{self, ErrorKind};
 use std::rt::Files;
 use uefi_option::description_text;
 use uefi_path::read_units;
-use uefi_vars::{Changes, DATA_MAX, PutFault, SetFault, Vars, read_set, write_set};
+use uefi_vars::{
+    BootChange, Changes, DATA_MAX, PutFault, SetFault, Vars, is_boot_name, read_set, write_set,
+};
 use var_stores::{
-    BootChange, Record, StoreFault, VariableStore, WriteFault, is_boot_name, left_out, read_store,
-    store_attributes, store_vars, write_boot_vars,
+    Record, StoreFault, VariableStore, WriteFault, left_out, read_store, store_attributes,
+    store_vars, write_boot_vars,
 };
 use whole_files::{LIMIT, read_file};
 

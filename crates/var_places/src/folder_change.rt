@@ -10,8 +10,8 @@ use std::fs::{self, File, OpenFile, OpenOptions};
 use std::io::{self, ErrorKind, Write};
 use std::path::Path;
 use std::rt::Files;
-use uefi_vars::{DATA_MAX, Vars};
-use var_stores::{BOOT_ATTRIBUTES, BootChange, laws as stores_laws};
+use uefi_vars::{BootChange, DATA_MAX, Vars};
+use var_stores::{BOOT_ATTRIBUTES, laws as stores_laws};
 use whole_files::{read_file, sync_file, sync_folder};
 
 /// Makes one change in the folder at this path, of which this was read: by one write of the attributes and the value,

@@ -3,8 +3,7 @@
 ghost use Rattle.std.specs.Prelude.{◌≡◌, IfOk};
 
 use std::alloc::{AllocError, Global};
-use uefi_vars::Vars;
-use var_stores::is_boot_name;
+use uefi_vars::{Vars, is_boot_name};
 
 /// The variables of a place: those that a set can hold, their attributes, and which of the boot manager's no set can
 /// hold.

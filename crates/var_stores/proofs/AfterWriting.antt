@@ -1,17 +1,17 @@
 -- What is there once the boot manager's variables were written.
-use Rattle.std.proofs.Common.{◌≡◌, ◌≢◌, ◌⊎◌, ℕ, ◌-◌, ◌<◌, ◌^◌, Bool, true, false, cond, ◌&&◌, ◌||◌, not, List, [], ◌∷◌, ◌++◌, length, Option, Some, None, IfSome, inl, inr, refl, sym, ap, subst, ◌∙◌, arith}
+use Rattle.std.proofs.Common.{◌≡◌, ◌≢◌, ◌⊎◌, ℕ, ◌-◌, Bool, true, false, cond, ◌&&◌, not, List, [], ◌∷◌, ◌++◌, length, Option, Some, None, IfSome, inl, inr, refl, sym, ap, subst, ◌∙◌, arith}
 use Rattle.std.specs.Option.{option_map, option_map_or}
 use Rattle.std.specs.List.{AllByRecursion}
 use Rattle.std.specs.FinMap.{get, entries, find, get-entries}
-use Rattle.std.proofs.lemmas.Bool.{and_parts, or_cases, false_from_ne_true, false≢true, true≢false, not-false}
-use Rattle.uefi_vars.specs.Name.{IsName, entry_text, order_text, next_text}
+use Rattle.std.proofs.lemmas.Bool.{and_parts, false_from_ne_true, false≢true, true≢false, not-false}
+use Rattle.uefi_vars.specs.Name.{IsName}
 use Rattle.uefi_vars.specs.Vars.{Variables, name_cmp}
 use Rattle.var_stores.specs.Record.{RecordParts, vendor_in, IsRecord}
-use Rattle.var_stores.specs.BootChange.{same_name, is_entry_name, is_boot_name, same_data, differs}
+use Rattle.uefi_vars.specs.BootChange.{same_name, is_boot_name, same_data, differs}
 use Rattle.var_stores.specs.Present.{global_guid, stored_name, name_in, key_of, global_key, is_of, is_alive, is_added_there, found_with, found_after, found, is_set_value, set_data, is_set_name, is_left_out, if_left_out, IsSetOf}
 use Rattle.var_stores.specs.Rewriting.{is_rewritten, is_outdated, deleted, without_outdated, unless_outdated, new_attributes, new_record, added, new_records, AreKept, IsWritten}
-use Rattle.var_stores.proofs.Names.{same_name-is, same_name-of, entry_of_name}
-use Rattle.var_stores.proofs.Members.{same_data-is}
+use Rattle.uefi_vars.proofs.NameTests.{same_name-is, same_name-of}
+use Rattle.uefi_vars.proofs.Members.{same_data-is}
 use Rattle.var_stores.proofs.Found.{IsFoundAs, found_after-append, found_after-added, found_after-is, found_after-all}
 use Rattle.var_stores.proofs.GlobalKeys.{vendor_len, global_name}
 use Rattle.var_stores.proofs.PresentRecords.{stays_of_other, takes_over}
@@ -314,15 +314,6 @@ module _ (records : List RecordParts) (from to attributes : Variables) (whole : 
       apart own.1 (and_parts (is_boot_name own.1) _ own.2).0 (sym found_as.0 ∙ own.3)))
 
 -- ---- a file that was written
-
-pub boot_is_name : ((number : ℕ) → number < 2 ^ 16 → IsName (entry_text number)) → IsName order_text → IsName next_text → (name : List ℕ) → is_boot_name name ≡ true → IsName name
-boot_is_name entry order next name boot = elim (or_cases (is_entry_name name) (same_name name order_text || same_name name next_text) boot) [
-  | inl e ↦ let own = entry_of_name name e in subst IsName (sym own.2) (entry own.0 own.1)
-  | inr e ↦ elim (or_cases (same_name name order_text) (same_name name next_text) e) [
-    | inl o ↦ subst IsName (sym (same_name-is name order_text o)) order
-    | inr n ↦ subst IsName (sym (same_name-is name next_text n)) next
-  ]
-]
 
 module _ (file bytes : List ℕ) (to attributes : Variables) (written : IsWritten file to attributes bytes) where
   abbrev before : List RecordParts

@@ -4,7 +4,7 @@ use Rattle.std.specs.List.{AllByRecursion}
 use Rattle.std.proofs.lemmas.Bool.{and_parts, or_left}
 use Rattle.var_stores.specs.Record.{RecordParts}
 use Rattle.var_stores.specs.Present.{key_of, is_of, is_added, is_alive, is_added_there, found_with, found_after, found}
-use Rattle.var_stores.proofs.Names.{same_name-is}
+use Rattle.uefi_vars.proofs.NameTests.{same_name-is}
 
 pub found_after-append : (key : List ℕ) (before : Option RecordParts) (xs ys : List RecordParts) →
     found_after key before (xs ++ ys) ≡ found_after key (found_after key before xs) ys

@@ -5,10 +5,10 @@ use Rattle.std.proofs.lemmas.Bool.{false_from_ne_true}
 use Rattle.std.specs.FinMap.{get}
 use Rattle.uefi_vars.specs.Vars.{Variables}
 use Rattle.var_stores.specs.Record.{RecordParts, vendor_in, IsRecord}
-use Rattle.var_stores.specs.BootChange.{same_name}
+use Rattle.uefi_vars.specs.BootChange.{same_name}
 use Rattle.var_stores.specs.Present.{global_guid, stored_name, key_of, global_key, is_of, is_set_value}
 use Rattle.var_stores.specs.PresentMap.{PutsStored, PutsRecord}
-use Rattle.var_stores.proofs.Names.{same_name-is, same_name-of}
+use Rattle.uefi_vars.proofs.NameTests.{same_name-is, same_name-of}
 use Rattle.var_stores.proofs.Records.{same_size}
 
 same_truth : (a b : Bool) → (a ≡ true → b ≡ true) → (b ≡ true → a ≡ true) → a ≡ b

@@ -15,7 +15,7 @@ use Rattle.var_stores.specs.declared.record.Record.{Record}
 use Rattle.var_stores.specs.Record.{RecordParts, record_parts, vendor_in}
 use Rattle.var_stores.specs.Present.{global_guid, stored_name, name_in, key_of, global_key, is_alive, found, is_set_value, set_data, is_set_name, is_left_out, if_left_out, IsSetOf, AreLeftOut}
 use Rattle.var_stores.specs.PresentMap.{record_under, AreKeyed}
-use Rattle.var_stores.proofs.Names.{same_name-of}
+use Rattle.uefi_vars.proofs.NameTests.{same_name-of}
 use Rattle.var_stores.proofs.Found.{IsFoundAs, found_after-is}
 use Rattle.var_stores.proofs.StoredNames.{name_if, some_is, name_in-stored_name, stored_name-name_in}
 use Rattle.var_stores.proofs.GlobalKeys.{global_name}

@@ -1,13 +1,7 @@
-pub mod Names
 pub mod Records
 pub mod Stores
 pub mod OneReading
 pub mod StoreFaults
-pub mod Distinct
-pub mod Afterwards
-pub mod Members
-pub mod Fronts
-pub mod Changes
 pub mod Found
 pub mod StoredNames
 pub mod PresentRecords

@@ -3,9 +3,9 @@ use Rattle.std.proofs.Common.{◌≡◌, ℕ, Bool, true, false, cond, ◌&&◌,
 use Rattle.std.specs.List.{AllByRecursion, IsDistinct, filter}
 use Rattle.std.proofs.lemmas.Map.Keys.{IsDistinct-head, IsDistinct-tail}
 use Rattle.var_stores.specs.Record.{RecordParts}
-use Rattle.var_stores.specs.BootChange.{same_name}
+use Rattle.uefi_vars.specs.BootChange.{same_name}
 use Rattle.var_stores.specs.Present.{key_of, is_of, is_alive, found, found_after, is_set_value, set_part}
-use Rattle.var_stores.proofs.Names.{same_name-is}
+use Rattle.uefi_vars.proofs.NameTests.{same_name-is}
 use Rattle.var_stores.proofs.PresentRecords.{stays_of_other, takes_over}
 
 -- the first record of the variable

@@ -10,11 +10,11 @@ use Rattle.std.proofs.lemmas.Cmp.{nat_list_cmp_total, eq_by_cmp_equiv}
 use Rattle.uefi_vars.specs.Vars.{name_cmp}
 use Rattle.var_stores.specs.declared.record.Record.{Record}
 use Rattle.var_stores.specs.Record.{RecordParts, record_parts, IsRecord}
-use Rattle.var_stores.specs.BootChange.{same_name}
+use Rattle.uefi_vars.specs.BootChange.{same_name}
 use Rattle.var_stores.specs.Present.{key_of, is_of, is_alive, is_added_there, found, found_with}
 use Rattle.var_stores.specs.PresentMap.{record_under, AreWhole}
 use Rattle.var_stores.proofs.Found.{found_after-all}
-use Rattle.var_stores.proofs.Names.{same_name-is}
+use Rattle.uefi_vars.proofs.NameTests.{same_name-is}
 
 -- what is there stays if it was added, or the record isn't alive, or of another variable
 module _ (key : List ℕ) (before : Option RecordParts) (r : RecordParts) where

@@ -12,10 +12,10 @@ use Rattle.std.proofs.lemmas.Map.Keys.{IsDistinct-from_sorted}
 use Rattle.uefi_vars.specs.Vars.{name_cmp}
 use Rattle.var_stores.specs.declared.record.Record.{Record}
 use Rattle.var_stores.specs.Record.{RecordParts, record_parts, IsRecord}
-use Rattle.var_stores.specs.BootChange.{same_name}
+use Rattle.uefi_vars.specs.BootChange.{same_name}
 use Rattle.var_stores.specs.Present.{key_of, is_alive}
 use Rattle.var_stores.specs.PresentMap.{record_under, AreKeyed, AreWhole}
-use Rattle.var_stores.proofs.Names.{same_name-is, same_name-refl}
+use Rattle.uefi_vars.proofs.NameTests.{same_name-is, same_name-refl}
 use Rattle.var_stores.proofs.OfEachOne.{first_of, AreOfEachOne}
 
 abbrev Entries : Type 0

@@ -8,10 +8,10 @@ use Rattle.uefi_vars.specs.declared.fault.PutFault.TheVariants as fault
 use Rattle.uefi_vars.specs.Name.{IsName}
 use Rattle.uefi_vars.specs.Vars.{Variables, data_max, IsVars, IsData, IsVariable}
 use Rattle.uefi_vars.proofs.Names.{get-insert_here}
-use Rattle.var_stores.specs.BootChange.{same_name}
+use Rattle.uefi_vars.specs.BootChange.{same_name}
 use Rattle.var_stores.specs.Present.{stored_name, name_in, is_set_value}
 use Rattle.var_stores.specs.PresentMap.{PutsStored}
-use Rattle.var_stores.proofs.Names.{same_name-is, same_name-of}
+use Rattle.uefi_vars.proofs.NameTests.{same_name-is, same_name-of}
 use Rattle.var_stores.proofs.StoredNames.{name_in-stored_name, stored_name-name_in, stored_name-same}
 
 -- a name that isn't stored so keeps its data

@@ -1,5 +1,4 @@
 -- what public contracts and the laws cite, in the order in which to read it
-pub mod BootChange
 pub mod Damage
 pub mod Present
 pub mod PresentMap

@@ -7,7 +7,7 @@ use Rattle.std.specs.List.{AllByRecursion}
 use Rattle.std.specs.List.Sorted.{IsStrictlySortedBy}
 use Rattle.uefi_vars.specs.Name.{name_max, IsName}
 use Rattle.uefi_vars.specs.Vars.{Variables, name_cmp, data_max}
-use Rattle.var_stores.specs.BootChange.{same_name}
+use Rattle.uefi_vars.specs.BootChange.{same_name}
 use Rattle.var_stores.specs.Record.{RecordParts, vendor_in, attribute_bytes}
 
 -- ---- names

@@ -6,7 +6,7 @@ use Rattle.std.specs.Global.{Vec}
 use Rattle.std.specs.FinMap.{get}
 use Rattle.uefi_vars.specs.Name.{IsName}
 use Rattle.uefi_vars.specs.Vars.{Variables, name_cmp}
-use Rattle.var_stores.specs.BootChange.{same_name}
+use Rattle.uefi_vars.specs.BootChange.{same_name}
 use Rattle.var_stores.specs.declared.record.Record.{Record}
 use Rattle.var_stores.specs.Record.{RecordParts, record_parts, IsRecord}
 use Rattle.var_stores.specs.Present.{key_of, is_of, is_alive, stored_name, global_key, is_set_value}

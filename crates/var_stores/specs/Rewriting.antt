@@ -10,7 +10,7 @@ use Rattle.uefi_vars.specs.Vars.{Variables, name_cmp}
 use Rattle.var_stores.specs.declared.fault.StoreFault.TheVariants as fault
 use Rattle.var_stores.specs.declared.write_fault.WriteFault.{WriteFault}
 use Rattle.var_stores.specs.declared.write_fault.WriteFault.TheVariants as write_fault
-use Rattle.var_stores.specs.BootChange.{same_name, differs, is_boot_name}
+use Rattle.uefi_vars.specs.BootChange.{same_name, differs, is_boot_name}
 use Rattle.var_stores.specs.Record.{RecordParts, vendor_in, attribute_bytes, blank, padding_len, record_bytes, BeginsRecord}
 use Rattle.var_stores.specs.Volume.{area_of, StoreParts, SpellsStore, IsStoreFault}
 use Rattle.var_stores.specs.Present.{global_guid, stored_name, name_in, key_of, global_key, is_alive, found, IsSetOf}

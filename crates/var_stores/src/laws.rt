@@ -1,13 +1,12 @@
 //! The laws of the definitions. Each is a function that does nothing, and whose contract is the law.
 
-ghost use Rattle.std.specs.Prelude.{◌≡◌, ◌≢◌, ◌⊎◌, ◌↔◌, ℕ, ◌^◌, ◌<◌, List, [], ◌∷◌, ◌++◌, ◌&&◌, None, map, take, slice_get, Some, true, false};
+ghost use Rattle.std.specs.Prelude.{◌≡◌, ◌≢◌, ◌⊎◌, ◌↔◌, ℕ, List, ◌∷◌, ◌++◌, ◌&&◌, None, Some, true, false};
 ghost use Rattle.std.specs.Option.{option_map};
-ghost use Rattle.std.specs.List.{AllByRecursion, IsDistinct};
+ghost use Rattle.std.specs.List.{AllByRecursion};
 ghost use Rattle.std.specs.FinMap as map;
-ghost use Rattle.uefi_vars.specs.Name.{entry_text, IsName};
+ghost use Rattle.uefi_vars.specs.Name.{IsName};
 ghost use Rattle.uefi_vars.specs.Vars.{Variables};
-ghost use Rattle.uefi_vars.specs.NameChanges.{after_each};
-ghost use Rattle.var_stores.specs.BootChange.{ChangeParts, same_name, is_entry_name, is_boot_name, changes_from, new_data, IsNeeded, DanglesInOrder, DanglesAsNext};
+ghost use Rattle.uefi_vars.specs.BootChange.{is_boot_name};
 ghost use Rattle.var_stores.specs.declared.fault.StoreFault.{StoreFault};
 ghost use Rattle.var_stores.specs.Volume.{StoreParts, SpellsStore, IsStoreFault};
 ghost use Rattle.var_stores.specs.Record.{RecordParts, vendor_in};
@@ -17,62 +16,6 @@ ghost use Rattle.var_stores.specs.Damage.{CountsRecords};
 
 use crate::writer::BOOT_ATTRIBUTES;
 use uefi_vars::laws as vars_laws;
-
-/// The names of entries are those of the numbers of two bytes.
-pub fn entry_names_are_those_of_numbers()
-    ensures { (name : List ℕ) →
-        (is_entry_name name ≡ true) ↔ ((number : ℕ) × (number < 2 ^ 16) × (name ≡ entry_text number)) }
-{}
-
-/// No two changes are of one variable.
-pub fn each_change_is_of_another_variable()
-    ensures { (from to : Variables) →
-        IsDistinct same_name (map (λ change. change.name) (changes_from from to)) }
-{
-    vars_laws::order_and_next_are_no_entries();
-}
-
-/// Each change is of a variable of the boot manager, tells its data in the two sets, and these differ.
-pub fn each_change_is_needed()
-    ensures { (from to : Variables) → AllByRecursion (IsNeeded from to) (changes_from from to) }
-{}
-
-/// There is no change exactly if the boot manager's variables of the two sets are equal.
-pub fn equal_variables_need_no_change()
-    ensures { (from to : Variables) → (changes_from from to ≡ [])
-        ↔ ((name : List ℕ) → is_boot_name name ≡ true → map.get from name ≡ map.get to name) }
-{}
-
-/// All changes in their order lead from the one set to the boot manager's variables of the other, and leave the variables
-/// of other names as they are.
-pub fn all_changes_lead_to_the_other_set()
-    ensures boot { (from to : Variables) (name : List ℕ) → is_boot_name name ≡ true →
-        map.get (after_each from (new_data (changes_from from to))) name ≡ map.get to name }
-    ensures others { (from to : Variables) (name : List ℕ) → is_boot_name name ≡ false →
-        map.get (after_each from (new_data (changes_from from to))) name ≡ map.get from name }
-{}
-
-/// What is there right before a change is made is what the change tells of before.
-pub fn each_change_replaces_what_is_there()
-    ensures { (from to : Variables) (place : ℕ) (change : ChangeParts) →
-        slice_get (changes_from from to) place ≡ Some change →
-        map.get (after_each from (new_data (take place (changes_from from to)))) change.name ≡ change.before }
-{
-    vars_laws::order_and_next_are_no_entries();
-}
-
-/// However many of the changes are made, BootOrder and BootNext name an entry that isn't there only if they did before all
-/// of them, or do after them.
-pub fn nothing_dangles_in_between()
-    ensures order { (from to : Variables) (made number : ℕ) → number < 2 ^ 16 →
-        DanglesInOrder (after_each from (new_data (take made (changes_from from to)))) number →
-        DanglesInOrder from number ⊎ DanglesInOrder to number }
-    ensures next { (from to : Variables) (made number : ℕ) → number < 2 ^ 16 →
-        DanglesAsNext (after_each from (new_data (take made (changes_from from to)))) number →
-        DanglesAsNext from number ⊎ DanglesAsNext to number }
-{
-    vars_laws::order_and_next_are_no_entries();
-}
 
 /// A file has at most one store of variables.
 pub fn a_file_has_one_store()

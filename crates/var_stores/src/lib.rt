@@ -1,15 +1,11 @@
-//! What leads the boot variables of a machine from one set to another, one variable after the other (UEFI specification,
-//! version 2.10, chapter 3).
+//! An emulator's variable file, as edk2 writes it: the records of its variables, and the file with other boot variables
+//! (UEFI specification, version 2.10, chapters 3 and 8).
 //!
-//! [`boot_changes`] lists the single changes of Boot####, BootOrder and BootNext, in an order in which a machine can make
-//! them: after each of them, BootOrder and BootNext name a missing entry only if they did before all of them or do after
-//! them.
-//!
-//! [`read_store`] finds the records of variables in an emulator's variable file, as edk2 writes it.
-//! [`VariableStore::damage`] tells of what isn't erased behind them.
+//! [`read_store`] finds the records of variables in a file, and [`store_vars`] makes a set of those that are there.
+//! [`VariableStore::damage`] tells of what isn't erased behind them. [`write_boot_vars`] gives the bytes of the file with
+//! the boot variables of another set.
 #![tactic(auto)]
 
-mod boot_change;
 mod damage;
 mod fault;
 pub mod laws;
@@ -21,7 +17,6 @@ mod volume;
 mod write_fault;
 mod writer;
 
-pub use boot_change::{BootChange, boot_changes, is_boot_name};
 pub use damage::Damage;
 pub use fault::StoreFault;
 pub use record::Record;

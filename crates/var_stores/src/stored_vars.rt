@@ -9,7 +9,7 @@ ghost use Rattle.uefi_vars.specs.declared.fault.PutFault.{PutFault};
 ghost use Rattle.uefi_vars.specs.Name.{IsName};
 ghost use Rattle.uefi_vars.specs.Vars.{name_cmp};
 ghost use Rattle.std.specs.FinMap as map;
-ghost use Rattle.var_stores.specs.BootChange.{same_name};
+ghost use Rattle.uefi_vars.specs.BootChange.{same_name};
 ghost use Rattle.var_stores.specs.Record.{record_parts, vendor_in, attribute_bytes, IsRecord};
 ghost use Rattle.var_stores.specs.Present.{global_guid, global_key, name_in, set_data, set_attributes, is_set_name, is_set_value, is_left_out, IsSetOf, AreAttributesOf, AreLeftOut};
 ghost use Rattle.var_stores.specs.PresentMap.{record_under, AreKeyed, AreWhole, PutsStored, PutsRecord};

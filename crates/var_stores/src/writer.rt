@@ -17,14 +17,13 @@ ghost use Rattle.var_stores.specs.Present.{stored_name, global_key};
 ghost use Rattle.var_stores.specs.PresentMap.{record_under, AreWhole};
 ghost use Rattle.var_stores.specs.Rewriting.{is_rewritten, is_outdated, without_outdated, unchanged, attributes_there, given_attributes, new_attributes, header_of, new_record, added, Fits, IsWritten, IsWriteFault};
 
-use crate::boot_change::{is_boot_name, is_changed};
 use crate::present::{Present, present};
 use crate::record::{ADDED, BLANK as BLANK_NUMBER, Record, begins_record, padding_len};
 use crate::store::read_store;
 use crate::stored_vars::{GLOBAL_GUID, is_global, name_of, vars_of};
 use crate::write_fault::WriteFault;
 use std::alloc::{AllocError, Global};
-use uefi_vars::Vars;
+use uefi_vars::{Vars, is_boot_name};
 
 /// The bytes of the attributes of a new variable of the boot manager, little-endian: it is kept without power, and is there
 /// for loaders and for the system that they start (UEFI 2.10, 3.3 and 8.2).
@@ -344,5 +343,5 @@ fn is_outdated(
 fn is_rewritten(from: &Vars, to: &Vars, name: &str) -> bool
     ensures { result ≡ is_rewritten from.now to.now name.now }
 {
-    is_boot_name(name) && is_changed(from, to, name)
+    is_boot_name(name) && from.get(name) != to.get(name)
 }

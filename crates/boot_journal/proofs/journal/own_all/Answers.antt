@@ -1,6 +1,6 @@
 -- Each change is of a boot variable, so the one at the index is.
 use Rattle.std.proofs.Common.{arith}
-use Rattle.var_stores.specs.BootChange.{change_parts}
+use Rattle.uefi_vars.specs.BootChange.{change_parts}
 use Rattle.boot_journal.specs.Values.{IsBootChange}
 use Rattle.boot_journal.proofs.KeptChanges.{each_at}
 use Rattle.boot_journal.proofs.journal.own_all.Goals as goal

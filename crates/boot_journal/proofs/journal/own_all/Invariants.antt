@@ -1,6 +1,6 @@
 -- So far the changes that were made are of the first ones.
 use Rattle.std.proofs.Common.{◌≡◌, map, take}
-use Rattle.var_stores.specs.BootChange.{change_parts}
+use Rattle.uefi_vars.specs.BootChange.{change_parts}
 use Rattle.boot_journal.proofs.journal.own_all.Given as goal
 
 abbrev pub invariant-loop-change : goal.invariant-loop-change

@@ -1,6 +1,6 @@
 -- Its bytes spell it, and fit since names of boot variables are names.
 use Rattle.std.proofs.Common.{refl}
-use Rattle.var_stores.proofs.AfterWriting.{boot_is_name}
+use Rattle.uefi_vars.proofs.NameTests.{boot_is_name}
 use Rattle.boot_journal.specs.Bytes.{file_bytes}
 use Rattle.boot_journal.proofs.JournalFiles.{AreNames, file_fits}
 use Rattle.boot_journal.proofs.laws.each_journal_is_spelled.Goals as goal

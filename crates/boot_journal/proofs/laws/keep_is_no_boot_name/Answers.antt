@@ -1,7 +1,7 @@
 -- Its name is longer than that of an entry, and isn't that of BootOrder or BootNext.
 use Rattle.std.proofs.Common.{◌≡◌, ℕ, false, length, refl, ap, ◌∙◌, arith}
 use Rattle.std.proofs.lemmas.Bool.{false_from_ne_true, or_from}
-use Rattle.var_stores.specs.BootChange.{is_entry_name}
+use Rattle.uefi_vars.specs.BootChange.{is_entry_name}
 use Rattle.boot_requests.specs.State.{keep_text}
 use Rattle.boot_journal.proofs.laws.keep_is_no_boot_name.Goals as goal
 

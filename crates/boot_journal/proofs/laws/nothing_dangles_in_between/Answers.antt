@@ -1,4 +1,4 @@
--- By the law of var_stores on sets of some of the changes, carried over to what a machine keeps.
+-- By the law of uefi_vars on sets of some of the changes, carried over to what a machine keeps.
 use Rattle.boot_journal.proofs.Dangling.{order_law, next_law, order_in_data, next_in_data}
 use Rattle.boot_journal.proofs.laws.nothing_dangles_in_between.Goals as goal
 

@@ -1,4 +1,4 @@
--- By `Applied`, from what boot_requests has of runs and var_stores of changes.
+-- By `Applied`, from what boot_requests has of runs and uefi_vars of changes.
 use Rattle.boot_journal.proofs.Applied.{all_applied, agrees}
 use Rattle.boot_journal.proofs.laws.turns_apply_each_request_once.Goals as goal
 

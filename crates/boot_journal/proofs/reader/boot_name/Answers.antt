@@ -1,8 +1,8 @@
 -- A name of a boot variable is UTF-8, so what is no UTF-8 is none.
 use Rattle.std.proofs.lemmas.Bool.{false_from_ne_true}
 use Rattle.uefi_vars.proofs.Names.{IsUtf8-name}
-use Rattle.var_stores.specs.BootChange.{is_boot_name}
-use Rattle.var_stores.proofs.AfterWriting.{boot_is_name}
+use Rattle.uefi_vars.specs.BootChange.{is_boot_name}
+use Rattle.uefi_vars.proofs.NameTests.{boot_is_name}
 use Rattle.boot_journal.proofs.reader.boot_name.Goals as goal
 
 pub returns-in-Err-clause-none : goal.returns-in-Err-clause-none

@@ -1,7 +1,7 @@
 -- A name of a boot variable is a name, and so isn't too long.
 use Rattle.std.proofs.Common.{◌≤◌, length, sym, subst}
 use Rattle.uefi_vars.specs.Name.{name_max, IsName}
-use Rattle.var_stores.proofs.AfterWriting.{boot_is_name}
+use Rattle.uefi_vars.proofs.NameTests.{boot_is_name}
 use Rattle.boot_journal.proofs.writer.append_change.Goals as goal
 
 pub append_name-requires : goal.append_name-requires

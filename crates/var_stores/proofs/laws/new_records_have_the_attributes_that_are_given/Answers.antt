@@ -1,4 +1,5 @@
-use Rattle.var_stores.proofs.AfterWriting.{boot_is_name, attributes_as_given}
+use Rattle.uefi_vars.proofs.NameTests.{boot_is_name}
+use Rattle.var_stores.proofs.AfterWriting.{attributes_as_given}
 use Rattle.var_stores.proofs.laws.new_records_have_the_attributes_that_are_given.Goals as goal
 
 pub returns : goal.returns

@@ -1,4 +1,5 @@
-use Rattle.var_stores.proofs.AfterWriting.{boot_is_name, boot_as_asked, left_out_stays}
+use Rattle.uefi_vars.proofs.NameTests.{boot_is_name}
+use Rattle.var_stores.proofs.AfterWriting.{boot_as_asked, left_out_stays}
 use Rattle.var_stores.proofs.laws.written_boot_variables_are_those_asked_for.Goals as goal
 
 pub returns-clause-asked : goal.returns-clause-asked

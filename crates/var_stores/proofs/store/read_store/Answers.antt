@@ -2,7 +2,7 @@ use Rattle.std.proofs.Common.{inl, map, refl, sym, ap, subst, ◌∙◌}
 use Rattle.std.proofs.lemmas.Bool.{not-false}
 use Rattle.var_stores.specs.Record.{record_parts}
 use Rattle.var_stores.specs.Volume.{store_guid, bytes_at, SpellsStore}
-use Rattle.var_stores.proofs.Members.{bytes_same}
+use Rattle.uefi_vars.proofs.Members.{bytes_same}
 use Rattle.var_stores.proofs.Stores.{store_found}
 use Rattle.var_stores.proofs.store.read_store.Goals as goal
 

@@ -2,7 +2,7 @@ use Rattle.std.proofs.Common.{◌≡◌, ℕ, List, true, sym, subst, ◌∙◌}
 use Rattle.std.proofs.lemmas.Bool.{not-false, not-true, false≢true}
 use Rattle.var_stores.specs.Record.{record_parts, vendor_in, attribute_bytes}
 use Rattle.var_stores.specs.Present.{global_guid, is_set_value}
-use Rattle.var_stores.proofs.Members.{bytes_same}
+use Rattle.uefi_vars.proofs.Members.{bytes_same}
 use Rattle.var_stores.proofs.GlobalKeys.{vendor_len, puts_global, puts_foreign}
 use Rattle.var_stores.specs.PresentMap.{PutsStored}
 use Rattle.var_stores.proofs.StoredVars.{on_ok}

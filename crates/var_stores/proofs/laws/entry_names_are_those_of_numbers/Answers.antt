@@ -1,5 +1,0 @@
-use Rattle.var_stores.proofs.Names.{entry_of_name, name_of_entry}
-use Rattle.var_stores.proofs.laws.entry_names_are_those_of_numbers.Goals as goal
-
-pub returns : goal.returns
-returns c = λ name. (entry_of_name name, λ entry. name_of_entry entry.0 name entry.1 entry.2)
