@@ -9,7 +9,7 @@ use Rattle.std.specs.FinMap.{empty, get, remove, get-remove}
 use Rattle.std.specs.Option.{option_map}
 use Rattle.std.specs.Cmp.{Equal-is}
 use Rattle.std.proofs.lemmas.Bool.{true≢false, or_parts, or_left, or_right}
-use Rattle.uefi_vars.specs.Name.{entry_text, order_text, next_text}
+use Rattle.uefi_vars.specs.Name.{entry_text, order_text, next_text, keep_text}
 use Rattle.uefi_vars.specs.Vars.{Variables, IsVariable}
 use Rattle.uefi_vars.specs.NameChanges.{with_data, after_each}
 use Rattle.uefi_vars.specs.BootChange.{same_name, is_entry_name, is_boot_name, changes_from}
@@ -25,7 +25,7 @@ use Rattle.boot_requests.specs.Changes.{Change, Applies, Boots as BootsChange, a
 use Rattle.boot_requests.specs.Keeper.{AreRead, StandsFor}
 use Rattle.boot_requests.specs.Run.{run_followed_by, state_at, history}
 use Rattle.boot_requests.specs.Seen.{Seen, Came, Malformed, Prepare, Hand, Restart}
-use Rattle.boot_requests.specs.State.{State, IsState, IsImage, keep_text, IsBootName, stored_mark}
+use Rattle.boot_requests.specs.State.{State, IsState, IsImage, IsBootName, stored_mark}
 use Rattle.boot_journal.specs.Attributes.{data_in, data_of}
 use Rattle.boot_journal.specs.Requests.{KeepsState, IsUpdateBy, IsRunOf, IsOfAnother, AgreesButForNext}
 use Rattle.std.proofs.lemmas.Cmp.{nat_list_cmp_total}

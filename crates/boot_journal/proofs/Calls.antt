@@ -7,7 +7,7 @@ use Rattle.std.proofs.lemmas.Bool.{true≢false}
 use Rattle.uefi_vars.specs.Vars.{Variables}
 use Rattle.uefi_vars.specs.BootChange.{ChangeParts, same_name, is_boot_name, changes_from, IsNeeded}
 use Rattle.boot_requests.specs.declared.event.Event.{Event}
-use Rattle.boot_requests.specs.State.{keep_text}
+use Rattle.uefi_vars.specs.Name.{keep_text}
 use Rattle.boot_journal.specs.Calls.{Call, Runs, Done, Unchanged, NotRun, Open, Settling, Starts, Firmware, RunsTo, CallLeads, Step, world_after, AreSteps}
 use Rattle.boot_journal.specs.Calls.{known_with, identities, IsNewStart, HaveNewStarts, IfFirmware, FirmwareDid, NewestIsBy, AreWith, AreByCalls}
 use Rattle.boot_journal.specs.Commands.{IsCommanding}

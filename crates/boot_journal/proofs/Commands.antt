@@ -5,7 +5,7 @@ use Rattle.std.specs.List.{AllByRecursion}
 use Rattle.std.specs.FinMap.{get}
 use Rattle.uefi_vars.specs.Vars.{Variables}
 use Rattle.uefi_vars.specs.BootChange.{changes_from, is_boot_name, IsNeeded}
-use Rattle.boot_requests.specs.State.{keep_text}
+use Rattle.uefi_vars.specs.Name.{keep_text}
 use Rattle.boot_journal.specs.Store.{Store, seen, stands_for, brought, updated}
 use Rattle.boot_journal.specs.Moments.{Leaves}
 use Rattle.boot_journal.specs.Moves.{settled, IsSettling, IsUpdating}

@@ -8,14 +8,13 @@ use Rattle.std.specs.FinMap.{get}
 use Rattle.std.specs.Option.{option_map}
 use Rattle.std.proofs.lemmas.Bool.{true≢false}
 use Rattle.std.proofs.lemmas.List.{take-map}
-use Rattle.uefi_vars.specs.Name.{entry_text, order_text, next_text}
+use Rattle.uefi_vars.specs.Name.{entry_text, order_text, next_text, keep_text}
 use Rattle.uefi_vars.specs.Vars.{Variables}
 use Rattle.uefi_vars.specs.NameChanges.{after_each}
 use Rattle.uefi_vars.specs.BootChange.{ChangeParts, same_name, new_data, changed_names, change_under, changes_from, is_boot_name, IsNeeded, order_in}
 use Rattle.uefi_vars.specs.BootChange.{DanglesInOrder, DanglesAsNext}
 use Rattle.uefi_vars.proofs.Afterwards.{get_after}
 use Rattle.uefi_vars.proofs.Fronts.{now_under, order_alike, next_alike}
-use Rattle.boot_requests.specs.State.{keep_text}
 use Rattle.boot_journal.specs.Attributes.{data_in, data_of}
 use Rattle.boot_journal.specs.Changes.{made, IsFront}
 use Rattle.boot_journal.specs.Store.{Store, IsIdle, seen, with_state}

@@ -3,12 +3,12 @@ use Rattle.std.proofs.Common.{◌≡◌, ℕ, ◌&&◌, Bool, true, false, cond,
 use Rattle.std.specs.Option.{IsSome}
 use Rattle.std.specs.FinMap.{get}
 use Rattle.std.proofs.lemmas.Bool.{true≢false}
-use Rattle.uefi_vars.specs.Name.{next_text}
+use Rattle.uefi_vars.specs.Name.{next_text, keep_text}
 use Rattle.uefi_vars.specs.Vars.{Variables}
 use Rattle.uefi_vars.specs.NameChanges.{after_each}
 use Rattle.uefi_vars.specs.BootChange.{same_name, is_boot_name, changes_from}
-use Rattle.boot_requests.specs.State.{keep_text}
-use Rattle.boot_journal.specs.Attributes.{attributes_len, attributes_in, KeepAttributes}
+use Rattle.uefi_vars.specs.Attributes.{attributes_len}
+use Rattle.boot_journal.specs.Attributes.{attributes_in, KeepAttributes}
 use Rattle.boot_journal.specs.Changes.{made}
 use Rattle.boot_journal.specs.Once.{Update, AreUpdatesIn}
 use Rattle.boot_journal.specs.Requests.{StaysThere}

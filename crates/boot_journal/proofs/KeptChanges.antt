@@ -10,7 +10,8 @@ use Rattle.uefi_vars.specs.Vars.{Variables, IsData, data_max}
 use Rattle.uefi_vars.specs.BootChange.{ChangeParts, is_boot_name}
 use Rattle.boot_journal.specs.declared.attributes.AttributesFault.{AttributesFault}
 use Rattle.boot_journal.specs.declared.attributes.AttributesFault.TheVariants.{NoData, TooLong, OutOfMemory}
-use Rattle.boot_journal.specs.Attributes.{attributes_len, attributes_in}
+use Rattle.uefi_vars.specs.Attributes.{attributes_len}
+use Rattle.boot_journal.specs.Attributes.{attributes_in}
 use Rattle.boot_journal.specs.JournalAttributes.{value_kept, ChangeHasRoom, IsFaultOfChanges, IsFaultOfData}
 use Rattle.boot_journal.proofs.WithAttributes.{four_bytes}
 

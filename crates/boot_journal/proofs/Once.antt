@@ -10,7 +10,8 @@ use Rattle.boot_requests.specs.Keeper.{AreRead}
 use Rattle.boot_requests.specs.Marks.{mark_of, mark_in}
 use Rattle.boot_requests.specs.Run.{run_followed_by, gap_at, history, state_at}
 use Rattle.boot_requests.specs.Seen.{Seen}
-use Rattle.boot_requests.specs.State.{State, MarkParts, IsState, keep_text}
+use Rattle.uefi_vars.specs.Name.{keep_text}
+use Rattle.boot_requests.specs.State.{State, MarkParts, IsState}
 use Rattle.boot_requests.specs.StoredState.{HasMark}
 use Rattle.boot_requests.proofs.Variables.Images.{one_mark}
 use Rattle.boot_requests.proofs.WholeRuns.Histories.{history_numbers}

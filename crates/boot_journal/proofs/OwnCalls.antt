@@ -5,7 +5,7 @@ use Rattle.uefi_vars.specs.Vars.{Variables}
 use Rattle.uefi_vars.specs.NameChanges.{after_each}
 use Rattle.uefi_vars.specs.BootChange.{same_name, changes_from}
 use Rattle.boot_requests.specs.declared.event.Event.{Event}
-use Rattle.boot_requests.specs.State.{keep_text}
+use Rattle.uefi_vars.specs.Name.{keep_text}
 use Rattle.boot_journal.specs.Calls.{Call, Runs, Done, Unchanged, NotRun, Open, Settling, Starts, Firmware, RunsTo, CallLeads, Step, world_after, AreSteps}
 use Rattle.boot_journal.specs.Calls.{did_with, did_by_firmware, CallLeavesAlone, CallsLeaveAlone}
 use Rattle.boot_journal.specs.Changes.{made, LeaveAlone}

@@ -5,7 +5,7 @@ use Rattle.std.specs.FinMap.{get}
 use Rattle.uefi_vars.specs.Vars.{Variables}
 use Rattle.uefi_vars.specs.NameChanges.{with_data}
 use Rattle.uefi_vars.specs.BootChange.{ChangeParts, same_name, new_data, is_boot_name, changes_from, IsNeeded}
-use Rattle.boot_requests.specs.State.{keep_text}
+use Rattle.uefi_vars.specs.Name.{keep_text}
 use Rattle.boot_journal.specs.Changes.{made, TellWhatIsThere}
 use Rattle.boot_journal.specs.Journal.{JournalParts, ChangesNothing}
 use Rattle.boot_journal.specs.Store.{Store, IsIdle, seen, journal_to, updated}

@@ -6,7 +6,7 @@ use Rattle.std.specs.FinMap.{get}
 use Rattle.std.proofs.lemmas.Bool.{true≢false}
 use Rattle.uefi_vars.specs.Vars.{Variables}
 use Rattle.uefi_vars.specs.BootChange.{ChangeParts, is_boot_name, changes_from, IsNeeded}
-use Rattle.boot_requests.specs.State.{keep_text}
+use Rattle.uefi_vars.specs.Name.{keep_text}
 use Rattle.boot_journal.specs.Changes.{made, taken_back, TellWhatIsThere}
 use Rattle.boot_journal.specs.Journal.{JournalParts, idle, begun, due, due_by, turned, is_making}
 use Rattle.boot_journal.specs.Store.{Store, with_made, with_journal, with_state, seen, stands_for, falls_back_to, brought, journal_to, updated, IsIdle}

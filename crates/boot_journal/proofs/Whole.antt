@@ -6,11 +6,10 @@ use Rattle.std.specs.List.{AllByRecursion}
 use Rattle.std.specs.FinMap.{get}
 use Rattle.std.specs.Cmp.{Equal-is}
 use Rattle.std.proofs.lemmas.Bool.{true≢false, or_right}
-use Rattle.uefi_vars.specs.Name.{next_text}
+use Rattle.uefi_vars.specs.Name.{next_text, keep_text}
 use Rattle.uefi_vars.specs.Vars.{Variables}
 use Rattle.uefi_vars.specs.NameChanges.{after_each}
 use Rattle.uefi_vars.specs.BootChange.{ChangeParts, same_name, new_data, is_boot_name, changes_from, IsNeeded}
-use Rattle.boot_requests.specs.State.{keep_text}
 use Rattle.boot_journal.specs.Changes.{made, taken_back, spent, is_of_next}
 use Rattle.boot_journal.specs.Journal.{JournalParts, PendingParts, Makes, TakesBack, idle, due, due_by, turned, turned_by, is_making, changes_of}
 use Rattle.boot_journal.specs.Journal.{BeganUnderAnother}

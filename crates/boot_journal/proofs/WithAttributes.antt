@@ -15,8 +15,8 @@ use Rattle.uefi_vars.specs.Vars.{Variables, name_cmp, IsVariable, IsVars}
 use Rattle.uefi_vars.specs.NameChanges.{with_data, after_each}
 use Rattle.uefi_vars.proofs.Maps.{sorted_parts, find_below, entries-AllByRecursion}
 use Rattle.uefi_vars.specs.BootChange.{same_name, is_boot_name}
-use Rattle.var_stores.specs.Rewriting.{boot_attributes}
-use Rattle.boot_journal.specs.Attributes.{attributes_len, attributes_in, with_values, data_in, data_of, kept_with, with_attributes, KeepAttributes}
+use Rattle.uefi_vars.specs.Attributes.{attributes_len, boot_attributes}
+use Rattle.boot_journal.specs.Attributes.{attributes_in, with_values, data_in, data_of, kept_with, with_attributes, KeepAttributes}
 use Rattle.boot_journal.specs.Attributes.{HaveAttributes}
 use Rattle.boot_journal.proofs.Making.{same_self}
 use Rattle.boot_journal.proofs.Single.{Single, over, one_name, same_variables, get-with_data, get-each}

@@ -4,13 +4,9 @@ use Rattle.std.specs.Prelude.{◌≡◌, ℕ, ◌+◌, ◌<◌, ◌≤◌, leb, 
 use Rattle.std.specs.FinMap.{get, entries, from_entries}
 use Rattle.uefi_vars.specs.Vars.{Variables, data_max}
 use Rattle.uefi_vars.specs.BootChange.{is_boot_name}
-use Rattle.var_stores.specs.Rewriting.{boot_attributes}
+use Rattle.uefi_vars.specs.Attributes.{boot_attributes, attributes_len}
 use Rattle.boot_journal.specs.declared.attributes.AttributesFault.{AttributesFault}
 use Rattle.boot_journal.specs.declared.attributes.AttributesFault.TheVariants.{NoData, TooLong, OutOfMemory}
-
--- how many bytes attributes have
-abbrev pub attributes_len : ℕ
-attributes_len = 4
 
 -- The attributes of what is there: its first four bytes. If nothing is there, or fewer bytes, those of a new variable.
 abbrev pub attributes_in : Option (List ℕ) → List ℕ

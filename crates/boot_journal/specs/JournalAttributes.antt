@@ -6,7 +6,8 @@ use Rattle.uefi_vars.specs.Vars.{Variables, data_max}
 use Rattle.uefi_vars.specs.BootChange.{ChangeParts}
 use Rattle.boot_journal.specs.declared.attributes.AttributesFault.{AttributesFault}
 use Rattle.boot_journal.specs.declared.attributes.AttributesFault.TheVariants.{NoData, TooLong, OutOfMemory}
-use Rattle.boot_journal.specs.Attributes.{attributes_len, kept_with}
+use Rattle.uefi_vars.specs.Attributes.{attributes_len}
+use Rattle.boot_journal.specs.Attributes.{kept_with}
 use Rattle.boot_journal.specs.Journal.{JournalParts, PendingParts, Makes, TakesBack, changes_of}
 
 -- what is kept of data that may be there: with the attributes of what is there under this name

@@ -14,7 +14,8 @@ use Rattle.boot_requests.specs.Keeper.{AreRead}
 use Rattle.boot_requests.specs.Run.{run_followed_by, state_at}
 use Rattle.boot_requests.specs.Reply.{AreAnswers}
 use Rattle.boot_requests.specs.Seen.{Seen, Restart, AreSeen}
-use Rattle.boot_requests.specs.State.{State, IsImage, keep_text}
+use Rattle.uefi_vars.specs.Name.{keep_text}
+use Rattle.boot_requests.specs.State.{State, IsImage}
 use Rattle.boot_requests.specs.StoredState.{OpensAs}
 use Rattle.boot_journal.specs.Attributes.{data_of, KeepAttributes}
 use Rattle.boot_journal.specs.Turns.{Turn, Brings, Boots, Meddles, after_turns}

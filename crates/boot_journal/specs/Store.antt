@@ -4,7 +4,7 @@ use Rattle.std.specs.FinMap.{get}
 use Rattle.uefi_vars.specs.Vars.{Variables}
 use Rattle.uefi_vars.specs.NameChanges.{with_data}
 use Rattle.uefi_vars.specs.BootChange.{ChangeParts, changes_from}
-use Rattle.boot_requests.specs.State.{keep_text}
+use Rattle.uefi_vars.specs.Name.{keep_text}
 use Rattle.boot_journal.specs.Changes.{made}
 use Rattle.boot_journal.specs.Journal.{JournalParts, idle, begun, due, turned}
 

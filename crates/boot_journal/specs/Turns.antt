@@ -5,7 +5,7 @@ use Rattle.std.specs.FinMap.{get}
 use Rattle.uefi_vars.specs.Vars.{Variables}
 use Rattle.uefi_vars.specs.NameChanges.{after_each}
 use Rattle.uefi_vars.specs.BootChange.{ChangeParts, same_name}
-use Rattle.boot_requests.specs.State.{keep_text}
+use Rattle.uefi_vars.specs.Name.{keep_text}
 use Rattle.boot_journal.specs.Changes.{is_of_next}
 use Rattle.boot_journal.specs.Journal.{PendingParts, Makes, TakesBack, due, turned, is_making, changes_of}
 use Rattle.boot_journal.specs.Store.{brought, with_state}

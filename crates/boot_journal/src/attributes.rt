@@ -4,16 +4,13 @@ ghost use Rattle.std.specs.Prelude.{◌≡◌, ◌++◌, drop, IfOk, IfErr, OnOk
 ghost use Rattle.std.specs.FinMap as map;
 ghost use Rattle.std.specs.Option.{option_map};
 ghost use Rattle.uefi_vars.specs.Name.{IsName};
-ghost use Rattle.boot_journal.specs.Attributes.{attributes_len, attributes_in, data_of, with_attributes, IsFaultWithout, IsFaultWith, IsFaultOf};
+ghost use Rattle.uefi_vars.specs.Attributes.{attributes_len};
+ghost use Rattle.boot_journal.specs.Attributes.{attributes_in, data_of, with_attributes, IsFaultWithout, IsFaultWith, IsFaultOf};
 ghost use Rattle.boot_journal.specs.declared.attributes.AttributesFault.TheVariants as fault;
 
 use std::alloc::{AllocError, AllocFailed, Global};
 use thiserror::Error;
-use uefi_vars::{PutFault, Vars, is_boot_name};
-use var_stores::{BOOT_ATTRIBUTES, laws as store_laws};
-
-/// How many bytes the attributes of a variable have (UEFI 2.10, 8.2).
-pub const ATTRIBUTES_LEN: usize = 4;
+use uefi_vars::{ATTRIBUTES_LEN, BOOT_ATTRIBUTES, PutFault, Vars, is_boot_name, laws as vars_laws};
 
 /// Why attributes can't be taken off variables, or put on them.
 #[derive(Clone, Copy, Debug, PartialEq, Eq, Hash, Error)]
@@ -108,7 +105,7 @@ pub(crate) fn joined(
 fn attributes_in(there: Option<&[u8]>) -> &[u8]
     ensures { result.now ≡ attributes_in (option_map (λ b. b.now) there.entry) }
 {
-    store_laws::constants_are_those_of_the_definitions();
+    vars_laws::constants_are_those_of_the_definitions();
     match there {
         Some(kept) if kept.len() >= ATTRIBUTES_LEN => &kept[..ATTRIBUTES_LEN],
         _ => &BOOT_ATTRIBUTES,

@@ -11,10 +11,10 @@ ghost use Rattle.boot_journal.specs.Changes.{undone, spent};
 ghost use Rattle.boot_journal.specs.JournalAttributes.{change_kept, IsFaultOfChanges, IsFaultOfData};
 ghost use Rattle.boot_journal.specs.Values.{bytes_of, change_of, IsBootChange};
 
-use crate::attributes::{ATTRIBUTES_LEN, AttributesFault, joined};
+use crate::attributes::{AttributesFault, joined};
 use std::alloc::{AllocError, Global};
 use std::marker::Model;
-use uefi_vars::{BOOT_NEXT, BootChange, DATA_MAX, Vars, laws as vars_laws};
+use uefi_vars::{ATTRIBUTES_LEN, BOOT_NEXT, BootChange, DATA_MAX, Vars, laws as vars_laws};
 
 /// A change of one variable of the boot manager: Boot####, BootOrder or BootNext (UEFI 2.10, 3.3). What is there before
 /// and after it is what a machine keeps: the variable's attributes, in [`ATTRIBUTES_LEN`](crate::ATTRIBUTES_LEN) bytes,

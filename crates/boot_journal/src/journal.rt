@@ -6,7 +6,7 @@ ghost use Rattle.std.specs.List.{AllByRecursion};
 ghost use Rattle.std.specs.FinMap as map;
 ghost use Rattle.uefi_vars.specs.Vars.{IsData, IsVars};
 ghost use Rattle.uefi_vars.specs.BootChange.{change_parts, changes_from};
-ghost use Rattle.boot_requests.specs.State.{keep_text};
+ghost use Rattle.uefi_vars.specs.Name.{keep_text};
 ghost use Rattle.boot_journal.specs.Changes.{taken_back, spent};
 ghost use Rattle.boot_journal.specs.Journal.{JournalParts, idle, begun, due, turned, is_making, began_under, ChangesNothing};
 ghost use Rattle.boot_journal.specs.JournalAttributes.{change_kept, pending_kept, journal_kept, IsFaultOfChanges, IsFaultOfJournal};
@@ -18,10 +18,7 @@ use crate::boot_id::BootId;
 use crate::change::{Change, copied, is_same, is_same_data};
 use std::alloc::{AllocError, Global};
 use std::marker::Model;
-use uefi_vars::{BootChange, Vars, boot_changes, laws as vars_laws};
-
-/// The variable in which a set keeps which requests were applied. Firmware refuses it, so a journal keeps its bytes.
-pub const KEEP_STATE: &str = "BootKeepState";
+use uefi_vars::{BootChange, KEEP_STATE, Vars, boot_changes, laws as vars_laws};
 
 /// What is still to be done, and under which identity of the machine's start that was begun.
 #[derive(Debug, Drop)]
@@ -163,7 +160,7 @@ impl Journal {
 
     /// The journal of a file of version 1 as one of version 2 has it: what each of its changes has before and after has the
     /// attributes of what `there` has under the variable's name before its data. These are the first four bytes there, or
-    /// [`BOOT_ATTRIBUTES`](var_stores::BOOT_ATTRIBUTES) if it has nothing there, or fewer bytes. BootKeepState stays as it
+    /// [`BOOT_ATTRIBUTES`](uefi_vars::BOOT_ATTRIBUTES) if it has nothing there, or fewer bytes. BootKeepState stays as it
     /// is.
     ///
     /// # Errors

@@ -4,15 +4,16 @@ ghost use Rattle.std.specs.Prelude.{◌≡◌, ◌⊎◌, ℕ, ◌^◌, ◌<◌,
 ghost use Rattle.std.specs.List.{AllByRecursion};
 ghost use Rattle.std.specs.FinMap as map;
 ghost use Rattle.uefi_path.specs.Row.{IsByte};
-ghost use Rattle.uefi_vars.specs.Name.{next_text};
+ghost use Rattle.uefi_vars.specs.Name.{next_text, keep_text};
 ghost use Rattle.uefi_vars.specs.Vars.{Variables};
 ghost use Rattle.uefi_vars.specs.NameChanges.{after_each};
 ghost use Rattle.uefi_vars.specs.BootChange.{ChangeParts, same_name, is_boot_name, changes_from, DanglesInOrder, DanglesAsNext};
 ghost use Rattle.boot_requests.specs.Run.{state_at};
 ghost use Rattle.boot_requests.specs.Seen.{Seen};
-ghost use Rattle.boot_requests.specs.State.{State, MarkParts, keep_text};
+ghost use Rattle.boot_requests.specs.State.{State, MarkParts};
 ghost use Rattle.boot_requests.specs.StoredState.{HasMark};
-ghost use Rattle.boot_journal.specs.Attributes.{attributes_len, attributes_in, data_of, with_attributes, KeepAttributes, HaveAttributes};
+ghost use Rattle.uefi_vars.specs.Attributes.{attributes_len};
+ghost use Rattle.boot_journal.specs.Attributes.{attributes_in, data_of, with_attributes, KeepAttributes, HaveAttributes};
 ghost use Rattle.boot_journal.specs.Calls.{Step, world_after, AreSteps, HaveNewStarts, FirmwareDid, did_by_firmware, CallsLeaveAlone, AreByCalls};
 ghost use Rattle.boot_journal.specs.Changes.{made, IsFront, LeaveAlone};
 ghost use Rattle.boot_journal.specs.Events.{Event, Starts, World, world, all_happen, without_next, with_variables, IsUpdateTo, AreSettlings, AreSettlingsOrStarts, AreNoUpdates, by_firmware, UpdatesLeaveAlone};
@@ -30,9 +31,8 @@ ghost use Rattle.boot_journal.specs.MachineName.{machine_name_max};
 ghost use Rattle.boot_journal.specs.Bytes.{IsJournalFile, SpellsJournalFile};
 ghost use Rattle.boot_journal.specs.Fault.{IsJournalFault};
 
-use crate::attributes::{ATTRIBUTES_LEN, AttributesFault};
+use crate::attributes::AttributesFault;
 use crate::fault::JournalFault;
-use crate::journal::KEEP_STATE;
 use crate::machine_name::MACHINE_NAME_MAX;
 use crate::requests::RunFault;
 use boot_requests::laws as request_laws;
@@ -239,10 +239,8 @@ pub fn attributes_and_data_are_what_is_kept()
     ensures kept { (vars : Variables) → HaveAttributes vars → with_attributes vars (data_of vars) ≡ vars }
 {}
 
-/// The public constants are what the definitions state.
+/// The public constant is what the definitions state.
 pub fn constants_are_those_of_the_definitions()
-    ensures name { KEEP_STATE.now ≡ keep_text }
-    ensures len { ATTRIBUTES_LEN ≡ attributes_len }
     ensures machine_name_max { MACHINE_NAME_MAX ≡ machine_name_max }
 {}
 

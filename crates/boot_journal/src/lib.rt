@@ -31,12 +31,12 @@ mod updating;
 mod work;
 mod writer;
 
-pub use attributes::{ATTRIBUTES_LEN, AttributesFault, with_attributes, without_attributes};
+pub use attributes::{AttributesFault, with_attributes, without_attributes};
 pub use boot_id::BootId;
 pub use change::Change;
 pub use commanding::{Run, command};
 pub use fault::JournalFault;
-pub use journal::{Journal, KEEP_STATE};
+pub use journal::Journal;
 pub use journal_file::JournalFile;
 pub use machine::{CallError, CommandError, Machine, UpdateError};
 pub use machine_name::{MACHINE_NAME_MAX, MachineName};

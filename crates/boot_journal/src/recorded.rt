@@ -14,10 +14,10 @@ ghost use Rattle.boot_journal.specs.RecordedValue.{store_of};
 ghost use Rattle.boot_journal.specs.declared.recorded.Move.TheVariants as Move;
 
 use crate::change::Change;
-use crate::journal::{Journal, KEEP_STATE};
+use crate::journal::Journal;
 use crate::machine::{CallError, Machine};
 use std::alloc::{AllocError, Global};
-use uefi_vars::Vars;
+use uefi_vars::{KEEP_STATE, Vars};
 
 /// What a machine's variables and its journal are kept in, such as a folder of the system. What it does isn't proved. It is
 /// trusted that each call does the whole of what it is asked to, or nothing, and tells which; that a call for what is there

@@ -1,10 +1,10 @@
 -- The state of a machine's boot entries, and the variables that stand for it (UEFI 2.10, 3.3).
-use Rattle.std.specs.Prelude.{◌≡◌, ◌⊎◌, ℕ, ◌^◌, ◌<◌, ◌≤◌, ◌==◌, if◌then◌else◌, List, [], ◌∷◌, ◌++◌, length, min, codes, Option, Some, None, IfSome}
+use Rattle.std.specs.Prelude.{◌≡◌, ◌⊎◌, ℕ, ◌^◌, ◌<◌, ◌≤◌, ◌==◌, if◌then◌else◌, List, [], ◌∷◌, ◌++◌, length, min, Option, Some, None, IfSome}
 use Rattle.std.specs.Ordering.{nat_cmp}
 use Rattle.std.specs.Int.{w32, to_le_bytes}
 use Rattle.std.specs.List.{AllByRecursion, flat_map}
 use Rattle.std.specs.FinMap.{FinMap, get}
-use Rattle.uefi_vars.specs.Name.{entry_text, order_text, next_text}
+use Rattle.uefi_vars.specs.Name.{entry_text, order_text, next_text, keep_text}
 use Rattle.uefi_vars.specs.Vars.{Variables, IsData, IsVariable, entry_of}
 use Rattle.uefi_vars.specs.Order.{IsEntryNumber, IsOrder, stored_order, stored_next}
 use Rattle.boot_requests.specs.declared.outcome.Outcome.{Outcome}
@@ -22,9 +22,6 @@ pub record State : Type 0 where
   pub others : Variables
 
 -- ---- the variable BootKeepState
-
-abbrev pub keep_text : List ℕ
-keep_text = codes "BootKeepState"
 
 -- its bytes: version 2, the next number in four bytes, how many outcomes are kept, and four bytes for each of these
 abbrev pub mark_bytes : ℕ → List Outcome → List ℕ

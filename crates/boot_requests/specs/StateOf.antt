@@ -3,13 +3,13 @@ use Rattle.std.specs.Prelude.{ℕ, zero, suc, List, [], Option, Some, None, ◌^
 use Rattle.std.specs.Ordering.{nat_cmp}
 use Rattle.std.specs.Int.{w16, from_le_bytes}
 use Rattle.std.specs.FinMap.{FinMap, empty, get, insert}
-use Rattle.uefi_vars.specs.Name.{entry_text, order_text, next_text}
+use Rattle.uefi_vars.specs.Name.{entry_text, order_text, next_text, keep_text}
 use Rattle.uefi_vars.specs.Vars.{Variables, entry_of}
 use Rattle.uefi_vars.specs.NameChanges.{with_data}
 use Rattle.uefi_vars.specs.Order.{stored_order, stored_next}
 use Rattle.uefi_path.specs.Units.{units_of}
 use Rattle.uefi_vars.specs.Plan.{PlanParts}
-use Rattle.boot_requests.specs.State.{State, MarkParts, keep_text, stored_mark}
+use Rattle.boot_requests.specs.State.{State, MarkParts, stored_mark}
 use Rattle.boot_requests.specs.Window.{Requests}
 use Rattle.boot_requests.specs.Turn.{Plain}
 

@@ -13,7 +13,8 @@ use Rattle.boot_requests.specs.declared.fault.OpenFault.{OpenFault}
 use Rattle.boot_requests.specs.declared.fault.OpenFault.TheVariants as fault
 use Rattle.boot_requests.specs.Limits.{kept_min}
 use Rattle.boot_requests.specs.Outcome.{without_entry, code_byte}
-use Rattle.boot_requests.specs.State.{State, IsState, IsImage, IsMark, keep_text, stored_mark}
+use Rattle.uefi_vars.specs.Name.{keep_text}
+use Rattle.boot_requests.specs.State.{State, IsState, IsImage, IsMark, stored_mark}
 
 -- ---- version 1 of BootKeepState
 

@@ -8,7 +8,8 @@ ghost use Rattle.uefi_vars.specs.Vars.{Variables};
 ghost use Rattle.uefi_vars.specs.NameChanges.{with_changes};
 ghost use Rattle.uefi_vars.specs.Order.{order_max};
 ghost use Rattle.boot_requests.specs.Apply.{is_in, without, is_there as holds, after_boot};
-ghost use Rattle.boot_requests.specs.State.{State, keep_text, mark_bytes};
+ghost use Rattle.uefi_vars.specs.Name.{keep_text};
+ghost use Rattle.boot_requests.specs.State.{State, mark_bytes};
 ghost use Rattle.boot_requests.specs.Keeper.{IsStateOf};
 ghost use Rattle.boot_requests.specs.Run.{is_next_entry};
 ghost use Rattle.boot_requests.specs.Edit.{ChangesBy, GathersBy, with_order, with_next, with_entry, without_entry, with_mark, with_last, without_number, without_next};
@@ -17,10 +18,7 @@ use crate::mark::Mark;
 use std::alloc::{AllocError, Global};
 use uefi_option::{LoadOption, write_option};
 use uefi_path::{append_units, read_units};
-use uefi_vars::{BOOT_NEXT, BOOT_ORDER, Changes, ORDER_MAX, Vars};
-
-/// The name of the next number and the outcomes that are kept.
-pub(crate) const KEEP_STATE: &str = "BootKeepState";
+use uefi_vars::{BOOT_NEXT, BOOT_ORDER, Changes, KEEP_STATE, ORDER_MAX, Vars};
 
 /// The variable of this name gets this data, which it can have.
 fn put(changes: &mut Changes, name: &str, value: Vec<u8>) -> Result<(), AllocError>

@@ -7,19 +7,20 @@ ghost use Rattle.uefi_vars.specs.Order.{HasBadOrder};
 ghost use Rattle.uefi_vars.specs.NameChanges.{with_data};
 ghost use Rattle.boot_requests.specs.declared.fault.OpenFault.{OpenFault};
 ghost use Rattle.boot_requests.specs.declared.outcome.Outcome.{Outcome};
-ghost use Rattle.boot_requests.specs.State.{State, keep_text, stored_mark};
+ghost use Rattle.uefi_vars.specs.Name.{keep_text};
+ghost use Rattle.boot_requests.specs.State.{State, stored_mark};
 ghost use Rattle.boot_requests.specs.StoredState.{HasMark, HasSecondMark, HasBadMark, OpensAs, IsOpenFault};
 ghost use Rattle.boot_requests.specs.Turn.{plain_start};
 ghost use Rattle.boot_requests.specs.StateOf.{state_of};
 ghost use Rattle.boot_requests.specs.Slots.{waiting_of, IsKeeper};
 
-use crate::edit::{KEEP_STATE, store_mark};
+use crate::edit::store_mark;
 use crate::fault::OpenFault;
 use crate::keeper::Keeper;
 use crate::mark::Mark;
 use crate::window::Window;
 use std::alloc::{AllocError, Global};
-use uefi_vars::{BOOT_ORDER, Changes, ORDER_MAX, Vars, boot_next, laws};
+use uefi_vars::{BOOT_ORDER, Changes, KEEP_STATE, ORDER_MAX, Vars, boot_next, laws};
 
 /// Variables that weren't kept, with the reason.
 #[derive(Debug, Drop)]

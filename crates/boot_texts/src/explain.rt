@@ -12,9 +12,7 @@ use serde::Serializer;
 use std::alloc::{AllocError, Global};
 use std::fmt;
 use uefi_option::LoadOption;
-
-/// The four bytes that a set file begins with.
-const SET_START: &[u8] = b"BVS1";
+use uefi_vars::SET_MAGIC;
 
 /// What a script or a stream asks for, in words.
 #[derive(Debug, Drop)]
@@ -222,7 +220,7 @@ fn line_of(text: &[u8], number: usize) -> &[u8] {
 
 /// Why a line is none of a script.
 fn line_reason(line: &[u8]) -> &'static str {
-    if line.starts_with(SET_START) {
+    if line.starts_with(&SET_MAGIC) {
         "this is a set of variables, and no script"
     } else if line.ends_with(b"\r") {
         "it ends with a carriage return, and a line of a script with a line feed alone"

@@ -4,10 +4,7 @@ use boot_requests::FrameFault;
 use uefi_option::{OptionFault, check_option};
 use uefi_path::PathFault;
 use uefi_text::TextFault;
-use uefi_vars::VarFault;
-
-/// The bytes of the attributes that Linux shows before a variable's value.
-const ATTRIBUTES_LEN: usize = 4;
+use uefi_vars::{ATTRIBUTES_LEN, VarFault};
 
 /// What is said of an option that has the attributes of its variable before it.
 const HAS_ATTRIBUTES: &str =

@@ -1,10 +1,9 @@
 //! What a machine keeps of its variables: of those of the boot manager the attributes too.
 
-use boot_journal::{ATTRIBUTES_LEN, AttributesFault, with_attributes};
+use boot_journal::{AttributesFault, with_attributes};
 use std::alloc::{AllocError, Global};
-use uefi_vars::{DATA_MAX, Vars, entry_number, is_boot_name};
+use uefi_vars::{ATTRIBUTES_LEN, BOOT_ATTRIBUTES, DATA_MAX, Vars, entry_number, is_boot_name};
 use var_places::{Failure, PlaceVars};
-use var_stores::BOOT_ATTRIBUTES;
 
 /// The variables of a machine, as it keeps them.
 #[derive(Drop)]

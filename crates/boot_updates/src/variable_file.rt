@@ -1,9 +1,8 @@
 //! Changes of single variables of an emulator's variable file.
 
-use boot_journal::ATTRIBUTES_LEN;
 use std::alloc::{AllocError, Global};
 use std::rt::Files;
-use uefi_vars::Vars;
+use uefi_vars::{ATTRIBUTES_LEN, Vars};
 use var_places::{Failure, changed_variable_file, of_store, read};
 use var_stores::{read_store, store_attributes, store_vars};
 use whole_files::{FileLock, OutputFile, rewrite_file};

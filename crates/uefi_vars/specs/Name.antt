@@ -36,3 +36,11 @@ order_text = codes "BootOrder"
 
 abbrev pub next_text : List ℕ
 next_text = codes "BootNext"
+
+-- the name of the variable in which a keeper of requests has which of them were applied
+abbrev pub keep_text : List ℕ
+keep_text = codes "BootKeepState"
+
+-- 8be4df61-93ca-11d2-aa0d-00e098032b8c, EFI_GLOBAL_VARIABLE, the vendor of the variables of the standard, as it is stored
+abbrev pub global_vendor : List ℕ
+global_vendor = 0x61 ∷ 0xDF ∷ 0xE4 ∷ 0x8B ∷ 0xCA ∷ 0x93 ∷ 0xD2 ∷ 0x11 ∷ 0xAA ∷ 0x0D ∷ 0x00 ∷ 0xE0 ∷ 0x98 ∷ 0x03 ∷ 0x2B ∷ 0x8C ∷ []

@@ -9,21 +9,24 @@ ghost use Rattle.uefi_vars.specs.declared.boot_plan.Choice.{Choice};
 ghost use Rattle.uefi_vars.specs.declared.fault.PutFault.{PutFault};
 ghost use Rattle.uefi_vars.specs.declared.fault.SetFault.{SetFault};
 ghost use Rattle.uefi_vars.specs.declared.fault.VarFault.{VarFault};
-ghost use Rattle.uefi_vars.specs.Name.{name_max, IsName, entry_text, order_text, next_text};
+ghost use Rattle.uefi_vars.specs.Name.{name_max, IsName, entry_text, order_text, next_text, keep_text, global_vendor};
+ghost use Rattle.uefi_vars.specs.Attributes.{attributes_len, boot_attributes};
 ghost use Rattle.uefi_vars.specs.Vars.{Variables, name_cmp, data_max, IsVars, entry_of};
 ghost use Rattle.uefi_vars.specs.NameChanges.{after_each};
 ghost use Rattle.uefi_vars.specs.BootChange.{ChangeParts, same_name, is_entry_name, is_boot_name, changes_from, new_data, IsNeeded, DanglesInOrder, DanglesAsNext};
-ghost use Rattle.uefi_vars.specs.Set.{SpellsSet};
+ghost use Rattle.uefi_vars.specs.Set.{magic, SpellsSet};
 ghost use Rattle.uefi_vars.specs.Fault.{IsFirstFault};
 ghost use Rattle.uefi_vars.specs.Order.{order_max, IsEntryNumber, HasOrder, HasNext, HasBadOrder, HasBadNext};
 ghost use Rattle.uefi_vars.specs.Plan.{PlanParts, IsNormalChoice, IsPlan, HasPlan};
 ghost use Rattle.uefi_vars.specs.AtRisk.{IsUnnamed, IsUndecodable, AreThose};
 
+use crate::attributes::{ATTRIBUTES_LEN, BOOT_ATTRIBUTES};
 use crate::boot_plan::{BootPlan, Choice};
 use crate::fault::{PutFault, SetFault, VarFault};
-use crate::name::{BOOT_NEXT, BOOT_ORDER, NAME_MAX};
+use crate::name::{BOOT_NEXT, BOOT_ORDER, GLOBAL_VENDOR, KEEP_STATE, NAME_MAX};
 use crate::order::ORDER_MAX;
 use crate::vars::{DATA_MAX, Vars};
+use crate::writer::SET_MAGIC;
 use uefi_option::laws as option_laws;
 use uefi_path::laws as path_laws;
 
@@ -169,6 +172,11 @@ pub fn constants_are_those_of_the_definitions()
     ensures order_max { ORDER_MAX ≡ order_max }
     ensures boot_order { BOOT_ORDER.now ≡ order_text }
     ensures boot_next { BOOT_NEXT.now ≡ next_text }
+    ensures keep_state { KEEP_STATE.now ≡ keep_text }
+    ensures global_vendor { GLOBAL_VENDOR.0 ≡ global_vendor }
+    ensures attributes_len { ATTRIBUTES_LEN ≡ attributes_len }
+    ensures boot_attributes { BOOT_ATTRIBUTES ≡ boot_attributes }
+    ensures set_magic { SET_MAGIC ≡ magic }
 {}
 
 /// The names of entries, BootOrder and BootNext are names that a variable may have.

@@ -13,6 +13,7 @@
 #![tactic(auto)]
 
 mod at_risk;
+mod attributes;
 mod boot_change;
 mod boot_plan;
 mod by_number;
@@ -31,14 +32,17 @@ mod vars;
 mod writer;
 
 pub use at_risk::{AtRisk, entries_at_risk};
+pub use attributes::{ATTRIBUTES_LEN, BOOT_ATTRIBUTES};
 pub use boot_change::{BootChange, boot_changes, is_boot_name};
 pub use boot_plan::{BootPlan, Choice, PlanNumbers};
 pub use changes::Changes;
 pub use fault::{PutFault, PutRefusal, SetFault, VarFault};
 pub use free::lowest_free;
-pub use name::{BOOT_NEXT, BOOT_ORDER, NAME_MAX, entry_name, entry_number};
+pub use name::{
+    BOOT_NEXT, BOOT_ORDER, GLOBAL_VENDOR, KEEP_STATE, NAME_MAX, entry_name, entry_number,
+};
 pub use order::{ORDER_MAX, boot_next, boot_order};
 pub use planner::{entry_option, plan, plan_numbers};
 pub use reader::read_set;
 pub use vars::{DATA_MAX, Iter, Vars};
-pub use writer::write_set;
+pub use writer::{SET_MAGIC, write_set};

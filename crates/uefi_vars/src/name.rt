@@ -1,8 +1,10 @@
-//! The names of variables.
+//! The names of variables, and whose those of the standard are.
 
 ghost use Rattle.std.specs.Prelude.{◌≡◌, ◌↔◌, ℕ, ◌<◌, ◌^◌, Some, IfSome, IsTrue};
 ghost use Rattle.std.specs.List.{AllByRecursion};
 ghost use Rattle.uefi_vars.specs.Name.{IsNameByte, IsName, upper_digit, four_digits, entry_text};
+
+use uefi_path::Guid;
 
 /// The most characters that a name has.
 pub const NAME_MAX: usize = 64;
@@ -12,6 +14,15 @@ pub const BOOT_ORDER: &str = "BootOrder";
 
 /// The name of the variable that says which entry the next boot tries first (UEFI 2.10, 3.3).
 pub const BOOT_NEXT: &str = "BootNext";
+
+/// The name of the variable in which a keeper of requests stores which of them were applied. Firmware refuses it.
+pub const KEEP_STATE: &str = "BootKeepState";
+
+/// 8be4df61-93ca-11d2-aa0d-00e098032b8c, EFI_GLOBAL_VARIABLE, the vendor of the variables of the standard (UEFI 2.10,
+/// 3.3).
+pub const GLOBAL_VENDOR: Guid = Guid([
+    0x61, 0xDF, 0xE4, 0x8B, 0xCA, 0x93, 0xD2, 0x11, 0xAA, 0x0D, 0x00, 0xE0, 0x98, 0x03, 0x2B, 0x8C,
+]);
 
 /// Whether these bytes are the characters of a name: one to [`NAME_MAX`] of them, each from 0x21 to 0x7E.
 pub(crate) fn is_name(name: &[u8]) -> bool

@@ -17,7 +17,7 @@ use crate::name::{NAME_MAX, is_name, name_text};
 use crate::named::Named;
 use crate::shared::{Shared, SharedText};
 use crate::vars::{DATA_MAX, Variable, Vars};
-use crate::writer::{DATA_LEN_SIZE, MAGIC, NAME_LEN_SIZE};
+use crate::writer::{DATA_LEN_SIZE, NAME_LEN_SIZE, SET_MAGIC};
 use std::alloc::{AllocError, Global};
 
 /// The name at the start of a record, which is at this place, and the bytes after the name.
@@ -122,11 +122,11 @@ fn read_magic_and_variables(alloc: Global, bytes: &[u8]) -> Result<Vars, SetFaul
     ensures fault { IfErr result (λ fault. fault ≢ SetFault.OutOfMemory → IsFirstFault bytes.now fault) }
     ensures bad_magic { HasNoMagic bytes.now → result ≡ Err (SetFault.BadMagic 0) }
 {
-    if !bytes.starts_with(&MAGIC) {
+    if !bytes.starts_with(&SET_MAGIC) {
         return Err(SetFault::BadMagic(0));
     }
     let file = Shared::from_slice(alloc, bytes)?;
-    let variables = read_variables(alloc, &file, MAGIC.len())?;
+    let variables = read_variables(alloc, &file, SET_MAGIC.len())?;
     Ok(Vars::from_variables(variables))
 }
 

@@ -10,8 +10,8 @@ ghost use Rattle.uefi_vars.specs.Records.{pair_of, pairs_of};
 use crate::vars::{Variable, Vars};
 use std::alloc::{AllocError, Global};
 
-/// What a set file begins with: `BVS1`.
-pub(crate) const MAGIC: [u8; 4] = [0x42, 0x56, 0x53, 0x31];
+/// The bytes that a set file begins with: `BVS1`.
+pub const SET_MAGIC: [u8; 4] = [0x42, 0x56, 0x53, 0x31];
 
 /// How many bytes of a record state the length of its name.
 pub(crate) const NAME_LEN_SIZE: usize = 1;
@@ -34,7 +34,7 @@ fn set_len(variables: &[Variable]) -> Option<usize>
     ensures { let len = length (magic ++ records_bytes (pairs_of variables.now)) in
         SomeIff result (len < 2 ^ 64) len }
 {
-    let mut len = MAGIC.len();
+    let mut len = SET_MAGIC.len();
     for variable in variables {
         len = len.checked_add(record_len(variable))?;
     }
@@ -80,7 +80,7 @@ pub fn write_set(alloc: Global, vars: &Vars) -> Result<Vec<u8>, AllocError>
         return Err(AllocError);
     };
     let mut out = Vec::with_capacity(alloc, len)?;
-    out.extend_from_slice(&MAGIC)?;
+    out.extend_from_slice(&SET_MAGIC)?;
     append_variables(variables, &mut out)?;
     Ok(out)
 }

@@ -14,10 +14,12 @@ use clap::error::ErrorKind;
 use std::alloc::{AllocError, Global};
 use std::rt::{Env, Files};
 use std::{env, io};
-use uefi_vars::{BOOT_NEXT, BOOT_ORDER, Changes, Vars, boot_changes, entry_number, write_set};
+use uefi_vars::{
+    BOOT_NEXT, BOOT_ORDER, Changes, KEEP_STATE, Vars, boot_changes, entry_number, write_set,
+};
 use var_places::{
-    Failure, KEEP_STATE, Output, Reason, SHOWN_MAX, STANDARD, Shortened, has_keep_state, lock,
-    name_of, print, read_place, write,
+    Failure, Output, Reason, SHOWN_MAX, STANDARD, Shortened, has_keep_state, lock, name_of, print,
+    read_place, write,
 };
 use whole_files::OutputFile;
 

@@ -6,11 +6,11 @@ use std::alloc::{AllocError, Global};
 use std::rt::Files;
 use std::{fs, io};
 use uefi_option::{OptionFault, check_option};
-use uefi_vars::{BOOT_NEXT, BOOT_ORDER, BootChange, Vars, boot_changes, entry_number};
+use uefi_vars::{BOOT_NEXT, BOOT_ORDER, BootChange, KEEP_STATE, Vars, boot_changes, entry_number};
 use var_places::{
-    Failure, FileKind, Folder, KEEP_STATE, Reason, STANDARD, changed_set, changed_variable_file,
-    check_damage, file_kind, file_vars, is_folder, lock, make_change, name_of, no_place, note,
-    print, read, read_folder, set_vars, shown, write,
+    Failure, FileKind, Folder, Reason, STANDARD, changed_set, changed_variable_file, check_damage,
+    file_kind, file_vars, is_folder, lock, make_change, name_of, no_place, note, print, read,
+    read_folder, set_vars, shown, write,
 };
 use whole_files::OutputFile;
 

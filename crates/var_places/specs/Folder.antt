@@ -4,13 +4,10 @@ use Rattle.std.specs.Option.{unwrap_or}
 use Rattle.std.specs.FinMap.{get}
 use Rattle.uefi_text.specs.Guid.{IsGuid}
 use Rattle.uefi_vars.specs.Vars.{Variables}
-use Rattle.var_stores.specs.Rewriting.{boot_attributes}
+use Rattle.uefi_vars.specs.Attributes.{boot_attributes}
+use Rattle.uefi_vars.specs.Name.{global_vendor}
 use Rattle.var_places.specs.declared.folder_change.Found.{Found}
 use Rattle.var_places.specs.declared.folder_change.Found.TheVariants as found
-
--- 8be4df61-93ca-11d2-aa0d-00e098032b8c, as it is stored
-abbrev pub global_vendor : List ℕ
-global_vendor = 0x61 ∷ 0xDF ∷ 0xE4 ∷ 0x8B ∷ 0xCA ∷ 0x93 ∷ 0xD2 ∷ 0x11 ∷ 0xAA ∷ 0x0D ∷ 0x00 ∷ 0xE0 ∷ 0x98 ∷ 0x03 ∷ 0x2B ∷ 0x8C ∷ []
 
 -- the name of the file that shows the global vendor's variable of this name: the name, a hyphen and the vendor's GUID
 abbrev pub IsFileName : List ℕ → List ℕ → Type 0

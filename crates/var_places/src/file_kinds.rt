@@ -5,6 +5,8 @@ ghost use Rattle.var_places.specs.FileKind.{BeginsSet, HasSignature, IsKind};
 
 use thiserror::Error;
 use uefi_option::check_option;
+use uefi_vars::{ATTRIBUTES_LEN, SET_MAGIC};
+use var_stores::VOLUME_SIGNATURE;
 
 /// What the first bytes of a file say that it is.
 #[derive(Clone, Copy, Debug, PartialEq, Eq)]
@@ -86,14 +88,14 @@ pub fn file_kind(bytes: &[u8]) -> FileKind
 fn begins_set(bytes: &[u8]) -> bool
     ensures { IsTrue result ↔ BeginsSet bytes.now }
 {
-    matches!(bytes, [b'B', b'V', b'S', b'1', ..])
+    bytes.starts_with(&SET_MAGIC)
 }
 
 /// Whether the bytes have the signature of a firmware volume.
 fn has_signature(bytes: &[u8]) -> bool
     ensures { IsTrue result ↔ HasSignature bytes.now }
 {
-    bytes.len() >= 44 && &bytes[40..44] == b"_FVH".as_slice()
+    bytes.len() >= 44 && &bytes[40..44] == VOLUME_SIGNATURE.as_slice()
 }
 
 /// What the bytes of a file look like that is no place of variables.
@@ -138,9 +140,9 @@ pub fn no_option(bytes: &[u8]) -> Option<NoOption> {
     }
 }
 
-/// Whether a load option comes after the four bytes of a variable's attributes.
+/// Whether a load option comes after the attributes of a variable.
 fn has_option(bytes: &[u8]) -> bool {
     bytes
-        .get(4..)
+        .get(ATTRIBUTES_LEN..)
         .is_some_and(|rest| check_option(rest).is_ok())
 }

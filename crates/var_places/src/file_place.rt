@@ -2,7 +2,7 @@
 
 use crate::failure::Failure;
 use crate::file_kinds::{FileKind, file_kind, other_kind};
-use crate::folder::{KEEP_STATE, LeftOut};
+use crate::folder::LeftOut;
 use crate::input::STANDARD;
 use crate::notes::{DamageWords, Shortened, note};
 use crate::place_vars::PlaceVars;
@@ -14,7 +14,8 @@ use std::rt::Files;
 use uefi_option::description_text;
 use uefi_path::read_units;
 use uefi_vars::{
-    BootChange, Changes, DATA_MAX, PutFault, SetFault, Vars, is_boot_name, read_set, write_set,
+    BootChange, Changes, DATA_MAX, KEEP_STATE, PutFault, SetFault, Vars, is_boot_name, read_set,
+    write_set,
 };
 use var_stores::{
     Record, StoreFault, VariableStore, WriteFault, left_out, read_store, store_attributes,
@@ -230,7 +231,7 @@ fn of_put(_fault: PutFault) -> Failure {
 
 /// The bytes of the emulator's variable file of this name, which has these bytes, with the boot variables of a set. A
 /// variable that changes gets the first four bytes of what `attributes` has under its name, or those that it has in the
-/// file if there are none, or [`BOOT_ATTRIBUTES`](var_stores::BOOT_ATTRIBUTES) if it is new. What no set can hold stays
+/// file if there are none, or [`BOOT_ATTRIBUTES`](uefi_vars::BOOT_ATTRIBUTES) if it is new. What no set can hold stays
 /// as it is, unless the set has a variable of its name.
 ///
 /// # Errors

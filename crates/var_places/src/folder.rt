@@ -17,25 +17,12 @@ use std::io::{self, ErrorKind};
 use std::path::{Path, PathBuf};
 use std::rt::Files;
 use thiserror::Error;
-use uefi_path::Guid;
 use uefi_text::{GuidText, read_guid};
-use uefi_vars::{DATA_MAX, PutFault, Vars};
+use uefi_vars::{ATTRIBUTES_LEN, DATA_MAX, GLOBAL_VENDOR, KEEP_STATE, PutFault, Vars};
 use whole_files::read_file;
-
-/// 8be4df61-93ca-11d2-aa0d-00e098032b8c, EFI_GLOBAL_VARIABLE, the vendor of the variables of the standard (UEFI 2.10,
-/// 3.3).
-const GLOBAL_VENDOR: Guid = Guid([
-    0x61, 0xDF, 0xE4, 0x8B, 0xCA, 0x93, 0xD2, 0x11, 0xAA, 0x0D, 0x00, 0xE0, 0x98, 0x03, 0x2B, 0x8C,
-]);
 
 /// How many bytes a GUID and the hyphen before it have in a file's name.
 const VENDOR_LEN: usize = 37;
-
-/// How many bytes of attributes a file has before the value.
-pub(crate) const ATTRIBUTES_LEN: usize = 4;
-
-/// The variable in which `bootkeep run` keeps which requests were applied. Firmware refuses it.
-pub const KEEP_STATE: &str = "BootKeepState";
 
 /// What a folder shows of a machine's variables.
 #[derive(Drop)]

@@ -4,14 +4,13 @@ ghost use Rattle.std.specs.Prelude.{◌≡◌, ◌++◌, ◌↔◌, IsTrue, IfOk
 ghost use Rattle.std.specs.Option.{option_map};
 ghost use Rattle.var_places.specs.Folder.{IsAsWanted, attributes_for};
 
-use crate::folder::{ATTRIBUTES_LEN, Folder};
+use crate::folder::Folder;
 use std::alloc::{AllocError, Global};
 use std::fs::{self, File, OpenFile, OpenOptions};
 use std::io::{self, ErrorKind, Write};
 use std::path::Path;
 use std::rt::Files;
-use uefi_vars::{BootChange, DATA_MAX, Vars};
-use var_stores::{BOOT_ATTRIBUTES, laws as stores_laws};
+use uefi_vars::{ATTRIBUTES_LEN, BOOT_ATTRIBUTES, BootChange, DATA_MAX, Vars, laws as vars_laws};
 use whole_files::{read_file, sync_file, sync_folder};
 
 /// Makes one change in the folder at this path, of which this was read: by one write of the attributes and the value,
@@ -144,7 +143,7 @@ fn file_bytes(
 ) -> Result<Vec<u8>, AllocError>
     ensures { IfOk result (λ bytes. bytes.items ≡ attributes_for attributes.now name.now ++ value.now) }
 {
-    stores_laws::constants_are_those_of_the_definitions();
+    vars_laws::constants_are_those_of_the_definitions();
     let front = attributes.get(name).unwrap_or(&BOOT_ATTRIBUTES);
     let mut bytes = Vec::from_slice(alloc, front)?;
     bytes.extend_from_slice(value)?;

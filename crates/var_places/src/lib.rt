@@ -29,7 +29,7 @@ pub use file_place::{
     changed_set, changed_variable_file, check_damage, file_vars, has_keep_state, no_place,
     of_store, set_vars, variable_file,
 };
-pub use folder::{Folder, KEEP_STATE, LeftOut, read_folder};
+pub use folder::{Folder, LeftOut, read_folder};
 pub use folder_change::{has_value, make_change, set_variable};
 pub use input::{STANDARD, name_of, read};
 pub use machine::machine_name;

@@ -4,11 +4,11 @@ use Rattle.std.specs.Option.{option_map, option_map_or}
 use Rattle.std.specs.List.{AllByRecursion}
 use Rattle.std.specs.FinMap.{get, entries, find, get-entries}
 use Rattle.std.proofs.lemmas.Bool.{and_parts, false_from_ne_true, false≢true, true≢false, not-false}
-use Rattle.uefi_vars.specs.Name.{IsName}
+use Rattle.uefi_vars.specs.Name.{IsName, global_vendor}
 use Rattle.uefi_vars.specs.Vars.{Variables, name_cmp}
 use Rattle.var_stores.specs.Record.{RecordParts, vendor_in, IsRecord}
 use Rattle.uefi_vars.specs.BootChange.{same_name, is_boot_name, same_data, differs}
-use Rattle.var_stores.specs.Present.{global_guid, stored_name, name_in, key_of, global_key, is_of, is_alive, is_added_there, found_with, found_after, found, is_set_value, set_data, is_set_name, is_left_out, if_left_out, IsSetOf}
+use Rattle.var_stores.specs.Present.{stored_name, name_in, key_of, global_key, is_of, is_alive, is_added_there, found_with, found_after, found, is_set_value, set_data, is_set_name, is_left_out, if_left_out, IsSetOf}
 use Rattle.var_stores.specs.Rewriting.{is_rewritten, is_outdated, deleted, without_outdated, unless_outdated, new_attributes, new_record, added, new_records, AreKept, IsWritten}
 use Rattle.uefi_vars.proofs.NameTests.{same_name-is, same_name-of}
 use Rattle.uefi_vars.proofs.Members.{same_data-is}
@@ -20,8 +20,8 @@ use Rattle.var_stores.proofs.StoredNames.{name_in-stored_name, stored_name-name_
 use Rattle.var_stores.proofs.WholeRecords.{alive_state, attributes-new}
 use Rattle.var_stores.proofs.LeftOut.{set_name_fits}
 
-same_end : (a b : List ℕ) → global_guid ++ a ≡ global_guid ++ b → a ≡ b
-same_end a b e = (same_size global_guid global_guid a b refl e).1
+same_end : (a b : List ℕ) → global_vendor ++ a ≡ global_vendor ++ b → a ≡ b
+same_end a b e = (same_size global_vendor global_vendor a b refl e).1
 
 -- ---- records of a variable, and whether they are outdated
 
@@ -29,17 +29,17 @@ same_end a b e = (same_size global_guid global_guid a b refl e).1
 outdated_is : (from to : Variables) (r : RecordParts) (name : List ℕ) → IsRecord r → IsName name → is_alive r ≡ true → key_of r ≡ global_key name → is_outdated from to r ≡ is_rewritten from to name
 outdated_is from to r name whole is alive key =
     let parts = global_name r name (vendor_len r whole) (sym key) in
-    ap (λ b. b && (same_name global_guid (vendor_in r.header) && option_map_or (is_rewritten from to) (name_in r.name) false)) alive
-    ∙ ap (λ b. b && option_map_or (is_rewritten from to) (name_in r.name) false) (same_name-of global_guid (vendor_in r.header) (sym parts.0))
+    ap (λ b. b && (same_name global_vendor (vendor_in r.header) && option_map_or (is_rewritten from to) (name_in r.name) false)) alive
+    ∙ ap (λ b. b && option_map_or (is_rewritten from to) (name_in r.name) false) (same_name-of global_vendor (vendor_in r.header) (sym parts.0))
     ∙ ap (λ n. option_map_or (is_rewritten from to) n false) (ap name_in parts.1 ∙ name_in-stored_name name is.printing)
 
 -- an outdated record is of a variable of the boot manager
 of_boot : (from to : Variables) (r : RecordParts) → is_outdated from to r ≡ true → (is_alive r ≡ true) × (name : List ℕ) × (is_rewritten from to name ≡ true) × (key_of r ≡ global_key name)
 of_boot from to r outdated =
-    let first = and_parts (is_alive r) (same_name global_guid (vendor_in r.header) && option_map_or (is_rewritten from to) (name_in r.name) false) outdated in
-    let second = and_parts (same_name global_guid (vendor_in r.header)) (option_map_or (is_rewritten from to) (name_in r.name) false) first.1 in
+    let first = and_parts (is_alive r) (same_name global_vendor (vendor_in r.header) && option_map_or (is_rewritten from to) (name_in r.name) false) outdated in
+    let second = and_parts (same_name global_vendor (vendor_in r.header)) (option_map_or (is_rewritten from to) (name_in r.name) false) first.1 in
     let named = go (name_in r.name) refl second.1 in
-    (first.0, named.0, named.1, ap (λ (v : List ℕ). v ++ r.name) (sym (same_name-is global_guid (vendor_in r.header) second.0)) ∙ ap (λ (n : List ℕ). global_guid ++ n) named.2)
+    (first.0, named.0, named.1, ap (λ (v : List ℕ). v ++ r.name) (sym (same_name-is global_vendor (vendor_in r.header) second.0)) ∙ ap (λ (n : List ℕ). global_vendor ++ n) named.2)
   where
     go : (n : Option (List ℕ)) → name_in r.name ≡ n → option_map_or (is_rewritten from to) n false ≡ true → (name : List ℕ) × (is_rewritten from to name ≡ true) × (r.name ≡ stored_name name)
     go None e none = absurd (false≢true none)
@@ -185,7 +185,7 @@ module _ (records : List RecordParts) (from to attributes : Variables) (whole : 
   unfit_left_out name r there unfit =
       let own = subst (λ (o : Option RecordParts). IfSome o (IsFoundAs (global_key name))) there (found_after-is (global_key name) None records tt) in
       let of_vendor = (global_name r name (vendor_len r (subst (λ (o : Option RecordParts). IfSome o IsRecord) there (found_after-all (global_key name) IsRecord None records whole tt))) (sym own.0)).0 in
-      ap (λ b. b && not (is_set_value r.value && is_set_name r.name)) (same_name-of global_guid (vendor_in r.header) (sym of_vendor)) ∙ ap (λ b. not (b && is_set_name r.name)) unfit
+      ap (λ b. b && not (is_set_value r.value && is_set_name r.name)) (same_name-of global_vendor (vendor_in r.header) (sym of_vendor)) ∙ ap (λ b. not (b && is_set_name r.name)) unfit
 
   -- and what is left out of a boot variable has such a value
   left_out_unfit : (name : List ℕ) (r : RecordParts) → IsName name → found (global_key name) records ≡ Some r → is_left_out r ≡ true → is_set_value r.value ≡ false
@@ -194,7 +194,7 @@ module _ (records : List RecordParts) (from to attributes : Variables) (whole : 
       own : IsFoundAs (global_key name) r
       own = subst (λ (o : Option RecordParts). IfSome o (IsFoundAs (global_key name))) there (found_after-is (global_key name) None records tt)
 
-      parts : (vendor_in r.header ≡ global_guid) × (r.name ≡ stored_name name)
+      parts : (vendor_in r.header ≡ global_vendor) × (r.name ≡ stored_name name)
       parts = global_name r name (vendor_len r (subst (λ (o : Option RecordParts). IfSome o IsRecord) there (found_after-all (global_key name) IsRecord None records whole tt))) (sym own.0)
 
       fits : is_set_name r.name ≡ true
@@ -203,7 +203,7 @@ module _ (records : List RecordParts) (from to attributes : Variables) (whole : 
       go : (b : Bool) → is_set_value r.value ≡ b → b ≡ false
       go false e = refl
       go true e =
-          absurd (false≢true (sym (ap (λ b. b && not (is_set_value r.value && is_set_name r.name)) (same_name-of global_guid (vendor_in r.header) (sym parts.0))
+          absurd (false≢true (sym (ap (λ b. b && not (is_set_value r.value && is_set_name r.name)) (same_name-of global_vendor (vendor_in r.header) (sym parts.0))
           ∙ ap (λ b. not (b && is_set_name r.name)) e ∙ ap not fits) ∙ left))
 
   written_before : (name : List ℕ) (others : List RecordParts) → IsName name → is_boot_name name ≡ true → is_rewritten from to name ≡ false → IsAskedFor name →

@@ -9,11 +9,11 @@ use Rattle.std.specs.List.{AllByRecursion, filter}
 use Rattle.std.specs.BTreeMap.{BTreeMap, values, IsOrdered}
 use Rattle.std.proofs.lemmas.Bool.{and_parts, not-true, not-false, true≢false, ltb-false}
 use Rattle.std.proofs.lemmas.Map.Keys.{IsDistinct-from_sorted}
-use Rattle.uefi_vars.specs.Name.{IsName, IsNameByte, name_max}
+use Rattle.uefi_vars.specs.Name.{IsName, IsNameByte, name_max, global_vendor}
 use Rattle.uefi_vars.specs.Vars.{Variables, name_cmp}
 use Rattle.var_stores.specs.declared.record.Record.{Record}
 use Rattle.var_stores.specs.Record.{RecordParts, record_parts, vendor_in}
-use Rattle.var_stores.specs.Present.{global_guid, stored_name, name_in, key_of, global_key, is_alive, found, is_set_value, set_data, is_set_name, is_left_out, if_left_out, IsSetOf, AreLeftOut}
+use Rattle.var_stores.specs.Present.{stored_name, name_in, key_of, global_key, is_alive, found, is_set_value, set_data, is_set_name, is_left_out, if_left_out, IsSetOf, AreLeftOut}
 use Rattle.var_stores.specs.PresentMap.{record_under, AreKeyed}
 use Rattle.uefi_vars.proofs.NameTests.{same_name-of}
 use Rattle.var_stores.proofs.Found.{IsFoundAs, found_after-is}
@@ -90,7 +90,7 @@ set_name_fits name is = ap (λ (o : Option (List ℕ)). option_map_or is_long_en
 -- ---- a variable that is there is in the set or left out
 
 module _ (records : List RecordParts) (vars : Variables) (key : List ℕ) (r : RecordParts)
-    (is : IsSetOf records vars) (there : found key records ≡ Some r) (vendor : vendor_in r.header ≡ global_guid) where
+    (is : IsSetOf records vars) (there : found key records ≡ Some r) (vendor : vendor_in r.header ≡ global_vendor) where
   own : key_of r ≡ key
   own = (subst (λ (o : Option RecordParts). IfSome o (IsFoundAs key)) there (found_after-is key None records tt)).0
 
@@ -104,7 +104,7 @@ module _ (records : List RecordParts) (vars : Variables) (key : List ℕ) (r : R
   left_out_if same value name = same && not (value && name)
 
   unless_held : is_left_out r ≡ not (is_set_value r.value && is_set_name r.name)
-  unless_held = ap (λ b. left_out_if b (is_set_value r.value) (is_set_name r.name)) (same_name-of global_guid (vendor_in r.header) (sym vendor))
+  unless_held = ap (λ b. left_out_if b (is_set_value r.value) (is_set_name r.name)) (same_name-of global_vendor (vendor_in r.header) (sym vendor))
 
   held : is_left_out r ≡ false → (name : List ℕ) × IsHeld name
   held kept = go (name_in r.name) refl both.1
@@ -116,7 +116,7 @@ module _ (records : List RecordParts) (vars : Variables) (key : List ℕ) (r : R
       go None e fits = absurd (true≢false (sym fits))
       go (Some name) e fits =
           let named = name_is r.name name e fits in
-          let same : key ≡ global_key name = sym own ∙ ap (λ (v : List ℕ). v ++ r.name) vendor ∙ ap (λ (n : List ℕ). global_guid ++ n) (stored_name-name_in r.name name e) in
+          let same : key ≡ global_key name = sym own ∙ ap (λ (v : List ℕ). v ++ r.name) vendor ∙ ap (λ (n : List ℕ). global_vendor ++ n) (stored_name-name_in r.name name e) in
           (name, (named, same, set_has name named same ∙ ap (λ b. cond b (Some r.value) None) both.0))
 
   kept_of : (name : List ℕ) → IsHeld name → is_left_out r ≡ false
@@ -131,7 +131,7 @@ module _ (records : List RecordParts) (vars : Variables) (key : List ℕ) (r : R
       some_of true e = refl
       some_of false e = absurd cc
 
-pub held_or_left_out : (records : List RecordParts) (vars : Variables) (key : List ℕ) (r : RecordParts) → IsSetOf records vars → found key records ≡ Some r → vendor_in r.header ≡ global_guid →
+pub held_or_left_out : (records : List RecordParts) (vars : Variables) (key : List ℕ) (r : RecordParts) → IsSetOf records vars → found key records ≡ Some r → vendor_in r.header ≡ global_vendor →
     (is_left_out r ≡ false) ↔ ((name : List ℕ) × IsName name × (key ≡ global_key name) × (get vars name ≡ Some r.value))
 held_or_left_out records vars key r is there vendor = (
   λ kept. let found = held records vars key r is there vendor kept in (found.0, found.1.0, found.1.1, found.1.2),

@@ -5,16 +5,12 @@ use Rattle.std.specs.Char.{is_ascii_graphic}
 use Rattle.std.specs.FinMap.{get}
 use Rattle.std.specs.List.{AllByRecursion}
 use Rattle.std.specs.List.Sorted.{IsStrictlySortedBy}
-use Rattle.uefi_vars.specs.Name.{name_max, IsName}
+use Rattle.uefi_vars.specs.Name.{name_max, IsName, global_vendor}
 use Rattle.uefi_vars.specs.Vars.{Variables, name_cmp, data_max}
 use Rattle.uefi_vars.specs.BootChange.{same_name}
 use Rattle.var_stores.specs.Record.{RecordParts, vendor_in, attribute_bytes}
 
 -- ---- names
-
--- 8be4df61-93ca-11d2-aa0d-00e098032b8c, the vendor's GUID of the variables that the standard names, as it is stored
-abbrev pub global_guid : List ℕ
-global_guid = 0x61 ∷ 0xDF ∷ 0xE4 ∷ 0x8B ∷ 0xCA ∷ 0x93 ∷ 0xD2 ∷ 0x11 ∷ 0xAA ∷ 0x0D ∷ 0x00 ∷ 0xE0 ∷ 0x98 ∷ 0x03 ∷ 0x2B ∷ 0x8C ∷ []
 
 -- a name as it is stored: each character as a CHAR16 unit, and then a zero unit
 abbrev pub stored_name : List ℕ → List ℕ
@@ -84,7 +80,7 @@ set_attributes o = set_part (λ r. attribute_bytes r.header) o
 
 -- that of the standard's variable of this name
 abbrev pub global_key : List ℕ → List ℕ
-global_key name = global_guid ++ stored_name name
+global_key name = global_vendor ++ stored_name name
 
 -- what a set has under this name
 abbrev pub data_there : List RecordParts → List ℕ → Option (List ℕ)
@@ -106,7 +102,7 @@ is_set_name stored = option_map_or (λ name. not (length name == 0) && not (nat_
 
 -- whether the record is of that vendor, and no set can hold its value under its name
 abbrev pub is_left_out : RecordParts → Bool
-is_left_out r = same_name global_guid (vendor_in r.header) && not (is_set_value r.value && is_set_name r.name)
+is_left_out r = same_name global_vendor (vendor_in r.header) && not (is_set_value r.value && is_set_name r.name)
 
 -- the record, if there is one, and it is left out
 abbrev pub if_left_out : Option RecordParts → Option RecordParts

@@ -13,7 +13,9 @@ use Rattle.var_stores.specs.declared.write_fault.WriteFault.TheVariants as write
 use Rattle.uefi_vars.specs.BootChange.{same_name, differs, is_boot_name}
 use Rattle.var_stores.specs.Record.{RecordParts, vendor_in, attribute_bytes, blank, padding_len, record_bytes, BeginsRecord}
 use Rattle.var_stores.specs.Volume.{area_of, StoreParts, SpellsStore, IsStoreFault}
-use Rattle.var_stores.specs.Present.{global_guid, stored_name, name_in, key_of, global_key, is_alive, found, IsSetOf}
+use Rattle.uefi_vars.specs.Name.{global_vendor}
+use Rattle.uefi_vars.specs.Attributes.{boot_attributes}
+use Rattle.var_stores.specs.Present.{stored_name, name_in, key_of, global_key, is_alive, found, IsSetOf}
 
 -- ---- which variables change
 
@@ -25,7 +27,7 @@ is_rewritten from to name = is_boot_name name && differs from to name
 -- whether the record is one of a variable that changes
 abbrev pub is_outdated : Variables → Variables → RecordParts → Bool
 is_outdated from to r =
-    is_alive r && (same_name global_guid (vendor_in r.header) && option_map_or (is_rewritten from to) (name_in r.name) false)
+    is_alive r && (same_name global_vendor (vendor_in r.header) && option_map_or (is_rewritten from to) (name_in r.name) false)
 
 -- ---- records in their places
 
@@ -42,10 +44,6 @@ abbrev pub unchanged : Variables → Variables → List RecordParts → List Rec
 unchanged from to records = filter (λ r. not (is_outdated from to r)) records
 
 -- ---- new records
-
--- the bytes of the attributes by which a variable is kept, and is there for loaders and for the system that they start
-abbrev pub boot_attributes : List ℕ
-boot_attributes = 7 ∷ 0 ∷ 0 ∷ 0 ∷ []
 
 -- those of the record that is replaced, if there is one
 abbrev pub attributes_there : Option RecordParts → List ℕ
@@ -66,7 +64,7 @@ new_attributes given before = unwrap_or (given_attributes given) (attributes_the
 -- the header after the state: its count, its time and the index of its key are zero
 abbrev pub header_of : List ℕ → ℕ → ℕ → List ℕ
 header_of attributes name_size value_size =
-    0 ∷ (attributes ++ (replicate 28 0 ++ (to_le_bytes w32 name_size ++ (to_le_bytes w32 value_size ++ global_guid))))
+    0 ∷ (attributes ++ (replicate 28 0 ++ (to_le_bytes w32 name_size ++ (to_le_bytes w32 value_size ++ global_vendor))))
 
 abbrev pub new_record : List ℕ → List ℕ → List ℕ → RecordParts
 new_record attributes name value = record {

@@ -17,6 +17,10 @@ bytes_at file place len = take len (drop place file)
 abbrev pub volume_guid : List ℕ
 volume_guid = 0x8D ∷ 0x2B ∷ 0xF1 ∷ 0xFF ∷ 0x96 ∷ 0x76 ∷ 0x8B ∷ 0x4C ∷ 0xA9 ∷ 0x85 ∷ 0x27 ∷ 0x47 ∷ 0x07 ∷ 0x5B ∷ 0x4F ∷ 0x50 ∷ []
 
+-- the signature of a firmware volume
+abbrev pub volume_signature : List ℕ
+volume_signature = codes "_FVH"
+
 -- the least length of a header
 abbrev pub header_min : ℕ
 header_min = 56
@@ -31,7 +35,7 @@ header_size file = from_le_bytes w16 (bytes_at file 48 2)
 pub record IsVolume (file : List ℕ) : Type 0 where
   pub long : header_min ≤ length file
   pub guid : bytes_at file 16 16 ≡ volume_guid
-  pub signature : bytes_at file 40 4 ≡ codes "_FVH"
+  pub signature : bytes_at file 40 4 ≡ volume_signature
   pub revision : bytes_at file 55 1 ≡ 2 ∷ []
 
 -- the sum of numbers of two bytes, as one of two bytes

@@ -4,17 +4,17 @@ ghost use Rattle.std.specs.Prelude.{◌≡◌, ◌≢◌, ◌⊎◌, ◌↔◌, 
 ghost use Rattle.std.specs.Option.{option_map};
 ghost use Rattle.std.specs.List.{AllByRecursion};
 ghost use Rattle.std.specs.FinMap as map;
-ghost use Rattle.uefi_vars.specs.Name.{IsName};
+ghost use Rattle.uefi_vars.specs.Name.{IsName, global_vendor};
 ghost use Rattle.uefi_vars.specs.Vars.{Variables};
 ghost use Rattle.uefi_vars.specs.BootChange.{is_boot_name};
 ghost use Rattle.var_stores.specs.declared.fault.StoreFault.{StoreFault};
-ghost use Rattle.var_stores.specs.Volume.{StoreParts, SpellsStore, IsStoreFault};
+ghost use Rattle.var_stores.specs.Volume.{volume_signature, StoreParts, SpellsStore, IsStoreFault};
 ghost use Rattle.var_stores.specs.Record.{RecordParts, vendor_in};
-ghost use Rattle.var_stores.specs.Present.{global_guid, global_key, is_of, is_added, is_alive, is_left_out, if_left_out, found, IsSetOf};
-ghost use Rattle.var_stores.specs.Rewriting.{boot_attributes, new_attributes, new_record, IsWritten};
+ghost use Rattle.var_stores.specs.Present.{global_key, is_of, is_added, is_alive, is_left_out, if_left_out, found, IsSetOf};
+ghost use Rattle.var_stores.specs.Rewriting.{new_attributes, new_record, IsWritten};
 ghost use Rattle.var_stores.specs.Damage.{CountsRecords};
 
-use crate::writer::BOOT_ATTRIBUTES;
+use crate::volume::VOLUME_SIGNATURE;
 use uefi_vars::laws as vars_laws;
 
 /// A file has at most one store of variables.
@@ -50,7 +50,7 @@ pub fn one_record_of_a_variable_is_there()
 /// A variable of the standard's vendor that is there is in the store's set, with its value, exactly if it isn't left out.
 pub fn a_variable_is_in_the_set_or_left_out()
     ensures { (records : List RecordParts) (vars : Variables) (key : List ℕ) (r : RecordParts) → IsSetOf records vars →
-        found key records ≡ Some r → vendor_in r.header ≡ global_guid → (is_left_out r ≡ false)
+        found key records ≡ Some r → vendor_in r.header ≡ global_vendor → (is_left_out r ≡ false)
         ↔ ((name : List ℕ) × IsName name × (key ≡ global_key name) × (map.get vars name ≡ Some r.value)) }
 {}
 
@@ -95,7 +95,7 @@ pub fn bytes_have_one_count_of_records()
     ensures { (bytes : List ℕ) (m n : ℕ) → CountsRecords bytes m → CountsRecords bytes n → m ≡ n }
 {}
 
-/// The public constant is the bytes that the definitions state.
+/// The public constant is what the definitions state.
 pub fn constants_are_those_of_the_definitions()
-    ensures { BOOT_ATTRIBUTES ≡ boot_attributes }
+    ensures { VOLUME_SIGNATURE ≡ volume_signature }
 {}

@@ -22,5 +22,6 @@ pub use fault::StoreFault;
 pub use record::Record;
 pub use store::{VariableStore, read_store};
 pub use stored_vars::{left_out, store_attributes, store_vars};
+pub use volume::VOLUME_SIGNATURE;
 pub use write_fault::WriteFault;
-pub use writer::{BOOT_ATTRIBUTES, write_boot_vars};
+pub use writer::write_boot_vars;

@@ -6,25 +6,19 @@ ghost use Rattle.std.specs.List.{AllByRecursion, filter};
 ghost use Rattle.std.specs.Option.{option_map};
 ghost use Rattle.std.specs.String.{string_bytes};
 ghost use Rattle.uefi_vars.specs.declared.fault.PutFault.{PutFault};
-ghost use Rattle.uefi_vars.specs.Name.{IsName};
+ghost use Rattle.uefi_vars.specs.Name.{IsName, global_vendor};
 ghost use Rattle.uefi_vars.specs.Vars.{name_cmp};
 ghost use Rattle.std.specs.FinMap as map;
 ghost use Rattle.uefi_vars.specs.BootChange.{same_name};
 ghost use Rattle.var_stores.specs.Record.{record_parts, vendor_in, attribute_bytes, IsRecord};
-ghost use Rattle.var_stores.specs.Present.{global_guid, global_key, name_in, set_data, set_attributes, is_set_name, is_set_value, is_left_out, IsSetOf, AreAttributesOf, AreLeftOut};
+ghost use Rattle.var_stores.specs.Present.{global_key, name_in, set_data, set_attributes, is_set_name, is_set_value, is_left_out, IsSetOf, AreAttributesOf, AreLeftOut};
 ghost use Rattle.var_stores.specs.PresentMap.{record_under, AreKeyed, AreWhole, PutsStored, PutsRecord};
 
 use crate::present::{Present, present};
 use crate::record::{HEADER_LEN, Record};
 use crate::store::VariableStore;
 use std::alloc::{AllocError, Global};
-use uefi_vars::{DATA_MAX, NAME_MAX, PutFault, Vars, laws as vars_laws};
-
-/// 8be4df61-93ca-11d2-aa0d-00e098032b8c, the vendor's GUID of the variables that the standard names, as it is stored
-/// (UEFI 2.10, 3.3).
-pub(crate) const GLOBAL_GUID: [u8; 16] = [
-    0x61, 0xDF, 0xE4, 0x8B, 0xCA, 0x93, 0xD2, 0x11, 0xAA, 0x0D, 0x00, 0xE0, 0x98, 0x03, 0x2B, 0x8C,
-];
+use uefi_vars::{DATA_MAX, GLOBAL_VENDOR, NAME_MAX, PutFault, Vars, laws as vars_laws};
 
 /// The variables of a store whose vendor's GUID is 8be4df61-93ca-11d2-aa0d-00e098032b8c, that of the variables that the
 /// standard names (UEFI 2.10, 3.3), as a set. A record is a variable that is there if its state is 0x3F, of several of one
@@ -100,9 +94,9 @@ fn is_left_out(alloc: Global, record: &Record<'_>) -> Result<bool, AllocError>
 
 /// Whether the record's vendor is that of the variables that the standard names.
 pub(crate) fn is_global(record: &Record<'_>) -> bool
-    ensures { result ≡ same_name global_guid (vendor_in «record».now.header.now) }
+    ensures { result ≡ same_name global_vendor (vendor_in «record».now.header.now) }
 {
-    GLOBAL_GUID.as_slice() == record.vendor()
+    GLOBAL_VENDOR.0.as_slice() == record.vendor()
 }
 
 /// Whether a set can have the name that is stored so.
@@ -142,7 +136,7 @@ fn put_record(alloc: Global, vars: &mut Vars, record: &Record<'_>) -> Result<(),
     ensures { OnOk result (IsRecord (record_parts «record».now) →
         PutsRecord vars.old vars.new (record_parts «record».now) (record_parts «record».now).value) }
 {
-    if record.vendor() != GLOBAL_GUID.as_slice() {
+    if record.vendor() != GLOBAL_VENDOR.0.as_slice() {
         return Ok(());
     }
     put(alloc, vars, record.name, record.value)
@@ -166,7 +160,7 @@ fn put_attributes(alloc: Global, vars: &mut Vars, record: &Record<'_>) -> Result
     ensures { OnOk result (IsRecord (record_parts «record».now) →
         PutsRecord vars.old vars.new (record_parts «record».now) (attribute_bytes (record_parts «record».now).header)) }
 {
-    if record.vendor() != GLOBAL_GUID.as_slice() {
+    if record.vendor() != GLOBAL_VENDOR.0.as_slice() {
         return Ok(());
     }
     if record.header.len() != HEADER_LEN || !is_set_value(record.value) {

@@ -14,13 +14,16 @@ const VOLUME_GUID: [u8; 16] = [
     0x8D, 0x2B, 0xF1, 0xFF, 0x96, 0x76, 0x8B, 0x4C, 0xA9, 0x85, 0x27, 0x47, 0x07, 0x5B, 0x4F, 0x50,
 ];
 
+/// The signature of a firmware volume, `_FVH`: its bytes 40 to 43.
+pub const VOLUME_SIGNATURE: [u8; 4] = [0x5F, 0x46, 0x56, 0x48];
+
 /// Whether the file begins with a volume of variables, of revision 2.
 pub(crate) fn is_volume(file: &[u8]) -> bool
     ensures { IsTrue result ↔ IsVolume file.now }
 {
     file.len() >= HEADER_MIN
         && array_at(file, 16) == VOLUME_GUID
-        && array_at(file, 40) == *b"_FVH"
+        && array_at(file, 40) == VOLUME_SIGNATURE
         && array_at(file, 55) == [2]
 }
 

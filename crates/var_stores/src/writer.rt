@@ -20,14 +20,10 @@ ghost use Rattle.var_stores.specs.Rewriting.{is_rewritten, is_outdated, without_
 use crate::present::{Present, present};
 use crate::record::{ADDED, BLANK as BLANK_NUMBER, Record, begins_record, padding_len};
 use crate::store::read_store;
-use crate::stored_vars::{GLOBAL_GUID, is_global, name_of, vars_of};
+use crate::stored_vars::{is_global, name_of, vars_of};
 use crate::write_fault::WriteFault;
 use std::alloc::{AllocError, Global};
-use uefi_vars::{Vars, is_boot_name};
-
-/// The bytes of the attributes of a new variable of the boot manager, little-endian: it is kept without power, and is there
-/// for loaders and for the system that they start (UEFI 2.10, 3.3 and 8.2).
-pub const BOOT_ATTRIBUTES: [u8; 4] = [7, 0, 0, 0];
+use uefi_vars::{BOOT_ATTRIBUTES, GLOBAL_VENDOR, Vars, is_boot_name};
 
 /// The bits of a state that stay if the variable is deleted.
 const DELETED: u8 = 0xFD;
@@ -233,7 +229,7 @@ fn append_new(
     ensures { OnOk result (bytes.new.items ≡ bytes.old.items ++ record_bytes (new_record
         (new_attributes (map.get attributes.now name.now) (record_under present.now (global_key name.now))) name.now value.now)) }
 {
-    let mut key = Vec::from_slice(*bytes.allocator(), &GLOBAL_GUID)?;
+    let mut key = Vec::from_slice(*bytes.allocator(), &GLOBAL_VENDOR.0)?;
     append_name(&mut key, name)?;
     let attributes = new_attributes(attributes.get(name), present, &key);
     append_head(bytes, attributes, 2 * name.len() + 2, value.len())?;
@@ -293,7 +289,7 @@ fn append_head(
     bytes.extend_from_slice(&[0; 28])?;
     bytes.extend_from_slice(&(name_size as u32).to_le_bytes())?;
     bytes.extend_from_slice(&(value_size as u32).to_le_bytes())?;
-    bytes.extend_from_slice(&GLOBAL_GUID)?;
+    bytes.extend_from_slice(&GLOBAL_VENDOR.0)?;
     Ok(())
 }
 

@@ -7,13 +7,13 @@ use Rattle.std.proofs.lemmas.Bool.{cond-true, cond-false, ne_eqb, false≢true}
 use Rattle.std.proofs.lemmas.Cmp.{nat_cmp_total}
 use Rattle.std.proofs.lemmas.Map.Lookups.{exact_unsigned}
 use Rattle.uefi_path.specs.Units.{units_bytes}
-use Rattle.uefi_vars.specs.Name.{entry_text, order_text, next_text}
+use Rattle.uefi_vars.specs.Name.{entry_text, order_text, next_text, keep_text}
 use Rattle.uefi_vars.specs.Vars.{Variables, IsData}
 use Rattle.uefi_vars.specs.Order.{IsEntryNumber, IsOrder, stored_order, stored_next}
 use Rattle.uefi_vars.specs.NameChanges.{with_data}
 use Rattle.uefi_vars.proofs.Names.{names_apart}
 use Rattle.boot_requests.specs.declared.outcome.Outcome.{Outcome}
-use Rattle.boot_requests.specs.State.{State, IsMark, IsBootName, keep_text, mark_bytes, stored_mark}
+use Rattle.boot_requests.specs.State.{State, IsMark, IsBootName, mark_bytes, stored_mark}
 use Rattle.boot_requests.specs.Apply.{next_without, after_boot}
 use Rattle.boot_requests.specs.Run.{is_next_entry}
 use Rattle.boot_requests.specs.Keeper.{IsStateOf}

@@ -8,7 +8,7 @@ use Rattle.std.proofs.lemmas.Bool.{and_parts, leb-true}
 use Rattle.std.proofs.lemmas.Cmp.{nat_list_cmp_total}
 use Rattle.std.proofs.lemmas.Nat.{from_le_bytes-to_le_bytes_4}
 use Rattle.std.proofs.lemmas.Option.{none-some}
-use Rattle.uefi_vars.specs.Name.{IsNameByte, IsName, entry_text, order_text, next_text}
+use Rattle.uefi_vars.specs.Name.{IsNameByte, IsName, entry_text, order_text, next_text, keep_text}
 use Rattle.uefi_vars.specs.Vars.{Variables, IsData, IsVars}
 use Rattle.uefi_vars.specs.Order.{IsOrder, stored_order, stored_next, HasOrder, HasNext, HasBadOrder, HasBadNext}
 use Rattle.uefi_vars.specs.NameChanges.{with_data}
@@ -20,7 +20,7 @@ use Rattle.boot_requests.specs.declared.outcome.Code.{Code}
 use Rattle.boot_requests.specs.declared.outcome.Outcome.{Outcome}
 use Rattle.boot_requests.specs.declared.fault.OpenFault.{OpenFault}
 use Rattle.boot_requests.specs.declared.fault.OpenFault.TheVariants as fault
-use Rattle.boot_requests.specs.State.{State, IsState, IsImage, IsMark, keep_text, mark_bytes, stored_mark}
+use Rattle.boot_requests.specs.State.{State, IsState, IsImage, IsMark, mark_bytes, stored_mark}
 use Rattle.boot_requests.specs.Outcome.{without_entry, code_byte, outcome_bytes}
 use Rattle.boot_requests.specs.StoredState.{first_mark_bytes, IsFirstMark, HasMark, with_second_mark, OpensAs, IsOpenFault}
 use Rattle.boot_requests.specs.Keeper.{IsStateOf}

@@ -15,7 +15,8 @@ use Rattle.boot_requests.specs.declared.fault.OpenFault.{OpenFault}
 use Rattle.boot_requests.specs.declared.fault.OpenFault.TheVariants as fault
 use Rattle.boot_requests.specs.Limits.{kept_min, kept_max}
 use Rattle.boot_requests.specs.Outcome.{IsOutcome, without_entry, code_byte, outcome_bytes}
-use Rattle.boot_requests.specs.State.{MarkParts, IsMark, keep_text}
+use Rattle.uefi_vars.specs.Name.{keep_text}
+use Rattle.boot_requests.specs.State.{MarkParts, IsMark}
 use Rattle.boot_requests.specs.StoredState.{IsFirstCode, IsFirstMark, HasSecondMark, HasFirstMark, HasMark, HasBadMark}
 use Rattle.boot_requests.specs.Marks.{mark_of, SpellsMark, SpellsFirstMark, IsMarkIn, SplitsMark}
 use Rattle.boot_requests.proofs.Variables.Edits.{mark_stored}

@@ -7,13 +7,13 @@ use Rattle.std.specs.FinMap.{get, get-empty, same_map, nat_cmp-IsAntisymmetric}
 use Rattle.std.proofs.lemmas.Bool.{cases_lt}
 use Rattle.std.proofs.lemmas.Cmp.{nat_cmp_total, nat_list_cmp_total}
 use Rattle.std.proofs.lemmas.Nat.{from_le_bytes-to_le_bytes_2}
-use Rattle.uefi_vars.specs.Name.{entry_text, order_text, next_text}
+use Rattle.uefi_vars.specs.Name.{entry_text, order_text, next_text, keep_text}
 use Rattle.uefi_vars.specs.Vars.{Variables, IsVars, entry_of}
 use Rattle.uefi_vars.specs.Order.{IsEntryNumber, IsOrder, stored_order, stored_next, HasOrder, HasNext}
 use Rattle.uefi_vars.specs.NameChanges.{with_data}
 use Rattle.uefi_path.proofs.TwoBytes.{units_again}
 use Rattle.uefi_vars.proofs.Maps.{name_cmp-IsAntisymmetric}
-use Rattle.boot_requests.specs.State.{State, IsImage, MarkParts, IsBootName, keep_text, stored_mark}
+use Rattle.boot_requests.specs.State.{State, IsImage, MarkParts, IsBootName, stored_mark}
 use Rattle.boot_requests.specs.StoredState.{HasMark, OpensAs}
 use Rattle.boot_requests.specs.Keeper.{IsStateOf}
 use Rattle.boot_requests.specs.StateOf.{entries_below, others_below, order_in, next_in, state_of}

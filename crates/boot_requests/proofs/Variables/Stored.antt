@@ -10,13 +10,13 @@ use Rattle.std.proofs.lemmas.Bool.Decides.{nat_tests}
 use Rattle.std.proofs.lemmas.Cmp.{eq_by_cmp_equiv, nat_cmp_total, nat_list_cmp_total}
 use Rattle.std.proofs.lemmas.Map.Lookups.{CmpEqualImpliesEq, exact_bytes, exact_unsigned}
 use Rattle.std.proofs.lemmas.Map.Views.{tells_apart}
-use Rattle.uefi_vars.specs.Name.{upper_digit, entry_text, order_text, next_text}
+use Rattle.uefi_vars.specs.Name.{upper_digit, entry_text, order_text, next_text, keep_text}
 use Rattle.uefi_vars.specs.Vars.{Variables, IsData, IsVariable}
 use Rattle.uefi_vars.specs.Order.{IsEntryNumber}
 use Rattle.uefi_vars.specs.NameChanges.{with_data}
 use Rattle.uefi_vars.proofs.Maps.{name_cmp-IsAntisymmetric}
 use Rattle.boot_requests.specs.declared.request.Request.{Request}
-use Rattle.boot_requests.specs.State.{keep_text, IsBootName}
+use Rattle.boot_requests.specs.State.{IsBootName}
 use Rattle.boot_requests.specs.Window.{Requests}
 use Rattle.boot_requests.specs.StateOf.{Entries, with_entry}
 use Rattle.boot_requests.specs.Frame.{IsSent}

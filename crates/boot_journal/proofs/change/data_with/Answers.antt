@@ -4,7 +4,7 @@ use Rattle.std.specs.List.{AllByRecursion}
 use Rattle.std.specs.Option.{option_map}
 use Rattle.uefi_path.specs.Row.{IsByte}
 use Rattle.uefi_vars.specs.Vars.{data_max}
-use Rattle.boot_journal.specs.Attributes.{attributes_len}
+use Rattle.uefi_vars.specs.Attributes.{attributes_len}
 use Rattle.boot_journal.proofs.KeptChanges.{kept_IsData}
 use Rattle.boot_journal.proofs.change.data_with.Goals as goal
 

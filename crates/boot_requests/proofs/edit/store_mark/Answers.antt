@@ -1,7 +1,7 @@
 use Rattle.std.proofs.Common.{ℕ, List, ap, ◌∙◌}
 use Rattle.std.specs.FinMap.{insert}
 use Rattle.uefi_vars.specs.NameChanges.{with_changes}
-use Rattle.boot_requests.specs.State.{keep_text}
+use Rattle.uefi_vars.specs.Name.{keep_text}
 use Rattle.boot_requests.proofs.Variables.Edits.{mark_put}
 use Rattle.boot_requests.proofs.edit.store_mark.Goals as goal
 

@@ -2,7 +2,8 @@ use Rattle.std.proofs.Common.{sym, ap, ◌∙◌}
 use Rattle.std.specs.FinMap.{insert}
 use Rattle.uefi_vars.specs.Vars.{Variables}
 use Rattle.uefi_vars.specs.NameChanges.{with_data}
-use Rattle.boot_requests.specs.State.{keep_text, mark_bytes}
+use Rattle.uefi_vars.specs.Name.{keep_text}
+use Rattle.boot_requests.specs.State.{mark_bytes}
 use Rattle.boot_requests.proofs.Variables.Edits.{mark_stored}
 use Rattle.boot_requests.proofs.Variables.Stored.{stored_again}
 use Rattle.boot_requests.proofs.stored_state.migrate.Goals as goal

@@ -3,7 +3,7 @@ use Rattle.std.proofs.lemmas.Bool.Decides.{Decides-eqb}
 use Rattle.std.proofs.lemmas.List.{take-append-drop}
 use Rattle.std.proofs.lemmas.Slice.Eq.{slice_eq-Decides}
 use Rattle.uefi_text.specs.Guid.{IsGuid}
-use Rattle.var_places.specs.Folder.{global_vendor}
+use Rattle.uefi_vars.specs.Name.{global_vendor}
 use Rattle.var_places.proofs.folder.variable_name.Goals as goal
 
 -- what is cut at a place is its two parts, one after the other

@@ -1,7 +1,8 @@
 use Rattle.std.proofs.Common.{◌≡◌, ℕ, List, true, sym, subst, ◌∙◌}
 use Rattle.std.proofs.lemmas.Bool.{not-false, not-true, false≢true}
 use Rattle.var_stores.specs.Record.{record_parts, vendor_in, attribute_bytes}
-use Rattle.var_stores.specs.Present.{global_guid, is_set_value}
+use Rattle.uefi_vars.specs.Name.{global_vendor}
+use Rattle.var_stores.specs.Present.{is_set_value}
 use Rattle.uefi_vars.proofs.Members.{bytes_same}
 use Rattle.var_stores.proofs.GlobalKeys.{vendor_len, puts_global, puts_foreign}
 use Rattle.var_stores.specs.PresentMap.{PutsStored}
@@ -20,7 +21,7 @@ returns c =
     let r = record_parts c.args.record.now in
     let old = c.args.vars.now in
     let new = c.put.new.vars in
-    let vendor : vendor_in r.header ≡ global_guid =
+    let vendor : vendor_in r.header ≡ global_vendor =
     sym c.vendor.ensures ∙ (bytes_same c.vendor.result.now c.as_slice.result.now).0 (not-false _ (sym c.if-ne.ensures)) ∙ c.as_slice.ensures in
     let fits : is_set_value r.value ≡ true = sym c.is_set_value.ensures ∙ c.if-not-is_set_value.false in
     on_ok c.put.result c.put.ensures (λ puts whole.
