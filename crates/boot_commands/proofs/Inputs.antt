@@ -22,9 +22,10 @@ use Rattle.boot_requests.proofs.EventLists.Streams.{one_stream, no_stream, one_s
 use Rattle.boot_requests.proofs.Answering.Happening.{one_open_fault, one_answers, one_after}
 use Rattle.boot_commands.specs.declared.fault.ScriptRunFault.{ScriptRunFault}
 use Rattle.boot_commands.specs.declared.fault.ScriptRunFault.TheVariants as fault
-use Rattle.boot_commands.specs.declared.runs.InputFormat.{InputFormat}
-use Rattle.boot_commands.specs.declared.runs.InputFormat.TheVariants as format
-use Rattle.boot_commands.specs.Runs.{ReadsIn, IsFaultIn, RunsIn}
+use Rattle.boot_requests.specs.declared.input_format.InputFormat.{InputFormat}
+use Rattle.boot_requests.specs.declared.input_format.InputFormat.TheVariants as format
+use Rattle.boot_requests.specs.InputFormat.{ReadsIn, IsFaultIn}
+use Rattle.boot_commands.specs.Runs.{RunsIn}
 use Rattle.boot_commands.specs.RunFault.{script_max, IsFirstFaultIn, MayBeIn}
 
 -- ---- events and faults of bytes

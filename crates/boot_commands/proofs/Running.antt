@@ -15,8 +15,9 @@ use Rattle.boot_requests.specs.StoredState.{OpensAs, IsOpenFault}
 use Rattle.boot_requests.specs.Happens.{Happens}
 use Rattle.boot_commands.specs.declared.fault.ScriptRunFault.{ScriptRunFault}
 use Rattle.boot_commands.specs.declared.fault.ScriptRunFault.TheVariants as fault
-use Rattle.boot_commands.specs.declared.runs.InputFormat.{InputFormat}
-use Rattle.boot_commands.specs.Runs.{ReadsIn, IsFaultIn, RunsIn}
+use Rattle.boot_requests.specs.declared.input_format.InputFormat.{InputFormat}
+use Rattle.boot_requests.specs.InputFormat.{ReadsIn, IsFaultIn}
+use Rattle.boot_commands.specs.Runs.{RunsIn}
 use Rattle.boot_commands.specs.RunFault.{script_max, run_fault_of, IsFirstFaultIn, IsFaultUnless}
 use Rattle.boot_commands.specs.Source.{ReadsAll, Takes, TakesAtMost}
 use Rattle.boot_commands.specs.Answers.{IsAnswer, IsRun}

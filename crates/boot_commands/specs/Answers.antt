@@ -8,7 +8,7 @@ use Rattle.boot_requests.specs.declared.reply.Reply.{Reply}
 use Rattle.boot_requests.specs.Happens.{Happens, answer_lines}
 use Rattle.boot_commands.specs.declared.fault.ScriptRunFault.{ScriptRunFault}
 use Rattle.boot_commands.specs.declared.fault.ScriptRunFault.TheVariants as running
-use Rattle.boot_commands.specs.declared.runs.InputFormat.{InputFormat}
+use Rattle.boot_requests.specs.declared.input_format.InputFormat.{InputFormat}
 use Rattle.boot_commands.specs.Runs.{RunsIn}
 use Rattle.boot_commands.specs.RunFault.{script_max, IsVarsFault, IsFirstFaultIn, MayComeIn, IsFaultUnless}
 use Rattle.boot_commands.specs.Source.{ReadsAll, Takes, TakesAtMost, AppendsFront}

@@ -11,9 +11,9 @@ use Rattle.boot_requests.specs.Limits.{payload_max}
 use Rattle.boot_requests.specs.StoredState.{IsOpenFault}
 use Rattle.boot_commands.specs.declared.fault.ScriptRunFault.{ScriptRunFault}
 use Rattle.boot_commands.specs.declared.fault.ScriptRunFault.TheVariants as fault
-use Rattle.boot_commands.specs.declared.runs.InputFormat.{InputFormat}
-use Rattle.boot_commands.specs.declared.runs.InputFormat.TheVariants as format
-use Rattle.boot_commands.specs.Runs.{ReadsIn, IsFaultIn}
+use Rattle.boot_requests.specs.declared.input_format.InputFormat.{InputFormat}
+use Rattle.boot_requests.specs.declared.input_format.InputFormat.TheVariants as format
+use Rattle.boot_requests.specs.InputFormat.{ReadsIn, IsFaultIn}
 
 -- the most bytes of a script or a stream
 abbrev pub script_max : ℕ

@@ -4,7 +4,7 @@ ghost use Rattle.std.specs.Prelude.{◌≡◌, ℕ, List};
 ghost use Rattle.uefi_vars.specs.Vars.{Variables};
 ghost use Rattle.boot_requests.specs.declared.reply.Reply.{Reply};
 ghost use Rattle.boot_commands.specs.declared.fault.ScriptRunFault.{ScriptRunFault};
-ghost use Rattle.boot_commands.specs.declared.runs.InputFormat.TheVariants as input;
+ghost use Rattle.boot_requests.specs.declared.input_format.InputFormat.TheVariants as input;
 ghost use Rattle.boot_commands.specs.Runs.{RunsIn};
 ghost use Rattle.boot_commands.specs.RunFault.{IsFirstFaultIn};
 

@@ -2,33 +2,26 @@
 
 ghost use Rattle.std.specs.Prelude.{◌≡◌, ◌≢◌, ℕ, ◌+◌, ◌<◌, List, IfOk, IfErr, false};
 ghost use Rattle.std.specs.String.{string_bytes};
+ghost use Rattle.boot_requests.specs.declared.input_format.InputFormat.TheVariants as input;
 ghost use Rattle.boot_requests.specs.declared.reply.Reply.{Reply};
 ghost use Rattle.boot_requests.specs.declared.script_fault.ScriptFault.{ScriptFault};
+ghost use Rattle.boot_requests.specs.InputFormat.{ReadsIn, IsFaultIn};
 ghost use Rattle.boot_requests.specs.Limits.{payload_max};
 ghost use Rattle.boot_requests.specs.Turn.{plain_start};
 ghost use Rattle.boot_requests.specs.StoredState.{OpensAs};
 ghost use Rattle.boot_requests.specs.Happens.{answer_lines, Happens};
 ghost use Rattle.boot_commands.specs.declared.fault.ScriptRunFault.{ScriptRunFault};
-ghost use Rattle.boot_commands.specs.declared.runs.InputFormat.TheVariants as input;
-ghost use Rattle.boot_commands.specs.Runs.{ReadsIn, IsFaultIn};
 ghost use Rattle.boot_commands.specs.RunFault.{IsVarsFault, failed_read, failed_write};
 ghost use Rattle.boot_commands.specs.Answers.{IsAnswer, IsRun};
 
 use crate::fault::ScriptRunFault;
 use crate::source::{Sink, Source};
 use crate::transfer::{read_all, write_all};
-use boot_requests::{Event, Keeper, ScriptFault, answer_lines, laws, read_script, read_stream};
+use boot_requests::{
+    Event, InputFormat, Keeper, ScriptFault, answer_lines, laws, read_script, read_stream,
+};
 use std::alloc::Global;
 use uefi_vars::Vars;
-
-/// What a run reads its events from.
-#[derive(Clone, Copy)]
-pub enum InputFormat {
-    /// The lines of a script.
-    Script,
-    /// A stream of frames, each of which is delivered.
-    Stream,
-}
 
 /// Runs a script or a stream over variables, writes what is answered to each of its events on a line of its own, and
 /// returns the variables after it. The input is all that the reader gives, up to its end, and its events are those

@@ -23,6 +23,7 @@ pub mod Stream
 -- scripts and streams, what is answered to their events, and what these do to variables
 pub mod Script
 pub mod EventStream
+pub mod InputFormat
 pub mod ScriptWords
 pub mod Followers
 pub mod Answering

@@ -9,7 +9,8 @@
 //!
 //! Events are written down as a script, lines of text, or as a stream, frames one after the other: [`read_script`]
 //! and [`read_stream`] read them, or tell the first fault by a [`ScriptFault`], and [`script_events`] and
-//! [`stream_events`] read up to that fault, as an [`EventList`] with the place of each event.
+//! [`stream_events`] read up to that fault, as an [`EventList`] with the place of each event. An [`InputFormat`] says
+//! which of the two some bytes are.
 #![tactic(auto)]
 
 mod answer;
@@ -23,6 +24,7 @@ mod fault_offset;
 mod frame;
 mod gap;
 mod inbox;
+mod input_format;
 mod keeper;
 pub mod laws;
 mod line;
@@ -48,6 +50,7 @@ pub use event_list::EventList;
 pub use fault::{FeedFault, FrameFault, OpenFault};
 pub use frame::{FRAME_MAGIC, PAYLOAD_MAX};
 pub use inbox::Inbox;
+pub use input_format::InputFormat;
 pub use keeper::Keeper;
 pub use line::{append_reply_line, reply_line};
 pub use mark::KEPT_MAX;

@@ -4,10 +4,12 @@ use crate::content::{EntryDigits, NumberList, Summary, digits_of, option_place};
 use crate::json::{
     JsonObject, Leaf, append_leaf, append_leaves, append_object, append_objects, json_line,
 };
-use crate::place::{Form, Place};
+use crate::place::Place;
 use crate::reason::{bytes_reason, frame_reason};
 use crate::shown_option::{AttributeWords, ShownOption};
-use boot_requests::{Event, EventList, FRAME_MAGIC, FrameFault, Request, ScriptFault, read_frame};
+use boot_requests::{
+    Event, EventList, FRAME_MAGIC, FrameFault, InputFormat, Request, ScriptFault, read_frame,
+};
 use serde::Serializer;
 use std::alloc::{AllocError, Global};
 use std::fmt;
@@ -27,11 +29,11 @@ pub struct Explained {
 #[derive(Drop)]
 struct Explanation {
     /// What the bytes are.
-    form: Form,
+    format: InputFormat,
     /// What is asked for, in its order, up to a fault of the script or the stream itself.
     steps: Vec<Step>,
     /// The fault of the script or the stream itself, for which nothing of it is run.
-    fault: Option<FormFault>,
+    fault: Option<FormatFault>,
     /// Where the first fault is, of a frame or of the whole.
     first_fault: Option<Place>,
 }
@@ -86,7 +88,7 @@ struct Malformed {
 
 /// The fault of a script or a stream.
 #[derive(Drop)]
-struct FormFault {
+struct FormatFault {
     /// Where it is.
     place: Place,
     /// The words of the fault.
@@ -113,7 +115,7 @@ pub fn explain_report(alloc: Global, bytes: &[u8]) -> Result<Explained, AllocErr
 
 /// Appends the lines of a script or a stream.
 fn append_explanation(explanation: &Explanation, text: &mut String) -> Result<(), AllocError> {
-    writeln!(text, "{}", explanation.form.word())?;
+    writeln!(text, "{}", format_word(explanation.format))?;
     for step in &explanation.steps {
         writeln!(text, "{}: {}", step.place, step.asks)?;
     }
@@ -141,17 +143,17 @@ pub fn explain_json(alloc: Global, bytes: &[u8]) -> Result<Explained, AllocError
 
 /// What the bytes ask for.
 fn explain(alloc: Global, bytes: &[u8]) -> Result<Explanation, AllocError> {
-    let form = if bytes.starts_with(&FRAME_MAGIC) {
-        Form::Stream
+    let format = if bytes.starts_with(&FRAME_MAGIC) {
+        InputFormat::Stream
     } else {
-        Form::Script
+        InputFormat::Script
     };
-    let list = form.events(alloc, bytes)?;
-    let steps = steps_of(alloc, form, &list)?;
-    let fault = fault_of(alloc, form, bytes, &list)?;
+    let list = format.events(alloc, bytes)?;
+    let steps = steps_of(alloc, format, &list)?;
+    let fault = fault_of(alloc, format, bytes, &list)?;
     let first_fault = first_fault(&steps, fault.as_ref());
     Ok(Explanation {
-        form,
+        format,
         steps,
         fault,
         first_fault,
@@ -159,11 +161,11 @@ fn explain(alloc: Global, bytes: &[u8]) -> Result<Explanation, AllocError> {
 }
 
 /// The steps of the events, each at its place.
-fn steps_of(alloc: Global, form: Form, list: &EventList) -> Result<Vec<Step>, AllocError> {
+fn steps_of(alloc: Global, format: InputFormat, list: &EventList) -> Result<Vec<Step>, AllocError> {
     let mut steps = Vec::with_capacity(alloc, list.events.len())?;
     for (event, at) in list.events.iter().zip(&list.places) {
         steps.push(Step {
-            place: form.place(*at),
+            place: Place::new(format, *at),
             asks: Asks::of_event(alloc, event)?,
         })?;
     }
@@ -173,22 +175,22 @@ fn steps_of(alloc: Global, form: Form, list: &EventList) -> Result<Vec<Step>, Al
 /// The fault of the script or the stream itself, if it has one.
 fn fault_of(
     alloc: Global,
-    form: Form,
+    format: InputFormat,
     bytes: &[u8],
     list: &EventList,
-) -> Result<Option<FormFault>, AllocError> {
+) -> Result<Option<FormatFault>, AllocError> {
     match &list.fault {
-        Some(fault) => Ok(Some(FormFault {
-            place: form.place(list.end),
+        Some(fault) => Ok(Some(FormatFault {
+            place: Place::new(format, list.end),
             fault: fault.words(alloc)?,
-            reason: form_reason(bytes, fault),
+            reason: format_reason(bytes, fault),
         })),
         None => Ok(None),
     }
 }
 
 /// Where the first fault is: every step comes before the fault of the whole.
-fn first_fault(steps: &[Step], fault: Option<&FormFault>) -> Option<Place> {
+fn first_fault(steps: &[Step], fault: Option<&FormatFault>) -> Option<Place> {
     let malformed = steps
         .iter()
         .find(|step| matches!(step.asks, Asks::Malformed(_)));
@@ -200,7 +202,7 @@ fn first_fault(steps: &[Step], fault: Option<&FormFault>) -> Option<Place> {
 }
 
 /// Why the bytes, which have this fault, are no script or no stream.
-fn form_reason(bytes: &[u8], fault: &ScriptFault) -> &'static str {
+fn format_reason(bytes: &[u8], fault: &ScriptFault) -> &'static str {
     match fault {
         ScriptFault::BadLine(number) => line_reason(line_of(bytes, *number)),
         ScriptFault::Stream(fault) => frame_reason(&FrameFault::from(*fault)),
@@ -208,6 +210,14 @@ fn form_reason(bytes: &[u8], fault: &ScriptFault) -> &'static str {
             "bytes are left after the last whole frame: one was cut, or something was added"
         }
         ScriptFault::OutOfMemory => "out of memory",
+    }
+}
+
+/// What bytes of this format are called.
+fn format_word(format: InputFormat) -> &'static str {
+    match format {
+        InputFormat::Script => "script",
+        InputFormat::Stream => "stream",
     }
 }
 
@@ -343,7 +353,7 @@ impl fmt::Display for WithAttributes<'_> {
 
 impl JsonObject for Explanation {
     fn append_members<S: Serializer>(&self, out: &mut S) -> Result<(), S::Error> {
-        append_leaf("form", Leaf::Word(Some(self.form.word())), out)?;
+        append_leaf("form", Leaf::Word(Some(format_word(self.format))), out)?;
         append_objects("steps", &self.steps, out)?;
         append_object("fault", self.fault.as_ref(), out)?;
         append_object("first_fault", self.first_fault.as_ref(), out)
@@ -393,7 +403,7 @@ impl JsonObject for Malformed {
     }
 }
 
-impl JsonObject for FormFault {
+impl JsonObject for FormatFault {
     fn append_members<S: Serializer>(&self, out: &mut S) -> Result<(), S::Error> {
         self.place.append_members(out)?;
         append_leaves(

@@ -34,6 +34,6 @@ pub use frame::{FrameWords, FrameWordsFault, frame_bytes, frame_line};
 pub use option::{
     Flags, OptionWords, OptionWordsFault, attribute_bits, option_bytes, optional_text,
 };
-pub use place::{Form, Place};
+pub use place::Place;
 pub use replies::reply_json;
 pub use shown_vars::{vars_json, vars_report};

@@ -1,49 +1,9 @@
-//! What requests come in, and where in it an event or a fault is.
+//! Where in a script or a stream an event or a fault is.
 
 use crate::json::{JsonObject, Leaf, append_leaves};
-use boot_requests::{EventList, script_events, stream_events};
+use boot_requests::InputFormat;
 use serde::Serializer;
-use std::alloc::{AllocError, Global};
 use std::fmt;
-
-/// What bytes with events are.
-#[derive(Clone, Copy, Debug, PartialEq, Eq)]
-pub enum Form {
-    /// A script: lines, each with an event.
-    Script,
-    /// A stream: frames, one after the other.
-    Stream,
-}
-
-impl Form {
-    /// The events of the bytes, each with where it is, up to the first fault.
-    ///
-    /// # Errors
-    ///
-    /// [`AllocError`] if memory was refused.
-    pub fn events(self, alloc: Global, bytes: &[u8]) -> Result<EventList, AllocError> {
-        match self {
-            Form::Script => script_events(alloc, bytes),
-            Form::Stream => stream_events(alloc, bytes),
-        }
-    }
-
-    /// The line of this number, counted from 1, of a script; this offset of a stream.
-    pub fn place(self, at: usize) -> Place {
-        match self {
-            Form::Script => Place::Line(at),
-            Form::Stream => Place::Offset(at),
-        }
-    }
-
-    /// What it is called.
-    pub(crate) fn word(self) -> &'static str {
-        match self {
-            Form::Script => "script",
-            Form::Stream => "stream",
-        }
-    }
-}
 
 /// Where an event or a fault is.
 #[derive(Clone, Copy, Debug, PartialEq, Eq, Drop)]
@@ -52,6 +12,16 @@ pub enum Place {
     Line(usize),
     /// At this offset of a stream, in bytes from the first one.
     Offset(usize),
+}
+
+impl Place {
+    /// The line of this number, counted from 1, of a script; this offset of a stream.
+    pub fn new(format: InputFormat, at: usize) -> Place {
+        match format {
+            InputFormat::Script => Place::Line(at),
+            InputFormat::Stream => Place::Offset(at),
+        }
+    }
 }
 
 impl JsonObject for Place {

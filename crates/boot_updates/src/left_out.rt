@@ -2,6 +2,7 @@
 
 use crate::script::Script;
 use boot_requests::{Event, FrameFault, Request, read_frame};
+use boot_texts::Place;
 use std::alloc::{AllocError, Global};
 use uefi_vars::{BOOT_NEXT, BOOT_ORDER, entry_number};
 use var_places::Failure;
@@ -22,7 +23,7 @@ pub(crate) fn check_requests(
     }
     for (event, at) in script.events.iter().zip(&script.places) {
         if let Some(variable) = changed_by(alloc, event, left_out)? {
-            let place = script.form.place(*at);
+            let place = Place::new(script.format, *at);
             let fault = format!(in alloc;
                 "{place} would change {variable}, which has no value or too long a one, and stays as it is"
             )?;

@@ -10,7 +10,7 @@ ghost use Rattle.boot_updates.specs.Replies.{IsBelow, IsCarriedOut, IsDone};
 use crate::requests_run::Answered;
 use crate::script::Script;
 use boot_requests::{Answer, Code, Outcome, Reply, append_reply_line};
-use boot_texts::reply_json;
+use boot_texts::{Place, reply_json};
 use std::alloc::{AllocError, Global};
 
 /// How an update ended that was made.
@@ -51,7 +51,7 @@ pub(crate) fn answers_json(
     let last = answered.answers.len().checked_sub(1);
     for (index, (at, answer)) in script.places.iter().zip(&answered.answers).enumerate() {
         let unnamed = (Some(index) == last).then_some(answered.unnamed.as_slice());
-        text.push_str(&reply_json(alloc, script.form.place(*at), answer, unnamed)?)?;
+        text.push_str(&reply_json(alloc, Place::new(script.format, *at), answer, unnamed)?)?;
     }
     Ok(text)
 }

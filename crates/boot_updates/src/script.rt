@@ -1,7 +1,6 @@
 //! Scripts and streams of requests.
 
-use boot_requests::{Event, EventList, ScriptFault};
-use boot_texts::Form;
+use boot_requests::{Event, EventList, InputFormat, ScriptFault};
 use std::alloc::{AllocError, Global};
 use std::rt::Files;
 use var_places::{Failure, name_of, read};
@@ -12,7 +11,7 @@ pub(crate) struct Script<'a> {
     /// What it is called.
     pub(crate) name: &'a str,
     /// What it is.
-    pub(crate) form: Form,
+    pub(crate) format: InputFormat,
     /// The events, in their order.
     pub(crate) events: Vec<Event>,
     /// The place of each of them, as [`EventList`] has it.
@@ -24,7 +23,7 @@ impl Script<'_> {
     pub(crate) fn empty(alloc: Global) -> Script<'static> {
         Script {
             name: "",
-            form: Form::Script,
+            format: InputFormat::Script,
             events: Vec::new(alloc),
             places: Vec::new(alloc),
         }
@@ -47,7 +46,7 @@ impl Script<'_> {
 pub(crate) fn read_events<'a, R: Files + Input + AllocGlobal>(
     rt: &R,
     path: &'a str,
-    form: Form,
+    format: InputFormat,
 ) -> Result<Script<'a>, Failure> {
     let alloc = rt.alloc();
     let bytes = read(rt, path)?;
@@ -57,12 +56,12 @@ pub(crate) fn read_events<'a, R: Files + Input + AllocGlobal>(
         places,
         fault,
         ..
-    } = form.events(alloc, &bytes)?;
+    } = format.events(alloc, &bytes)?;
     match fault {
         Some(fault) => Err(of_script(alloc, name, fault)),
         None => Ok(Script {
             name,
-            form,
+            format,
             events,
             places,
         }),

@@ -8,7 +8,7 @@ use crate::script::{Script, read_events};
 use crate::state_folder::lock_folder;
 use crate::told::tell_of_unnamed;
 use boot_journal::{Requests, command, settle};
-use boot_texts::Form;
+use boot_requests::InputFormat;
 use std::rt::Files;
 use var_places::{Failure, print};
 use whole_files::OutputFile;
@@ -74,12 +74,12 @@ pub fn update<R: Files<File: OutputFile> + Input + Print + Eprint + AllocGlobal>
             is_stream,
             json,
         } => {
-            let form = if is_stream {
-                Form::Stream
+            let format = if is_stream {
+                InputFormat::Stream
             } else {
-                Form::Script
+                InputFormat::Script
             };
-            run_script(rt, words, &read_events(rt, script, form)?, json)
+            run_script(rt, words, &read_events(rt, script, format)?, json)
         }
         Job::Next => tell_next(rt, words),
         Job::Settle => settle_place(rt, words),

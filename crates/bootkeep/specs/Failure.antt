@@ -6,7 +6,7 @@ use Rattle.bootkeep.specs.declared.failure.Failure.{Failure}
 use Rattle.bootkeep.specs.declared.failure.Failure.TheVariants as failure
 use Rattle.boot_commands.specs.declared.fault.ScriptRunFault.{ScriptRunFault}
 use Rattle.boot_commands.specs.declared.fault.ScriptRunFault.TheVariants as running
-use Rattle.boot_commands.specs.declared.runs.InputFormat.{InputFormat}
+use Rattle.boot_requests.specs.declared.input_format.InputFormat.{InputFormat}
 use Rattle.boot_commands.specs.declared.file_fault.InputFault.{InputFault}
 use Rattle.boot_commands.specs.declared.file_fault.InputFault.TheVariants as input
 use Rattle.boot_commands.specs.declared.file_fault.OutputFault.{OutputFault}

@@ -15,9 +15,10 @@ ghost use Rattle.bootkeep.specs.declared.failure.Failure.TheVariants as failure;
 use crate::command_line::{self, Action, USAGE};
 use crate::failure::Failure;
 use boot_commands::{
-    InputFault, InputFormat, OutputFault, Sink, Source, Watched, option_report, path_report,
-    refuse, run_input, set_report, text_report,
+    InputFault, OutputFault, Sink, Source, Watched, option_report, path_report, refuse, run_input,
+    set_report, text_report,
 };
+use boot_requests::InputFormat;
 use std::alloc::Global;
 use std::rt::{Env, Files};
 use std::{env, io};

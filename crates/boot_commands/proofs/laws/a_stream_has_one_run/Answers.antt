@@ -1,4 +1,4 @@
-use Rattle.boot_commands.specs.declared.runs.InputFormat.TheVariants as format
+use Rattle.boot_requests.specs.declared.input_format.InputFormat.TheVariants as format
 use Rattle.boot_commands.proofs.Inputs.{one_after_run, one_list_of_run}
 use Rattle.boot_commands.proofs.laws.a_stream_has_one_run.Goals as goal
 

@@ -3,7 +3,7 @@ use Rattle.std.specs.Prelude.{IfSome}
 use Rattle.uefi_vars.specs.Vars.{Variables}
 use Rattle.boot_commands.specs.declared.fault.ScriptRunFault.{ScriptRunFault}
 use Rattle.boot_commands.specs.declared.fault.ScriptRunFault.TheVariants as fault
-use Rattle.boot_commands.specs.declared.runs.InputFormat.{InputFormat}
+use Rattle.boot_requests.specs.declared.input_format.InputFormat.{InputFormat}
 use Rattle.boot_commands.specs.RunFault.{IsFirstFaultIn, IsFaultUnless}
 use Rattle.bootkeep.specs.declared.failure.Failure.{Failure}
 use Rattle.bootkeep.specs.declared.failure.Failure.TheVariants as failure
