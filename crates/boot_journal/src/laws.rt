@@ -12,7 +12,6 @@ ghost use Rattle.boot_requests.specs.Run.{state_at};
 ghost use Rattle.boot_requests.specs.Seen.{Seen};
 ghost use Rattle.boot_requests.specs.State.{State, MarkParts};
 ghost use Rattle.boot_requests.specs.StoredState.{HasMark};
-ghost use Rattle.uefi_vars.specs.Attributes.{attributes_len};
 ghost use Rattle.boot_journal.specs.Attributes.{attributes_in, data_of, with_attributes, KeepAttributes, HaveAttributes};
 ghost use Rattle.boot_journal.specs.Calls.{Step, world_after, AreSteps, HaveNewStarts, FirmwareDid, did_by_firmware, CallsLeaveAlone, AreByCalls};
 ghost use Rattle.boot_journal.specs.Changes.{made, IsFront, LeaveAlone};
