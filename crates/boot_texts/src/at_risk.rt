@@ -1,5 +1,11 @@
 //! Entries that a start of firmware may write over or delete, as they are shown, and changes that make them so.
 
+ghost use Rattle.std.specs.Prelude.{◌↔◌, Contains, IfSome, IfOk, IsSome, IsTrue};
+ghost use Rattle.std.specs.List.Sorted.{IsStrictlySortedBy};
+ghost use Rattle.std.specs.Ordering.{nat_cmp};
+ghost use Rattle.uefi_vars.specs.AtRisk.{AreThose};
+ghost use Rattle.boot_texts.specs.NamingChange.{AreReadable, IsKnownUnnamed, BecomesUnnamed, BecomesNamed, IsEntryOnlyIn};
+
 use std::alloc::{AllocError, Global};
 use std::fmt;
 use uefi_vars::{AtRisk, VarFault, Vars, entries_at_risk};
@@ -16,9 +22,9 @@ pub enum Risk {
 impl Risk {
     /// What it may do to the entry of this number, if anything.
     pub(crate) fn of(at_risk: &AtRisk, number: u16) -> Option<Risk> {
-        if at_risk.unnamed.binary_search(&number).is_ok() {
+        if is_among(&at_risk.unnamed, number) {
             Some(Risk::Unnamed)
-        } else if at_risk.undecodable.binary_search(&number).is_ok() {
+        } else if is_among(&at_risk.undecodable, number) {
             Some(Risk::Undecodable)
         } else {
             None
@@ -71,36 +77,72 @@ pub struct NamingChange {
 /// # Errors
 ///
 /// [`AllocError`] if memory was refused.
-pub fn naming_change(alloc: Global, from: &Vars, to: &Vars) -> Result<NamingChange, AllocError> {
-    let mut change = NamingChange {
-        unnamed: Vec::new(alloc),
-        named: Vec::new(alloc),
+pub fn naming_change(alloc: Global, from: &Vars, to: &Vars) -> Result<NamingChange, AllocError>
+    ensures unnamed { IfOk result (λ change.
+        AreThose (BecomesUnnamed from.now to.now) change.unnamed.items) }
+    ensures named { IfOk result (λ change.
+        AreThose (BecomesNamed from.now to.now) change.named.items) }
+{
+    let before = known_unnamed(alloc, from)?;
+    let Some(AtRisk { unnamed: after, .. }) = known_risks(alloc, to)? else {
+        return Ok(NamingChange {
+            unnamed: Vec::new(alloc),
+            named: Vec::new(alloc),
+        });
     };
-    let Some(after) = known_risks(alloc, to)? else {
-        return Ok(change);
-    };
-    let before = match known_risks(alloc, from)? {
-        Some(before) => before.unnamed,
-        None => Vec::new(alloc),
-    };
-    for number in &after.unnamed {
-        if before.binary_search(number).is_err() {
-            change.unnamed.push(*number)?;
-        }
+    Ok(NamingChange {
+        unnamed: entries_only_in(alloc, to, &after, &before)?,
+        named: entries_only_in(alloc, to, &before, &after)?,
+    })
+}
+
+/// The entries that neither BootOrder nor BootNext names: none if either can't be read.
+fn known_unnamed(alloc: Global, vars: &Vars) -> Result<Vec<u16>, AllocError>
+    ensures { IfOk result (λ numbers. AreThose (IsKnownUnnamed vars.now) numbers.items) }
+{
+    match known_risks(alloc, vars)? {
+        Some(at_risk) => Ok(at_risk.unnamed),
+        None => Ok(Vec::new(alloc)),
     }
-    for number in &before {
-        if to.entry(*number).is_some() && after.unnamed.binary_search(number).is_err() {
-            change.named.push(*number)?;
-        }
-    }
-    Ok(change)
 }
 
 /// Which entries are at risk, or `None` if BootOrder or BootNext can't be read.
-pub(crate) fn known_risks(alloc: Global, vars: &Vars) -> Result<Option<AtRisk>, AllocError> {
+pub(crate) fn known_risks(alloc: Global, vars: &Vars) -> Result<Option<AtRisk>, AllocError>
+    ensures readable { IfOk result (λ known. IsSome known ↔ AreReadable vars.now) }
+    ensures unnamed { IfOk result (λ known. IfSome known (λ at_risk.
+        AreThose (IsKnownUnnamed vars.now) at_risk.unnamed.items)) }
+{
     match entries_at_risk(alloc, vars) {
         Ok(at_risk) => Ok(Some(at_risk)),
         Err(VarFault::BadOrder | VarFault::BadNext) => Ok(None),
         Err(VarFault::OutOfMemory) => Err(AllocError),
     }
+}
+
+/// The entries whose numbers are among the first numbers and not among the others. Both rise.
+fn entries_only_in(
+    alloc: Global,
+    vars: &Vars,
+    numbers: &[u16],
+    others: &[u16],
+) -> Result<Vec<u16>, AllocError>
+    requires numbers { IsStrictlySortedBy nat_cmp numbers.now }
+    requires others { IsStrictlySortedBy nat_cmp others.now }
+    ensures { IfOk result (λ found.
+        AreThose (IsEntryOnlyIn vars.now numbers.now others.now) found.items) }
+{
+    let mut found = Vec::new(alloc);
+    for number in numbers {
+        if vars.entry(*number).is_some() && !is_among(others, *number) {
+            found.push(*number)?;
+        }
+    }
+    Ok(found)
+}
+
+/// Whether a number is among these, which rise.
+fn is_among(numbers: &[u16], number: u16) -> bool
+    ensures { IsStrictlySortedBy nat_cmp numbers.now → (IsTrue result ↔ Contains numbers.now number) }
+{
+    numbers.binary_search(&number).is_ok()
 }
