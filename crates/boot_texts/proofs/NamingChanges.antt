@@ -1,6 +1,7 @@
 -- Going over rising numbers for the entries that are among them and not among others, and what a change of variables makes
 -- of entries that neither BootOrder nor BootNext names.
-use Rattle.std.proofs.Common.{◌≡◌, ℕ, ◌+◌, ◌<◌, ◌≤◌, ◌↔◌, List, [], ◌∷◌, ◌++◌, length, take, get_or, Contains, Option, Some, None, Result, Ok, Err, IfSome, IsSome, IsTrue, is_some, is_ok, option_map, Bor, nat_cmp, refl, sym, ap, subst, ◌∙◌, ⊎_elim, arith}
+use Rattle.std.proofs.Common.{◌≡◌, ℕ, ◌+◌, ◌<◌, ◌≤◌, ◌↔◌, List, [], ◌∷◌, ◌++◌, length, take, get_or}
+use Rattle.std.proofs.Common.{Contains, Option, Some, None, Result, Ok, Err, IfSome, IsSome, IsTrue, is_some, is_ok, option_map, Bor, nat_cmp, refl, sym, ap, subst, ◌∙◌, ⊎_elim, arith}
 use Rattle.std.specs.Cmp.{nat_cmp_is}
 use Rattle.std.specs.List.Sorted.{IsStrictlySortedBy, IsBinarySearchResult}
 use Rattle.std.specs.declared.cmp.Ordering.TheVariants.{Less}
@@ -18,7 +19,8 @@ use Rattle.boot_texts.specs.NamingChange.{AreReadable, IsKnownUnnamed, BecomesUn
 
 -- ---- whether a number is among rising ones
 
-pub found_is_among : (numbers : List ℕ) (number : ℕ) (r : Result ℕ ℕ) → IsBinarySearchResult (λ n. nat_cmp n number) numbers r → IsStrictlySortedBy nat_cmp numbers → IsTrue (is_ok r) ↔ Contains numbers number
+pub found_is_among : (numbers : List ℕ) (number : ℕ) (r : Result ℕ ℕ) → IsBinarySearchResult (λ n. nat_cmp n number) numbers r
+    → IsStrictlySortedBy nat_cmp numbers → IsTrue (is_ok r) ↔ Contains numbers number
 found_is_among numbers number (Ok i) search rising =
     let at = searched numbers number (Ok i) search (λ j k le within. non_decreasing_from_sorted numbers rising j k 0 le within) in
     (λ yes. subst (Contains numbers) at.1 (Contains-get_or numbers i 0 at.0), λ c. refl)
@@ -27,11 +29,14 @@ found_is_among numbers number (Err i) search rising =
       λ yes. absurd (false≢true yes),
       λ c.
           let same : get_or numbers c.0 0 ≡ number = get_or_default numbers c.0 0 number c.1 ∙ c.2 in
-          absurd (⊎_elim (λ below. let less = at.1 c.0 below in omega (arith, same, less)) (λ past. let more = at.2 c.0 past c.1 in omega (arith, same, more)) (cases_lt c.0 i)),
+          absurd (⊎_elim
+          (λ below. let less = at.1 c.0 below in omega (arith, same, less))
+          (λ past. let more = at.2 c.0 past c.1 in omega (arith, same, more)) (cases_lt c.0 i)),
     )
 
 -- what a lookup gives is there exactly if an entry is stored
-pub is_stored : (vars : Variables) (number : ℕ) (found : Option (Bor (List ℕ))) → option_map (λ bytes. bytes.now) found ≡ entry_of vars number → is_some (entry_of vars number) ≡ is_some found
+pub is_stored : (vars : Variables) (number : ℕ) (found : Option (Bor (List ℕ))) → option_map (λ bytes. bytes.now) found ≡ entry_of vars number
+    → is_some (entry_of vars number) ≡ is_some found
 is_stored vars number None value = ap is_some (sym value)
 is_stored vars number (Some bytes) value = ap is_some (sym value)
 
@@ -51,7 +56,8 @@ AreOfFirst vars numbers others i found = AreThose (IsEntryOnlyIn vars (take i nu
 pub none_of_first : (vars : Variables) (numbers others : List ℕ) → AreOfFirst vars numbers others 0 []
 none_of_first vars numbers others = none_of (IsEntryOnlyIn vars [] others) (λ n is. in_none n is.among)
 
-module _ (vars : Variables) (numbers others found : List ℕ) (i number : ℕ) (within : i < length numbers) (at : number ≡ get_or numbers i number) (those : AreOfFirst vars numbers others i found) where
+module _ (vars : Variables) (numbers others found : List ℕ) (i number : ℕ)
+    (within : i < length numbers) (at : number ≡ get_or numbers i number) (those : AreOfFirst vars numbers others i found) where
   one_more : take (i + 1) numbers ≡ take i numbers ++ number ∷ []
   one_more = take_more numbers i number within ∙ ap (λ (n : ℕ). take i numbers ++ n ∷ []) (sym at)
 
@@ -59,9 +65,11 @@ module _ (vars : Variables) (numbers others found : List ℕ) (i number : ℕ) (
   of_more n is = record { stored = is.stored; among = Contains-append_left (take i numbers) (number ∷ []) n is.among; not_among = is.not_among }
 
   -- an entry among the first numbers and this one is among the first, or is this one
-  of_before : (n : ℕ) (R : Type 0) → (IsEntryOnlyIn vars (take i numbers) others n → R) → (number ≡ n → R) → IsEntryOnlyIn vars (take i numbers ++ number ∷ []) others n → R
+  of_before : (n : ℕ) (R : Type 0) → (IsEntryOnlyIn vars (take i numbers) others n → R) → (number ≡ n → R)
+      → IsEntryOnlyIn vars (take i numbers ++ number ∷ []) others n → R
   of_before n R before here is =
-      ⊎_elim (λ among. before (record { stored = is.stored; among = among; not_among = is.not_among })) here (Contains-push_cases (take i numbers) number n is.among)
+      ⊎_elim (λ among. before (record { stored = is.stored; among = among; not_among = is.not_among })) here
+      (Contains-push_cases (take i numbers) number n is.among)
 
   -- the next number is none of them
   pub pass_it : (IsSome (entry_of vars number) → (Contains others number → ⊥) → ⊥) → AreOfFirst vars numbers others (i + 1) found
@@ -84,21 +92,29 @@ module _ (vars : Variables) (numbers others found : List ℕ) (i number : ℕ) (
         let less : n < number = omega (arith, low, its, c.2, mine, at) in
         sym (nat_cmp_is n number Less less)
 
+    it_is : IsEntryOnlyIn vars (take i numbers ++ number ∷ []) others number
+    it_is = record { stored = stored; among = Contains-push (take i numbers) number; not_among = not_among }
+
+    above : (k d : ℕ) → k < length found → nat_cmp (get_or found k d) number ≡ Less
+    above k d in_found = lower (get_or found k d) ((those.are (get_or found k d)).0 (Contains-get_or found k d in_found)).among
+
     -- the next number is one of them
     pub add_it : AreOfFirst vars numbers others (i + 1) (found ++ number ∷ [])
     add_it = subst (λ (ns : List ℕ). AreThose (IsEntryOnlyIn vars ns others) (found ++ number ∷ [])) (sym one_more) (record {
-      rising = one_above nat_cmp found number those.rising (recursion_from_All (λ (n : ℕ). nat_cmp n number ≡ Less) found (λ k d in_found. lower (get_or found k d) ((those.are (get_or found k d)).0 (Contains-get_or found k d in_found)).among));
+      rising = one_above nat_cmp found number those.rising (recursion_from_All (λ (n : ℕ). nat_cmp n number ≡ Less) found above);
       are = λ n. (
         λ c. ⊎_elim (λ before. of_more n ((those.are n).0 before))
-            (λ e. subst (IsEntryOnlyIn vars (take i numbers ++ number ∷ []) others) e (record { stored = stored; among = Contains-push (take i numbers) number; not_among = not_among })) (Contains-push_cases found number n c),
+            (λ e. subst (IsEntryOnlyIn vars (take i numbers ++ number ∷ []) others) e it_is) (Contains-push_cases found number n c),
         λ is. of_before n (Contains (found ++ number ∷ []) n) (λ before. Contains-append_left found (number ∷ []) n ((those.are n).1 before))
             (λ e. subst (Contains (found ++ number ∷ [])) e (Contains-push found number)) is,
       );
     })
 
 -- all numbers are gone over
-pub all_those : (vars : Variables) (numbers others found : List ℕ) (i : ℕ) → length numbers ≤ i → AreOfFirst vars numbers others i found → AreThose (IsEntryOnlyIn vars numbers others) found
-all_those vars numbers others found i past those = subst (λ (ns : List ℕ). AreThose (IsEntryOnlyIn vars ns others) found) (take_all i numbers past) those
+pub all_those : (vars : Variables) (numbers others found : List ℕ) (i : ℕ) → length numbers ≤ i
+    → AreOfFirst vars numbers others i found → AreThose (IsEntryOnlyIn vars numbers others) found
+all_those vars numbers others found i past those =
+    subst (λ (ns : List ℕ). AreThose (IsEntryOnlyIn vars ns others) found) (take_all i numbers past) those
 
 -- ---- what a change makes
 
@@ -108,10 +124,13 @@ none_known None none some = false≢true some
 none_known (Some x) none some = none x refl
 
 -- of variables that can be read, the numbers are told
-pub those_known : (vars : Variables) (known : Option AtRisk) (at_risk : AtRisk) → known ≡ Some at_risk → IfSome known (λ risk. AreThose (IsKnownUnnamed vars) risk.unnamed.items) → AreThose (IsKnownUnnamed vars) at_risk.unnamed.items
-those_known vars known at_risk is those = subst (λ (o : Option AtRisk). IfSome o (λ risk. AreThose (IsKnownUnnamed vars) risk.unnamed.items)) is those
+pub those_known : (vars : Variables) (known : Option AtRisk) (at_risk : AtRisk) → known ≡ Some at_risk
+    → IfSome known (λ risk. AreThose (IsKnownUnnamed vars) risk.unnamed.items) → AreThose (IsKnownUnnamed vars) at_risk.unnamed.items
+those_known vars known at_risk is those =
+    subst (λ (o : Option AtRisk). IfSome o (λ risk. AreThose (IsKnownUnnamed vars) risk.unnamed.items)) is those
 
-module _ (from to : Variables) (before after : List ℕ) (was : AreThose (IsKnownUnnamed from) before) (is : AreThose (IsKnownUnnamed to) after) (found : List ℕ) where
+module _ (from to : Variables) (before after : List ℕ) (was : AreThose (IsKnownUnnamed from) before) (is : AreThose (IsKnownUnnamed to) after)
+    (found : List ℕ) where
   pub unnamed_are : AreThose (IsEntryOnlyIn to after before) found → AreThose (BecomesUnnamed from to) found
   unnamed_are = those_along (IsEntryOnlyIn to after before) (BecomesUnnamed from to) found (λ n. (
     λ h. record { after = (is.are n).0 h.among; not_before = λ known. h.not_among ((was.are n).1 known) },

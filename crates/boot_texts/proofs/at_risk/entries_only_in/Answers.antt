@@ -3,7 +3,8 @@ use Rattle.std.proofs.lemmas.Bool.{false≢true}
 use Rattle.std.proofs.lemmas.List.{get_or_default}
 use Rattle.boot_texts.proofs.NamingChanges.{is_stored, none_of_first, pass_it, add_it, all_those}
 use Rattle.boot_texts.proofs.at_risk.entries_only_in.Goals as goal
-use Rattle.boot_texts.proofs.at_risk.entries_only_in.Goals.{then-is_some+then-not-is_among+in_ok-push, else-is_some, else-is_some-via-then-is_some+else-not-is_among, else-is_some-via-else-is_some}
+use Rattle.boot_texts.proofs.at_risk.entries_only_in.Goals.{then-is_some+then-not-is_among+in_ok-push, else-is_some}
+use Rattle.boot_texts.proofs.at_risk.entries_only_in.Goals.{else-is_some-via-then-is_some+else-not-is_among, else-is_some-via-else-is_some}
 
 pub loop-number-init : goal.loop-number-init
 loop-number-init c = rw c.new-found.ensures.items (none_of_first c.args.vars.now c.args.numbers.now c.args.others.now)
@@ -19,19 +20,20 @@ loop-number-preserved c =
     let within = c.loop-number-test.true in
     let at = get_or_default numbers i 0 number within in
     let told = is_stored vars number c.entry.result c.entry.ensures.value in
+    let passed = pass_it vars numbers others found i number within at c.loop-number.invariant in
+    let added = add_it vars numbers others found i number within at c.loop-number.invariant c.requires.numbers in
     elim c.if-is_some.branch [
       | then-is_some+then-not-is_among+in_ok-push w ↦
           rw (w.found-is, w.in_ok-push.ensures.items)
-          (add_it vars numbers others found i number within at c.loop-number.invariant c.requires.numbers (told ∙ sym c.is_some.ensures ∙ w.if-is_some.true)
-          (λ among. false≢true (sym w.if-not-is_among.true ∙ (w.is_among.ensures c.requires.others).1 among)))
+          (added (told ∙ sym c.is_some.ensures ∙ w.if-is_some.true) (λ a. false≢true (sym w.if-not-is_among.true ∙ (w.is_among.ensures c.requires.others).1 a)))
       | else-is_some w ↦ elim w.else-is_some.branch [
         | else-is_some-via-then-is_some+else-not-is_among v ↦
-            rw w.found-is
-            (pass_it vars numbers others found i number within at c.loop-number.invariant (λ stored not_among. not_among ((v.is_among.ensures c.requires.others).0 v.if-not-is_among.false)))
-        | else-is_some-via-else-is_some v ↦
-            rw w.found-is (pass_it vars numbers others found i number within at c.loop-number.invariant (λ stored not_among. false≢true (v.if-is_some.ensures ∙ sym told ∙ stored)))
+            rw w.found-is (passed (λ stored not_among. not_among ((v.is_among.ensures c.requires.others).0 v.if-not-is_among.false)))
+        | else-is_some-via-else-is_some v ↦ rw w.found-is (passed (λ stored not_among. false≢true (v.if-is_some.ensures ∙ sym told ∙ stored)))
       ]
     ]
 
 pub returns : goal.returns
-returns c = all_those c.args.vars.now c.args.numbers.now c.args.others.now c.loop-number.found.items c.loop-number.number-index c.loop-number-test.false c.loop-number.invariant
+returns c =
+    all_those c.args.vars.now c.args.numbers.now c.args.others.now c.loop-number.found.items c.loop-number.number-index
+    c.loop-number-test.false c.loop-number.invariant

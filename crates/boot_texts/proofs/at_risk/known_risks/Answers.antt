@@ -1,3 +1,4 @@
+use Rattle.uefi_vars.specs.Order.{HasBadOrder}
 use Rattle.uefi_vars.specs.AtRisk.{IsUnnamed}
 use Rattle.uefi_vars.proofs.EntriesAtRisk.{those_along}
 use Rattle.boot_texts.specs.NamingChange.{AreReadable, IsKnownUnnamed}
@@ -6,8 +7,10 @@ use Rattle.boot_texts.proofs.at_risk.known_risks.Goals as goal
 pub returns-in-Ok-clause-unnamed : goal.returns-in-Ok-clause-unnamed
 returns-in-Ok-clause-unnamed c =
     let vars = c.args.vars.now in
+    let no_bad_order : HasBadOrder vars → ⊥ = λ bad. let err = c.entries_at_risk.ensures.bad_order.1 bad in cc c.in-Ok.is in
     let readable : AreReadable vars = record {
-      order = λ bad. let err = c.entries_at_risk.ensures.bad_order.1 bad in cc c.in-Ok.is;
-      next = λ bad. let err = c.entries_at_risk.ensures.bad_next.1 (λ bad_order. let other = c.entries_at_risk.ensures.bad_order.1 bad_order in cc c.in-Ok.is, bad) in cc c.in-Ok.is;
+      order = no_bad_order;
+      next = λ bad. let err = c.entries_at_risk.ensures.bad_next.1 (no_bad_order, bad) in cc c.in-Ok.is;
     } in
-    those_along (IsUnnamed vars) (IsKnownUnnamed vars) c.in-Ok.at_risk.unnamed.items (λ n. (λ unnamed. record { readable = readable; unnamed = unnamed }, λ known. known.unnamed)) c.in-Ok.ensures.unnamed
+    those_along (IsUnnamed vars) (IsKnownUnnamed vars) c.in-Ok.at_risk.unnamed.items
+    (λ n. (λ unnamed. record { readable = readable; unnamed = unnamed }, λ known. known.unnamed)) c.in-Ok.ensures.unnamed
