@@ -10,22 +10,22 @@ pub record AreReadable (vars : Variables) : Type 0 where
   pub order : HasBadOrder vars → ⊥
   pub next : HasBadNext vars → ⊥
 
--- both can be read, and an entry of the number is stored that neither names
+-- neither is bad, and an entry is stored under the number, which neither names
 pub record IsKnownUnnamed (vars : Variables) (number : ℕ) : Type 0 where
   pub readable : AreReadable vars
   pub unnamed : IsUnnamed vars number
 
--- an entry that neither names in the second variables, and that wasn't such a one in the first
+-- such an entry of the second variables, which wasn't one in the first
 pub record BecomesUnnamed (from to : Variables) (number : ℕ) : Type 0 where
   pub after : IsKnownUnnamed to number
   pub not_before : IsKnownUnnamed from number → ⊥
 
--- an entry of the second variables, where it isn't such a one, and that was in the first
+-- such an entry of the first variables, which is stored in the second too, and isn't one there: BootOrder or BootNext names it
 pub record BecomesNamed (from to : Variables) (number : ℕ) : Type 0 where
+  pub before : IsKnownUnnamed from number
   pub readable : AreReadable to
   pub stored : IsSome (entry_of to number)
   pub not_after : IsUnnamed to number → ⊥
-  pub before : IsKnownUnnamed from number
 
 -- ---- for private functions
 
