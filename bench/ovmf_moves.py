@@ -193,9 +193,9 @@ def main(words: List[str]) -> int:
         sys.stdout.buffer.write(ovmf_store.write_set(with_state(*values)))
         return 0
     if command in ("told", "moved"):
-        print(words_of({"told": told_of, "moved": moved_by}[command](*values)))
+        print(words_of(told_of(*values) if command == "told" else moved_by(*values)))
         return 0
-    findings = list({"start": findings_of_start, "settled": findings_of_settling}[command](*values))
+    findings = list(findings_of_start(*values) if command == "start" else findings_of_settling(*values))
     for finding in findings:
         print(finding)
     return 1 if findings else 0
