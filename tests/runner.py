@@ -12,6 +12,7 @@ from functools import partial
 from pathlib import Path
 from typing import Callable, Dict, Iterator, List, NamedTuple, Sequence
 
+import completion_list
 from asking import NoAnswer, ask, shown
 from case_files import Case, read_cases
 from command_lines import differences, runs_in_a_folder
@@ -161,6 +162,8 @@ def all_jobs(programs: Programs, quick: bool) -> List[Job]:
     jobs.append(text_job(programs.case_runner, ["checks"], "checks.txt"))
     jobs.append(text_job(programs.case_runner, ["node-table", str(TABLE)], "node-table.txt"))
     jobs.append(text_job(programs.case_runner, ["examples"], "examples.txt"))
+    for program in programs.commands.get("bootvars", []):
+        jobs.append(Job("completions", partial(run_completions, program)))
     return jobs
 
 
@@ -274,6 +277,12 @@ def printed_by(program: Path, words: List[str]) -> str:
 def run_command_line(program: Path, case: Case) -> Outcome:
     """Runs a command line, and finds what isn't as its case states."""
     lines = [f"{case.name}, {program}: {line}" for line in differences(program, case)]
+    return Outcome(0, 1, lines) if lines else Outcome(1, 0, [])
+
+
+def run_completions(program: Path) -> Outcome:
+    """Compares the completions of `bootvars` with those that are made of what its --help prints."""
+    lines = completion_list.differences(program, "bootvars")
     return Outcome(0, 1, lines) if lines else Outcome(1, 0, [])
 
 

@@ -11,7 +11,8 @@ from pathlib import Path
 from typing import Any, List
 from unittest import mock
 
-sys.path.insert(0, str(Path(__file__).resolve().parent))
+TESTS = Path(__file__).resolve().parent
+sys.path[:0] = [str(TESTS), str(TESTS.parent / "tools")]
 
 import command_lines  # noqa: E402
 import runner  # noqa: E402
@@ -161,6 +162,7 @@ class CommandLines(WithPrograms):
     def test_surroundings(self) -> None:
         self.assertEqual(self.found("[[ $1 == $'\\xff' ]]", words=[{"hex": "ff"}]), [])
         self.assertEqual(self.found("echo a 2>/dev/null || exit 5", full=["stdout"], status=5), [])
+        self.assertEqual(self.found("trap '' PIPE; echo a 2>/dev/null || exit 5", closed=True, status=5), [])
         self.assertEqual(self.found("[[ $(ulimit -v) == 1048576 ]]", memory=1024), [])
         self.assertEqual(self.found("[[ $(ulimit -v) == unlimited && ! $HOME ]]"), [])
 
