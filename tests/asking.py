@@ -38,6 +38,8 @@ class Surroundings(NamedTuple):
     stdin: bytes = b""
     full: Sequence[str] = ()
     """Which of `stdout` and `stderr` take no byte."""
+    closed: bool = False
+    """Whether nobody reads standard output."""
     memory: Optional[int] = None
     """How many MiB it has at most, if that is limited."""
 
@@ -62,6 +64,8 @@ def ask(
             settings[stream] = subprocess.PIPE
             if stream in around.full:
                 settings[stream] = closing.enter_context(open(FULL, "wb"))
+        if around.closed:
+            settings["stdout"] = _unread(closing)
         try:
             done = subprocess.run(
                 input=around.stdin, cwd=around.folder, timeout=seconds, check=False, **settings
@@ -78,6 +82,14 @@ def ask(
 def shown(text: str) -> str:
     """The start of a text, on one line."""
     return repr(text[:SHOWN]) + ("..." if len(text) > SHOWN else "")
+
+
+def _unread(closing: ExitStack) -> int:
+    """What takes bytes and is read by nobody."""
+    reader, writer = os.pipe()
+    os.close(reader)
+    closing.callback(os.close, writer)
+    return writer
 
 
 @functools.lru_cache(maxsize=None)

@@ -53,6 +53,7 @@ def _run(program: Path, case: Case, words: str, home: Path) -> Answer:
         folder=home,
         stdin=bytes_of(members.get("stdin", "")),
         full=members.get("full", []),
+        closed="closed" in members,
         memory=members.get("memory"),
     )
     given = [case.call.encode(), *(_word_of(word) for word in members[words])]

@@ -1,7 +1,7 @@
 //! What variables hold, as it is shown.
 
 use crate::json::{JsonObject, Leaf, append_leaf, append_leaves};
-use crate::reason::{bytes_reason, numbers_reason};
+use crate::reason::{FaultReason, numbers_reason, option_reason};
 use crate::shown_option::ShownOption;
 use serde::{Described, Serialize, Serializer};
 use std::alloc::{AllocError, Global};
@@ -53,7 +53,7 @@ pub(crate) struct ShownFault {
     /// The offset of the fault in the bytes, if it has one.
     pub(crate) place: Option<usize>,
     /// The fault in plain words.
-    pub(crate) reason: &'static str,
+    pub(crate) reason: FaultReason,
     /// The bytes in hexadecimal digits.
     pub(crate) data: String,
 }
@@ -64,7 +64,7 @@ impl JsonObject for ShownFault {
             &[
                 ("fault", Leaf::Text(Some(&self.fault))),
                 ("place", Leaf::Count(self.place)),
-                ("reason", Leaf::Word(Some(self.reason))),
+                ("reason", Leaf::Reason(self.reason)),
                 ("data", Leaf::Text(Some(&self.data))),
             ],
             out,
@@ -114,7 +114,7 @@ impl Content {
             Err(fault) => Ok(Content::Undecodable(ShownFault {
                 fault: fault.words(alloc)?,
                 place: option_place(&fault),
-                reason: bytes_reason(bytes, &fault),
+                reason: option_reason(bytes, &fault),
                 data: hex::encode(alloc, bytes)?,
             })),
         }
@@ -154,7 +154,7 @@ impl Content {
         Ok(Content::Undecodable(ShownFault {
             fault: fault.words(alloc)?,
             place: None,
-            reason: numbers_reason(&fault),
+            reason: FaultReason::Words(numbers_reason(&fault)),
             data: hex::encode(alloc, bytes)?,
         }))
     }

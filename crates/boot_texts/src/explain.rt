@@ -5,16 +5,14 @@ use crate::json::{
     JsonObject, Leaf, append_leaf, append_leaves, append_object, append_objects, json_line,
 };
 use crate::place::Place;
-use crate::reason::{bytes_reason, frame_reason};
+use crate::reason::{FaultReason, frame_reason, option_reason};
+use crate::script_reason::script_reason;
 use crate::shown_option::{AttributeWords, ShownOption};
-use boot_requests::{
-    Event, EventList, FRAME_MAGIC, FrameFault, InputFormat, Request, ScriptFault, read_frame,
-};
+use boot_requests::{Event, EventList, FRAME_MAGIC, FrameFault, InputFormat, Request, read_frame};
 use serde::Serializer;
 use std::alloc::{AllocError, Global};
 use std::fmt;
 use uefi_option::LoadOption;
-use uefi_vars::SET_MAGIC;
 
 /// What a script or a stream asks for, in words.
 #[derive(Debug, Drop)]
@@ -81,7 +79,7 @@ struct Malformed {
     /// The offset of the fault in the bytes.
     place: usize,
     /// The fault in plain words.
-    reason: &'static str,
+    reason: FaultReason,
     /// The bytes in hexadecimal digits.
     data: String,
 }
@@ -94,19 +92,29 @@ struct FormatFault {
     /// The words of the fault.
     fault: String,
     /// The fault in plain words.
-    reason: &'static str,
+    reason: FaultReason,
+}
+
+impl fmt::Display for FormatFault {
+    fn fmt<W: fmt::Write>(&self, f: &mut fmt::Formatter<W>) -> fmt::Result {
+        write!(f, "{}: {}: {}", self.place, self.fault, self.reason)
+    }
 }
 
 /// Explains what the frames of a script or a stream ask for (docs/formats.md), as lines for a person: what it is, each
 /// event of the script with the number of its line, or each frame of the stream with its offset, then what is wrong
-/// with the script or the stream itself, and where the first fault is. Bytes that begin with `42 51` are a stream, and
-/// all others a script. A frame that is at fault doesn't end it, since a machine goes on after it too; a bad line does.
+/// with the script or the stream itself, and where the first fault is. If no format is given, bytes that begin with `42 51`
+/// are a stream, and all others a script. A frame that is at fault doesn't end it, since a machine goes on after it too; a bad line does.
 ///
 /// # Errors
 ///
 /// [`AllocError`] if memory was refused.
-pub fn explain_report(alloc: Global, bytes: &[u8]) -> Result<Explained, AllocError> {
-    let explanation = explain(alloc, bytes)?;
+pub fn explain_report(
+    alloc: Global,
+    bytes: &[u8],
+    format: Option<InputFormat>,
+) -> Result<Explained, AllocError> {
+    let explanation = explain(alloc, bytes, format)?;
     let mut text = String::new(alloc);
     append_explanation(&explanation, &mut text)?;
     let is_faulty = explanation.first_fault.is_some();
@@ -120,7 +128,7 @@ fn append_explanation(explanation: &Explanation, text: &mut String) -> Result<()
         writeln!(text, "{}: {}", step.place, step.asks)?;
     }
     if let Some(fault) = &explanation.fault {
-        writeln!(text, "{}: {}: {}", fault.place, fault.fault, fault.reason)?;
+        writeln!(text, "{fault}")?;
     }
     match &explanation.first_fault {
         Some(place) => writeln!(text, "first fault at {place}"),
@@ -134,20 +142,51 @@ fn append_explanation(explanation: &Explanation, text: &mut String) -> Result<()
 /// # Errors
 ///
 /// [`AllocError`] if memory was refused.
-pub fn explain_json(alloc: Global, bytes: &[u8]) -> Result<Explained, AllocError> {
-    let explanation = explain(alloc, bytes)?;
+pub fn explain_json(
+    alloc: Global,
+    bytes: &[u8],
+    format: Option<InputFormat>,
+) -> Result<Explained, AllocError> {
+    let explanation = explain(alloc, bytes, format)?;
     let text = json_line(alloc, &explanation)?;
     let is_faulty = explanation.first_fault.is_some();
     Ok(Explained { text, is_faulty })
 }
 
-/// What the bytes ask for.
-fn explain(alloc: Global, bytes: &[u8]) -> Result<Explanation, AllocError> {
-    let format = if bytes.starts_with(&FRAME_MAGIC) {
+/// The words of what is wrong with a script or a stream itself, of which these are the events: where it is, the fault and
+/// its reason, as the line of [`explain_report`] has them. They are `None` if it has no fault.
+///
+/// # Errors
+///
+/// [`AllocError`] if memory was refused.
+pub fn refused_script(
+    alloc: Global,
+    format: InputFormat,
+    bytes: &[u8],
+    list: &EventList,
+) -> Result<Option<String>, AllocError> {
+    match fault_of(alloc, format, bytes, list)? {
+        Some(fault) => Ok(Some(format!(in alloc; "{fault}")?)),
+        None => Ok(None),
+    }
+}
+
+/// What the bytes are that begin so.
+fn format_of(bytes: &[u8]) -> InputFormat {
+    if bytes.starts_with(&FRAME_MAGIC) {
         InputFormat::Stream
     } else {
         InputFormat::Script
-    };
+    }
+}
+
+/// What the bytes ask for, which are of this format, if one is given.
+fn explain(
+    alloc: Global,
+    bytes: &[u8],
+    format: Option<InputFormat>,
+) -> Result<Explanation, AllocError> {
+    let format = format.unwrap_or_else(|| format_of(bytes));
     let list = format.events(alloc, bytes)?;
     let steps = steps_of(alloc, format, &list)?;
     let fault = fault_of(alloc, format, bytes, &list)?;
@@ -183,7 +222,7 @@ fn fault_of(
         Some(fault) => Ok(Some(FormatFault {
             place: Place::new(format, list.end),
             fault: fault.words(alloc)?,
-            reason: format_reason(bytes, fault),
+            reason: script_reason(bytes, fault),
         })),
         None => Ok(None),
     }
@@ -201,43 +240,11 @@ fn first_fault(steps: &[Step], fault: Option<&FormatFault>) -> Option<Place> {
     }
 }
 
-/// Why the bytes, which have this fault, are no script or no stream.
-fn format_reason(bytes: &[u8], fault: &ScriptFault) -> &'static str {
-    match fault {
-        ScriptFault::BadLine(number) => line_reason(line_of(bytes, *number)),
-        ScriptFault::Stream(fault) => frame_reason(&FrameFault::from(*fault)),
-        ScriptFault::Rest(_) => {
-            "bytes are left after the last whole frame: one was cut, or something was added"
-        }
-        ScriptFault::OutOfMemory => "out of memory",
-    }
-}
-
 /// What bytes of this format are called.
 fn format_word(format: InputFormat) -> &'static str {
     match format {
         InputFormat::Script => "script",
         InputFormat::Stream => "stream",
-    }
-}
-
-/// The line of this number, counted from 1, of a text.
-fn line_of(text: &[u8], number: usize) -> &[u8] {
-    text.split(|byte| *byte == b'\n')
-        .nth(number.saturating_sub(1))
-        .unwrap_or(&[])
-}
-
-/// Why a line is none of a script.
-fn line_reason(line: &[u8]) -> &'static str {
-    if line.starts_with(&SET_MAGIC) {
-        "this is a set of variables, and no script"
-    } else if line.ends_with(b"\r") {
-        "it ends with a carriage return, and a line of a script with a line feed alone"
-    } else if line.starts_with(b"deliver") {
-        "after `deliver` and one blank come hexadecimal digits, two for each byte of a frame"
-    } else {
-        "a line is `deliver` and the digits of a frame, `prepare`, `hand` or `restart`"
     }
 }
 
@@ -294,9 +301,9 @@ impl Malformed {
         let (within, reason) = match fault {
             FrameFault::Option(fault) => (
                 option_place(fault).unwrap_or(0),
-                bytes_reason(bytes.get(start..).unwrap_or(&[]), fault),
+                option_reason(bytes.get(start..).unwrap_or(&[]), fault),
             ),
-            fault => (0, frame_reason(fault)),
+            fault => (0, frame_reason(bytes, fault)),
         };
         Ok(Malformed {
             fault: fault.words(alloc)?,
@@ -335,7 +342,7 @@ impl fmt::Display for ShownRequest {
 
 impl fmt::Display for Malformed {
     fn fmt<W: fmt::Write>(&self, f: &mut fmt::Formatter<W>) -> fmt::Result {
-        let (fault, reason) = (self.fault.as_str(), self.reason);
+        let (fault, reason) = (self.fault.as_str(), &self.reason);
         write!(f, "malformed, {fault}, at byte {}: {reason}", self.place)
     }
 }
@@ -395,7 +402,7 @@ impl JsonObject for Malformed {
                 ("kind", Leaf::Word(Some("malformed"))),
                 ("fault", Leaf::Text(Some(&self.fault))),
                 ("place", Leaf::Count(Some(self.place))),
-                ("reason", Leaf::Word(Some(self.reason))),
+                ("reason", Leaf::Reason(self.reason)),
                 ("data", Leaf::Text(Some(&self.data))),
             ],
             out,
@@ -409,7 +416,7 @@ impl JsonObject for FormatFault {
         append_leaves(
             &[
                 ("fault", Leaf::Text(Some(&self.fault))),
-                ("reason", Leaf::Word(Some(self.reason))),
+                ("reason", Leaf::Reason(self.reason)),
             ],
             out,
         )

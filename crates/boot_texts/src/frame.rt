@@ -6,7 +6,7 @@ ghost use Rattle.boot_requests.specs.declared.request.Request.{Request};
 ghost use Rattle.boot_requests.specs.Frame.{SpellsFrame};
 ghost use Rattle.boot_texts.specs.Frame.{AsksFor};
 
-use crate::reason::{bytes_reason, frame_reason};
+use crate::reason::{FaultReason, frame_words, option_reason};
 use boot_requests::{FrameFault, OrderList, Request, write_frame};
 use std::alloc::{AllocError, AllocFailed, Global};
 use std::collections::BTreeSet;
@@ -39,13 +39,13 @@ pub enum FrameWordsFault {
         /// The fault of the bytes.
         fault: OptionFault,
         /// The fault in plain words.
-        reason: &'static str,
+        reason: FaultReason,
     },
     /// An entry is in the order twice.
     #[error("{0:04X} is in the order twice, and a machine refuses such an order")]
     OrderRepeats(u16),
     /// The request has no frame.
-    #[error("{0}: {reason}", reason = frame_reason(.0))]
+    #[error("{0}: {reason}", reason = frame_words(.0))]
     Frame(FrameFault),
     /// Memory was refused.
     #[error("out of memory")]
@@ -123,7 +123,7 @@ fn option_of(alloc: Global, bytes: &[u8]) -> Result<LoadOption, FrameWordsFault>
         Err(OptionFault::OutOfMemory) => Err(FrameWordsFault::OutOfMemory),
         Err(fault) => Err(FrameWordsFault::Option {
             fault,
-            reason: bytes_reason(bytes, &fault),
+            reason: option_reason(bytes, &fault),
         }),
     }
 }

@@ -1,6 +1,8 @@
 //! Values to JSON, whose members are rows.
 
 use crate::content::EntryDigits;
+use crate::description::with_escapes;
+use crate::reason::FaultReason;
 use serde::{Described, Serialize, Serializer};
 use std::alloc::{AllocError, Global};
 
@@ -21,6 +23,7 @@ pub(crate) enum Leaf<'a> {
     Texts(&'a [String]),
     Entry(Option<EntryDigits>),
     Entries(Option<&'a [EntryDigits]>),
+    Reason(FaultReason),
 }
 
 impl Leaf<'_> {
@@ -35,6 +38,7 @@ impl Leaf<'_> {
             Leaf::Texts(texts) => texts.serialize(out),
             Leaf::Entry(entry) => entry.serialize(out),
             Leaf::Entries(entries) => entries.serialize(out),
+            Leaf::Reason(reason) => reason.serialize(out),
         }
     }
 }
@@ -101,15 +105,16 @@ impl<T: JsonObject> Serialize for Json<'_, T> {
     }
 }
 
-/// The object as JSON on one line, which ends with a line feed.
+/// The object as JSON on one line, which ends with a line feed. In a description that was marked, marks are escapes.
 ///
 /// # Errors
 ///
 /// [`AllocError`] if memory was refused: nothing else keeps an object of this crate from being written.
 pub(crate) fn json_line<T: JsonObject>(alloc: Global, object: &T) -> Result<String, AllocError> {
-    let Ok(mut line) = serde_json::to_string(alloc, &Json(object)) else {
+    let Ok(line) = serde_json::to_string(alloc, &Json(object)) else {
         return Err(AllocError);
     };
+    let mut line = with_escapes(alloc, &line)?;
     line.push('\n')?;
     Ok(line)
 }

@@ -9,12 +9,15 @@
 //!
 //! [`option_bytes`] makes a load option of words, and [`frame_bytes`] a frame, which [`frame_line`] puts into a line of
 //! a script. [`attribute_bits`], [`attributes_of_text`], [`optional_text`], [`entry_of_digits`] and
-//! [`number_of_digits`] read the words that these take. Faults are told in words for a person, by `{}`.
+//! [`number_of_digits`] read the words that these take, and [`single_backslashes`] makes a path that was escaped one of UEFI.
+//! Faults are told in words for a person, by `{}`; [`option_reason`], [`open_reason`] and [`refused_script`] are the words for
+//! those of other libraries.
 #![tactic(auto)]
 
 mod at_risk;
 mod changes;
 mod content;
+mod description;
 mod digits;
 mod explain;
 mod frame;
@@ -23,17 +26,24 @@ mod option;
 mod place;
 mod reason;
 mod replies;
+mod script_reason;
+mod settings;
 mod shown_option;
+mod shown_order;
 mod shown_vars;
+mod sizes;
 
 pub use at_risk::{EntryName, NamingChange, Risk, naming_change};
 pub use changes::{change_report, diff_json, diff_report};
+pub use description::DescriptionFault;
 pub use digits::{DigitsFault, attributes_of_text, entry_of_digits, number_of_digits};
-pub use explain::{Explained, explain_json, explain_report};
+pub use explain::{Explained, explain_json, explain_report, refused_script};
 pub use frame::{FrameWords, FrameWordsFault, frame_bytes, frame_line};
 pub use option::{
     Flags, OptionWords, OptionWordsFault, attribute_bits, option_bytes, optional_text,
+    single_backslashes,
 };
 pub use place::Place;
+pub use reason::{FaultReason, Sizes, open_reason, option_reason};
 pub use replies::reply_json;
 pub use shown_vars::{vars_json, vars_report};

@@ -5,7 +5,8 @@ ghost use Rattle.uefi_option.specs.LoadOption.{OptionParts, SpellsOption};
 ghost use Rattle.uefi_text.specs.Path.{IsPathText};
 ghost use Rattle.boot_texts.specs.OptionOfWords.{ArePathTexts, IsOptionOfWords};
 
-use crate::reason::{option_reason, text_reason};
+use crate::description::{DescriptionFault, append_text, description_units};
+use crate::reason::{option_words, text_reason};
 use std::alloc::{AllocError, AllocFailed, Global};
 use thiserror::Error;
 use uefi_option::{
@@ -23,7 +24,8 @@ const PLAIN_NAME: &str =
 pub struct OptionWords<'a> {
     /// The attributes, all 32 bits.
     pub attributes: u32,
-    /// The description.
+    /// The description as text, in which a backslash, `u` and four hexadecimal digits are the unit of UTF-16 of this number,
+    /// as in JSON. Any other backslash is itself.
     pub description: &'a str,
     /// The text of each device path.
     pub paths: &'a [&'a str],
@@ -66,8 +68,11 @@ pub enum OptionWordsFault {
         /// The fault in plain words.
         reason: &'static str,
     },
+    /// The description has an escape that is none.
+    #[error("the description: {0}")]
+    Description(DescriptionFault),
     /// The parts make no load option.
-    #[error("{0}: {reason}", reason = option_reason(.0))]
+    #[error("{0}: {reason}", reason = option_words(.0))]
     Option(OptionFault),
     /// Memory was refused.
     #[error("out of memory")]
@@ -95,6 +100,15 @@ impl From<OptionFault> for OptionWordsFault {
     }
 }
 
+impl From<DescriptionFault> for OptionWordsFault {
+    fn from(fault: DescriptionFault) -> OptionWordsFault {
+        match fault {
+            DescriptionFault::OutOfMemory => OptionWordsFault::OutOfMemory,
+            fault => OptionWordsFault::Description(fault),
+        }
+    }
+}
+
 /// The attributes of a load option of which this is said (UEFI 2.10, 3.1.3).
 pub fn attribute_bits(flags: Flags) -> u32 {
     let active = if flags.inactive { 0 } else { ACTIVE };
@@ -105,14 +119,16 @@ pub fn attribute_bits(flags: Flags) -> u32 {
 }
 
 /// The bytes of the load option of these words (UEFI 2.10, 3.1.3). The description becomes units of UTF-16, and each
-/// path's text is read as `uefi_text` reads it.
+/// path's text is read as `uefi_text` reads it. So the description of each option is had again from the one that its JSON
+/// has, unless that has `description_hex` beside it.
 ///
 /// # Errors
 ///
 /// The fault of the first path that has one: [`OptionWordsFault::EmptyPath`] if it is empty,
 /// [`OptionWordsFault::PathOfBytes`] if it is bytes of a path in hexadecimal digits, [`OptionWordsFault::Slashes`] if
 /// the name of a file in it has slashes, which firmware takes for no folder, and [`OptionWordsFault::Path`] if it stands
-/// for no path. Otherwise [`OptionWordsFault::Option`] with [`OptionFault::ZeroUnit`] if the description has a zero
+/// for no path. Otherwise [`OptionWordsFault::Description`] if a backslash in the description looks like an escape and is
+/// none; otherwise [`OptionWordsFault::Option`] with [`OptionFault::ZeroUnit`] if the description has a zero
 /// character, with [`OptionFault::EmptyList`] if there is no path, or with [`OptionFault::ListTooLong`] if the paths
 /// have more than 65,535 bytes together. [`OptionWordsFault::OutOfMemory`] comes if memory was refused, also before
 /// these.
@@ -121,7 +137,7 @@ pub fn option_bytes(alloc: Global, words: &OptionWords<'_>) -> Result<Vec<u8>, O
         (option : OptionParts) × IsOptionOfWords words.now option × SpellsOption bytes.items option) }
 {
     let paths = read_paths(alloc, words.paths)?;
-    let description = units_of(alloc, words.description)?;
+    let description = description_units(alloc, words.description)?;
     let option = make_option(
         alloc,
         words.attributes,
@@ -136,17 +152,27 @@ pub fn option_bytes(alloc: Global, words: &OptionWords<'_>) -> Result<Vec<u8>, O
 /// `efibootmgr -u` stores it. This fails only when out of memory.
 pub fn optional_text(alloc: Global, text: &str) -> Result<Vec<u8>, AllocError> {
     let mut bytes = Vec::new(alloc);
-    append_units(&units_of(alloc, text)?, &mut bytes)?;
+    let mut units = Vec::new(alloc);
+    append_text(text, &mut units)?;
+    append_units(&units, &mut bytes)?;
     Ok(bytes)
 }
 
-/// The units of UTF-16 that a text has.
-fn units_of(alloc: Global, text: &str) -> Result<Vec<u16>, AllocError> {
-    let mut units = Vec::new(alloc);
-    for unit in text.encode_utf16() {
-        units.push(unit)?;
+/// The text of a path with one backslash in the place of each run of them, as a path of UEFI has them, or `None` if it has
+/// no run. A text that was escaped for a shell or for JSON has them doubled. This fails only when out of memory.
+pub fn single_backslashes(alloc: Global, text: &str) -> Result<Option<String>, AllocError> {
+    if !text.contains("\\\\") {
+        return Ok(None);
     }
-    Ok(units)
+    let mut single = String::with_capacity(alloc, text.len())?;
+    let mut before = ' ';
+    for character in text.chars() {
+        if (before, character) != ('\\', '\\') {
+            single.push(character)?;
+        }
+        before = character;
+    }
+    Ok(Some(single))
 }
 
 /// The paths that the texts stand for.

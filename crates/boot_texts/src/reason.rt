@@ -1,6 +1,9 @@
 //! Why bytes or a text are refused, in plain words.
 
-use boot_requests::FrameFault;
+use crate::sizes::{frame_sizes, option_sizes};
+use boot_requests::{FrameFault, OpenFault};
+use serde::{Described, Serialize, Serializer};
+use std::fmt;
 use uefi_option::{OptionFault, check_option};
 use uefi_path::PathFault;
 use uefi_text::TextFault;
@@ -10,6 +13,61 @@ use uefi_vars::{ATTRIBUTES_LEN, VarFault};
 const HAS_ATTRIBUTES: &str =
     "four bytes come before the load option, as in a file of efivarfs: leave them out";
 
+/// Why something is refused. Its `Display` is in plain words.
+#[derive(Clone, Copy, Debug, PartialEq, Eq)]
+pub enum FaultReason {
+    /// In words alone.
+    Words(&'static str),
+    /// In words that speak of a length, and then the length that there is and the one that there has to be, in bytes.
+    Sizes(&'static str, Sizes),
+    /// At a character of a line that is no hexadecimal digit, counted from 1.
+    Column(usize),
+}
+
+/// How many bytes there are of something, and how many there have to be.
+#[derive(Clone, Copy, Debug, PartialEq, Eq)]
+pub struct Sizes {
+    /// How many there are.
+    pub found: usize,
+    /// How many there have to be.
+    pub wanted: usize,
+}
+
+impl FaultReason {
+    /// The words, with the sizes if they are known.
+    pub(crate) fn with_sizes(words: &'static str, sizes: Option<Sizes>) -> FaultReason {
+        match sizes {
+            Some(sizes) => FaultReason::Sizes(words, sizes),
+            None => FaultReason::Words(words),
+        }
+    }
+}
+
+impl fmt::Display for FaultReason {
+    fn fmt<W: fmt::Write>(&self, f: &mut fmt::Formatter<W>) -> fmt::Result {
+        match self {
+            FaultReason::Words(words) => f.write_str(words),
+            FaultReason::Sizes(words, sizes) => {
+                write!(f, "{words}: {} in place of {}", sizes.found, sizes.wanted)
+            }
+            FaultReason::Column(column) => {
+                write!(
+                    f,
+                    "the character in column {column} is no hexadecimal digit"
+                )
+            }
+        }
+    }
+}
+
+impl Described for FaultReason {}
+
+impl Serialize for FaultReason {
+    fn serialize<S: Serializer>(&self, out: &mut S) -> Result<(), S::Error> {
+        out.collect_str(self)
+    }
+}
+
 /// Whether the bytes are a load option after four others, as the file of an entry in efivarfs has it.
 fn has_attributes(bytes: &[u8]) -> bool {
     bytes
@@ -17,23 +75,23 @@ fn has_attributes(bytes: &[u8]) -> bool {
         .is_some_and(|rest| check_option(rest).is_ok())
 }
 
-/// Why the bytes, which have this fault, are no load option (UEFI 2.10, 3.1.3).
-pub(crate) fn bytes_reason(bytes: &[u8], fault: &OptionFault) -> &'static str {
+/// Why the bytes, which have this fault, are no load option (UEFI 2.10, 3.1.3), in words, with sizes if some are missing.
+pub fn option_reason(bytes: &[u8], fault: &OptionFault) -> FaultReason {
     if has_attributes(bytes) {
-        HAS_ATTRIBUTES
+        FaultReason::Words(HAS_ATTRIBUTES)
     } else {
-        option_reason(fault)
+        FaultReason::with_sizes(option_words(fault), option_sizes(bytes, fault))
     }
 }
 
 /// Why there is no load option (UEFI 2.10, 3.1.3).
-pub(crate) fn option_reason(fault: &OptionFault) -> &'static str {
+pub(crate) fn option_words(fault: &OptionFault) -> &'static str {
     match fault {
         OptionFault::Short => "it has fewer bytes than the six before a description",
         OptionFault::NoTerminator => "no zero unit closes the description",
         OptionFault::ListPastEnd => "the list of paths has fewer bytes than it states",
         OptionFault::EmptyList => "it has no device path",
-        OptionFault::Path(_, fault) => path_reason(fault),
+        OptionFault::Path(_, fault) => path_words(fault),
         OptionFault::ZeroUnit => "the description has a zero unit",
         OptionFault::ListTooLong => "the paths have more than 65535 bytes together",
         OptionFault::OutOfMemory => "out of memory",
@@ -41,7 +99,7 @@ pub(crate) fn option_reason(fault: &OptionFault) -> &'static str {
 }
 
 /// Why bytes don't begin with a device path (UEFI 2.10, 10.3).
-fn path_reason(fault: &PathFault) -> &'static str {
+fn path_words(fault: &PathFault) -> &'static str {
     match fault {
         PathFault::NoEnd(_) => "a path has no end node",
         PathFault::ShortHeader(_) => "a path ends within the header of a node",
@@ -72,8 +130,23 @@ pub(crate) fn numbers_reason(fault: &VarFault) -> &'static str {
     }
 }
 
-/// Why bytes are no frame.
-pub(crate) fn frame_reason(fault: &FrameFault) -> &'static str {
+/// Why requests can't be run over variables.
+pub fn open_reason(fault: &OpenFault) -> &'static str {
+    match fault {
+        OpenFault::BadOrder => "BootOrder isn't two bytes for each entry, of 65536 entries at most",
+        OpenFault::BadNext => "BootNext isn't the two bytes of one entry",
+        OpenFault::BadState => "what is kept of requests that were applied isn't as it is stored",
+        OpenFault::OutOfMemory => "out of memory",
+    }
+}
+
+/// Why the bytes, which have this fault, are no frame.
+pub(crate) fn frame_reason(bytes: &[u8], fault: &FrameFault) -> FaultReason {
+    FaultReason::with_sizes(frame_words(fault), frame_sizes(bytes, fault))
+}
+
+/// Why bytes are no frame, or a request has none.
+pub(crate) fn frame_words(fault: &FrameFault) -> &'static str {
     match fault {
         FrameFault::Short => "it has fewer bytes than the twelve of a header",
         FrameFault::BadMagic => "a frame begins with the bytes 42 51",
@@ -83,7 +156,7 @@ pub(crate) fn frame_reason(fault: &FrameFault) -> &'static str {
         FrameFault::BadKind => "no request of its version has its kind",
         FrameFault::BadNumber => "4294967295 is the number of no request",
         FrameFault::BadPayload => "its payload isn't one of its kind",
-        FrameFault::Option(fault) => option_reason(fault),
+        FrameFault::Option(fault) => option_words(fault),
         FrameFault::OutOfMemory => "out of memory",
     }
 }

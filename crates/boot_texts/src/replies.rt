@@ -5,6 +5,7 @@ use crate::json::{
     JsonObject, Leaf, append_leaf, append_leaves, append_object, append_objects, json_line,
 };
 use crate::place::Place;
+use crate::reason::frame_words;
 use crate::shown_vars::ShownPlan;
 use boot_requests::{Answer, Outcome, Reply};
 use serde::Serializer;
@@ -30,6 +31,8 @@ struct ShownReply {
     followers: Vec<Follower>,
     /// Why what was delivered is no frame.
     fault: Option<String>,
+    /// The same in plain words.
+    reason: Option<&'static str>,
     /// How many options the plan has that is prepared.
     options: Option<usize>,
     /// The plan that is handed out.
@@ -57,6 +60,7 @@ impl JsonObject for ShownReply {
         append_leaves(
             &[
                 ("fault", Leaf::Text(self.fault.as_deref())),
+                ("reason", Leaf::Word(self.reason)),
                 ("options", Leaf::Count(self.options)),
             ],
             out,
@@ -118,6 +122,10 @@ impl ShownReply {
             },
             fault: match reply {
                 Reply::Malformed(fault) => Some(fault.words(alloc)?),
+                _ => None,
+            },
+            reason: match reply {
+                Reply::Malformed(fault) => Some(frame_words(fault)),
                 _ => None,
             },
             options: match reply {

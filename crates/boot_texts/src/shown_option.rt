@@ -1,5 +1,6 @@
 //! Load options as they are shown.
 
+use crate::description::{description_digits, marked_text};
 use crate::json::{JsonObject, Leaf, append_leaves};
 use serde::Serializer;
 use std::alloc::{AllocError, Global};
@@ -17,6 +18,10 @@ use uefi_text::path_text;
 pub(crate) struct ShownOption {
     /// The description, as [`description_text`] shows it.
     pub(crate) description: String,
+    /// The description as JSON has it, with marks.
+    marked_description: String,
+    /// The units of the description in hexadecimal digits, if its text in JSON doesn't say all.
+    description_digits: Option<String>,
     /// The attributes, all 32 bits.
     pub(crate) attributes: u32,
     /// `boot`, `app`, or the bits of the category.
@@ -42,6 +47,8 @@ impl ShownOption {
         let (paths, named_paths) = path_texts(alloc, option.paths())?;
         Ok(ShownOption {
             description: description_text(alloc, option.description())?,
+            marked_description: marked_text(alloc, option.description())?,
+            description_digits: description_digits(alloc, option.description())?,
             attributes,
             category: format!(in alloc; "{}", Category(attributes))?,
             paths,
@@ -62,7 +69,11 @@ impl JsonObject for ShownOption {
         let attributes = self.attributes;
         append_leaves(
             &[
-                ("description", Leaf::Text(Some(&self.description))),
+                ("description", Leaf::Text(Some(&self.marked_description))),
+                (
+                    "description_hex",
+                    Leaf::Text(self.description_digits.as_deref()),
+                ),
                 ("attributes", Leaf::Number(Some(attributes))),
                 ("active", Leaf::Flag(is_active(attributes))),
                 ("hidden", Leaf::Flag(attributes & HIDDEN != 0)),

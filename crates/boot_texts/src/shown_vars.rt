@@ -7,9 +7,12 @@ use crate::content::{
 use crate::json::{
     JsonObject, Leaf, append_leaf, append_leaves, append_object, append_objects, json_line,
 };
+use crate::settings::{BOOT_CURRENT, TIMEOUT, Timeout, bad_current, bad_timeout, number_of};
 use crate::shown_option::{AttributeWords, ShownOption};
+use crate::shown_order::OrderMarks;
 use serde::Serializer;
 use std::alloc::{AllocError, Global};
+use uefi_option::is_active;
 use uefi_vars::{AtRisk, BOOT_NEXT, BOOT_ORDER, VarFault, Vars, entry_number, plan_numbers};
 
 /// Variables as they are shown.
@@ -19,17 +22,23 @@ struct ShownVars<'a> {
     variables: usize,
     /// The entries, by rising number.
     entries: Vec<ShownEntry<'a>>,
-    /// The numbers of BootOrder: none if it isn't there, or can't be read.
-    order: Vec<EntryDigits>,
+    /// The numbers of BootOrder, if it is there and can be read.
+    order: Option<Vec<EntryDigits>>,
+    /// What is to be said of them.
+    marks: OrderMarks,
     /// The number of BootNext, if it is there and can be read.
     next: Option<EntryDigits>,
     /// What a boot would try, if BootOrder and BootNext can be read.
     plan: Option<ShownPlan>,
     /// The numbers of BootOrder and BootNext that have no variable, each once, by rising number.
     missing: Vec<EntryDigits>,
-    /// Why BootOrder and BootNext can't be read, if they can't.
+    /// The entry by which this system was started, if BootCurrent is there and can be read.
+    current: Option<EntryDigits>,
+    /// How long the boot manager waits, if Timeout is there and can be read.
+    timeout: Option<Timeout>,
+    /// Why BootCurrent, BootNext, BootOrder and Timeout can't be read, if they can't.
     faults: Vec<NamedFault>,
-    /// The other variables, in the order of their names' bytes.
+    /// The variables that are neither entries nor BootOrder nor BootNext, in the order of their names' bytes.
     others: Vec<OtherVariable<'a>>,
 }
 
@@ -97,7 +106,7 @@ impl JsonObject for NamedFault {
     }
 }
 
-/// A variable that isn't the boot manager's.
+/// A variable that is neither an entry nor BootOrder nor BootNext.
 #[derive(Drop)]
 struct OtherVariable<'a> {
     /// Its name.
@@ -121,22 +130,34 @@ impl JsonObject for OtherVariable<'_> {
 impl<'a> ShownVars<'a> {
     /// What is shown of the variables.
     fn new(alloc: Global, vars: &'a Vars) -> Result<ShownVars<'a>, AllocError> {
-        let mut shown = ShownVars {
-            variables: vars.len(),
-            entries: Vec::new(alloc),
-            order: Vec::new(alloc),
-            next: None,
-            plan: shown_plan(alloc, vars)?,
-            missing: Vec::new(alloc),
-            faults: Vec::new(alloc),
-            others: Vec::new(alloc),
-        };
+        let mut shown = ShownVars::empty(alloc, vars)?;
         let at_risk = known_risks(alloc, vars)?;
         for (name, data) in vars.iter() {
             shown.push(alloc, at_risk.as_ref(), name, data)?;
         }
-        shown.missing = missing_of(alloc, vars, &shown.order, shown.next)?;
+        let order = shown.order.as_deref().unwrap_or(&[]);
+        let marks = OrderMarks::new(alloc, vars, order, &inactive_of(alloc, &shown.entries)?)?;
+        let missing = missing_of(alloc, vars, order, shown.next)?;
+        shown.marks = marks;
+        shown.missing = missing;
         Ok(shown)
+    }
+
+    /// What is shown before the variables are gone over, one by one.
+    fn empty(alloc: Global, vars: &Vars) -> Result<ShownVars<'a>, AllocError> {
+        Ok(ShownVars {
+            variables: vars.len(),
+            entries: Vec::new(alloc),
+            order: None,
+            marks: OrderMarks::empty(alloc),
+            next: None,
+            plan: shown_plan(alloc, vars)?,
+            missing: Vec::new(alloc),
+            current: None,
+            timeout: None,
+            faults: Vec::new(alloc),
+            others: Vec::new(alloc),
+        })
     }
 
     /// Adds a variable to what is shown, where these entries are at risk, if that is known.
@@ -159,21 +180,37 @@ impl<'a> ShownVars<'a> {
         match name {
             BOOT_ORDER => self.set_numbers(BOOT_ORDER, Content::of_order(alloc, data)?),
             BOOT_NEXT => self.set_numbers(BOOT_NEXT, Content::of_next(alloc, data)?),
-            _ => Ok(
-                self.others.push(OtherVariable {
-                    name,
-                    length: data.len(),
-                })?,
-            ),
+            _ => {
+                self.set_setting(alloc, name, data)?;
+                let length = data.len();
+                Ok(self.others.push(OtherVariable { name, length })?)
+            }
         }
+    }
+
+    /// Sets what BootCurrent or Timeout holds, if the variable is one of the two.
+    fn set_setting(&mut self, alloc: Global, name: &str, data: &[u8]) -> Result<(), AllocError> {
+        match (name, number_of(data)) {
+            (BOOT_CURRENT, Some(number)) => self.current = Some(EntryDigits(number)),
+            (TIMEOUT, Some(number)) => self.timeout = Some(Timeout(number)),
+            (BOOT_CURRENT, None) => self.push_fault(BOOT_CURRENT, bad_current(alloc, data)?)?,
+            (TIMEOUT, None) => self.push_fault(TIMEOUT, bad_timeout(alloc, data)?)?,
+            _ => {}
+        }
+        Ok(())
+    }
+
+    /// Adds why a variable can't be read.
+    fn push_fault(&mut self, name: &'static str, fault: ShownFault) -> Result<(), AllocError> {
+        Ok(self.faults.push(NamedFault { name, fault })?)
     }
 
     /// Sets what BootOrder or BootNext holds.
     fn set_numbers(&mut self, name: &'static str, content: Content) -> Result<(), AllocError> {
         match content {
-            Content::Order { entries } => self.order = entries,
+            Content::Order { entries } => self.order = Some(entries),
             Content::Next { entry } => self.next = Some(entry),
-            Content::Undecodable(fault) => self.faults.push(NamedFault { name, fault })?,
+            Content::Undecodable(fault) => self.push_fault(name, fault)?,
             Content::LoadOption(_option) => {}
         }
         Ok(())
@@ -192,18 +229,39 @@ impl JsonObject for ShownVars<'_> {
     fn append_members<S: Serializer>(&self, out: &mut S) -> Result<(), S::Error> {
         append_leaf("variables", Leaf::Count(Some(self.variables)), out)?;
         append_objects("entries", &self.entries, out)?;
+        if self.fault_of(BOOT_ORDER).is_none() {
+            append_leaf("order", Leaf::Entries(self.order.as_deref()), out)?;
+        }
+        self.marks.append_members(out)?;
+        append_leaf("next", Leaf::Entry(self.next), out)?;
+        append_object("plan", self.plan.as_ref(), out)?;
         append_leaves(
             &[
-                ("order", Leaf::Entries(Some(&self.order))),
-                ("next", Leaf::Entry(self.next)),
+                ("missing", Leaf::Entries(Some(&self.missing))),
+                ("current", Leaf::Entry(self.current)),
+                (
+                    "timeout",
+                    Leaf::Number(self.timeout.map(|timeout| u32::from(timeout.0))),
+                ),
             ],
             out,
         )?;
-        append_object("plan", self.plan.as_ref(), out)?;
-        append_leaf("missing", Leaf::Entries(Some(&self.missing)), out)?;
         append_objects("faults", &self.faults, out)?;
         append_objects("others", &self.others, out)
     }
+}
+
+/// The numbers of those entries that are load options and aren't active, in the same order.
+fn inactive_of(alloc: Global, entries: &[ShownEntry<'_>]) -> Result<Vec<EntryDigits>, AllocError> {
+    let mut inactive = Vec::new(alloc);
+    for shown in entries {
+        if let Content::LoadOption(option) = &shown.content
+            && !is_active(option.attributes)
+        {
+            inactive.push(shown.entry)?;
+        }
+    }
+    Ok(inactive)
 }
 
 /// The numbers of BootOrder and BootNext that no entry of the variables has, each once, by rising number.
@@ -249,7 +307,9 @@ fn push_missing(
 
 /// Shows variables (UEFI 2.10, 3.3) as lines for a person: those of `bootkeep show`, and after the line of an entry
 /// indented ones with its attributes in words, each of its paths and its optional data, or with the data that are no
-/// load option. A line tells of each entry that a start of firmware may write over or delete, by
+/// load option. After the line of BootOrder indented ones say which of its numbers have no entry, which are of an entry
+/// that isn't active, and which are in it twice, and lines after the plan have BootCurrent and Timeout, if they are there.
+/// A line tells of each entry that a start of firmware may write over or delete, by
 /// [`entries_at_risk`](uefi_vars::entries_at_risk).
 /// Whatever the variables hold is told, and nothing is refused. docs/formats.md has each line.
 ///
@@ -264,7 +324,7 @@ pub fn vars_report(alloc: Global, vars: &Vars) -> Result<String, AllocError> {
 
 /// Shows variables as JSON, an object on one line that ends with a line feed: what [`vars_report`] shows.
 /// docs/formats.md has each member. Every description, every path and all data are shown so that they can be had again
-/// from the text, which is ASCII.
+/// from the text.
 ///
 /// # Errors
 ///
@@ -279,7 +339,7 @@ fn append_vars(shown: &ShownVars<'_>, report: &mut String) -> Result<(), AllocEr
     for entry in &shown.entries {
         append_entry(entry, report)?;
     }
-    append_numbers("order", shown.fault_of(BOOT_ORDER), &shown.order, report)?;
+    append_order(shown, report)?;
     append_numbers(
         "next",
         shown.fault_of(BOOT_NEXT),
@@ -290,13 +350,56 @@ fn append_vars(shown: &ShownVars<'_>, report: &mut String) -> Result<(), AllocEr
     if !shown.missing.is_empty() {
         writeln!(report, "missing{}", NumberList(&shown.missing))?;
     }
-    for entry in &shown.entries {
+    append_settings(shown, report)?;
+    append_risks(&shown.entries, report)?;
+    append_others(&shown.others, report)
+}
+
+/// Appends the lines of BootOrder, with what is to be said of its numbers.
+fn append_order(shown: &ShownVars<'_>, report: &mut String) -> Result<(), AllocError> {
+    let numbers = shown.order.as_deref().unwrap_or(&[]);
+    append_numbers("order", shown.fault_of(BOOT_ORDER), numbers, report)?;
+    shown.marks.append_lines(report)
+}
+
+/// Appends the lines of BootCurrent and Timeout, if they are there.
+fn append_settings(shown: &ShownVars<'_>, report: &mut String) -> Result<(), AllocError> {
+    if let Some(fault) = shown.fault_of(BOOT_CURRENT) {
+        append_fault("current", fault, report)?;
+    }
+    if let Some(entry) = &shown.current {
+        writeln!(report, "current {entry}")?;
+    }
+    if let Some(fault) = shown.fault_of(TIMEOUT) {
+        append_fault("timeout", fault, report)?;
+    }
+    if let Some(timeout) = &shown.timeout {
+        writeln!(report, "timeout {timeout}")?;
+    }
+    Ok(())
+}
+
+/// Appends a line for each entry that a start of firmware may write over or delete.
+fn append_risks(entries: &[ShownEntry<'_>], report: &mut String) -> Result<(), AllocError> {
+    for entry in entries {
         if let Some(risk) = entry.risk {
             writeln!(report, "{} {risk}", entry.name)?;
         }
     }
-    for other in &shown.others {
-        writeln!(report, "other {} {}", other.name, ByteCount(other.length))?;
+    Ok(())
+}
+
+/// Appends a line for each variable that has none.
+fn append_others(others: &[OtherVariable<'_>], report: &mut String) -> Result<(), AllocError> {
+    for other in others {
+        if other.name != BOOT_CURRENT && other.name != TIMEOUT {
+            writeln!(
+                report,
+                "variable {} {}",
+                other.name,
+                ByteCount(other.length)
+            )?;
+        }
     }
     Ok(())
 }

@@ -2,6 +2,7 @@
 
 use crate::updates::UpdateWords;
 use boot_journal::{CallError, CommandError, RunFault, UpdateError};
+use boot_texts::open_reason;
 use std::alloc::{AllocError, Global};
 use std::fmt::{self, Display};
 use var_places::Failure;
@@ -41,11 +42,22 @@ pub(crate) fn of_command(
 /// What it is to the program that the variables of the place, or those that the requests lead to, are refused.
 fn of_run(alloc: Global, words: &UpdateWords<'_>, fault: RunFault) -> Failure {
     match fault {
-        RunFault::Open(_) => match format!(in alloc; "{fault}") {
+        RunFault::Open(open) => match format!(in alloc; "{open}: {}", open_reason(&open)) {
             Ok(text) => Failure::of_run(alloc, words.place, text.as_str()),
             Err(AllocError) => Failure::Memory,
         },
-        RunFault::NoData | RunFault::TooLong => Failure::of_fault(alloc, words.place, fault),
+        RunFault::NoData => {
+            Failure::of_fault(
+                alloc,
+                words.place,
+                "a boot variable has no value after its attributes",
+            )
+        }
+        RunFault::TooLong => Failure::of_fault(
+            alloc,
+            words.place,
+            "a boot variable would have more than 1048576 bytes, with its four of attributes",
+        ),
     }
 }
 

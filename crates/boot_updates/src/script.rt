@@ -1,6 +1,7 @@
 //! Scripts and streams of requests.
 
-use boot_requests::{Event, EventList, InputFormat, ScriptFault};
+use boot_requests::{Event, EventList, InputFormat};
+use boot_texts::refused_script;
 use std::alloc::{AllocError, Global};
 use std::rt::Files;
 use var_places::{Failure, name_of, read};
@@ -51,27 +52,15 @@ pub(crate) fn read_events<'a, R: Files + Input + AllocGlobal>(
     let alloc = rt.alloc();
     let bytes = read(rt, path)?;
     let name = name_of(path);
-    let EventList {
+    let list = format.events(alloc, &bytes)?;
+    if let Some(fault) = refused_script(alloc, format, &bytes, &list)? {
+        return Err(Failure::of_run(alloc, name, fault.as_str()));
+    }
+    let EventList { events, places, .. } = list;
+    Ok(Script {
+        name,
+        format,
         events,
         places,
-        fault,
-        ..
-    } = format.events(alloc, &bytes)?;
-    match fault {
-        Some(fault) => Err(of_script(alloc, name, fault)),
-        None => Ok(Script {
-            name,
-            format,
-            events,
-            places,
-        }),
-    }
-}
-
-/// What it is to the program that the script of this name has this fault.
-fn of_script(alloc: Global, name: &str, fault: ScriptFault) -> Failure {
-    match fault.words(alloc) {
-        Ok(words) => Failure::of_run(alloc, name, words.as_str()),
-        Err(AllocError) => Failure::Memory,
-    }
+    })
 }

@@ -89,10 +89,25 @@ fn journal_of(alloc: Global, path: &str, bytes: &[u8]) -> Result<JournalFile, Fa
     match read_journal(alloc, bytes) {
         Ok(journal) => Ok(journal),
         Err(JournalFault::OutOfMemory) => Err(Failure::Memory),
-        Err(fault) => Err(Failure::refused(
-            alloc,
-            path,
-            Reason::DamagedJournal(fault.words(alloc)?),
-        )),
+        Err(fault) => {
+            let words = fault.words(alloc)?;
+            let text = format!(in alloc; "{words}: {}", journal_reason(&fault))?;
+            Err(Failure::refused(alloc, path, Reason::DamagedJournal(text)))
+        }
+    }
+}
+
+/// Why bytes are no journal, after the words of the fault, which have its place.
+fn journal_reason(fault: &JournalFault) -> &'static str {
+    match fault {
+        JournalFault::BadMagic => "it begins neither with BKJ1 nor with BKJ2",
+        JournalFault::BadMachine(_) => "the name of its machine has no byte, or more than 4096",
+        JournalFault::Truncated(_) => "it is cut, and ends in the field at that byte",
+        JournalFault::ValueTooLong(_) =>
+            "the value at that byte is to have more than 1048576 bytes",
+        JournalFault::BadCourse(_) => "that byte is neither 1 nor 2",
+        JournalFault::BadIdentity(_) => "no identity of a start is at that byte",
+        JournalFault::BadName(_) => "no name of a boot variable is at that byte",
+        JournalFault::OutOfMemory => "out of memory",
     }
 }

@@ -110,7 +110,7 @@ impl Stored {
 
 /// What is stored in the file with these bytes.
 fn read_stored(alloc: Global, path: &str, bytes: &[u8]) -> Result<Stored, Failure> {
-    let store = read_store(alloc, bytes).map_err(|fault| of_store(alloc, path, fault))?;
+    let store = read_store(alloc, bytes).map_err(|fault| of_store(alloc, path, bytes, fault))?;
     Ok(Stored {
         vars: store_vars(alloc, &store)?,
         attributes: store_attributes(alloc, &store)?,

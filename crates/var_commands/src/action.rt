@@ -50,6 +50,8 @@ pub enum Action<'a> {
     Explain {
         /// The path of the script or the stream.
         file: &'a str,
+        /// Whether it is said to be a stream.
+        is_stream: bool,
         /// How they are shown.
         form: Form,
     },

@@ -83,6 +83,7 @@ fn update_of<'a>(matches: &'a ArgMatches<'_>) -> Option<Action<'a>> {
 fn explain_of<'a>(matches: &'a ArgMatches<'_>) -> Option<Action<'a>> {
     Some(Action::Explain {
         file: matches.get_str("FILE")?,
+        is_stream: matches.get_flag("stream"),
         form: form_of(matches),
     })
 }

@@ -346,6 +346,11 @@ static EXPLAIN_COMMANDS: [CommandRow; 1] = [CommandRow {
             help: "The script or the stream",
             ..FILE
         },
+        ArgRow {
+            name: "stream",
+            help: "FILE is a stream of frames, whatever it begins with",
+            ..ArgRow::FLAG
+        },
         JSON,
     ],
     ..CommandRow::EMPTY

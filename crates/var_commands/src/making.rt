@@ -1,37 +1,40 @@
 //! The commands `option`, `frame` and `explain`, which make load options and requests, and show requests.
 
 use crate::action::{AttributeWords, Form, LoadOptionWords, OptionalWords, RequestWords};
+use boot_requests::InputFormat;
 use boot_texts::{
     DigitsFault, FrameWords, FrameWordsFault, OptionWords, OptionWordsFault, attribute_bits,
     attributes_of_text, entry_of_digits, explain_json, explain_report, frame_bytes, frame_line,
-    number_of_digits, option_bytes, optional_text,
+    number_of_digits, option_bytes, optional_text, single_backslashes,
 };
 use hex::FromHexError;
-use std::alloc::Global;
+use std::alloc::{AllocError, Global};
 use std::rt::Files;
 use var_places::{Failure, Quoted, Reason, lock, name_of, no_option, print, read, write};
 use whole_files::OutputFile;
 
-/// Makes a file with the load option of these words.
+/// Makes a file with the load option of these words. Tells on standard error which paths had doubled backslashes.
 ///
 /// # Errors
 ///
 /// [`Failure::Words`] if a word isn't what it is to be; [`Failure::Read`] and [`Failure::Refused`] if the file with the
 /// optional data can't be read or is too long; [`Failure::Write`] if the option can't be written; and
 /// [`Failure::Memory`] if memory was refused.
-pub(crate) fn make_option<R: Files<File: OutputFile> + Input + Print + AllocGlobal>(
+pub(crate) fn make_option<R: Files<File: OutputFile> + Input + Print + Eprint + AllocGlobal>(
     rt: &R,
     words: &LoadOptionWords<'_>,
 ) -> Result<(), Failure> {
     let alloc = rt.alloc();
     let attributes = attributes(alloc, words.attributes)?;
     let optional = optional(rt, words.optional)?;
+    let paths = path_texts(rt, words.paths)?;
+    let paths = texts(alloc, &paths)?;
     let made = option_bytes(
         alloc,
         &OptionWords {
             attributes,
             description: words.description,
-            paths: words.paths,
+            paths: &paths,
             optional: &optional,
         },
     );
@@ -40,6 +43,40 @@ pub(crate) fn make_option<R: Files<File: OutputFile> + Input + Print + AllocGlob
         Err(OptionWordsFault::OutOfMemory) => Err(Failure::Memory),
         Err(fault) => Err(Failure::of_word(alloc, fault)),
     }
+}
+
+/// The text of each path, with single backslashes, as a path of UEFI has them. Tells on standard error which had others: it
+/// was escaped for a shell or for JSON.
+fn path_texts<R: Eprint + AllocGlobal>(rt: &R, words: &[&str]) -> Result<Vec<String>, AllocError> {
+    let alloc = rt.alloc();
+    let mut paths = Vec::with_capacity(alloc, words.len())?;
+    for word in words {
+        match single_backslashes(alloc, word)? {
+            Some(single) => {
+                note_doubled(rt, paths.len().saturating_add(1));
+                paths.push(single)?;
+            }
+            None => paths.push(String::from_str(alloc, word)?)?,
+        }
+    }
+    Ok(paths)
+}
+
+/// The same texts, each as a part of the list.
+fn texts<'a>(alloc: Global, paths: &'a [String]) -> Result<Vec<&'a str>, AllocError> {
+    let mut texts = Vec::with_capacity(alloc, paths.len())?;
+    for path in paths {
+        texts.push(path.as_str())?;
+    }
+    Ok(texts)
+}
+
+/// Tells that the path of this number is read with single backslashes.
+fn note_doubled<R: Eprint>(rt: &R, number: usize) {
+    // If standard error takes nothing, there is no place left to say so.
+    let _ = eprintln!(rt;
+        "bootvars: path {number}: doubled backslashes are read as single ones, which UEFI has in paths"
+    );
 }
 
 /// The attributes that the words say.
@@ -205,7 +242,8 @@ fn of_words(alloc: Global, fault: FrameWordsFault) -> Failure {
     }
 }
 
-/// Prints what the frames of the script or the stream at this path ask for.
+/// Prints what the frames of the script or the stream at this path ask for. It is a stream if that is said, and otherwise
+/// what it begins as.
 ///
 /// # Errors
 ///
@@ -214,10 +252,16 @@ fn of_words(alloc: Global, fault: FrameWordsFault) -> Failure {
 pub(crate) fn explain<R: Files + Input + Print + AllocGlobal>(
     rt: &R,
     file: &str,
+    is_stream: bool,
     form: Form,
 ) -> Result<(), Failure> {
     let bytes = read(rt, file)?;
-    if explain_bytes(rt, &bytes, form)? {
+    let format = if is_stream {
+        Some(InputFormat::Stream)
+    } else {
+        None
+    };
+    if explain_bytes(rt, &bytes, format, form)? {
         return Err(Failure::refused(rt.alloc(), name_of(file), Reason::Faulty));
     }
     Ok(())
@@ -227,11 +271,12 @@ pub(crate) fn explain<R: Files + Input + Print + AllocGlobal>(
 fn explain_bytes<R: Print + AllocGlobal>(
     rt: &R,
     bytes: &[u8],
+    format: Option<InputFormat>,
     form: Form,
 ) -> Result<bool, Failure> {
     let explained = match form {
-        Form::Text => explain_report(rt.alloc(), bytes)?,
-        Form::Json => explain_json(rt.alloc(), bytes)?,
+        Form::Text => explain_report(rt.alloc(), bytes, format)?,
+        Form::Json => explain_json(rt.alloc(), bytes, format)?,
     };
     print(rt, explained.text.as_bytes())?;
     Ok(explained.is_faulty)

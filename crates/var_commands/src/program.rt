@@ -52,12 +52,12 @@ impl Ending {
 /// compared and differ, 6 if requests were run and not all of them were applied and carried out; or, with a message on
 /// standard error, 1 if requests aren't run, 2 if the words are wrong, 3 if a file or a variable can't be read or changed, 4
 /// if memory was refused, 5 if an input is refused, 7 if another update is at work, and 8 if an update was neither made nor
-/// taken back.
+/// taken back; or 141, without a message, if nobody reads standard output any more.
 pub fn run<R: Env + Files<File: OutputFile> + Input + Print + Eprint + AllocGlobal>(rt: &R) -> u8 {
     tell(rt, answer(rt))
 }
 
-/// Ends a run: writes the message of a failure to standard error, and returns the status.
+/// Ends a run: writes the message of a failure to standard error, if it has one, and returns the status.
 fn tell<R: Eprint>(rt: &R, outcome: Result<Ending, Failure>) -> u8
     ensures { MatchResult outcome (λ ending. result ≡ ending_status ending) (λ failure. result ≡ status_of failure) }
 {
@@ -65,8 +65,10 @@ fn tell<R: Eprint>(rt: &R, outcome: Result<Ending, Failure>) -> u8
         Ok(ending) => ending.status(),
         Err(failure) => {
             let status = failure.status();
-            // If standard error takes nothing, there is no place left to say so: the status tells it all the same.
-            let _ = eprintln!(rt; "bootvars: {failure}");
+            if !matches!(failure, Failure::Closed) {
+                // If standard error takes nothing, there is no place left to say so: the status tells it all the same.
+                let _ = eprintln!(rt; "bootvars: {failure}");
+            }
             status
         }
     }
@@ -183,7 +185,11 @@ fn act<R: Files<File: OutputFile> + Input + Print + Eprint + AllocGlobal>(
             request,
             raw,
         } => done(make_frame(rt, number, &request, raw)),
-        Action::Explain { file, form } => done(explain(rt, file, form)),
+        Action::Explain {
+            file,
+            is_stream,
+            form,
+        } => done(explain(rt, file, is_stream, form)),
     }
 }
 

@@ -66,6 +66,9 @@ pub enum Failure {
     /// Memory was refused.
     #[error("out of memory")]
     Memory,
+    /// Nobody reads standard output any more: that is told by the status alone.
+    #[error("standard output is closed")]
+    Closed,
     /// An input is refused.
     #[error("{name}: {reason}")]
     Refused {
@@ -79,7 +82,8 @@ pub enum Failure {
 impl Failure {
     /// The status that the program ends with: 1 if a script or the variables that it is run over are refused, 2 if the words
     /// of the command line are wrong, 3 if a file or a variable can't be read or changed, 4 if memory was refused, 5 if an
-    /// input is refused, 7 if another update has the lock, and 8 if an update was neither made nor taken back.
+    /// input is refused, 7 if another update has the lock, 8 if an update was neither made nor taken back, and 141 if nobody
+    /// reads standard output any more, as of a program that SIGPIPE ended.
     pub fn status(&self) -> u8
         ensures { result ≡ status_of self.now }
     {
@@ -94,6 +98,7 @@ impl Failure {
             Failure::Refused { .. } => 5,
             Failure::Busy(_) => 7,
             Failure::Unsettled(_) => 8,
+            Failure::Closed => 141,
         }
     }
 
@@ -110,6 +115,14 @@ impl Failure {
         match shown_unless_memory(alloc, name, &error) {
             Ok(name) => Failure::Write { name, error },
             Err(AllocError) => Failure::Memory,
+        }
+    }
+
+    /// What it is to the program that standard output doesn't take what is printed.
+    pub fn of_print(alloc: Global, error: io::Error) -> Failure {
+        match error.kind() {
+            ErrorKind::BrokenPipe => Failure::Closed,
+            _ => Failure::of_write(alloc, "standard output", error),
         }
     }
 

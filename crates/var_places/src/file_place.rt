@@ -53,7 +53,7 @@ pub fn no_place(alloc: Global, name: &str, bytes: &[u8]) -> Failure {
 ///
 /// [`Failure::Refused`] if it is damaged, and [`Failure::Memory`] if memory was refused.
 pub fn set_vars(alloc: Global, name: &str, bytes: &[u8]) -> Result<Vars, Failure> {
-    read_set(alloc, bytes).map_err(|fault| match Reason::of_set(fault) {
+    read_set(alloc, bytes).map_err(|fault| match Reason::of_set(bytes, fault) {
         Some(reason) => Failure::refused(alloc, name, reason),
         None => Failure::Memory,
     })
@@ -167,12 +167,12 @@ pub fn check_damage(alloc: Global, name: &str, bytes: &[u8]) -> Result<(), Failu
 
 /// The store of the emulator's variable file of this name, which has these bytes.
 fn store_of<'a>(alloc: Global, name: &str, bytes: &'a [u8]) -> Result<VariableStore<'a>, Failure> {
-    read_store(alloc, bytes).map_err(|fault| of_store(alloc, name, fault))
+    read_store(alloc, bytes).map_err(|fault| of_store(alloc, name, bytes, fault))
 }
 
-/// What it is to the program that the variable file of this name has this fault.
-pub fn of_store(alloc: Global, name: &str, fault: StoreFault) -> Failure {
-    match Reason::of_store(fault) {
+/// What it is to the program that the variable file of this name, which has these bytes, has this fault.
+pub fn of_store(alloc: Global, name: &str, bytes: &[u8], fault: StoreFault) -> Failure {
+    match Reason::of_store(bytes, fault) {
         Some(reason) => Failure::refused(alloc, name, reason),
         None => Failure::Memory,
     }
@@ -245,7 +245,7 @@ pub fn changed_variable_file(
     attributes: &Vars,
 ) -> Result<Vec<u8>, Failure> {
     write_boot_vars(alloc, bytes, to, attributes).map_err(|fault| match fault {
-        WriteFault::Store(fault) => of_store(alloc, name, fault),
+        WriteFault::Store(fault) => of_store(alloc, name, bytes, fault),
         WriteFault::Full => Failure::refused(alloc, name, Reason::Full),
         WriteFault::OutOfMemory => Failure::Memory,
     })

@@ -116,8 +116,7 @@ fn add_variable<R: Files + Eprint + AllocGlobal>(
 ) -> Result<(), Failure> {
     let alloc = rt.alloc();
     if let Some(first) = folder.files.get(name) {
-        let (first, second) = (first.clone()?, String::from_str(alloc, file)?);
-        return Err(Failure::refused(alloc, path, Reason::Twice { first, second }));
+        return Err(Failure::refused(alloc, path, Reason::Twice(first.clone()?)));
     }
     let bytes = file_of(rt, path, file)?;
     folder.add_file(alloc, name, file)?;

@@ -56,7 +56,9 @@ pub fn write<R: Files<File: OutputFile> + Print + AllocGlobal>(
 ///
 /// # Errors
 ///
-/// [`Failure::Write`] if it doesn't take them, and [`Failure::Memory`] if memory was refused.
+/// [`Failure::Closed`] if nobody reads it any more, [`Failure::Write`] if it doesn't take them for another reason, and
+/// [`Failure::Memory`] if memory was refused.
 pub fn print<R: Print + AllocGlobal>(rt: &R, bytes: &[u8]) -> Result<(), Failure> {
-    rt.write_all(bytes).map_err(|error| Failure::of_write(rt.alloc(), "standard output", error))
+    rt.write_all(bytes)
+        .map_err(|error| Failure::of_print(rt.alloc(), error))
 }

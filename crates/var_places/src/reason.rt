@@ -40,9 +40,16 @@ pub enum Reason {
     /// A folder is given where a set file has to be.
     #[error("it is a folder: make a set of it by `bootvars read`")]
     Folder,
-    /// A set file ends in a record, which begins at this offset.
-    #[error("the set is cut: it ends in the record at byte {0}")]
-    SetCut(usize),
+    /// A set file ends in a record.
+    #[error("the set is cut: it has {found} bytes, and with the record at byte {place} at least {wanted}")]
+    SetCut {
+        /// The offset of the record.
+        place: usize,
+        /// How many bytes the file has.
+        found: usize,
+        /// How many it has at least, by what the record states.
+        wanted: usize,
+    },
     /// A record of a set file, at this offset, has no name of a variable.
     #[error("the set is damaged: the record at byte {0} has a name that no variable has")]
     SetName(usize),
@@ -55,9 +62,17 @@ pub enum Reason {
     /// A file doesn't begin with a volume of variables.
     #[error("it doesn't begin with a firmware volume of variables")]
     NoVolume,
-    /// The header of a volume is damaged, or the file ends in the volume.
-    #[error("the header of its firmware volume is damaged, or the file is cut")]
+    /// The header of a volume is damaged.
+    #[error("the header of its firmware volume is damaged")]
     VolumeHeader,
+    /// A volume is to have more bytes than the file.
+    #[error("it has {found} bytes, and its firmware volume is to have {wanted}: it is cut, or the volume's header is damaged")]
+    VolumeCut {
+        /// How many bytes the file has.
+        found: usize,
+        /// How many the volume has, as its header states it.
+        wanted: u64,
+    },
     /// A volume has no store of variables.
     #[error("its firmware volume has no store of variables")]
     NoStore,
@@ -79,14 +94,9 @@ pub enum Reason {
     /// A folder has no variable of the standard, and isn't on an efivarfs.
     #[error("no boot variables are in it: is efivarfs mounted there?")]
     NoBootVariables,
-    /// Two files of a folder show one variable.
-    #[error("{one} and {other} are the same variable: take one of them away", one = Quoted(.first.as_str()), other = Quoted(.second.as_str()))]
-    Twice {
-        /// The name of the one file.
-        first: String,
-        /// The name of the other.
-        second: String,
-    },
+    /// Two files of a folder show one variable, of which one has this name.
+    #[error("{file} is there twice, with letters of its GUID in different case: take one of them away", file = Quoted(.0.as_str()))]
+    Twice(String),
     /// A set has no entry.
     #[error("no entry is in it, so all entries would be taken out: give --empty if that is meant")]
     NoEntry,
@@ -122,11 +132,15 @@ pub enum Reason {
 }
 
 impl Reason {
-    /// Why a set file is refused: `None` if only memory was.
-    pub(crate) fn of_set(fault: SetFault) -> Option<Reason> {
+    /// Why a set file with these bytes is refused: `None` if only memory was.
+    pub(crate) fn of_set(bytes: &[u8], fault: SetFault) -> Option<Reason> {
         match fault {
             SetFault::BadMagic(_) => Some(Reason::NoPlace(OtherKind::Unknown)),
-            SetFault::Truncated(place) => Some(Reason::SetCut(place)),
+            SetFault::Truncated(place) => Some(Reason::SetCut {
+                place,
+                found: bytes.len(),
+                wanted: place.saturating_add(record_len(bytes.get(place..).unwrap_or(&[]))),
+            }),
             SetFault::BadName(place) => Some(Reason::SetName(place)),
             SetFault::BadData(place) => Some(Reason::SetData(place)),
             SetFault::NotRising(place) => Some(Reason::SetOrder(place)),
@@ -134,16 +148,49 @@ impl Reason {
         }
     }
 
-    /// Why a variable file is refused: `None` if only memory was.
-    pub(crate) fn of_store(fault: StoreFault) -> Option<Reason> {
+    /// Why a variable file with these bytes is refused: `None` if only memory was.
+    pub(crate) fn of_store(bytes: &[u8], fault: StoreFault) -> Option<Reason> {
         match fault {
             StoreFault::NoVolume => Some(Reason::NoVolume),
-            StoreFault::BadHeader => Some(Reason::VolumeHeader),
+            StoreFault::BadHeader => Some(bad_header(bytes)),
             StoreFault::NoStore => Some(Reason::NoStore),
             StoreFault::Unauthenticated => Some(Reason::Unauthenticated),
             StoreFault::BadStore => Some(Reason::DamagedStore),
             StoreFault::CutRecord(place) => Some(Reason::RecordCut(place)),
             StoreFault::OutOfMemory => None,
         }
+    }
+}
+
+/// How many bytes the record of a set has that begins with these bytes, or has at least if what it states of that is cut
+/// off: a byte with the length of the name, the name, four with the length of the data, and the data.
+fn record_len(bytes: &[u8]) -> usize {
+    let Some((len, behind)) = bytes.split_first() else {
+        return 1;
+    };
+    let name = usize::from(*len);
+    let data = match behind.get(name..) {
+        Some([a, b, c, d, ..]) => u32::from_le_bytes([*a, *b, *c, *d]) as usize,
+        _ => 1,
+    };
+    data.saturating_add(name).saturating_add(5)
+}
+
+/// Why the header of the volume that these bytes begin with is refused: it states a length in eight bytes at offset 32.
+fn bad_header(bytes: &[u8]) -> Reason {
+    let found = bytes.len();
+    match volume_len(bytes) {
+        Some(wanted) if wanted > found as u64 => Reason::VolumeCut { found, wanted },
+        _ => Reason::VolumeHeader,
+    }
+}
+
+/// The length that the header of a volume states.
+fn volume_len(bytes: &[u8]) -> Option<u64> {
+    match bytes.get(32..)? {
+        [a, b, c, d, e, f, g, h, ..] => {
+            Some(u64::from_le_bytes([*a, *b, *c, *d, *e, *f, *g, *h]))
+        }
+        _ => None,
     }
 }

@@ -1,0 +1,92 @@
+//! What is to be said of numbers in BootOrder.
+
+use crate::content::{EntryDigits, NumberList};
+use crate::json::{Leaf, append_leaves};
+use serde::Serializer;
+use std::alloc::{AllocError, Global};
+use uefi_vars::Vars;
+
+/// What is to be said of numbers in BootOrder. Each list has its numbers once, by rising number.
+#[derive(Drop)]
+pub(crate) struct OrderMarks {
+    /// Those that have no entry.
+    stale: Vec<EntryDigits>,
+    /// Those of entries that aren't active.
+    inactive: Vec<EntryDigits>,
+    /// Those that are in it more than once.
+    twice: Vec<EntryDigits>,
+}
+
+impl OrderMarks {
+    /// Those of an order without numbers.
+    pub(crate) fn empty(alloc: Global) -> OrderMarks {
+        OrderMarks {
+            stale: Vec::new(alloc),
+            inactive: Vec::new(alloc),
+            twice: Vec::new(alloc),
+        }
+    }
+
+    /// The marks of this order of variables, of which these entries, by rising number, aren't active. This fails only when
+    /// out of memory.
+    pub(crate) fn new(
+        alloc: Global,
+        vars: &Vars,
+        order: &[EntryDigits],
+        inactive: &[EntryDigits],
+    ) -> Result<OrderMarks, AllocError> {
+        let mut numbers = Vec::from_slice(alloc, order)?;
+        numbers.sort_unstable();
+        let twice = repeated(alloc, &numbers)?;
+        numbers.dedup();
+        let mut marks = OrderMarks::empty(alloc);
+        marks.twice = twice;
+        for number in &numbers {
+            if vars.entry(number.0).is_none() {
+                marks.stale.push(*number)?;
+            } else if inactive.binary_search(number).is_ok() {
+                marks.inactive.push(*number)?;
+            }
+        }
+        Ok(marks)
+    }
+
+    /// Appends the members to the object that is open.
+    pub(crate) fn append_members<S: Serializer>(&self, out: &mut S) -> Result<(), S::Error> {
+        append_leaves(
+            &[
+                ("stale", Leaf::Entries(Some(&self.stale))),
+                ("inactive", Leaf::Entries(Some(&self.inactive))),
+                ("twice", Leaf::Entries(Some(&self.twice))),
+            ],
+            out,
+        )
+    }
+
+    /// Appends an indented line for each list that has numbers.
+    pub(crate) fn append_lines(&self, report: &mut String) -> Result<(), AllocError> {
+        append_list("stale", &self.stale, report)?;
+        append_list("inactive", &self.inactive, report)?;
+        append_list("twice", &self.twice, report)
+    }
+}
+
+/// Appends an indented line of these numbers, if there are some.
+fn append_list(word: &str, numbers: &[EntryDigits], report: &mut String) -> Result<(), AllocError> {
+    if numbers.is_empty() {
+        return Ok(());
+    }
+    writeln!(report, "  {word}{}", NumberList(numbers))
+}
+
+/// The numbers that come more than once, each once, in a list by rising number.
+fn repeated(alloc: Global, numbers: &[EntryDigits]) -> Result<Vec<EntryDigits>, AllocError> {
+    let mut repeated = Vec::new(alloc);
+    for (number, next) in numbers.iter().zip(numbers.iter().skip(1)) {
+        if number == next {
+            repeated.push(*number)?;
+        }
+    }
+    repeated.dedup();
+    Ok(repeated)
+}
