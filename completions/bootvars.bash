@@ -7,6 +7,15 @@ _bootvars() {
             "bootvars read" | \
 "bootvars show" | \
 "bootvars diff" | \
+"bootvars get" | \
+"bootvars add" | \
+"bootvars remove" | \
+"bootvars first" | \
+"bootvars order" | \
+"bootvars next" | \
+"bootvars activate" | \
+"bootvars deactivate" | \
+"bootvars undo" | \
 "bootvars write" | \
 "bootvars update" | \
 "bootvars option" | \
@@ -22,10 +31,44 @@ _bootvars() {
     done
     case "$command $before" in
         "bootvars read --out" | \
+"bootvars get --out" | \
+"bootvars add --optional-file" | \
+"bootvars add --state" | \
+"bootvars remove --state" | \
+"bootvars first --state" | \
+"bootvars order --state" | \
+"bootvars next --state" | \
+"bootvars activate --state" | \
+"bootvars deactivate --state" | \
+"bootvars undo --state" | \
+"bootvars write --state" | \
 "bootvars update --state" | \
 "bootvars option --optional-file" | \
 "bootvars option --out") COMPREPLY=($(compgen -f -- "$current")); return ;;
-        "bootvars update --boot-id" | \
+        "bootvars add --description" | \
+"bootvars add --path" | \
+"bootvars add --entry" | \
+"bootvars add --attributes" | \
+"bootvars add --optional-hex" | \
+"bootvars add --optional-text" | \
+"bootvars add --boot-id" | \
+"bootvars add --machine" | \
+"bootvars remove --boot-id" | \
+"bootvars remove --machine" | \
+"bootvars first --boot-id" | \
+"bootvars first --machine" | \
+"bootvars order --boot-id" | \
+"bootvars order --machine" | \
+"bootvars next --boot-id" | \
+"bootvars next --machine" | \
+"bootvars activate --boot-id" | \
+"bootvars activate --machine" | \
+"bootvars deactivate --boot-id" | \
+"bootvars deactivate --machine" | \
+"bootvars undo --boot-id" | \
+"bootvars undo --machine" | \
+"bootvars write --machine" | \
+"bootvars update --boot-id" | \
 "bootvars update --machine" | \
 "bootvars option --description" | \
 "bootvars option --path" | \
@@ -34,12 +77,21 @@ _bootvars() {
 "bootvars option --optional-text") return ;;
     esac
     case $command in
-        "bootvars") words="read show diff write update option frame explain --help --version -h -V" ;;
+        "bootvars") words="read show diff get add remove first order next activate deactivate undo write update option frame explain --help --version -h -V" ;;
         "bootvars read") words="--out --boot-only --help --version -h -V" ;;
         "bootvars show") words="--json --help --version -h -V" ;;
         "bootvars diff") words="--json --help --version -h -V" ;;
-        "bootvars write") words="--dry-run --empty --force --help --version -h -V" ;;
-        "bootvars update") words="--state --stream --json --next --settle --boot-id --machine --adopt --force --help --version -h -V" ;;
+        "bootvars get") words="--out --help --version -h -V" ;;
+        "bootvars add") words="--description --path --first --last --no-order --entry --again --inactive --hidden --app --reconnect --attributes --optional-hex --optional-file --optional-text --dry-run --json --state --boot-id --machine --adopt --force --help --version -h -V" ;;
+        "bootvars remove") words="--dry-run --json --state --boot-id --machine --adopt --force --help --version -h -V" ;;
+        "bootvars first") words="--dry-run --json --state --boot-id --machine --adopt --force --help --version -h -V" ;;
+        "bootvars order") words="--empty --stale --only --dry-run --json --state --boot-id --machine --adopt --force --help --version -h -V" ;;
+        "bootvars next") words="--none --dry-run --json --state --boot-id --machine --adopt --force --help --version -h -V" ;;
+        "bootvars activate") words="--dry-run --json --state --boot-id --machine --adopt --force --help --version -h -V" ;;
+        "bootvars deactivate") words="--dry-run --json --state --boot-id --machine --adopt --force --help --version -h -V" ;;
+        "bootvars undo") words="--list --dry-run --json --state --boot-id --machine --adopt --force --help --version -h -V" ;;
+        "bootvars write") words="--dry-run --json --empty --state --machine --force --help --version -h -V" ;;
+        "bootvars update") words="--state --stream --dry-run --json --next --settle --boot-id --machine --adopt --force --help --version -h -V" ;;
         "bootvars option") words="--description --path --inactive --hidden --app --reconnect --attributes --optional-hex --optional-file --optional-text --out --help --version -h -V" ;;
         "bootvars frame") words="add replace add-free remove order next --raw --help --version -h -V" ;;
         "bootvars frame add") words="--raw --help --version -h -V" ;;

@@ -27,7 +27,8 @@ CRATE = "case_runner"
 
 LIBRARIES = (
     "uefi_path uefi_text uefi_names uefi_option uefi_vars var_stores boot_requests whole_files "
-    "boot_commands boot_texts var_commands serde_json hex anyhow"
+    "boot_journal boot_edits boot_commands boot_texts var_places boot_history var_commands "
+    "serde_json hex anyhow"
 )
 """What it stands on."""
 

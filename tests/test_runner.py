@@ -162,7 +162,9 @@ class CommandLines(WithPrograms):
     def test_surroundings(self) -> None:
         self.assertEqual(self.found("[[ $1 == $'\\xff' ]]", words=[{"hex": "ff"}]), [])
         self.assertEqual(self.found("echo a 2>/dev/null || exit 5", full=["stdout"], status=5), [])
-        self.assertEqual(self.found("trap '' PIPE; echo a 2>/dev/null || exit 5", closed=True, status=5), [])
+        self.assertEqual(
+            self.found("trap '' PIPE; echo a 2>/dev/null || exit 5", closed=True, status=5), []
+        )
         self.assertEqual(self.found("[[ $(ulimit -v) == 1048576 ]]", memory=1024), [])
         self.assertEqual(self.found("[[ $(ulimit -v) == unlimited && ! $HOME ]]"), [])
 

@@ -48,7 +48,9 @@ PROGRAMS: Dict[str, Commands] = {
     ),
     "bootvars": Commands(
         shows=frozenset(["show", "diff", "explain", "help"]),
-        keeps=frozenset(["read", "write", "update", "option", "frame"]),
+        keeps=frozenset(
+            "read get add remove first order next activate deactivate undo write update option frame".split()
+        ),
         of_places=frozenset(["show", "diff", "explain", "write"]),
     ),
 }

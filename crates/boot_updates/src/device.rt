@@ -29,7 +29,7 @@ pub(crate) enum Place<F> {
 
 /// A place, and the file of its journal.
 #[derive(Drop)]
-pub(crate) struct PlaceDevice<'a, R: Files> {
+pub struct PlaceDevice<'a, R: Files> {
     /// What reaches them.
     pub(crate) rt: &'a R,
     /// The place.

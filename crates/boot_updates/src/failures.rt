@@ -1,6 +1,6 @@
 //! What keeps an update from being made, in words.
 
-use crate::updates::UpdateWords;
+use crate::machine_words::MachineWords;
 use boot_journal::{CallError, CommandError, RunFault, UpdateError};
 use boot_texts::open_reason;
 use std::alloc::{AllocError, Global};
@@ -23,24 +23,33 @@ impl Display for Cause<'_> {
 /// What it is to the program that a command failed.
 pub(crate) fn of_command(
     alloc: Global,
-    words: &UpdateWords<'_>,
+    words: &MachineWords<'_>,
     error: CommandError<Failure, RunFault>,
 ) -> Failure {
     match error {
         CommandError::OutOfMemory => Failure::Memory,
         CommandError::Run(fault) => of_run(alloc, words, fault),
         CommandError::Settling(error) => of_settling(alloc, words, error),
-        CommandError::Updating(error) => of_error(
-            alloc,
-            words,
-            error,
-            "so the update is taken back, and the machine is as before it",
-        ),
+        CommandError::Updating(error) => of_updating(alloc, words, error),
     }
 }
 
+/// What it is to the program that an update couldn't be made.
+pub fn of_updating(
+    alloc: Global,
+    words: &MachineWords<'_>,
+    error: UpdateError<Failure>,
+) -> Failure {
+    of_error(
+        alloc,
+        words,
+        error,
+        "so the update is taken back, and the machine is as before it",
+    )
+}
+
 /// What it is to the program that the variables of the place, or those that the requests lead to, are refused.
-fn of_run(alloc: Global, words: &UpdateWords<'_>, fault: RunFault) -> Failure {
+pub(crate) fn of_run(alloc: Global, words: &MachineWords<'_>, fault: RunFault) -> Failure {
     match fault {
         RunFault::Open(open) => match format!(in alloc; "{open}: {}", open_reason(&open)) {
             Ok(text) => Failure::of_run(alloc, words.place, text.as_str()),
@@ -62,9 +71,9 @@ fn of_run(alloc: Global, words: &UpdateWords<'_>, fault: RunFault) -> Failure {
 }
 
 /// What it is to the program that what was left of an earlier update couldn't be made.
-pub(crate) fn of_settling(
+pub fn of_settling(
     alloc: Global,
-    words: &UpdateWords<'_>,
+    words: &MachineWords<'_>,
     error: UpdateError<Failure>,
 ) -> Failure {
     of_error(
@@ -78,7 +87,7 @@ pub(crate) fn of_settling(
 /// What it is to the program that an update couldn't be made: if it is taken back, these words say so.
 fn of_error(
     alloc: Global,
-    words: &UpdateWords<'_>,
+    words: &MachineWords<'_>,
     error: UpdateError<Failure>,
     taken_back: &str,
 ) -> Failure {
@@ -94,7 +103,7 @@ fn of_error(
 /// What it is to the program that an update was neither made nor taken back.
 fn unsettled(
     alloc: Global,
-    words: &UpdateWords<'_>,
+    words: &MachineWords<'_>,
     cause: &CallError<Failure>,
     second: Option<&CallError<Failure>>,
 ) -> Failure {

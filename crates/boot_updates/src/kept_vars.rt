@@ -7,20 +7,38 @@ use var_places::{Failure, PlaceVars};
 
 /// The variables of a machine, as it keeps them.
 #[derive(Drop)]
-pub(crate) struct KeptVars {
+pub struct KeptVars {
     /// The variables, those of the boot manager with their attributes in front of their data. An entry that no set can hold
     /// is there with data that stands for its own, so that its number is taken.
-    pub(crate) vars: Vars,
+    pub vars: Vars,
     /// The names of the variables of the boot manager that no set can hold.
-    pub(crate) left_out: Vec<String>,
+    pub left_out: Vec<String>,
+    /// Whether the place is a folder.
+    pub is_folder: bool,
 }
 
-/// What the machine in the place of this name keeps of the variables that were found there.
+impl KeptVars {
+    /// Gives each entry that no set can hold what stands for it, among other variables of the machine.
+    ///
+    /// # Errors
+    ///
+    /// [`AllocError`] if memory was refused.
+    pub fn keep_left_out(&self, vars: &mut Vars) -> Result<(), AllocError> {
+        take_numbers(vars, &self.left_out)
+    }
+}
+
+/// What the machine in the place of this name, which may be a folder, keeps of the variables that were found there.
 ///
 /// # Errors
 ///
 /// [`Failure::Memory`] if memory was refused.
-pub(crate) fn kept_vars(alloc: Global, place: &str, found: PlaceVars) -> Result<KeptVars, Failure> {
+pub fn kept_of(
+    alloc: Global,
+    place: &str,
+    is_folder: bool,
+    found: PlaceVars,
+) -> Result<KeptVars, Failure> {
     let PlaceVars {
         mut vars,
         attributes,
@@ -37,7 +55,11 @@ pub(crate) fn kept_vars(alloc: Global, place: &str, found: PlaceVars) -> Result<
         Err(fault) => return Err(Failure::of_fault(alloc, place, fault)),
     };
     take_numbers(&mut vars, &left_out)?;
-    Ok(KeptVars { vars, left_out })
+    Ok(KeptVars {
+        vars,
+        left_out,
+        is_folder,
+    })
 }
 
 /// The names of the variables that have no room for attributes beside their data in a set.

@@ -52,21 +52,21 @@ fn changed_by<'a>(
 /// The variable of these that the request would change. A request that makes an entry passes their numbers over.
 fn changed_by_request<'a>(request: &Request, left_out: &'a [String]) -> Option<&'a str> {
     match request {
-        Request::Add(..) | Request::AddFree(_) => named(left_out, BOOT_ORDER),
-        Request::Replace(entry, _) | Request::Remove(entry) => entry_of(left_out, *entry),
+        Request::Add(..) | Request::AddFree(_) => left_out_name(left_out, BOOT_ORDER),
+        Request::Replace(entry, _) | Request::Remove(entry) => left_out_entry(left_out, *entry),
         Request::Next(entry) => {
-            entry_of(left_out, *entry).or_else(|| named(left_out, BOOT_NEXT))
+            left_out_entry(left_out, *entry).or_else(|| left_out_name(left_out, BOOT_NEXT))
         }
         Request::Order(order) => order
             .numbers()
             .iter()
-            .find_map(|entry| entry_of(left_out, *entry))
-            .or_else(|| named(left_out, BOOT_ORDER)),
+            .find_map(|entry| left_out_entry(left_out, *entry))
+            .or_else(|| left_out_name(left_out, BOOT_ORDER)),
     }
 }
 
 /// The name of the entry of this number, if it is one of these.
-fn entry_of(left_out: &[String], entry: u16) -> Option<&str> {
+pub fn left_out_entry(left_out: &[String], entry: u16) -> Option<&str> {
     left_out
         .iter()
         .map(String::as_str)
@@ -74,7 +74,7 @@ fn entry_of(left_out: &[String], entry: u16) -> Option<&str> {
 }
 
 /// This name, if it is one of these.
-fn named<'a>(left_out: &'a [String], name: &str) -> Option<&'a str> {
+pub fn left_out_name<'a>(left_out: &'a [String], name: &str) -> Option<&'a str> {
     left_out
         .iter()
         .map(String::as_str)

@@ -4,21 +4,41 @@
 //! [`update`] runs numbered requests over the variables of a place, and makes what they lead to as a whole, whatever is cut
 //! off when: a folder of its own has the journal by which that is so. It is `boot_journal`'s
 //! [`command`](boot_journal::command) over a device that is the place and that folder.
+//!
+//! Other changes of a place are made over the same [`Machine`]: [`lock_folder`] keeps others from its journal, [`open_place`]
+//! reads the variables, and [`open_machine`] makes the machine of the two. [`stands_for`] tells
+//! without any change what a machine stands for. [`of_settling`] and [`of_updating`] are what keeps a change from being made,
+//! in words.
 #![tactic(auto)]
 
+mod boot_identity;
 mod device;
 mod failures;
 mod kept_vars;
 mod left_out;
+mod machine_words;
 mod opened;
 mod owner;
+mod plan;
 mod replies;
 mod requests_run;
 mod script;
+mod standing;
 mod state_folder;
 mod told;
 mod updates;
+mod values;
 mod variable_file;
 
+pub use device::PlaceDevice;
+pub use failures::{of_settling, of_updating};
+pub use kept_vars::{KeptVars, kept_of};
+pub use left_out::{left_out_entry, left_out_name};
+pub use machine_words::MachineWords;
+pub use opened::{Machine, OpenedPlace, open_machine, open_place, read_kept};
+pub use owner::name_of_machine;
 pub use replies::Ended;
+pub use standing::{SettledVars, is_left_to, stands_for};
+pub use state_folder::{StateFolder, lock_folder, stored_journal};
+pub use told::{changes_text, set_of, tell_of_coming, tell_of_due, tell_of_unnamed};
 pub use updates::{Job, UpdateWords, update};

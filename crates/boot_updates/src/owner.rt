@@ -1,7 +1,7 @@
 //! Whose a journal is.
 
 use crate::device::PlaceDevice;
-use crate::updates::UpdateWords;
+use crate::machine_words::MachineWords;
 use boot_journal::{AttributesFault, Journal, JournalFile, MachineName};
 use std::alloc::Global;
 use std::rt::Files;
@@ -14,9 +14,9 @@ use whole_files::OutputFile;
 /// # Errors
 ///
 /// [`Failure::Words`] if `--machine` is no name, and those of [`machine_name`].
-pub(crate) fn name_of_machine<R: Files + AllocGlobal>(
+pub fn name_of_machine<R: Files + AllocGlobal>(
     rt: &R,
-    words: &UpdateWords<'_>,
+    words: &MachineWords<'_>,
     is_folder: bool,
 ) -> Result<MachineName, Failure> {
     let alloc = rt.alloc();
@@ -33,6 +33,15 @@ pub(crate) fn name_of_machine<R: Files + AllocGlobal>(
     }
 }
 
+/// A stored journal as a machine's own.
+#[derive(Drop)]
+pub(crate) struct OwnJournal {
+    /// The journal.
+    pub(crate) journal: Journal,
+    /// Whether its file is yet to be replaced by one that names the machine.
+    pub(crate) is_unnamed: bool,
+}
+
 /// The journal of the device's machine, of what was stored: a new one if nothing was. A journal that names no machine is
 /// taken, and so is another machine's by `--adopt` if nothing is left to do: both are replaced by one that names this
 /// machine. What `there` has under the name of a variable begins with its attributes.
@@ -42,85 +51,114 @@ pub(crate) fn name_of_machine<R: Files + AllocGlobal>(
 /// [`Failure::Refused`] if it is another machine's, and [`Failure::Write`] with the system's reason if it can't be
 /// replaced. Nothing was changed then. [`Failure::Memory`] if memory was refused.
 pub(crate) fn own_journal<R: Files<File: OutputFile> + Input + Print + AllocGlobal>(
-    words: &UpdateWords<'_>,
+    words: &MachineWords<'_>,
     device: &PlaceDevice<'_, R>,
     stored: Option<JournalFile>,
     there: &Vars,
 ) -> Result<Journal, Failure> {
-    let Some(JournalFile { machine, journal }) = stored else {
-        return Ok(Journal::new());
+    let path = device.journal.as_str();
+    let owner = Owner {
+        words,
+        machine: &device.machine,
+        path,
     };
-    match machine {
-        Some(machine) => {
-            make_own(words, device, &machine, &journal)?;
-            Ok(journal)
-        }
-        None => name_journal(device, &journal, there),
+    let OwnJournal {
+        journal,
+        is_unnamed,
+    } = owner.take(device.rt.alloc(), stored, there)?;
+    if is_unnamed {
+        device.replace(&journal)?;
     }
-}
-
-/// Makes the journal of the machine of this name the device's, if that is another machine.
-fn make_own<R: Files<File: OutputFile> + Input + Print + AllocGlobal>(
-    words: &UpdateWords<'_>,
-    device: &PlaceDevice<'_, R>,
-    machine: &MachineName,
-    journal: &Journal,
-) -> Result<(), Failure> {
-    if machine.as_bytes() == device.machine.as_bytes() {
-        return Ok(());
-    }
-    check_adoption(device.rt.alloc(), words, device, (machine, journal))?;
-    device.replace(journal)
-}
-
-/// The journal of a file without a name, as the device's: its changes have no attributes, and get those that are there.
-fn name_journal<R: Files<File: OutputFile> + Input + Print + AllocGlobal>(
-    device: &PlaceDevice<'_, R>,
-    journal: &Journal,
-    there: &Vars,
-) -> Result<Journal, Failure> {
-    let journal = with_attributes(device, journal, there)?;
-    device.replace(&journal)?;
     Ok(journal)
 }
 
-/// The journal with the attributes that are there on its changes.
-fn with_attributes<R: Files + AllocGlobal>(
-    device: &PlaceDevice<'_, R>,
-    journal: &Journal,
-    there: &Vars,
-) -> Result<Journal, Failure> {
-    let alloc = device.rt.alloc();
-    journal
-        .with_attributes(alloc, there)
-        .map_err(|fault| match fault {
-            AttributesFault::OutOfMemory => Failure::Memory,
-            fault => Failure::of_fault(alloc, device.journal.as_str(), fault),
-        })
+/// A machine to which the journal at a path is to belong.
+#[derive(Clone, Copy)]
+pub(crate) struct Owner<'a, 'w> {
+    /// The words that name them.
+    pub(crate) words: &'a MachineWords<'w>,
+    /// What the machine is called.
+    pub(crate) machine: &'a MachineName,
+    /// The path of the journal.
+    pub(crate) path: &'a str,
 }
 
-/// Refuses the journal of this other machine, unless it is to be taken over and has nothing left to do.
-fn check_adoption<R: Files>(
-    alloc: Global,
-    words: &UpdateWords<'_>,
-    device: &PlaceDevice<'_, R>,
-    (machine, journal): (&MachineName, &Journal),
-) -> Result<(), Failure> {
-    if words.adopt && journal.is_idle() {
-        return Ok(());
+impl Owner<'_, '_> {
+    /// The journal of this machine, of what was stored, as by [`own_journal`]; its file isn't replaced.
+    ///
+    /// # Errors
+    ///
+    /// [`Failure::Refused`] if it is another machine's, and [`Failure::Memory`] if memory was refused.
+    pub(crate) fn take(
+        &self,
+        alloc: Global,
+        stored: Option<JournalFile>,
+        there: &Vars,
+    ) -> Result<OwnJournal, Failure> {
+        let Some(JournalFile { machine, journal }) = stored else {
+            return Ok(OwnJournal {
+                journal: Journal::new(),
+                is_unnamed: false,
+            });
+        };
+        match machine {
+            Some(machine) if machine.as_bytes() == self.machine.as_bytes() => Ok(OwnJournal {
+                journal,
+                is_unnamed: false,
+            }),
+            Some(machine) => {
+                self.check_adoption(alloc, &machine, &journal)?;
+                Ok(OwnJournal {
+                    journal,
+                    is_unnamed: true,
+                })
+            }
+            None => Ok(OwnJournal {
+                journal: self.with_attributes(alloc, &journal, there)?,
+                is_unnamed: true,
+            }),
+        }
     }
-    let why = if words.adopt {
-        "an update of that machine has something left to do, which --settle does there"
-    } else {
-        "give each machine a folder of its own, or take this one over by --adopt"
-    };
-    let theirs = Quoted(text_of(machine));
-    let own = Quoted(text_of(&device.machine));
-    Err(Failure::of_fault(
-        alloc,
-        device.journal.as_str(),
-        format_args!("it is the journal of machine {theirs}, and this is {own}: {why}"),
-    ))
+
+    /// The journal of a file without a name: its changes have no attributes, and get those that are there.
+    fn with_attributes(
+        &self,
+        alloc: Global,
+        journal: &Journal,
+        there: &Vars,
+    ) -> Result<Journal, Failure> {
+        journal
+            .with_attributes(alloc, there)
+            .map_err(|fault| match fault {
+                AttributesFault::OutOfMemory => Failure::Memory,
+                fault => Failure::of_fault(alloc, self.path, fault),
+            })
+    }
+
+    /// Refuses the journal of another machine, unless it is to be taken over and has nothing left to do.
+    fn check_adoption(
+        &self,
+        alloc: Global,
+        machine: &MachineName,
+        journal: &Journal,
+    ) -> Result<(), Failure> {
+        let is_adopted = self.words.adopt;
+        if is_adopted && journal.is_idle() {
+            return Ok(());
+        }
+        let why = if is_adopted {
+            "an update of that machine has something left to do, which --settle does there"
+        } else {
+            "give each machine a folder of its own, or take this one over by --adopt"
+        };
+        let theirs = Quoted(text_of(machine));
+        let own = Quoted(text_of(self.machine));
+        Err(Failure::of_fault(
+            alloc,
+            self.path,
+            format_args!("it is the journal of machine {theirs}, and this is {own}: {why}"),
+        ))
+    }
 }
 
 /// The name of a machine as a text.

@@ -23,12 +23,30 @@ pub enum Ended {
     NotAll,
 }
 
+/// The answers to the events of the script as they are printed: as lines, or as JSON.
+///
+/// # Errors
+///
+/// [`AllocError`] if memory was refused.
+pub(crate) fn answers_text(
+    alloc: Global,
+    script: &Script<'_>,
+    answered: &Answered,
+    json: bool,
+) -> Result<String, AllocError> {
+    if json {
+        answers_json(alloc, script, answered)
+    } else {
+        answer_lines(alloc, &answered.answers)
+    }
+}
+
 /// The answers as lines, as `bootkeep run` prints replies.
 ///
 /// # Errors
 ///
 /// [`AllocError`] if memory was refused.
-pub(crate) fn answer_lines(alloc: Global, answers: &[Answer]) -> Result<String, AllocError> {
+fn answer_lines(alloc: Global, answers: &[Answer]) -> Result<String, AllocError> {
     let mut text = String::new(alloc);
     for answer in answers {
         append_reply_line(alloc, &answer.reply, &mut text)?;
@@ -42,7 +60,7 @@ pub(crate) fn answer_lines(alloc: Global, answers: &[Answer]) -> Result<String, 
 /// # Errors
 ///
 /// [`AllocError`] if memory was refused.
-pub(crate) fn answers_json(
+fn answers_json(
     alloc: Global,
     script: &Script<'_>,
     answered: &Answered,

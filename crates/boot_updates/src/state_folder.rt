@@ -14,7 +14,7 @@ const JOURNAL: &str = "journal";
 
 /// A folder with a journal, of which the lock is held. It ends when this is dropped.
 #[derive(Drop)]
-pub(crate) struct StateFolder<F> {
+pub struct StateFolder<F> {
     /// The path of the journal.
     journal: PathBuf,
     /// The folder, which is open and locked.
@@ -27,14 +27,14 @@ pub(crate) struct StateFolder<F> {
 ///
 /// [`Failure::Read`] if it can't be opened or locked, [`Failure::Refused`] if it is no folder, [`Failure::Busy`] if another
 /// update has the lock, and [`Failure::Memory`] if memory was refused.
-pub(crate) fn lock_folder<R: Files<File: OutputFile> + AllocGlobal>(
+pub fn lock_folder<R: Files<File: OutputFile> + AllocGlobal>(
     rt: &R,
     path: &str,
 ) -> Result<StateFolder<R::File>, Failure> {
     let alloc = rt.alloc();
     match try_lock_folder(rt, path) {
         Ok(Some(lock)) => Ok(StateFolder {
-            journal: Path::new(path).join(alloc, JOURNAL)?,
+            journal: journal_path(alloc, path)?,
             _lock: lock,
         }),
         Ok(None) => Err(Failure::Busy(shown(alloc, path)?)),
@@ -60,9 +60,14 @@ fn try_lock_folder<R: Files<File: OutputFile>>(rt: &R, path: &str) -> io::Result
 
 impl<F> StateFolder<F> {
     /// The path of the journal.
-    pub(crate) fn journal(&self) -> &str {
+    pub fn journal(&self) -> &str {
         self.journal.as_path().as_str()
     }
+}
+
+/// The path of the journal in the folder at this path. This fails only when out of memory.
+pub(crate) fn journal_path(alloc: Global, folder: &str) -> Result<PathBuf, AllocError> {
+    Path::new(folder).join(alloc, JOURNAL)
 }
 
 /// The journal that is stored at this path, if there is one.
@@ -71,7 +76,7 @@ impl<F> StateFolder<F> {
 ///
 /// [`Failure::Read`] if it can't be read, [`Failure::Refused`] if it is damaged, and [`Failure::Memory`] if memory was
 /// refused.
-pub(crate) fn stored_journal<R: Files + AllocGlobal>(
+pub fn stored_journal<R: Files + AllocGlobal>(
     rt: &R,
     path: &str,
 ) -> Result<Option<JournalFile>, Failure> {

@@ -1,13 +1,16 @@
 //! The command `update`.
 
 use crate::failures::{of_command, of_settling};
-use crate::opened::open_machine;
-use crate::replies::{Ended, answer_lines, answers_json, ending, last_next};
+use crate::left_out::check_requests;
+use crate::machine_words::MachineWords;
+use crate::opened::{Machine, open_machine, open_place};
+use crate::plan::plan_script;
+use crate::replies::{Ended, answers_text, ending, last_next};
 use crate::requests_run::{Answered, RequestsRun};
 use crate::script::{Script, read_events};
 use crate::state_folder::lock_folder;
 use crate::told::tell_of_unnamed;
-use boot_journal::{Requests, command, settle};
+use boot_journal::{BootId, Requests, command, settle};
 use boot_requests::InputFormat;
 use std::rt::Files;
 use var_places::{Failure, print};
@@ -16,18 +19,8 @@ use whole_files::OutputFile;
 /// The words of an update.
 #[derive(Clone, Copy, Debug)]
 pub struct UpdateWords<'a> {
-    /// The path of the folder with the journal.
-    pub state: &'a str,
-    /// The path of the place.
-    pub place: &'a str,
-    /// The identity of the machine's start, if it is given.
-    pub boot_id: Option<&'a str>,
-    /// What the machine is called, if it is given.
-    pub machine: Option<&'a str>,
-    /// Whether another machine's journal is taken over, if it has nothing left to do.
-    pub adopt: bool,
-    /// Whether a variable file is written that is damaged.
-    pub force: bool,
+    /// The machine.
+    pub machine: MachineWords<'a>,
     /// What is to be done.
     pub job: Job<'a>,
 }
@@ -43,6 +36,8 @@ pub enum Job<'a> {
         is_stream: bool,
         /// Whether the replies are printed as JSON.
         json: bool,
+        /// Whether nothing is changed, and what would be is printed.
+        dry_run: bool,
     },
     /// To tell the next number.
     Next,
@@ -73,51 +68,45 @@ pub fn update<R: Files<File: OutputFile> + Input + Print + Eprint + AllocGlobal>
             script,
             is_stream,
             json,
+            dry_run,
         } => {
             let format = if is_stream {
                 InputFormat::Stream
             } else {
                 InputFormat::Script
             };
-            run_script(rt, words, &read_events(rt, script, format)?, json)
+            let script = read_events(rt, script, format)?;
+            if dry_run {
+                plan_script(rt, &words.machine, &script, json)
+            } else {
+                run_script(rt, &words.machine, &script, json)
+            }
         }
-        Job::Next => tell_next(rt, words),
-        Job::Settle => settle_place(rt, words),
+        Job::Next => tell_next(rt, &words.machine),
+        Job::Settle => settle_place(rt, &words.machine),
     }
 }
 
 /// Runs the script over the place, and prints the replies.
 fn run_script<R: Files<File: OutputFile> + Input + Print + Eprint + AllocGlobal>(
     rt: &R,
-    words: &UpdateWords<'_>,
+    words: &MachineWords<'_>,
     script: &Script<'_>,
     json: bool,
 ) -> Result<Ended, Failure> {
     let answered = run_events(rt, words, script)?;
     tell_of_unnamed(rt, words.place, &answered.unnamed);
-    print_answers(rt, script, &answered, json)?;
+    print(
+        rt,
+        answers_text(rt.alloc(), script, &answered, json)?.as_bytes(),
+    )?;
     Ok(ending(&answered.answers))
-}
-
-/// Prints the replies to the events of the script.
-fn print_answers<R: Print + AllocGlobal>(
-    rt: &R,
-    script: &Script<'_>,
-    answered: &Answered,
-    json: bool,
-) -> Result<(), Failure> {
-    let text = if json {
-        answers_json(rt.alloc(), script, answered)?
-    } else {
-        answer_lines(rt.alloc(), &answered.answers)?
-    };
-    print(rt, text.as_bytes())
 }
 
 /// Prints the next number.
 fn tell_next<R: Files<File: OutputFile> + Input + Print + Eprint + AllocGlobal>(
     rt: &R,
-    words: &UpdateWords<'_>,
+    words: &MachineWords<'_>,
 ) -> Result<Ended, Failure> {
     let next = next_number(rt, words)?;
     let text = format!(in rt.alloc(); "{next}\n")?;
@@ -128,7 +117,7 @@ fn tell_next<R: Files<File: OutputFile> + Input + Print + Eprint + AllocGlobal>(
 /// The next number, after what is left of earlier updates was done.
 fn next_number<R: Files<File: OutputFile> + Input + Print + Eprint + AllocGlobal>(
     rt: &R,
-    words: &UpdateWords<'_>,
+    words: &MachineWords<'_>,
 ) -> Result<u32, Failure> {
     let answered = run_events(rt, words, &Script::restart(rt.alloc())?)?;
     Ok(last_next(&answered.answers))
@@ -137,7 +126,7 @@ fn next_number<R: Files<File: OutputFile> + Input + Print + Eprint + AllocGlobal
 /// Does what is left of earlier updates, and runs the events of the script.
 fn run_events<R: Files<File: OutputFile> + Input + Print + Eprint + AllocGlobal>(
     rt: &R,
-    words: &UpdateWords<'_>,
+    words: &MachineWords<'_>,
     script: &Script<'_>,
 ) -> Result<Answered, Failure> {
     let folder = lock_folder(rt, words.state)?;
@@ -147,12 +136,12 @@ fn run_events<R: Files<File: OutputFile> + Input + Print + Eprint + AllocGlobal>
 /// Does what is left of earlier updates, and runs the events. The folder with the journal at this path is locked.
 fn run_locked<R: Files<File: OutputFile> + Input + Print + Eprint + AllocGlobal>(
     rt: &R,
-    words: &UpdateWords<'_>,
+    words: &MachineWords<'_>,
     journal_path: &str,
     script: &Script<'_>,
 ) -> Result<Answered, Failure> {
     let alloc = rt.alloc();
-    let (mut machine, boot) = open_machine(rt, words, journal_path, script)?;
+    let (mut machine, boot) = open_for(rt, words, journal_path, script)?;
     let run = RequestsRun {
         requests: Requests {
             events: &script.events,
@@ -161,10 +150,22 @@ fn run_locked<R: Files<File: OutputFile> + Input + Print + Eprint + AllocGlobal>
     command(alloc, &mut machine, &run, &boot).map_err(|error| of_command(alloc, words, error))
 }
 
+/// The machine of the place, for the events of this script, unless one of them would change what no set can hold.
+fn open_for<'a, R: Files<File: OutputFile> + Input + Print + Eprint + AllocGlobal>(
+    rt: &'a R,
+    words: &MachineWords<'_>,
+    journal_path: &str,
+    script: &Script<'_>,
+) -> Result<(Machine<'a, R>, BootId), Failure> {
+    let opened = open_place(rt, words)?;
+    check_requests(rt.alloc(), script, opened.left_out())?;
+    open_machine(rt, words, opened, journal_path)
+}
+
 /// Does what is left of earlier updates.
 fn settle_place<R: Files<File: OutputFile> + Input + Print + Eprint + AllocGlobal>(
     rt: &R,
-    words: &UpdateWords<'_>,
+    words: &MachineWords<'_>,
 ) -> Result<Ended, Failure> {
     let folder = lock_folder(rt, words.state)?;
     settle_locked(rt, words, folder.journal())?;
@@ -174,10 +175,10 @@ fn settle_place<R: Files<File: OutputFile> + Input + Print + Eprint + AllocGloba
 /// Does what is left of earlier updates. The folder with the journal at this path is locked.
 fn settle_locked<R: Files<File: OutputFile> + Input + Print + Eprint + AllocGlobal>(
     rt: &R,
-    words: &UpdateWords<'_>,
+    words: &MachineWords<'_>,
     journal_path: &str,
 ) -> Result<(), Failure> {
     let alloc = rt.alloc();
-    let (mut machine, boot) = open_machine(rt, words, journal_path, &Script::empty(alloc))?;
+    let (mut machine, boot) = open_machine(rt, words, open_place(rt, words)?, journal_path)?;
     settle(alloc, &mut machine, &boot).map_err(|error| of_settling(alloc, words, error))
 }

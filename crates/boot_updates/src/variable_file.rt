@@ -1,6 +1,7 @@
 //! Changes of single variables of an emulator's variable file.
 
-use std::alloc::{AllocError, Global};
+use crate::values::set_value;
+use std::alloc::Global;
 use std::rt::Files;
 use uefi_vars::{ATTRIBUTES_LEN, Vars};
 use var_places::{Failure, changed_variable_file, of_store, read};
@@ -63,12 +64,12 @@ fn with_variable(
     let Stored { mut vars, .. } = read_stored(alloc, path, bytes)?;
     let mut attributes = Vars::new(alloc);
     let kept = kept.and_then(|kept| kept.split_at_checked(ATTRIBUTES_LEN));
-    set(
+    set_value(
         &mut attributes,
         name,
         kept.map(|(attributes, _data)| attributes),
     )?;
-    set(&mut vars, name, kept.map(|(_attributes, data)| data))?;
+    set_value(&mut vars, name, kept.map(|(_attributes, data)| data))?;
     changed_variable_file(alloc, path, bytes, &vars, &attributes)
 }
 
@@ -115,16 +116,4 @@ fn read_stored(alloc: Global, path: &str, bytes: &[u8]) -> Result<Stored, Failur
         vars: store_vars(alloc, &store)?,
         attributes: store_attributes(alloc, &store)?,
     })
-}
-
-/// Sets the variable to this value, or takes it out. Only memory can be refused: a journal has no name and no value that
-/// a set can't hold.
-fn set(vars: &mut Vars, name: &str, value: Option<&[u8]>) -> Result<(), AllocError> {
-    match value {
-        Some(value) => vars.put(name, value).map_err(|_| AllocError),
-        None => {
-            vars.remove(name);
-            Ok(())
-        }
-    }
 }

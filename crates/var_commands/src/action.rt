@@ -1,7 +1,9 @@
 //! What the words of the command line ask for.
 
+use boot_edits::Position;
 use boot_texts::Flags;
-use boot_updates::UpdateWords;
+use boot_updates::{MachineWords, UpdateWords};
+use place_edits::UndoWords;
 
 /// What the words of the command line ask for.
 #[derive(Clone, Copy)]
@@ -31,12 +33,37 @@ pub enum Action<'a> {
         /// How the differences are shown.
         form: Form,
     },
+    /// To make a file of the load option of an entry.
+    Get {
+        /// The place.
+        place: &'a str,
+        /// The entry, as it is written.
+        entry: &'a str,
+        /// The path of the file.
+        out: &'a str,
+    },
+    /// To change boot entries of a place.
+    Change(ChangeWords<'a>),
+    /// To bring back what was there before the last change of a machine.
+    Undo(UndoWords<'a>),
+    /// To list the changes of a machine that can be undone.
+    ListChanges {
+        /// The machine.
+        machine: MachineWords<'a>,
+        /// How they are shown.
+        form: Form,
+    },
     /// To make the boot variables of a place those of a set.
-    Write(WriteWords<'a>),
+    Write(SetWords<'a>),
     /// To run requests over the boot variables of a place.
     Update(UpdateWords<'a>),
     /// To make a load option.
-    LoadOption(LoadOptionWords<'a>),
+    LoadOption {
+        /// What it has.
+        option: LoadOptionWords<'a>,
+        /// The path of the file that it is written to.
+        out: &'a str,
+    },
     /// To make the frame of a request.
     Frame {
         /// The number of the request, as it is written.
@@ -68,20 +95,74 @@ pub enum Form {
 
 /// The words of `write`.
 #[derive(Clone, Copy)]
-pub struct WriteWords<'a> {
+pub struct SetWords<'a> {
     /// The path of the set file.
     pub set: &'a str,
-    /// The place that is written.
-    pub place: &'a str,
+    /// The machine.
+    pub machine: MachineWords<'a>,
+    /// Whether the state folder is named.
+    pub names_state: bool,
     /// Whether the changes are only shown.
     pub dry_run: bool,
+    /// How they are shown.
+    pub form: Form,
     /// Whether a set without an entry is written.
     pub empty: bool,
-    /// Whether a variable file is written that is damaged.
-    pub force: bool,
 }
 
-/// The words of `option`.
+/// The words of a change of boot entries.
+#[derive(Clone, Copy)]
+pub struct ChangeWords<'a> {
+    /// The machine.
+    pub machine: MachineWords<'a>,
+    /// What is to be changed.
+    pub change: EntryChange<'a>,
+    /// Whether the changes are only shown.
+    pub dry_run: bool,
+    /// How they are shown.
+    pub form: Form,
+}
+
+/// What is to be changed of boot entries. Each entry is given as it is written.
+#[derive(Clone, Copy)]
+pub enum EntryChange<'a> {
+    /// To store a load option as a new entry.
+    Add(AddWords<'a>),
+    /// To take these entries out.
+    Remove(&'a [&'a str]),
+    /// To put these in front of the order.
+    First(&'a [&'a str]),
+    /// To set the order.
+    Order {
+        /// The entries that come first: none if the order is to have none.
+        entries: &'a [&'a str],
+        /// Whether entries that aren't there are taken.
+        stale: bool,
+        /// Whether the order has these alone.
+        only: bool,
+    },
+    /// To set the entry that the next boot tries first, or to take BootNext out.
+    Next(Option<&'a str>),
+    /// To make these entries active.
+    Activate(&'a [&'a str]),
+    /// To make these entries inactive.
+    Deactivate(&'a [&'a str]),
+}
+
+/// The words of `add`.
+#[derive(Clone, Copy)]
+pub struct AddWords<'a> {
+    /// The load option.
+    pub option: LoadOptionWords<'a>,
+    /// The entry, if one is named.
+    pub entry: Option<&'a str>,
+    /// Where it is put into the order.
+    pub position: Position,
+    /// Whether it is added although the same one is there.
+    pub again: bool,
+}
+
+/// The words that say a load option.
 #[derive(Clone, Copy)]
 pub struct LoadOptionWords<'a> {
     /// The description.
@@ -92,8 +173,6 @@ pub struct LoadOptionWords<'a> {
     pub attributes: AttributeWords<'a>,
     /// The optional data.
     pub optional: OptionalWords<'a>,
-    /// The path of the file that the load option is written to.
-    pub out: &'a str,
 }
 
 /// What is said of a load option's attributes.

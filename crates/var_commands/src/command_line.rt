@@ -1,12 +1,16 @@
 //! The words of the command line, and what they ask for.
 
 use crate::action::{
-    Action, AttributeWords, Form, LoadOptionWords, OptionalWords, RequestWords, WriteWords,
+    Action, AddWords, AttributeWords, ChangeWords, EntryChange, Form, LoadOptionWords,
+    OptionalWords, RequestWords, SetWords,
 };
 use crate::commands::program;
+use boot_edits::Position;
+use boot_history::DEFAULT_STATE;
 use boot_texts::Flags;
-use boot_updates::{Job, UpdateWords};
+use boot_updates::{Job, MachineWords, UpdateWords};
 use clap::{ArgMatches, Error};
+use place_edits::UndoWords;
 use std::alloc::Global;
 
 /// What `clap` finds in the words of the command line, of which the first one is the program's name.
@@ -26,12 +30,14 @@ pub(crate) fn action_of<'a>(matches: &'a ArgMatches<'_>) -> Option<Action<'a>> {
         "read" => read_of(matches),
         "show" => show_of(matches),
         "diff" => diff_of(matches),
+        "get" => get_of(matches),
         "write" => write_of(matches),
         "update" => update_of(matches),
         "option" => load_option_of(matches),
         "frame" => frame_of(matches),
         "explain" => explain_of(matches),
-        _ => None,
+        "undo" => undo_of(matches),
+        _ => change_of(name, matches),
     }
 }
 
@@ -59,25 +65,99 @@ fn diff_of<'a>(matches: &'a ArgMatches<'_>) -> Option<Action<'a>> {
 }
 
 fn write_of<'a>(matches: &'a ArgMatches<'_>) -> Option<Action<'a>> {
-    Some(Action::Write(WriteWords {
+    Some(Action::Write(SetWords {
         set: matches.get_str("SET")?,
-        place: matches.get_str("PLACE")?,
+        machine: machine_of(matches)?,
+        names_state: matches.get_str("state").is_some(),
         dry_run: matches.get_flag("dry-run"),
+        form: form_of(matches),
         empty: matches.get_flag("empty"),
-        force: matches.get_flag("force"),
     }))
 }
 
 fn update_of<'a>(matches: &'a ArgMatches<'_>) -> Option<Action<'a>> {
     Some(Action::Update(UpdateWords {
-        state: matches.get_str("state")?,
+        machine: machine_of(matches)?,
+        job: job_of(matches)?,
+    }))
+}
+
+/// The machine of a command that keeps a journal.
+fn machine_of<'a>(matches: &'a ArgMatches<'_>) -> Option<MachineWords<'a>> {
+    Some(MachineWords {
+        state: matches.get_str("state").unwrap_or(DEFAULT_STATE),
         place: matches.get_str("PLACE")?,
         boot_id: matches.get_str("boot-id"),
         machine: matches.get_str("machine"),
         adopt: matches.get_flag("adopt"),
         force: matches.get_flag("force"),
-        job: job_of(matches)?,
+    })
+}
+
+fn get_of<'a>(matches: &'a ArgMatches<'_>) -> Option<Action<'a>> {
+    Some(Action::Get {
+        place: matches.get_str("PLACE")?,
+        entry: matches.get_str("ENTRY")?,
+        out: matches.get_str("out")?,
+    })
+}
+
+/// The change of boot entries that the command of this name makes, if it is one.
+fn change_of<'a>(name: &str, matches: &'a ArgMatches<'_>) -> Option<Action<'a>> {
+    let change = entry_change_of(name, matches)?;
+    Some(Action::Change(ChangeWords {
+        machine: machine_of(matches)?,
+        change,
+        dry_run: matches.get_flag("dry-run"),
+        form: form_of(matches),
     }))
+}
+
+fn undo_of<'a>(matches: &'a ArgMatches<'_>) -> Option<Action<'a>> {
+    let machine = machine_of(matches)?;
+    let form = form_of(matches);
+    if matches.get_flag("list") {
+        return Some(Action::ListChanges { machine, form });
+    }
+    Some(Action::Undo(UndoWords {
+        machine,
+        force: machine.force,
+        dry_run: matches.get_flag("dry-run"),
+        json: matches!(form, Form::Json),
+    }))
+}
+
+fn entry_change_of<'a>(name: &str, matches: &'a ArgMatches<'_>) -> Option<EntryChange<'a>> {
+    match name {
+        "add" => Some(EntryChange::Add(add_of(matches)?)),
+        "remove" => Some(EntryChange::Remove(matches.get_strs("ENTRY")?)),
+        "first" => Some(EntryChange::First(matches.get_strs("ENTRY")?)),
+        "order" => Some(EntryChange::Order {
+            entries: matches.get_strs("ENTRY").unwrap_or(&[]),
+            stale: matches.get_flag("stale"),
+            only: matches.get_flag("only") || matches.get_flag("empty"),
+        }),
+        "next" => Some(EntryChange::Next(matches.get_str("ENTRY"))),
+        "activate" => Some(EntryChange::Activate(matches.get_strs("ENTRY")?)),
+        "deactivate" => Some(EntryChange::Deactivate(matches.get_strs("ENTRY")?)),
+        _ => None,
+    }
+}
+
+fn add_of<'a>(matches: &'a ArgMatches<'_>) -> Option<AddWords<'a>> {
+    let position = if matches.get_flag("first") {
+        Position::First
+    } else if matches.get_flag("no-order") {
+        Position::NoOrder
+    } else {
+        Position::Last
+    };
+    Some(AddWords {
+        option: option_of(matches)?,
+        entry: matches.get_str("entry"),
+        position,
+        again: matches.get_flag("again"),
+    })
 }
 
 fn explain_of<'a>(matches: &'a ArgMatches<'_>) -> Option<Action<'a>> {
@@ -98,6 +178,7 @@ fn job_of<'a>(matches: &'a ArgMatches<'_>) -> Option<Job<'a>> {
             script: matches.get_str("SCRIPT")?,
             is_stream: matches.get_flag("stream"),
             json: matches.get_flag("json"),
+            dry_run: matches.get_flag("dry-run"),
         })
     }
 }
@@ -111,13 +192,19 @@ fn form_of(matches: &ArgMatches<'_>) -> Form {
 }
 
 fn load_option_of<'a>(matches: &'a ArgMatches<'_>) -> Option<Action<'a>> {
-    Some(Action::LoadOption(LoadOptionWords {
+    Some(Action::LoadOption {
+        option: option_of(matches)?,
+        out: matches.get_str("out")?,
+    })
+}
+
+fn option_of<'a>(matches: &'a ArgMatches<'_>) -> Option<LoadOptionWords<'a>> {
+    Some(LoadOptionWords {
         description: matches.get_str("description")?,
         paths: matches.get_strs("path")?,
         attributes: attributes_of(matches),
         optional: optional_of(matches),
-        out: matches.get_str("out")?,
-    }))
+    })
 }
 
 fn attributes_of<'a>(matches: &'a ArgMatches<'_>) -> AttributeWords<'a> {

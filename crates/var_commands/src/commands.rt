@@ -51,6 +51,12 @@ fn bare_program<'a>(alloc: Global) -> Command<'a> {
 fn commands<'a>(alloc: Global) -> Result<Vec<Command<'a>>, AllocError> {
     let mut commands = Vec::new(alloc);
     add_commands(alloc, &mut commands, &PLACE_COMMANDS)?;
+    add_commands(alloc, &mut commands, &ADD_COMMANDS)?;
+    add_commands(alloc, &mut commands, &LIST_COMMANDS)?;
+    add_commands(alloc, &mut commands, &ORDER_COMMANDS)?;
+    add_commands(alloc, &mut commands, &SWITCH_COMMANDS)?;
+    add_commands(alloc, &mut commands, &UNDO_COMMANDS)?;
+    add_commands(alloc, &mut commands, &WRITE_COMMANDS)?;
     add_commands(alloc, &mut commands, &UPDATE_COMMANDS)?;
     add_commands(alloc, &mut commands, &OPTION_COMMANDS)?;
     add_frame(alloc, &mut commands)?;
@@ -72,7 +78,7 @@ fn frame<'a>(alloc: Global) -> Result<Command<'a>, AllocError> {
         .subcommands(requests)
 }
 
-/// The commands that read, show, compare and write places.
+/// The commands that read, show and compare places.
 static PLACE_COMMANDS: [CommandRow; 4] = [
     CommandRow {
         name: "read",
@@ -124,38 +130,265 @@ static PLACE_COMMANDS: [CommandRow; 4] = [
         ..CommandRow::EMPTY
     },
     CommandRow {
-        name: "write",
-        about: "Makes the boot variables of a place those of a set",
-        long_about: Some(
-            "Makes Boot####, BootOrder and BootNext of a place those of a set, and prints each change. Every other \
-            variable stays as it is.",
-        ),
-        after_help: "Example:\n  bootvars write --dry-run set /sys/firmware/efi/efivars",
+        name: "get",
+        about: "Makes a file of an entry's load option, as `option` does",
+        after_help: "Example:\n  bootvars get /sys/firmware/efi/efivars 0003 --out option",
+        args: &[PLACE, ENTRY, OUT],
+        ..CommandRow::EMPTY
+    },
+];
+
+/// The command that adds an entry.
+static ADD_COMMANDS: [CommandRow; 1] = [CommandRow {
+    name: "add",
+    about: "Adds an entry, and prints its name",
+    long_about: Some(
+        "Adds an entry with a load option, and prints its name, and then each change. The entry is put at the end of the \
+        order. If an entry with the same description and the same paths is there already, its name is printed, and nothing \
+        is changed.",
+    ),
+    after_help: "Example:\n  bootvars add /sys/firmware/efi/efivars --description debian \\\n    \
+        --path 'HD(1,GPT,5f2c1a9e-7d64-4b0e-9c3b-1e8f60a2d7c4,0x800,0x64000)/File(\\EFI\\debian\\shimx64.efi)'",
+    args: &[
+        CHANGED,
+        DESCRIPTION,
+        PATH,
+        ArgRow {
+            name: "first",
+            help: "Puts it in front of the order",
+            ..ArgRow::FLAG
+        },
+        ArgRow {
+            name: "last",
+            help: "Puts it at the end of the order, as without this",
+            ..ArgRow::FLAG
+        },
+        ArgRow {
+            name: "no-order",
+            help: "Leaves the order as it is",
+            ..ArgRow::FLAG
+        },
+        ArgRow {
+            name: "entry",
+            help: "Its number, as 0003, in place of the lowest that is free",
+            kind: ArgKind::Option("ENTRY"),
+            ..ArgRow::OPTION
+        },
+        ArgRow {
+            name: "again",
+            help: "Adds it although the same entry is there",
+            ..ArgRow::FLAG
+        },
+        INACTIVE,
+        HIDDEN,
+        APP,
+        RECONNECT,
+        ATTRIBUTES,
+        OPTIONAL_HEX,
+        OPTIONAL_FILE,
+        OPTIONAL_TEXT,
+        DRY_RUN,
+        JSON,
+        STATE,
+        BOOT_ID,
+        MACHINE,
+        ADOPT,
+        FORCE,
+    ],
+    groups: &[
+        OPTIONAL,
+        GroupRow {
+            name: "position",
+            args: &["first", "last", "no-order"],
+            is_required: false,
+        },
+    ],
+    ..CommandRow::EMPTY
+}];
+
+/// The commands that change a list of entries.
+static LIST_COMMANDS: [CommandRow; 2] = [
+    CommandRow {
+        name: "remove",
+        about: "Takes entries out, and out of the order",
+        after_help: "Example:\n  bootvars remove /sys/firmware/efi/efivars 0003",
         args: &[
+            CHANGED, ENTRIES, DRY_RUN, JSON, STATE, BOOT_ID, MACHINE, ADOPT, FORCE,
+        ],
+        ..CommandRow::EMPTY
+    },
+    CommandRow {
+        name: "first",
+        about: "Puts entries in front of the order, and leaves the rest of it as it is",
+        after_help: "Example:\n  bootvars first /sys/firmware/efi/efivars 0003",
+        args: &[
+            CHANGED, ENTRIES, DRY_RUN, JSON, STATE, BOOT_ID, MACHINE, ADOPT, FORCE,
+        ],
+        ..CommandRow::EMPTY
+    },
+];
+
+/// The commands that set BootOrder and BootNext.
+static ORDER_COMMANDS: [CommandRow; 2] = [
+    CommandRow {
+        name: "order",
+        about: "Sets the order in which entries are tried",
+        long_about: Some(
+            "Sets the order in which entries are tried: those that are given, and after them the others of the order so \
+            far, but for numbers without an entry.",
+        ),
+        after_help: "Example:\n  bootvars order /sys/firmware/efi/efivars 0001 0000",
+        args: &[
+            CHANGED,
             ArgRow {
-                name: "SET",
-                help: "The set file",
-                ..ArgRow::VALUE
-            },
-            ArgRow {
-                help: "The place that is written",
-                ..PLACE
-            },
-            ArgRow {
-                name: "dry-run",
-                help: "Prints the changes and makes none",
-                ..ArgRow::FLAG
+                is_required: false,
+                required_without: &["empty"],
+                excludes: &["empty"],
+                ..ENTRIES
             },
             ArgRow {
                 name: "empty",
-                help: "Takes a set without any entry, which takes out all entries of the place",
+                help: "Sets an order without entries",
                 ..ArgRow::FLAG
             },
+            ArgRow {
+                name: "stale",
+                help: "Takes an ENTRY that isn't there",
+                ..ArgRow::FLAG
+            },
+            ArgRow {
+                name: "only",
+                help: "Leaves all others out of the order",
+                ..ArgRow::FLAG
+            },
+            DRY_RUN,
+            JSON,
+            STATE,
+            BOOT_ID,
+            MACHINE,
+            ADOPT,
+            FORCE,
+        ],
+        ..CommandRow::EMPTY
+    },
+    CommandRow {
+        name: "next",
+        about: "Sets the entry that the next boot tries first, once",
+        after_help: "Example:\n  bootvars next /sys/firmware/efi/efivars 0003",
+        args: &[
+            CHANGED,
+            ArgRow {
+                is_required: false,
+                required_without: &["none"],
+                excludes: &["none"],
+                ..ENTRY
+            },
+            ArgRow {
+                name: "none",
+                help: "Takes BootNext out",
+                ..ArgRow::FLAG
+            },
+            DRY_RUN,
+            JSON,
+            STATE,
+            BOOT_ID,
+            MACHINE,
+            ADOPT,
             FORCE,
         ],
         ..CommandRow::EMPTY
     },
 ];
+
+/// The commands that switch entries on and off.
+static SWITCH_COMMANDS: [CommandRow; 2] = [
+    CommandRow {
+        name: "activate",
+        about: "Makes entries active, so that a boot tries them",
+        after_help: "Example:\n  bootvars activate /sys/firmware/efi/efivars 0003",
+        args: &[
+            CHANGED, ENTRIES, DRY_RUN, JSON, STATE, BOOT_ID, MACHINE, ADOPT, FORCE,
+        ],
+        ..CommandRow::EMPTY
+    },
+    CommandRow {
+        name: "deactivate",
+        about: "Makes entries inactive, so that no boot tries them by itself",
+        after_help: "Example:\n  bootvars deactivate /sys/firmware/efi/efivars 0003",
+        args: &[
+            CHANGED, ENTRIES, DRY_RUN, JSON, STATE, BOOT_ID, MACHINE, ADOPT, FORCE,
+        ],
+        ..CommandRow::EMPTY
+    },
+];
+
+/// The command that undoes changes.
+static UNDO_COMMANDS: [CommandRow; 1] = [CommandRow {
+    name: "undo",
+    about: "Brings back what was there before the last change",
+    long_about: Some(
+        "Brings back what was there before the last change of a machine, and prints the changes. FOLDER keeps that of the last \
+        sixteen changes of each machine.\n\n\
+        If something else has changed since, it is printed, and nothing is undone without --force.",
+    ),
+    after_help: "Example:\n  bootvars undo /sys/firmware/efi/efivars --dry-run",
+    args: &[
+        CHANGED,
+        ArgRow {
+            name: "list",
+            help: "Lists the changes that can be undone, the newest first",
+            excludes: &["dry-run", "force"],
+            ..ArgRow::FLAG
+        },
+        DRY_RUN,
+        JSON,
+        STATE,
+        BOOT_ID,
+        MACHINE,
+        ADOPT,
+        ArgRow {
+            help: "Undoes the last change although something else has changed since, or a variable file is damaged",
+            ..FORCE
+        },
+    ],
+    ..CommandRow::EMPTY
+}];
+
+/// The command that writes places.
+static WRITE_COMMANDS: [CommandRow; 1] = [CommandRow {
+    name: "write",
+    about: "Makes the boot variables of a place those of a set",
+    long_about: Some(
+        "Makes Boot####, BootOrder and BootNext of a place those of a set, and prints each change. Every other \
+            variable stays as it is.",
+    ),
+    after_help: "Example:\n  bootvars write --dry-run set /sys/firmware/efi/efivars",
+    args: &[
+        ArgRow {
+            name: "SET",
+            help: "The set file",
+            ..ArgRow::VALUE
+        },
+        ArgRow {
+            help: "The place that is written",
+            ..PLACE
+        },
+        DRY_RUN,
+        JSON,
+        ArgRow {
+            name: "empty",
+            help: "Takes a set without any entry, which takes out all entries of the place",
+            ..ArgRow::FLAG
+        },
+        ArgRow {
+            help: "The folder that keeps what was there before, in place of /var/lib/bootkeep if that is there",
+            ..STATE
+        },
+        MACHINE,
+        FORCE,
+    ],
+    ..CommandRow::EMPTY
+}];
 
 /// The command that runs requests.
 static UPDATE_COMMANDS: [CommandRow; 1] = [CommandRow {
@@ -177,15 +410,18 @@ static UPDATE_COMMANDS: [CommandRow; 1] = [CommandRow {
             ..ArgRow::VALUE
         },
         ArgRow {
-            name: "state",
             help: "The folder that keeps which requests were applied, and what is left to do",
-            kind: ArgKind::Option("FOLDER"),
             is_required: true,
-            ..ArgRow::OPTION
+            ..STATE
         },
         ArgRow {
             name: "stream",
             help: "SCRIPT is a stream of frames",
+            ..SCRIPT_FLAG
+        },
+        ArgRow {
+            name: "dry-run",
+            help: "Prints the replies and the changes, and makes none",
             ..SCRIPT_FLAG
         },
         ArgRow {
@@ -205,22 +441,11 @@ static UPDATE_COMMANDS: [CommandRow; 1] = [CommandRow {
             ..ArgRow::FLAG
         },
         ArgRow {
-            name: "boot-id",
             help: "The identity of the machine's start; needed for a variable file",
-            kind: ArgKind::Option("ID"),
-            ..ArgRow::OPTION
+            ..BOOT_ID
         },
-        ArgRow {
-            name: "machine",
-            help: "What the machine is called, in place of its UUID or the path of PLACE",
-            kind: ArgKind::Option("ID"),
-            ..ArgRow::OPTION
-        },
-        ArgRow {
-            name: "adopt",
-            help: "Takes over what another machine's updates left in FOLDER, unless there is something left to do",
-            ..ArgRow::FLAG
-        },
+        MACHINE,
+        ADOPT,
         FORCE,
     ],
     ..CommandRow::EMPTY
@@ -379,6 +604,19 @@ const FILE: ArgRow = ArgRow {
     ..ArgRow::VALUE
 };
 
+/// The place that a command changes.
+const CHANGED: ArgRow = ArgRow {
+    help: "The place that is changed",
+    ..PLACE
+};
+
+/// Several entries.
+const ENTRIES: ArgRow = ArgRow {
+    help: "The entries, each as 0003",
+    action: ArgAction::Append,
+    ..ENTRY
+};
+
 /// The file that a command makes.
 const OUT: ArgRow = ArgRow {
     name: "out",
@@ -399,6 +637,44 @@ const FORCE: ArgRow = ArgRow {
 const JSON: ArgRow = ArgRow {
     name: "json",
     help: "Prints JSON",
+    ..ArgRow::FLAG
+};
+
+/// The flag to change nothing.
+const DRY_RUN: ArgRow = ArgRow {
+    name: "dry-run",
+    help: "Prints the changes and makes none",
+    ..ArgRow::FLAG
+};
+
+/// The folder with the journal.
+const STATE: ArgRow = ArgRow {
+    name: "state",
+    help: "The folder that keeps what is left to do and what was there before, in place of /var/lib/bootkeep",
+    kind: ArgKind::Option("FOLDER"),
+    ..ArgRow::OPTION
+};
+
+/// The identity of a start.
+const BOOT_ID: ArgRow = ArgRow {
+    name: "boot-id",
+    help: "The identity of the machine's start, if an update of a variable file has something left to do",
+    kind: ArgKind::Option("ID"),
+    ..ArgRow::OPTION
+};
+
+/// The name of a machine.
+const MACHINE: ArgRow = ArgRow {
+    name: "machine",
+    help: "What the machine is called, in place of its UUID or the path of PLACE",
+    kind: ArgKind::Option("ID"),
+    ..ArgRow::OPTION
+};
+
+/// The flag to take over a journal.
+const ADOPT: ArgRow = ArgRow {
+    name: "adopt",
+    help: "Takes over what another machine's updates left in FOLDER, unless there is something left to do",
     ..ArgRow::FLAG
 };
 

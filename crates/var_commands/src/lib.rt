@@ -1,5 +1,5 @@
 //! The command `bootvars`, over any runtime: it reads a machine's boot variables from where they are, shows and compares
-//! them, writes them, and makes load options and the frames of requests (UEFI specification, version 2.10, chapters 3
+//! them, changes and writes them, and makes load options and the frames of requests (UEFI specification, version 2.10, chapters 3
 //! and 10).
 //!
 //! [`run`] does what the words of a command line ask for, and returns the status to end with. Where variables are is a
@@ -9,11 +9,11 @@
 #![tactic(auto)]
 
 mod action;
+mod changing;
 mod command_line;
 mod commands;
 mod making;
 mod program;
 mod table;
-mod write;
 
 pub use program::run;

@@ -17,13 +17,26 @@ use whole_files::OutputFile;
 ///
 /// # Errors
 ///
-/// [`Failure::Words`] if a word isn't what it is to be; [`Failure::Read`] and [`Failure::Refused`] if the file with the
-/// optional data can't be read or is too long; [`Failure::Write`] if the option can't be written; and
-/// [`Failure::Memory`] if memory was refused.
+/// Those of [`option_of_words`], and [`Failure::Write`] if the option can't be written.
 pub(crate) fn make_option<R: Files<File: OutputFile> + Input + Print + Eprint + AllocGlobal>(
     rt: &R,
     words: &LoadOptionWords<'_>,
+    out: &str,
 ) -> Result<(), Failure> {
+    let bytes = option_of_words(rt, words)?;
+    write(rt, lock(rt, out)?, &bytes)
+}
+
+/// The bytes of the load option of these words.
+///
+/// # Errors
+///
+/// [`Failure::Words`] if a word isn't what it is to be; [`Failure::Read`] and [`Failure::Refused`] if the file with the
+/// optional data can't be read or is too long; and [`Failure::Memory`] if memory was refused.
+pub(crate) fn option_of_words<R: Files + Input + Eprint + AllocGlobal>(
+    rt: &R,
+    words: &LoadOptionWords<'_>,
+) -> Result<Vec<u8>, Failure> {
     let alloc = rt.alloc();
     let attributes = attributes(alloc, words.attributes)?;
     let optional = optional(rt, words.optional)?;
@@ -39,7 +52,7 @@ pub(crate) fn make_option<R: Files<File: OutputFile> + Input + Print + Eprint + 
         },
     );
     match made {
-        Ok(bytes) => write(rt, lock(rt, words.out)?, &bytes),
+        Ok(bytes) => Ok(bytes),
         Err(OptionWordsFault::OutOfMemory) => Err(Failure::Memory),
         Err(fault) => Err(Failure::of_word(alloc, fault)),
     }
@@ -204,7 +217,11 @@ fn frame_of_words(alloc: Global, number: u32, words: FrameWords<'_>) -> Result<V
 }
 
 /// The numbers of the entries that the words name.
-fn entries_of(alloc: Global, words: &[&str]) -> Result<Vec<u16>, Failure> {
+///
+/// # Errors
+///
+/// [`Failure::Words`] if one names none, and [`Failure::Memory`] if memory was refused.
+pub(crate) fn entries_of(alloc: Global, words: &[&str]) -> Result<Vec<u16>, Failure> {
     let mut entries = Vec::with_capacity(alloc, words.len())?;
     for word in words {
         entries.push(entry_of(alloc, word)?)?;
@@ -213,7 +230,11 @@ fn entries_of(alloc: Global, words: &[&str]) -> Result<Vec<u16>, Failure> {
 }
 
 /// The number of the entry that the word names.
-fn entry_of(alloc: Global, word: &str) -> Result<u16, Failure> {
+///
+/// # Errors
+///
+/// As of [`entries_of`].
+pub(crate) fn entry_of(alloc: Global, word: &str) -> Result<u16, Failure> {
     entry_of_digits(word).map_err(|fault| of_digits(alloc, word, fault))
 }
 

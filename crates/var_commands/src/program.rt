@@ -4,15 +4,18 @@ ghost use Rattle.std.specs.Prelude.{◌≡◌, MatchResult};
 ghost use Rattle.var_commands.specs.Ending.{ending_status};
 ghost use Rattle.var_places.specs.Failure.{status_of};
 
-use crate::action::{Action, Form};
+use crate::action::{Action, Form, SetWords};
+use crate::changing::change_entries;
 use crate::command_line::{action_of, read_words};
-use crate::making::{explain, make_frame, make_option};
-use crate::write::write_place;
+use crate::making::{entry_of, explain, make_frame, make_option};
 use boot_texts::{diff_json, diff_report, vars_json, vars_report};
 use boot_updates::{Ended, UpdateWords, update};
 use clap::error::ErrorKind;
+use place_edits::{
+    UndoWords, WriteWords, Written, get_entry, list_changes, undo_change, write_place,
+};
 use std::alloc::{AllocError, Global};
-use std::rt::{Env, Files};
+use std::rt::{Clock, Env, Files};
 use std::{env, io};
 use uefi_vars::{
     BOOT_NEXT, BOOT_ORDER, Changes, KEEP_STATE, Vars, boot_changes, entry_number, write_set,
@@ -30,7 +33,7 @@ pub(crate) enum Ending {
     Done,
     /// It was asked how two places differ, and they do.
     Differs,
-    /// It ran requests, and not all of them were applied and carried out.
+    /// It ran requests, and not all of them were applied and carried out; or it left out what firmware refuses.
     NotAll,
 }
 
@@ -53,7 +56,9 @@ impl Ending {
 /// standard error, 1 if requests aren't run, 2 if the words are wrong, 3 if a file or a variable can't be read or changed, 4
 /// if memory was refused, 5 if an input is refused, 7 if another update is at work, and 8 if an update was neither made nor
 /// taken back; or 141, without a message, if nobody reads standard output any more.
-pub fn run<R: Env + Files<File: OutputFile> + Input + Print + Eprint + AllocGlobal>(rt: &R) -> u8 {
+pub fn run<R: Env + Files<File: OutputFile> + Clock + Input + Print + Eprint + AllocGlobal>(
+    rt: &R,
+) -> u8 {
     tell(rt, answer(rt))
 }
 
@@ -74,14 +79,14 @@ fn tell<R: Eprint>(rt: &R, outcome: Result<Ending, Failure>) -> u8
     }
 }
 
-fn answer<R: Env + Files<File: OutputFile> + Input + Print + Eprint + AllocGlobal>(
+fn answer<R: Env + Files<File: OutputFile> + Clock + Input + Print + Eprint + AllocGlobal>(
     rt: &R,
 ) -> Result<Ending, Failure> {
     let alloc = rt.alloc();
     let words = words(rt)?;
     match read_words(alloc, words.as_slice()) {
         Ok(matches) => match action_of(&matches) {
-            Some(action) => act(rt, action),
+            Some(action) => act(rt, action, words.get(1..).unwrap_or(&[])),
             None => Err(Failure::of_word(alloc, "no command is named")),
         },
         Err(error) => end_without_action(rt, words.as_slice(), &error),
@@ -164,10 +169,11 @@ fn without_controls(alloc: Global, message: &str) -> Result<String, AllocError> 
     Ok(shown)
 }
 
-/// Does what is asked for.
-fn act<R: Files<File: OutputFile> + Input + Print + Eprint + AllocGlobal>(
+/// Does what is asked for by these words.
+fn act<R: Files<File: OutputFile> + Clock + Input + Print + Eprint + AllocGlobal>(
     rt: &R,
     action: Action<'_>,
+    words: &[String],
 ) -> Result<Ending, Failure> {
     match action {
         Action::Read {
@@ -177,9 +183,17 @@ fn act<R: Files<File: OutputFile> + Input + Print + Eprint + AllocGlobal>(
         } => done(make_set(rt, place, out, boot_only)),
         Action::Show { place, form } => done(show(rt, place, form)),
         Action::Diff { from, to, form } => diff(rt, from, to, form),
-        Action::Write(words) => done(write_place(rt, &words)),
+        Action::Get { place, entry, out } => {
+            done(get_entry(rt, place, entry_of(rt.alloc(), entry)?, out))
+        }
+        Action::Change(change) => done(change_entries(rt, &change, words)),
+        Action::Undo(words) => undo(rt, &words),
+        Action::ListChanges { machine, form } => {
+            done(list_changes(rt, &machine, matches!(form, Form::Json)))
+        }
+        Action::Write(set) => write_set_to_place(rt, &set, words),
         Action::Update(words) => update_place(rt, &words),
-        Action::LoadOption(words) => done(make_option(rt, &words)),
+        Action::LoadOption { option, out } => done(make_option(rt, &option, out)),
         Action::Frame {
             number,
             request,
@@ -196,6 +210,40 @@ fn act<R: Files<File: OutputFile> + Input + Print + Eprint + AllocGlobal>(
 /// The ending of what is done if nothing failed.
 fn done(outcome: Result<(), Failure>) -> Result<Ending, Failure> {
     outcome.map(|()| Ending::Done)
+}
+
+/// Makes the boot variables of a place those of a set.
+fn write_set_to_place<R: Files<File: OutputFile> + Clock + Input + Print + Eprint + AllocGlobal>(
+    rt: &R,
+    words: &SetWords<'_>,
+    command: &[String],
+) -> Result<Ending, Failure> {
+    let words = WriteWords {
+        set: words.set,
+        machine: words.machine,
+        makes_state: words.names_state,
+        command,
+        dry_run: words.dry_run,
+        json: matches!(words.form, Form::Json),
+        empty: words.empty,
+    };
+    write_place(rt, &words).map(ending_of)
+}
+
+/// How the program ends after a change.
+fn ending_of(written: Written) -> Ending {
+    match written {
+        Written::Whole => Ending::Done,
+        Written::InPart => Ending::NotAll,
+    }
+}
+
+/// Brings back what was there before the last change.
+fn undo<R: Files<File: OutputFile> + Input + Print + Eprint + AllocGlobal>(
+    rt: &R,
+    words: &UndoWords<'_>,
+) -> Result<Ending, Failure> {
+    undo_change(rt, words).map(ending_of)
 }
 
 /// Updates a machine.

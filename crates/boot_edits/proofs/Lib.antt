@@ -1,0 +1,9 @@
+pub mod Parts
+pub mod Orders
+pub mod Sets
+pub mod Lists
+pub mod Taken
+pub mod Outcomes
+pub mod Lowest
+pub mod Targets
+pub mod Running

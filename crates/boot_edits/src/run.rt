@@ -1,0 +1,116 @@
+//! Runs of edits over a machine's variables.
+
+ghost use Rattle.std.specs.Prelude.{◌≡◌, ◌≢◌, IfOk, IfErr};
+ghost use Rattle.boot_journal.specs.Attributes.{data_of, with_attributes, HasNoData, HasLongData};
+ghost use Rattle.boot_journal.specs.Cause.{IfRefused};
+ghost use Rattle.boot_edits.specs.declared.fault.EditFault.{EditFault};
+ghost use Rattle.boot_edits.specs.Edit.{IsEdited};
+ghost use Rattle.boot_edits.specs.Run.{IsEditRefusal};
+
+use crate::answer::EditAnswer;
+use crate::edit::{Edit, make_edit};
+use crate::fault::EditFault;
+use boot_journal::{AttributesFault, CallError, Run, with_attributes, without_attributes};
+use std::alloc::Global;
+use thiserror::Error;
+use uefi_vars::Vars;
+
+/// An edit that is run over a machine's variables, as by [`make_edit`]. It gives what that tells.
+#[derive(Clone, Copy, Debug)]
+pub struct EditRun<'a> {
+    /// The edit.
+    pub edit: Edit<'a>,
+}
+
+/// Why a run of an edit refuses what a machine keeps.
+#[derive(Clone, Copy, Debug, PartialEq, Eq, Hash, Error)]
+pub enum EditRunFault {
+    /// The edit of the variables, without their attributes, isn't made. The fault is never [`EditFault::OutOfMemory`].
+    #[error("Edit {0}")]
+    Edit(EditFault),
+    /// Under the name of a variable of the boot manager there is no byte after its attributes.
+    #[error("NoData")]
+    NoData,
+    /// With its attributes, the data that a variable of the boot manager would have after the edit has more than
+    /// [`DATA_MAX`](uefi_vars::DATA_MAX) bytes.
+    #[error("TooLong")]
+    TooLong,
+}
+
+impl Run for EditRun<'_> {
+    ghost use Rattle.boot_edits.specs.Run.{IsRun, IsRunFault};
+
+    type Answer = EditAnswer;
+
+    type Fault = EditRunFault;
+
+    ghost leads = { λ run from to answer. IsRun run.edit from to answer };
+
+    ghost refuses = { λ run from fault. IsRunFault run.edit from fault };
+
+    /// Takes the attributes off the variables of the boot manager, edits what is left, and puts the attributes on again: a
+    /// variable that is replaced has those that it had, and a new one has
+    /// [`BOOT_ATTRIBUTES`](uefi_vars::BOOT_ATTRIBUTES).
+    fn run(
+        &self,
+        alloc: Global,
+        vars: &Vars,
+    ) -> Result<(Vars, EditAnswer), CallError<EditRunFault>> {
+        let set = without(alloc, vars)?;
+        let (edited, answer) = edited(alloc, &set, &self.edit)?;
+        let to = with(alloc, &edited, vars)?;
+        Ok((to, answer))
+    }
+}
+
+/// The variables without their attributes.
+fn without(alloc: Global, vars: &Vars) -> Result<Vars, CallError<EditRunFault>>
+    ensures set { IfOk result (λ set. set ≡ data_of vars.now) }
+    ensures refused { IfErr result (λ error. IfRefused error (λ reason.
+        (reason ≡ EditRunFault.NoData) × HasNoData vars.now)) }
+{
+    match without_attributes(alloc, vars) {
+        Ok(set) => Ok(set),
+        Err(AttributesFault::NoData) => Err(CallError::Refused(EditRunFault::NoData)),
+        Err(_) => Err(CallError::OutOfMemory),
+    }
+}
+
+/// The variables with the attributes of those that are there.
+fn with(alloc: Global, vars: &Vars, there: &Vars) -> Result<Vars, CallError<EditRunFault>>
+    ensures kept { IfOk result (λ kept. kept ≡ with_attributes there.now vars.now) }
+    ensures refused { IfErr result (λ error. IfRefused error (λ reason.
+        (reason ≡ EditRunFault.TooLong) × HasLongData vars.now)) }
+{
+    match with_attributes(alloc, vars, there) {
+        Ok(kept) => Ok(kept),
+        Err(AttributesFault::TooLong) => Err(CallError::Refused(EditRunFault::TooLong)),
+        Err(_) => Err(CallError::OutOfMemory),
+    }
+}
+
+/// What becomes of variables by this edit.
+fn edited(
+    alloc: Global,
+    vars: &Vars,
+    wanted: &Edit<'_>,
+) -> Result<(Vars, EditAnswer), CallError<EditRunFault>>
+    ensures done { IfOk result (λ done. IsEdited vars.now wanted.now done.0 done.1) }
+    ensures refused { IfErr result (λ error. IfRefused error (IsEditRefusal vars.now wanted.now)) }
+{
+    match make_edit(alloc, vars, wanted) {
+        Ok(done) => Ok(done),
+        Err(fault) => Err(edit_error(fault)),
+    }
+}
+
+/// What it is to a run that an edit isn't made.
+fn edit_error(fault: EditFault) -> CallError<EditRunFault>
+    ensures { IfRefused result (λ reason.
+        (reason ≡ EditRunFault.Edit fault) × (fault ≢ EditFault.OutOfMemory)) }
+{
+    match fault {
+        EditFault::OutOfMemory => CallError::OutOfMemory,
+        fault => CallError::Refused(EditRunFault::Edit(fault)),
+    }
+}

@@ -1,0 +1,3 @@
+pub mod FieldLists
+pub mod Spellings
+pub mod BootParts

@@ -1,0 +1,30 @@
+-- The boot manager's variables among others, and how a change of them stands (UEFI 2.10, 3.3).
+use Rattle.std.specs.Prelude.{◌≡◌, ◌≢◌, ℕ, if◌then◌else◌, List, None}
+use Rattle.std.specs.FinMap.{get, remove}
+use Rattle.uefi_vars.specs.Vars.{Variables}
+use Rattle.uefi_vars.specs.BootChange.{is_boot_name}
+use Rattle.boot_history.specs.declared.stands.Standing.{Standing}
+use Rattle.boot_history.specs.declared.stands.Standing.TheVariants.{Unchanged, NotMade, Changed}
+use Rattle.boot_history.specs.Record.{RecordParts}
+
+-- Under the names of the boot manager's variables it has what these have there, and under others nothing.
+abbrev pub IsBootPart : Variables → Variables → Type 0
+IsBootPart vars part = (name : List ℕ) → get part name ≡ (if is_boot_name name then get vars name else None)
+
+-- what the boot manager's variables are, beside those before and after a change
+abbrev pub IsPartStanding : RecordParts → Variables → Standing → Type 0
+IsPartStanding r part Unchanged = part ≡ r.after
+IsPartStanding r part NotMade = (part ≢ r.after) × (part ≡ r.before)
+IsPartStanding r part Changed = (part ≢ r.after) × (part ≢ r.before)
+
+-- what those among these are
+pub record IsStanding (r : RecordParts) (now : Variables) (standing : Standing) : Type 0 where
+  pub part : Variables
+  pub boot : IsBootPart now part
+  pub is : IsPartStanding r part standing
+
+-- ---- for private functions
+
+-- without the variable of this name, unless it is one of the boot manager's
+abbrev pub without_other : Variables → List ℕ → Variables
+without_other vars name = if is_boot_name name then vars else remove vars name

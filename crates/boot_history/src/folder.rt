@@ -1,0 +1,72 @@
+//! The folders that records are in.
+
+use std::alloc::{AllocError, Global};
+use std::fs::DirBuilder;
+use std::io::{self, ErrorKind};
+use std::os::unix::fs::DirBuilderExt;
+use std::path::{Path, PathBuf};
+use std::rt::Files;
+use var_places::Failure;
+use whole_files::sync_folder;
+
+/// The state folder, unless another is given.
+pub const DEFAULT_STATE: &str = "/var/lib/bootkeep";
+
+/// The name of the folder of the records in a state folder.
+const HISTORY: &str = "history";
+
+/// The rights of a folder that is made: it is its owner's alone.
+const MODE: u32 = 0o700;
+
+/// Makes the state folder at this path, for its owner alone, if nothing is there and its own folder is. What is there stays
+/// as it is.
+///
+/// # Errors
+///
+/// [`Failure::Write`] if it can't be made, and [`Failure::Memory`] if memory was refused.
+pub fn make_state_folder<R: Files + AllocGlobal>(rt: &R, state: &str) -> Result<(), Failure> {
+    make_folder(rt, state, parent_of(state))
+}
+
+/// Makes the folder of the records in the state folder at this path, if nothing is there, and gives its path.
+///
+/// # Errors
+///
+/// As of [`make_state_folder`].
+pub(crate) fn make_history<R: Files + AllocGlobal>(
+    rt: &R,
+    state: &str,
+) -> Result<PathBuf, Failure> {
+    let folder = history_path(rt.alloc(), state)?;
+    make_folder(rt, folder.as_path().as_str(), state)?;
+    Ok(folder)
+}
+
+/// The path of the folder of the records in the state folder at this path.
+pub(crate) fn history_path(alloc: Global, state: &str) -> Result<PathBuf, AllocError> {
+    Path::new(state).join(alloc, HISTORY)
+}
+
+/// The path of the folder that the last name of this path is in.
+fn parent_of(path: &str) -> &str {
+    match Path::new(path).parent() {
+        Some(parent) if !parent.as_str().is_empty() => parent.as_str(),
+        _ => ".",
+    }
+}
+
+/// Makes the folder at this path, whose name is in the folder at the other one, unless something is there.
+fn make_folder<R: Files + AllocGlobal>(rt: &R, path: &str, parent: &str) -> Result<(), Failure> {
+    match create(rt, path, parent) {
+        Err(error) if error.kind() != ErrorKind::AlreadyExists => {
+            Err(Failure::of_write(rt.alloc(), path, error))
+        }
+        _ => Ok(()),
+    }
+}
+
+/// Makes the folder at this path, and brings its name to the disk.
+fn create<R: Files>(rt: &R, path: &str, parent: &str) -> io::Result<()> {
+    DirBuilder::new().mode(MODE).create(rt, path)?;
+    sync_folder(rt, parent)
+}

@@ -1,0 +1,281 @@
+//! Records that are kept in a state folder: of each machine the last sixteen.
+
+ghost use Rattle.std.specs.Prelude.{◌≡◌, ◌-◌, length, take};
+
+use crate::fault::{RecordFault, WriteFault};
+use crate::file_names::{NUMBER_MAX, file_name, file_number};
+use crate::folder::{history_path, make_history};
+use crate::owner::{HEAD_MAX, Owner, owner_of};
+use crate::reader::read_record;
+use crate::record::Record;
+use crate::writer::write_record;
+use boot_journal::MachineName;
+use std::alloc::{AllocError, Global};
+use std::fs::{self, File};
+use std::io::{self, ErrorKind, Read};
+use std::path::{Path, PathBuf};
+use std::rt::Files;
+use var_places::{Failure, Reason};
+use whole_files::{LIMIT, OutputFile, read_file, replace_file, sync_folder};
+
+/// How many records of each machine are kept.
+pub const KEPT_MAX: usize = 16;
+
+/// A record that is kept.
+#[derive(Debug, Drop)]
+pub struct KeptRecord {
+    /// Its number: a later record has a greater one.
+    pub number: u64,
+    /// The record.
+    pub record: Record,
+}
+
+/// Keeps a record in the state folder at this path, and gives its number. It has a file of its own in the folder `history`
+/// there, which is made if it isn't there, for its owner alone. Once that file is on the disk, of the other records of the
+/// machine only the last fifteen stay. The caller keeps others from the state folder, as by its lock, and makes the change
+/// afterwards.
+///
+/// # Errors
+///
+/// [`Failure::Read`] and [`Failure::Write`] if something can't be read, written or removed, [`Failure::Refused`] if the
+/// record would have more than [`LIMIT`] bytes, or there is no number after those of the files that are there, and
+/// [`Failure::Memory`] if memory was refused. If the file of an earlier record can't be removed, the new one is kept.
+pub fn push<R: Files<File: OutputFile> + AllocGlobal>(
+    rt: &R,
+    state: &str,
+    record: &Record,
+) -> Result<u64, Failure> {
+    let folder = make_history(rt, state)?;
+    let folder = folder.as_path();
+    let kept = numbers(rt, folder)?;
+    let number = next_number(rt.alloc(), folder, &kept)?;
+    write(rt, folder, number, record)?;
+    remove_oldest(rt, folder, &kept, &record.machine)?;
+    Ok(number)
+}
+
+/// Takes the record of this number out of the state folder at this path: its change wasn't made, or is undone. The caller
+/// keeps others from the state folder.
+///
+/// # Errors
+///
+/// [`Failure::Write`] if its file can't be removed, and [`Failure::Memory`] if memory was refused.
+pub fn remove<R: Files<File: OutputFile> + AllocGlobal>(
+    rt: &R,
+    state: &str,
+    number: u64,
+) -> Result<(), Failure> {
+    let folder = history_path(rt.alloc(), state)?;
+    remove_file(rt, folder.as_path(), number)
+}
+
+/// The last record of the machine of this name in the state folder at this path: `None` if it has none there. The caller
+/// keeps others from the state folder.
+///
+/// # Errors
+///
+/// [`Failure::Read`] if the folder or a file can't be read, [`Failure::Refused`] if the file is damaged or has more than
+/// [`LIMIT`] bytes, or if a later one is so damaged that it doesn't tell whose it is, and [`Failure::Memory`] if memory was
+/// refused.
+pub fn newest<R: Files<File: OutputFile> + AllocGlobal>(
+    rt: &R,
+    state: &str,
+    machine: &MachineName,
+) -> Result<Option<KeptRecord>, Failure> {
+    let folder = history_path(rt.alloc(), state)?;
+    let folder = folder.as_path();
+    for number in numbers(rt, folder)?.iter().rev() {
+        if let Some(record) = own_record(rt, folder, *number, machine)? {
+            return Ok(Some(KeptRecord {
+                number: *number,
+                record,
+            }));
+        }
+    }
+    Ok(None)
+}
+
+/// The records of the machine of this name in the state folder at this path, the last one first. The caller keeps others
+/// from the state folder.
+///
+/// # Errors
+///
+/// As of [`newest`], also for the earlier files.
+pub fn records<R: Files<File: OutputFile> + AllocGlobal>(
+    rt: &R,
+    state: &str,
+    machine: &MachineName,
+) -> Result<Vec<KeptRecord>, Failure> {
+    let alloc = rt.alloc();
+    let folder = history_path(alloc, state)?;
+    let folder = folder.as_path();
+    let mut found = Vec::new(alloc);
+    for number in numbers(rt, folder)?.iter().rev() {
+        if let Some(record) = own_record(rt, folder, *number, machine)? {
+            found.push(KeptRecord {
+                number: *number,
+                record,
+            })?;
+        }
+    }
+    Ok(found)
+}
+
+/// The numbers of the records in the folder at this path, which rise. There are none if it isn't there.
+fn numbers<R: Files + AllocGlobal>(rt: &R, folder: Path<'_>) -> Result<Vec<u64>, Failure> {
+    match try_numbers(rt, folder) {
+        Ok(numbers) => Ok(numbers),
+        Err(error) if error.kind() == ErrorKind::NotFound => Ok(Vec::new(rt.alloc())),
+        Err(error) => Err(Failure::of_read(rt.alloc(), folder.as_str(), error)),
+    }
+}
+
+/// The numbers of the records in the folder at this path, which rise.
+fn try_numbers<R: Files + AllocGlobal>(rt: &R, folder: Path<'_>) -> io::Result<Vec<u64>> {
+    let alloc = rt.alloc();
+    let mut numbers = Vec::new(alloc);
+    for entry in fs::read_dir(&(rt, alloc), folder)? {
+        match entry {
+            Ok(entry) => {
+                if let Some(number) = file_number(entry.file_name()) {
+                    numbers.push(number)?;
+                }
+            }
+            // Its name isn't UTF-8, so it isn't that of a record.
+            Err(error) if error.kind() == ErrorKind::InvalidFilename => {}
+            Err(error) => return Err(error),
+        }
+    }
+    numbers.sort()?;
+    Ok(numbers)
+}
+
+/// The number after these, which rise.
+fn next_number(alloc: Global, folder: Path<'_>, numbers: &[u64]) -> Result<u64, Failure> {
+    match numbers.last() {
+        None => Ok(1),
+        Some(last) if *last < NUMBER_MAX => Ok(*last + 1),
+        Some(_) => Err(Failure::of_fault(alloc, folder.as_str(), "no number is left for a record")),
+    }
+}
+
+/// Writes the file of a record, and brings its name to the disk.
+fn write<R: Files<File: OutputFile> + AllocGlobal>(
+    rt: &R,
+    folder: Path<'_>,
+    number: u64,
+    record: &Record,
+) -> Result<(), Failure> {
+    let alloc = rt.alloc();
+    let path = file_path(alloc, folder, number)?;
+    let path = path.as_path().as_str();
+    let bytes = match write_record(alloc, record) {
+        Ok(bytes) if bytes.len() <= LIMIT => bytes,
+        Err(WriteFault::OutOfMemory) => return Err(Failure::Memory),
+        _ => return Err(Failure::refused(alloc, path, Reason::TooMuch(LIMIT))),
+    };
+    replace_file(rt, path, &bytes)
+        .and_then(|_| sync_folder(rt, folder.as_str()))
+        .map_err(|error| Failure::of_write(alloc, path, error))
+}
+
+/// Removes the oldest records of the machine of this name, of these numbers, which rise, so that with a new one as many as
+/// are kept are left.
+fn remove_oldest<R: Files<File: OutputFile> + AllocGlobal>(
+    rt: &R,
+    folder: Path<'_>,
+    numbers: &[u64],
+    machine: &MachineName,
+) -> Result<(), Failure> {
+    let mut own = Vec::new(rt.alloc());
+    for number in numbers {
+        if owner(rt, folder, *number, machine)? == Owner::Own {
+            own.push(*number)?;
+        }
+    }
+    for number in oldest(&own) {
+        remove_file(rt, folder, *number)?;
+    }
+    Ok(())
+}
+
+/// Of these numbers of a machine's records, which rise, those that don't stay beside a new one.
+fn oldest(numbers: &[u64]) -> &[u64]
+    ensures { result.now ≡ take (length numbers.now - 15) numbers.now }
+{
+    let stay = KEPT_MAX - 1;
+    &numbers[..numbers.len().saturating_sub(stay)]
+}
+
+/// Removes the file of a record, and brings that to the disk.
+fn remove_file<R: Files<File: OutputFile> + AllocGlobal>(
+    rt: &R,
+    folder: Path<'_>,
+    number: u64,
+) -> Result<(), Failure> {
+    let path = file_path(rt.alloc(), folder, number)?;
+    fs::remove_file(rt, path.as_path())
+        .and_then(|_| sync_folder(rt, folder.as_str()))
+        .map_err(|error| Failure::of_write(rt.alloc(), path.as_path().as_str(), error))
+}
+
+/// Whose record of this number is, for the machine of this name.
+fn owner<R: Files + AllocGlobal>(
+    rt: &R,
+    folder: Path<'_>,
+    number: u64,
+    machine: &MachineName,
+) -> Result<Owner, Failure> {
+    let path = file_path(rt.alloc(), folder, number)?;
+    match read_head(rt, path.as_path()) {
+        Ok(head) => Ok(owner_of(&head, machine)),
+        Err(error) => Err(Failure::of_read(rt.alloc(), path.as_path().as_str(), error)),
+    }
+}
+
+/// The first bytes of the file at this path, in which the name of a machine is.
+fn read_head<R: Files + AllocGlobal>(rt: &R, path: Path<'_>) -> io::Result<Vec<u8>> {
+    let mut head = Vec::new(rt.alloc());
+    File::open(rt, path)?
+        .take(HEAD_MAX as u64)
+        .read_to_end(&mut head)?;
+    Ok(head)
+}
+
+/// The record of this number, if it is of the machine of this name.
+fn own_record<R: Files + AllocGlobal>(
+    rt: &R,
+    folder: Path<'_>,
+    number: u64,
+    machine: &MachineName,
+) -> Result<Option<Record>, Failure> {
+    if owner(rt, folder, number, machine)? == Owner::Other {
+        return Ok(None);
+    }
+    let alloc = rt.alloc();
+    let path = file_path(alloc, folder, number)?;
+    let path = path.as_path().as_str();
+    match read_file(rt, path, LIMIT) {
+        Ok(Some(bytes)) => Ok(Some(record_of(alloc, path, &bytes)?)),
+        Ok(None) => Err(Failure::refused(alloc, path, Reason::TooMuch(LIMIT))),
+        Err(error) => Err(Failure::of_read(alloc, path, error)),
+    }
+}
+
+/// The record of these bytes of the file at this path.
+fn record_of(alloc: Global, path: &str, bytes: &[u8]) -> Result<Record, Failure> {
+    match read_record(alloc, bytes) {
+        Ok(record) => Ok(record),
+        Err(RecordFault::OutOfMemory) => Err(Failure::Memory),
+        Err(fault) => {
+            let words = format!(in alloc; "the record is damaged: {fault}")?;
+            Err(Failure::refused(alloc, path, Reason::Fault(words)))
+        }
+    }
+}
+
+/// The path of the file of the record of this number.
+fn file_path(alloc: Global, folder: Path<'_>, number: u64) -> Result<PathBuf, AllocError> {
+    let name = file_name(alloc, number)?;
+    folder.join(alloc, name.as_str())
+}

@@ -1,0 +1,31 @@
+//! What was there before each change of a machine's boot variables, kept so that the change can be undone.
+//!
+//! A [`Record`] is of one change: the machine, the time, the words of the command, and the boot manager's variables before
+//! and after it (UEFI specification, version 2.10, chapter 3). [`push`] keeps one in a state folder before its change is made,
+//! and the last sixteen of each machine stay; [`newest`] and [`records`] read them, and [`remove`] takes one away. [`standing_of`]
+//! tells whether a change can be undone: what is there now is what was after it, or before it, or something else.
+//! [`read_record`] reads a record from the bytes of its file, all of them, and [`write_record`] gives its one spelling.
+#![tactic(auto)]
+
+mod boot_part;
+mod fault;
+mod fields;
+mod file_names;
+mod folder;
+mod history;
+pub mod laws;
+mod owner;
+mod reader;
+mod record;
+mod stands;
+mod time;
+mod writer;
+
+pub use fault::{RecordFault, WriteFault};
+pub use folder::{DEFAULT_STATE, make_state_folder};
+pub use history::{KEPT_MAX, KeptRecord, newest, push, records, remove};
+pub use reader::read_record;
+pub use record::Record;
+pub use stands::{Standing, standing_of};
+pub use time::{time_now, time_text};
+pub use writer::write_record;

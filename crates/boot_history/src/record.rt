@@ -1,0 +1,54 @@
+//! Records of changes.
+
+ghost use Rattle.std.specs.Prelude.{◌≡◌, IfOk};
+ghost use Rattle.boot_history.specs.BootPart.{IsBootPart};
+
+use crate::boot_part::boot_part;
+use boot_journal::MachineName;
+use std::alloc::{AllocError, Global};
+use uefi_vars::Vars;
+
+/// One change of a machine's boot variables.
+#[derive(Debug, Drop)]
+pub struct Record {
+    /// The name of the machine.
+    pub machine: MachineName,
+    /// When the change was made: how many seconds after 1970-01-01T00:00:00Z.
+    pub time: u64,
+    /// The words of the command that made it.
+    pub words: Vec<String>,
+    /// The boot manager's variables before it (Boot####, BootOrder, BootNext; UEFI 2.10, 3.3), as a machine keeps them:
+    /// under each name four bytes of attributes and then the data.
+    pub before: Vars,
+    /// Those after it.
+    pub after: Vars,
+}
+
+impl Record {
+    /// The record of a change of what a machine keeps, from what it was before to what it is to be after it. Of both only
+    /// the boot manager's variables (Boot####, BootOrder, BootNext; UEFI 2.10, 3.3) are in the record.
+    ///
+    /// # Errors
+    ///
+    /// [`AllocError`] if memory was refused.
+    pub fn new(
+        alloc: Global,
+        machine: MachineName,
+        time: u64,
+        words: Vec<String>,
+        before: &Vars,
+        after: &Vars,
+    ) -> Result<Record, AllocError>
+        ensures kept { IfOk result (λ r. (r.machine ≡ machine) × (r.time ≡ time) × (r.words ≡ words)) }
+        ensures before { IfOk result (λ r. IsBootPart before.now r.before) }
+        ensures after { IfOk result (λ r. IsBootPart after.now r.after) }
+    {
+        Ok(Record {
+            machine,
+            time,
+            words,
+            before: boot_part(alloc, before)?,
+            after: boot_part(alloc, after)?,
+        })
+    }
+}

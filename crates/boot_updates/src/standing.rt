@@ -1,0 +1,135 @@
+//! What a machine stands for, told without changing anything.
+
+ghost use Rattle.std.specs.Prelude.{◌≡◌, IfOk};
+ghost use Rattle.boot_journal.specs.Changes.{made};
+ghost use Rattle.boot_journal.specs.Store.{with_state, stands_for};
+
+use crate::boot_identity::boot_id;
+use crate::kept_vars::KeptVars;
+use crate::machine_words::MachineWords;
+use crate::owner::{OwnJournal, Owner, name_of_machine};
+use crate::state_folder::{journal_path, stored_journal};
+use crate::values::set_value;
+use boot_journal::{BootId, Change, Journal, JournalFile, MachineName};
+use std::alloc::{AllocError, Global};
+use std::io::ErrorKind;
+use std::rt::Files;
+use uefi_vars::{KEEP_STATE, Vars};
+use var_places::{Failure, note};
+
+/// What a machine stands for: its variables once what an earlier update has left to do is done.
+#[derive(Drop)]
+pub struct SettledVars {
+    /// The variables, as the machine keeps them, with the BootKeepState of the journal.
+    pub vars: Vars,
+    /// Whether an earlier update has left something to do.
+    pub is_due: bool,
+}
+
+/// What the machine of the words stands for, if it keeps this now. Nothing is changed.
+///
+/// # Errors
+///
+/// [`Failure::Read`] if the journal can't be read; [`Failure::Refused`] if it is damaged, or is another machine's;
+/// [`Failure::Words`] if something is left to do, and the identity of the start is needed for it and isn't given, or it or
+/// the machine's name isn't one; and [`Failure::Memory`] if memory was refused.
+pub fn stands_for<R: Files + Eprint + AllocGlobal>(
+    rt: &R,
+    words: &MachineWords<'_>,
+    kept: &KeptVars,
+) -> Result<SettledVars, Failure> {
+    let alloc = rt.alloc();
+    let path = journal_path(alloc, words.state)?;
+    let path = path.as_path().as_str();
+    let stored = readable_journal(rt, path)?;
+    let machine = name_of_machine(rt, words, kept.is_folder)?;
+    let owner = Owner {
+        words,
+        machine: &machine,
+        path,
+    };
+    let OwnJournal { journal, .. } = owner.take(alloc, stored, &kept.vars)?;
+    match journal.began_under() {
+        None => Ok(SettledVars {
+            vars: with_state(alloc, &kept.vars, &journal)?,
+            is_due: false,
+        }),
+        Some(_) => {
+            let boot = boot_id(rt, words, kept.is_folder)?;
+            Ok(SettledVars {
+                vars: after_due(alloc, &kept.vars, &journal, &boot)?,
+                is_due: true,
+            })
+        }
+    }
+}
+
+/// The journal that is stored at this path, if there is one, and the user may read it. If not, standard error says so.
+fn readable_journal<R: Files + Eprint + AllocGlobal>(
+    rt: &R,
+    path: &str,
+) -> Result<Option<JournalFile>, Failure> {
+    let stored = stored_journal(rt, path);
+    if may_be_read(&stored) {
+        return stored;
+    }
+    note(
+        rt,
+        path,
+        "it may not be read, so what an earlier update has left to do isn't counted",
+    );
+    Ok(None)
+}
+
+/// Whether the user may read the journal, of which this was read.
+fn may_be_read(stored: &Result<Option<JournalFile>, Failure>) -> bool {
+    match stored {
+        Err(Failure::Read { error, .. }) => error.kind() != ErrorKind::PermissionDenied,
+        _ => true,
+    }
+}
+
+/// Whether an earlier update of the machine of this name has left something to do, by the journal that was stored: one that
+/// names no machine counts as its own.
+pub fn is_left_to(machine: &MachineName, stored: &JournalFile) -> bool {
+    let is_own = match &stored.machine {
+        Some(name) => name.as_bytes() == machine.as_bytes(),
+        None => true,
+    };
+    is_own && !stored.journal.is_idle()
+}
+
+/// The variables with the journal's BootKeepState. This fails only if memory is refused.
+fn with_state(alloc: Global, vars: &Vars, journal: &Journal) -> Result<Vars, AllocError>
+    ensures { IfOk result (λ after. after ≡ with_state journal.now.state vars.now) }
+{
+    let mut after = vars.copy(alloc)?;
+    set_value(&mut after, KEEP_STATE, journal.state())?;
+    Ok(after)
+}
+
+/// What a machine with these variables and this journal stands for under this identity of its start. This fails only if memory
+/// is refused.
+fn after_due(
+    alloc: Global,
+    vars: &Vars,
+    journal: &Journal,
+    boot: &BootId,
+) -> Result<Vars, AllocError>
+    ensures { IfOk result (λ after. after ≡ stands_for boot.now (record { variables = vars.now; journal = journal.now })) }
+{
+    let mut after = after_changes(alloc, vars, &journal.due(alloc, boot)?)?;
+    set_value(&mut after, KEEP_STATE, journal.state())?;
+    Ok(after)
+}
+
+/// The variables once the changes are made. This fails only if memory is refused.
+fn after_changes(alloc: Global, vars: &Vars, changes: &[Change]) -> Result<Vars, AllocError>
+    ensures { IfOk result (λ after. after ≡ made changes.now vars.now) }
+{
+    let mut after = vars.copy(alloc)?;
+    for change in changes {
+        set_value(&mut after, change.name(), change.after())?;
+    }
+    Ok(after)
+}

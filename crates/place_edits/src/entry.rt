@@ -1,0 +1,29 @@
+//! The command `get`, which gives the load option of an entry.
+
+use boot_texts::EntryName;
+use std::rt::Files;
+use var_places::{Failure, lock, name_of, read_place, write};
+use whole_files::OutputFile;
+
+/// Makes a file of the bytes of an entry of a place: the data of its variable, without attributes.
+///
+/// # Errors
+///
+/// [`Failure::Run`] if there is no such entry; [`Failure::Read`] and [`Failure::Refused`] if the place can't be read;
+/// [`Failure::Write`] if the file can't be made; and [`Failure::Memory`] if memory was refused.
+pub fn get_entry<R: Files<File: OutputFile> + Input + Print + Eprint + AllocGlobal>(
+    rt: &R,
+    place: &str,
+    entry: u16,
+    out: &str,
+) -> Result<(), Failure> {
+    let output = lock(rt, out);
+    let vars = read_place(rt, place)?;
+    match vars.entry(entry) {
+        Some(bytes) => write(rt, output?, bytes),
+        None => {
+            let fault = format!(in rt.alloc(); "there is no {}", EntryName(entry))?;
+            Err(Failure::of_run(rt.alloc(), name_of(place), fault.as_str()))
+        }
+    }
+}

@@ -1,0 +1,56 @@
+//! The changes that can be undone.
+
+use boot_history::{KeptRecord, records, time_text};
+use boot_updates::{MachineWords, lock_folder, name_of_machine};
+use std::alloc::{AllocError, Global};
+use std::rt::Files;
+use var_places::{Failure, is_folder, print, shown};
+use whole_files::OutputFile;
+
+/// Prints a line for each change of a machine that is kept in the state folder, the newest first: its number, its time and the
+/// words of its command, or an object of JSON.
+///
+/// # Errors
+///
+/// [`Failure::Read`] with the system's reason; [`Failure::Refused`] if what is kept is damaged; [`Failure::Busy`] if an update is
+/// at work; [`Failure::Words`] if the machine's name isn't one; [`Failure::Write`] if the lines can't be printed; and
+/// [`Failure::Memory`] if memory was refused.
+pub fn list_changes<R: Files<File: OutputFile> + Print + AllocGlobal>(
+    rt: &R,
+    words: &MachineWords<'_>,
+    json: bool,
+) -> Result<(), Failure> {
+    let _folder = lock_folder(rt, words.state)?;
+    let is_folder = is_folder(rt, words.place)?;
+    let machine = name_of_machine(rt, words, is_folder)?;
+    let mut text = String::new(rt.alloc());
+    for kept in &records(rt, words.state, &machine)? {
+        append_change(rt.alloc(), kept, json, &mut text)?;
+    }
+    print(rt, text.as_bytes())
+}
+
+/// Appends the line of a change.
+fn append_change(
+    alloc: Global,
+    kept: &KeptRecord,
+    json: bool,
+    text: &mut String,
+) -> Result<(), AllocError> {
+    let number = kept.number;
+    let time = time_text(alloc, kept.record.time)?;
+    if json {
+        let Ok(words) = serde_json::to_string(alloc, &kept.record.words) else {
+            return Err(AllocError);
+        };
+        return writeln!(
+            text,
+            "{{\"number\":{number},\"time\":\"{time}\",\"words\":{words}}}"
+        );
+    }
+    write!(text, "{number} {time}")?;
+    for word in &kept.record.words {
+        write!(text, " {}", shown(alloc, word)?)?;
+    }
+    text.push('\n')
+}

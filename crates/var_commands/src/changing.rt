@@ -1,0 +1,115 @@
+//! The commands that change boot entries.
+
+use crate::action::{AddWords, ChangeWords, EntryChange, Form};
+use crate::making::{entries_of, entry_of, option_of_words};
+use boot_edits::{Addition, Edit, NewOrder};
+use place_edits::{EditWords, edit_place};
+use std::rt::{Clock, Files};
+use var_places::Failure;
+use whole_files::OutputFile;
+
+/// Makes the change that the words ask for, which are these of the command line, and prints it.
+///
+/// # Errors
+///
+/// [`Failure::Words`] if a word isn't what it is to be, and those of [`edit_place`].
+pub(crate) fn change_entries<
+    R: Files<File: OutputFile> + Clock + Input + Print + Eprint + AllocGlobal,
+>(rt: &R, words: &ChangeWords<'_>, command: &[String]) -> Result<(), Failure> {
+    let alloc = rt.alloc();
+    match words.change {
+        EntryChange::Add(add) => add_entry(rt, words, &add, command),
+        EntryChange::Remove(entries) => {
+            change(
+                rt,
+                words,
+                Edit::Remove(&entries_of(alloc, entries)?),
+                command,
+            )
+        }
+        EntryChange::First(entries) => change(
+            rt,
+            words,
+            Edit::First(&entries_of(alloc, entries)?),
+            command,
+        ),
+        EntryChange::Order {
+            entries,
+            stale,
+            only,
+        } => {
+            let entries = entries_of(alloc, entries)?;
+            let order = NewOrder {
+                entries: &entries,
+                stale,
+                only,
+            };
+            change(rt, words, Edit::Order(order), command)
+        }
+        EntryChange::Next(None) => change(rt, words, Edit::Next(None), command),
+        EntryChange::Next(Some(entry)) => {
+            change(
+                rt,
+                words,
+                Edit::Next(Some(entry_of(alloc, entry)?)),
+                command,
+            )
+        }
+        EntryChange::Activate(entries) => {
+            change(
+                rt,
+                words,
+                Edit::Activate(&entries_of(alloc, entries)?),
+                command,
+            )
+        }
+        EntryChange::Deactivate(entries) => {
+            change(
+                rt,
+                words,
+                Edit::Deactivate(&entries_of(alloc, entries)?),
+                command,
+            )
+        }
+    }
+}
+
+/// Adds the entry that the words say.
+fn add_entry<R: Files<File: OutputFile> + Clock + Input + Print + Eprint + AllocGlobal>(
+    rt: &R,
+    words: &ChangeWords<'_>,
+    add: &AddWords<'_>,
+    command: &[String],
+) -> Result<(), Failure> {
+    let entry = match add.entry {
+        Some(word) => Some(entry_of(rt.alloc(), word)?),
+        None => None,
+    };
+    let option = option_of_words(rt, &add.option)?;
+    let addition = Addition {
+        entry,
+        option: &option,
+        position: add.position,
+        again: add.again,
+    };
+    change(rt, words, Edit::Add(addition), command)
+}
+
+/// Makes the change.
+fn change<R: Files<File: OutputFile> + Clock + Input + Print + Eprint + AllocGlobal>(
+    rt: &R,
+    words: &ChangeWords<'_>,
+    edit: Edit<'_>,
+    command: &[String],
+) -> Result<(), Failure> {
+    edit_place(
+        rt,
+        &EditWords {
+            machine: words.machine,
+            edit,
+            command,
+            dry_run: words.dry_run,
+            json: matches!(words.form, Form::Json),
+        },
+    )
+}
