@@ -29,8 +29,8 @@
  *                        The same call with room for `*len` bytes will do
  *
  * At any other status `out` and `*len` are as they were. No answer has a zero byte at its end unless its format says
- * so: texts are `*len` bytes and not strings of C. A first call with a `cap` of 0 asks how long the answer is; its `out`
- * must not be NULL either.
+ * so: texts are `*len` bytes and not strings of C. A first call with a `cap` of 0 asks how long the answer is; its
+ * `out` may be NULL.
  *
  * What else a call tells, as `*taken`, is written at BOOTKEEP_DONE alone.
  *
@@ -49,13 +49,14 @@
  * The promises of docs/promises.md are proved of the calls as they are written, on these conditions, which no proof
  * can see:
  *
- *   - Each pointer is to what its type says, as many of them as the number behind it says, and none is NULL, not even
- *     one to no bytes at all. No length is above PTRDIFF_MAX.
+ *   - Each pointer is to what its type says, as many of them as the number behind it says. One that has a number
+ *     behind it may be NULL if that is 0, and no other is NULL. No length is above PTRDIFF_MAX.
  *   - What a call may write, an `out`, a `*len` and every other pointer without `const`, overlaps nothing else that
  *     the same call was handed, and nobody else reads or writes it until the call returns. Nobody writes what is
  *     handed in behind `const` until then.
- *   - A `struct bootkeep_keeper` is zeroed before its first use, and is never written, copied or moved by value
- *     after that: it has one owner. `at` is nobody's but the library's.
+ *   - A `struct bootkeep_keeper` is opened, or zeroed, before any other call is handed it, and is never written, copied
+ *     or moved by value after that: it has one owner. `at` is nobody's but the library's. One that is open is closed
+ *     before it is opened again: what it holds is lost otherwise.
  *   - The program's malloc, realloc and free are one allocator, whose blocks have the usual alignment. What malloc
  *     refuses is answered by BOOTKEEP_NO_MEMORY.
  *   - No call is made from a signal's handler, or in the child of a fork of a process with several threads before it
@@ -64,9 +65,10 @@
  *
  * THREADS
  *
- * Calls without a keeper may be made by any thread at any time. A keeper is used by the thread that opened it alone,
- * up to the call that closes it: a runtime that moves its tasks from one thread to another has to hold them there
- * meanwhile, as Go does by runtime.LockOSThread. Keepers of several threads have nothing to do with each other.
+ * Calls without a keeper may be made by any thread at any time. A keeper is used by one thread at a time: it may be
+ * handed from one to another, and closed by any, if what hands it over orders the two calls, as a lock, a channel or
+ * the start and the end of a thread does. Keepers have nothing to do with each other: all that one holds is its own,
+ * and the library keeps nothing beside it. docs/c.md says what this rests on, which is no proof.
  */
 
 #ifndef BOOTKEEP_H
@@ -77,6 +79,15 @@
 
 #ifdef __cplusplus
 extern "C" {
+#endif
+
+/* What a compiler can check of calls: that an answer isn't dropped, and which pointers are never NULL. */
+#if defined(__GNUC__) || defined(__clang__)
+#define BOOTKEEP_CHECKED __attribute__((warn_unused_result))
+#define BOOTKEEP_NONNULL(which) __attribute__((nonnull which))
+#else
+#define BOOTKEEP_CHECKED
+#define BOOTKEEP_NONNULL(which)
 #endif
 
 /* ---- Version ---------------------------------------------------------------------------------------------------- */
@@ -95,15 +106,29 @@ uint32_t bootkeep_version(void);
 #define BOOTKEEP_REFUSED 1
 /* A buffer is too short: `*len` says how much room the answer needs. Nothing has happened. */
 #define BOOTKEEP_NO_ROOM 2
-/* There is no variable of this name. */
+/* There is no variable of this name, or no word of this number. */
 #define BOOTKEEP_ABSENT 3
 /*
- * Memory was refused. Nothing has happened. This may come in the place of any other status but BOOTKEEP_CLOSED, and but
- * BOOTKEEP_REFUSED at the calls that say so.
+ * Memory was refused. Nothing has happened. This may come in the place of any other status but BOOTKEEP_CLOSED and
+ * BOOTKEEP_BAD_SIZE, and but BOOTKEEP_REFUSED at the calls that say so.
  */
 #define BOOTKEEP_NO_MEMORY 4
 /* The keeper isn't open. */
 #define BOOTKEEP_CLOSED 5
+/* The `size` of a struct is smaller than this library's. Nothing has happened. */
+#define BOOTKEEP_BAD_SIZE 6
+
+/* ---- Sizes ------------------------------------------------------------------------------------------------------ */
+
+/* The most bytes of a frame, of the name and of the data of a variable, and of the list of paths of an option. */
+#define BOOTKEEP_FRAME_MAX 131084
+#define BOOTKEEP_NAME_MAX 64
+#define BOOTKEEP_DATA_MAX 1048576
+#define BOOTKEEP_LIST_MAX 65535
+/* The most numbers of a BootOrder, and so of a plan. */
+#define BOOTKEEP_ORDER_MAX 65536
+/* The most bytes of a word of a number. */
+#define BOOTKEEP_WORD_MAX 32
 
 /* ---- Refusals --------------------------------------------------------------------------------------------------- */
 
@@ -152,7 +177,8 @@ struct bootkeep_refusal {
 #define BOOTKEEP_TEXT_NOT_UTF8 0x0205
 
 /*
- * Of a load option. Only BOOTKEEP_OPTION_PATH has a place, and a fault within.
+ * Of a load option. Only BOOTKEEP_OPTION_PATH and BOOTKEEP_OPTION_NOT_UTF8 have a place, and the first has a fault
+ * within.
  */
 
 /* There are fewer bytes than the six of the attributes and of the length of the list. */
@@ -165,9 +191,15 @@ struct bootkeep_refusal {
 #define BOOTKEEP_OPTION_EMPTY_LIST 0x0304
 /* The bytes of the list from this place of the option on don't begin with a path: `inner_kind` is that path's fault. */
 #define BOOTKEEP_OPTION_PATH 0x0305
-/* These two are of parts of which an option is to be made. No call of this version makes one. */
+/*
+ * These are of parts of which an option is to be made, as BOOTKEEP_OPTION_EMPTY_LIST and BOOTKEEP_OPTION_PATH may be,
+ * whose place is then in the list. A character of the description is zero.
+ */
 #define BOOTKEEP_OPTION_ZERO_UNIT 0x0306
+/* The paths have more bytes than BOOTKEEP_LIST_MAX. */
 #define BOOTKEEP_OPTION_LIST_TOO_LONG 0x0307
+/* The description isn't UTF-8 from this place of it on. */
+#define BOOTKEEP_OPTION_NOT_UTF8 0x0308
 
 /*
  * Of a set file. The place is that of the record with the fault.
@@ -220,9 +252,46 @@ struct bootkeep_refusal {
 #define BOOTKEEP_STREAM_REST 0x0704
 
 /*
- * The numbers from 0x0801 to 0x08ff are kept for frames. Today what is wrong with a frame is no refusal: its reply says
- * so in a line, as `malformed BadKind`.
+ * Of a frame. None has a place. bootkeep_frame_make answers BOOTKEEP_FRAME_TOO_LONG, BOOTKEEP_FRAME_BAD_KIND and
+ * BOOTKEEP_FRAME_BAD_NUMBER; all of them are the `fault` of a reply to bytes that aren't a frame.
  */
+
+/* There are fewer bytes than the twelve before the payload. */
+#define BOOTKEEP_FRAME_SHORT 0x0801
+/* The bytes don't begin with 0x42 0x51. */
+#define BOOTKEEP_FRAME_BAD_MAGIC 0x0802
+/* The version is neither 1 nor 2. */
+#define BOOTKEEP_FRAME_BAD_VERSION 0x0803
+/* The payload has more bytes than a frame can have. */
+#define BOOTKEEP_FRAME_TOO_LONG 0x0804
+/* There are fewer or more bytes than the twelve and those of the payload. */
+#define BOOTKEEP_FRAME_BAD_SIZE 0x0805
+/* No kind of request has this number. */
+#define BOOTKEEP_FRAME_BAD_KIND 0x0806
+/* The number is BOOTKEEP_NO_NUMBER, which no request has. */
+#define BOOTKEEP_FRAME_BAD_NUMBER 0x0807
+/* The payload doesn't have the bytes that a request of its kind has. */
+#define BOOTKEEP_FRAME_BAD_PAYLOAD 0x0808
+/* The payload's load option isn't one. Only replies have this number. */
+#define BOOTKEEP_FRAME_OPTION 0x0809
+
+/* ---- Words ------------------------------------------------------------------------------------------------------ */
+
+/*
+ * The word that a status, the number of a refusal or that of an outcome has for a person: that of its name here, as
+ * `NoRoom` of BOOTKEEP_NO_ROOM, `PathNoEnd` of BOOTKEEP_PATH_NO_END and `OrderRepeats` of
+ * BOOTKEEP_OUTCOME_ORDER_REPEATS. It is ASCII, and room for BOOTKEEP_WORD_MAX bytes is always enough. These calls take
+ * no memory.
+ *
+ *     BOOTKEEP_DONE, BOOTKEEP_NO_ROOM
+ *     BOOTKEEP_ABSENT    this version has no such number
+ */
+uint32_t bootkeep_status_word(uint32_t status, uint8_t *out, size_t cap, size_t *len)
+    BOOTKEEP_CHECKED BOOTKEEP_NONNULL((4));
+uint32_t bootkeep_refusal_word(uint32_t kind, uint8_t *out, size_t cap, size_t *len)
+    BOOTKEEP_CHECKED BOOTKEEP_NONNULL((4));
+uint32_t bootkeep_outcome_word(uint32_t outcome, uint8_t *out, size_t cap, size_t *len)
+    BOOTKEEP_CHECKED BOOTKEEP_NONNULL((4));
 
 /* ---- Device paths ----------------------------------------------------------------------------------------------- */
 
@@ -235,7 +304,20 @@ struct bootkeep_refusal {
  *     BOOTKEEP_REFUSED   a number of paths
  */
 uint32_t bootkeep_path_text(const uint8_t *bytes, size_t bytes_len, uint8_t *out, size_t cap, size_t *len,
-                            size_t *taken, struct bootkeep_refusal *refusal);
+                            size_t *taken, struct bootkeep_refusal *refusal)
+    BOOTKEEP_CHECKED BOOTKEEP_NONNULL((5, 6, 7));
+
+/*
+ * The text of the device path for a person, as `bootvars show` prints it: that of bootkeep_path_text, with a name and
+ * its fields for each node of the standard that would be printed there as a `Path` of its bytes. It can't be read back,
+ * and two paths may have the same. All else is as there.
+ *
+ *     BOOTKEEP_DONE, BOOTKEEP_NO_ROOM, BOOTKEEP_NO_MEMORY
+ *     BOOTKEEP_REFUSED   a number of paths
+ */
+uint32_t bootkeep_path_names(const uint8_t *bytes, size_t bytes_len, uint8_t *out, size_t cap, size_t *len,
+                             size_t *taken, struct bootkeep_refusal *refusal)
+    BOOTKEEP_CHECKED BOOTKEEP_NONNULL((5, 6, 7));
 
 /*
  * In `*taken` how many bytes the device path at the start of the bytes takes. This takes no memory.
@@ -243,7 +325,8 @@ uint32_t bootkeep_path_text(const uint8_t *bytes, size_t bytes_len, uint8_t *out
  *     BOOTKEEP_DONE
  *     BOOTKEEP_REFUSED   a number of paths
  */
-uint32_t bootkeep_path_check(const uint8_t *bytes, size_t bytes_len, size_t *taken, struct bootkeep_refusal *refusal);
+uint32_t bootkeep_path_check(const uint8_t *bytes, size_t bytes_len, size_t *taken, struct bootkeep_refusal *refusal)
+    BOOTKEEP_CHECKED BOOTKEEP_NONNULL((3, 4));
 
 /*
  * The bytes of the device path that the text stands for. The text of each path stands for that path, and other
@@ -253,7 +336,7 @@ uint32_t bootkeep_path_check(const uint8_t *bytes, size_t bytes_len, size_t *tak
  *     BOOTKEEP_REFUSED   a number of texts
  */
 uint32_t bootkeep_text_path(const uint8_t *text, size_t text_len, uint8_t *out, size_t cap, size_t *len,
-                            struct bootkeep_refusal *refusal);
+                            struct bootkeep_refusal *refusal) BOOTKEEP_CHECKED BOOTKEEP_NONNULL((5, 6));
 
 /* ---- Load options ----------------------------------------------------------------------------------------------- */
 
@@ -289,7 +372,7 @@ struct bootkeep_option_parts {
  *     BOOTKEEP_REFUSED   a number of load options
  */
 uint32_t bootkeep_option_parts(const uint8_t *bytes, size_t bytes_len, struct bootkeep_option_parts *parts,
-                               struct bootkeep_refusal *refusal);
+                               struct bootkeep_refusal *refusal) BOOTKEEP_CHECKED BOOTKEEP_NONNULL((3, 4));
 
 /*
  * The description of the load option that the bytes are, as one line of ASCII: units that don't print are shown by
@@ -299,7 +382,53 @@ uint32_t bootkeep_option_parts(const uint8_t *bytes, size_t bytes_len, struct bo
  *     BOOTKEEP_REFUSED   a number of load options
  */
 uint32_t bootkeep_option_description(const uint8_t *bytes, size_t bytes_len, uint8_t *out, size_t cap, size_t *len,
-                                     struct bootkeep_refusal *refusal);
+                                     struct bootkeep_refusal *refusal) BOOTKEEP_CHECKED BOOTKEEP_NONNULL((5, 6));
+
+/*
+ * The load option of these parts: its attributes, its description, which is UTF-8 and has no zero at its end, the list
+ * of its device paths, as their bytes one after the other, each as bootkeep_text_path gives it, and its optional data.
+ *
+ *     BOOTKEEP_DONE, BOOTKEEP_NO_ROOM, BOOTKEEP_NO_MEMORY
+ *     BOOTKEEP_REFUSED   BOOTKEEP_OPTION_NOT_UTF8; otherwise BOOTKEEP_OPTION_PATH, with its place in the list;
+ *                        otherwise BOOTKEEP_OPTION_ZERO_UNIT, BOOTKEEP_OPTION_EMPTY_LIST or
+ *                        BOOTKEEP_OPTION_LIST_TOO_LONG, in this order
+ */
+uint32_t bootkeep_option_make(uint32_t attributes, const uint8_t *description, size_t description_len,
+                              const uint8_t *list, size_t list_len, const uint8_t *optional, size_t optional_len,
+                              uint8_t *out, size_t cap, size_t *len, struct bootkeep_refusal *refusal)
+    BOOTKEEP_CHECKED BOOTKEEP_NONNULL((10, 11));
+
+/* ---- Frames ----------------------------------------------------------------------------------------------------- */
+
+/* What a request is to do: docs/requests.md has what comes of each. */
+
+/* To store the option under the entry's number, which must be free, and to append the number to BootOrder. */
+#define BOOTKEEP_REQUEST_ADD 1
+/* To store the option in the place of the entry, which must be there. */
+#define BOOTKEEP_REQUEST_REPLACE 2
+/* To take out the entry, its number from BootOrder, and a BootNext that names it. */
+#define BOOTKEEP_REQUEST_REMOVE 3
+/* To set BootOrder to the numbers. */
+#define BOOTKEEP_REQUEST_ORDER 4
+/* To set BootNext to the entry. */
+#define BOOTKEEP_REQUEST_NEXT 5
+/* To store the option under the lowest free number, and to append that to BootOrder. */
+#define BOOTKEEP_REQUEST_ADD_FREE 6
+
+/* No request has this number. */
+#define BOOTKEEP_NO_NUMBER 0xffffffff
+
+/*
+ * The frame of the request with this number. Of `entry`, the bytes of the load option and the numbers of the order it
+ * has what its kind takes; the others aren't looked at, and may be 0 and NULL.
+ *
+ *     BOOTKEEP_DONE, BOOTKEEP_NO_ROOM, BOOTKEEP_NO_MEMORY
+ *     BOOTKEEP_REFUSED   BOOTKEEP_FRAME_BAD_KIND; otherwise a number of load options; otherwise
+ *                        BOOTKEEP_FRAME_TOO_LONG or BOOTKEEP_FRAME_BAD_NUMBER
+ */
+uint32_t bootkeep_frame_make(uint32_t number, uint32_t kind, uint16_t entry, const uint8_t *option, size_t option_len,
+                             const uint16_t *order, size_t order_len, uint8_t *out, size_t cap, size_t *len,
+                             struct bootkeep_refusal *refusal) BOOTKEEP_CHECKED BOOTKEEP_NONNULL((10, 11));
 
 /* ---- Sets of variables ------------------------------------------------------------------------------------------ */
 
@@ -319,7 +448,8 @@ uint32_t bootkeep_option_description(const uint8_t *bytes, size_t bytes_len, uin
  *     BOOTKEEP_REFUSED   a number of sets, BOOTKEEP_VARS_BAD_ORDER or BOOTKEEP_VARS_BAD_NEXT
  */
 uint32_t bootkeep_set_plan(const uint8_t *set, size_t set_len, uint16_t *numbers, size_t cap, size_t *len,
-                           uint32_t *next, struct bootkeep_refusal *refusal);
+                           uint32_t *next, struct bootkeep_refusal *refusal)
+    BOOTKEEP_CHECKED BOOTKEEP_NONNULL((5, 6, 7));
 
 /*
  * The entries that a start of firmware may write over or delete. In `numbers` first come those that neither BootOrder
@@ -332,7 +462,8 @@ uint32_t bootkeep_set_plan(const uint8_t *set, size_t set_len, uint16_t *numbers
  *     BOOTKEEP_REFUSED   a number of sets, BOOTKEEP_VARS_BAD_ORDER or BOOTKEEP_VARS_BAD_NEXT
  */
 uint32_t bootkeep_set_at_risk(const uint8_t *set, size_t set_len, uint16_t *numbers, size_t cap, size_t *len,
-                              size_t *unnamed, struct bootkeep_refusal *refusal);
+                              size_t *unnamed, struct bootkeep_refusal *refusal)
+    BOOTKEEP_CHECKED BOOTKEEP_NONNULL((5, 6, 7));
 
 /*
  * The data of the variable of this name.
@@ -342,7 +473,8 @@ uint32_t bootkeep_set_at_risk(const uint8_t *set, size_t set_len, uint16_t *numb
  *     BOOTKEEP_REFUSED   a number of sets
  */
 uint32_t bootkeep_set_get(const uint8_t *set, size_t set_len, const uint8_t *name, size_t name_len, uint8_t *out,
-                          size_t cap, size_t *len, struct bootkeep_refusal *refusal);
+                          size_t cap, size_t *len, struct bootkeep_refusal *refusal)
+    BOOTKEEP_CHECKED BOOTKEEP_NONNULL((7, 8));
 
 /*
  * The set with this data for the variable of this name, in the place of what it had, if it had any. `out` must not be
@@ -351,9 +483,9 @@ uint32_t bootkeep_set_get(const uint8_t *set, size_t set_len, const uint8_t *nam
  *     BOOTKEEP_DONE, BOOTKEEP_NO_ROOM, BOOTKEEP_NO_MEMORY
  *     BOOTKEEP_REFUSED   a number of sets, or a number of what is put
  */
-uint32_t bootkeep_set_put(const uint8_t *set, size_t set_len, const uint8_t *name, size_t name_len,
-                          const uint8_t *data, size_t data_len, uint8_t *out, size_t cap, size_t *len,
-                          struct bootkeep_refusal *refusal);
+uint32_t bootkeep_set_put(const uint8_t *set, size_t set_len, const uint8_t *name, size_t name_len, const uint8_t *data,
+                          size_t data_len, uint8_t *out, size_t cap, size_t *len, struct bootkeep_refusal *refusal)
+    BOOTKEEP_CHECKED BOOTKEEP_NONNULL((9, 10));
 
 /*
  * The set without the variable of this name.
@@ -363,7 +495,107 @@ uint32_t bootkeep_set_put(const uint8_t *set, size_t set_len, const uint8_t *nam
  *     BOOTKEEP_REFUSED   a number of sets
  */
 uint32_t bootkeep_set_remove(const uint8_t *set, size_t set_len, const uint8_t *name, size_t name_len, uint8_t *out,
-                             size_t cap, size_t *len, struct bootkeep_refusal *refusal);
+                             size_t cap, size_t *len, struct bootkeep_refusal *refusal)
+    BOOTKEEP_CHECKED BOOTKEEP_NONNULL((7, 8));
+
+/* Where a variable is in the bytes of its set: its name and its data, each with how many bytes it has. */
+struct bootkeep_variable {
+    size_t name;
+    size_t name_len;
+    size_t data;
+    size_t data_len;
+};
+
+/*
+ * Where the variables of the set are in its bytes, in the order of their names: nothing is copied. `cap` and `*len`
+ * count variables.
+ *
+ *     BOOTKEEP_DONE, BOOTKEEP_NO_ROOM, BOOTKEEP_NO_MEMORY
+ *     BOOTKEEP_REFUSED   a number of sets
+ */
+uint32_t bootkeep_set_variables(const uint8_t *set, size_t set_len, struct bootkeep_variable *variables, size_t cap,
+                                size_t *len, struct bootkeep_refusal *refusal)
+    BOOTKEEP_CHECKED BOOTKEEP_NONNULL((5, 6));
+
+/*
+ * In `*number` the lowest number under which the set has no entry, or BOOTKEEP_NO_ENTRY if all are taken.
+ *
+ *     BOOTKEEP_DONE, BOOTKEEP_NO_MEMORY
+ *     BOOTKEEP_REFUSED   a number of sets
+ */
+uint32_t bootkeep_set_lowest_free(const uint8_t *set, size_t set_len, uint32_t *number,
+                                  struct bootkeep_refusal *refusal) BOOTKEEP_CHECKED BOOTKEEP_NONNULL((3, 4));
+
+/* What a boot makes of an entry that BootOrder names. It is tried. */
+#define BOOTKEEP_ENTRY_NORMAL 0
+/* No entry has the number. */
+#define BOOTKEEP_ENTRY_ABSENT 1
+/* What is stored under the number is no load option. */
+#define BOOTKEEP_ENTRY_UNDECODABLE 2
+/* It isn't active. */
+#define BOOTKEEP_ENTRY_INACTIVE 3
+/* It is active, and of another category than the normal boot. */
+#define BOOTKEEP_ENTRY_OTHER_CATEGORY 4
+
+/*
+ * In `*state` why a number of BootOrder isn't in the plan, or that it is, by one of the numbers above. That of BootNext
+ * isn't if it is absent or undecodable. Whether an option is hidden doesn't matter.
+ *
+ *     BOOTKEEP_DONE, BOOTKEEP_NO_MEMORY
+ *     BOOTKEEP_REFUSED   a number of sets
+ */
+uint32_t bootkeep_set_entry(const uint8_t *set, size_t set_len, uint16_t number, uint32_t *state,
+                            struct bootkeep_refusal *refusal) BOOTKEEP_CHECKED BOOTKEEP_NONNULL((4, 5));
+
+/* What stands for BootOrder and for BootNext where other numbers are those of entries. */
+#define BOOTKEEP_VARIABLE_ORDER 0x00010001
+#define BOOTKEEP_VARIABLE_NEXT 0x00010002
+
+/* A number that BootNext or BootOrder names. */
+struct bootkeep_named {
+    /* Which of them names it: BOOTKEEP_VARIABLE_NEXT or BOOTKEEP_VARIABLE_ORDER. */
+    uint32_t variable;
+    uint32_t number;
+    /* What a boot makes of the entry: one of BOOTKEEP_ENTRY_... */
+    uint32_t state;
+};
+
+/*
+ * What BootNext names, if it is there, and then what BootOrder names, in its order, each with why it isn't in the plan,
+ * or that it is, as bootkeep_set_entry tells it. A number that BootOrder repeats is told again, and its entry looked at
+ * once. `cap` and `*len` count numbers, of which there are BOOTKEEP_ORDER_MAX + 1 at most.
+ *
+ *     BOOTKEEP_DONE, BOOTKEEP_NO_ROOM, BOOTKEEP_NO_MEMORY
+ *     BOOTKEEP_REFUSED   a number of sets, BOOTKEEP_VARS_BAD_ORDER or BOOTKEEP_VARS_BAD_NEXT
+ */
+uint32_t bootkeep_set_named(const uint8_t *set, size_t set_len, struct bootkeep_named *named, size_t cap, size_t *len,
+                            struct bootkeep_refusal *refusal) BOOTKEEP_CHECKED BOOTKEEP_NONNULL((5, 6));
+
+/* The variable is new, has other data, or is taken out. */
+#define BOOTKEEP_CHANGE_ADDED 1
+#define BOOTKEEP_CHANGE_REPLACED 2
+#define BOOTKEEP_CHANGE_REMOVED 3
+
+/* A change of one variable of the boot manager. */
+struct bootkeep_change {
+    /* The number of the entry, BOOTKEEP_VARIABLE_ORDER or BOOTKEEP_VARIABLE_NEXT. */
+    uint32_t variable;
+    /* BOOTKEEP_CHANGE_ADDED, BOOTKEEP_CHANGE_REPLACED or BOOTKEEP_CHANGE_REMOVED. */
+    uint32_t kind;
+};
+
+/*
+ * The changes that lead from one set to the boot manager's variables of another, Boot####, BootOrder and BootNext, in
+ * an order in which a machine can make them: after each of them BootOrder and BootNext name a missing entry only if
+ * they did before all of them, or do after them. The data of a variable before and after is in the two sets. `cap` and
+ * `*len` count changes.
+ *
+ *     BOOTKEEP_DONE, BOOTKEEP_NO_ROOM, BOOTKEEP_NO_MEMORY
+ *     BOOTKEEP_REFUSED   a number of sets, of `from`; otherwise one of `to`
+ */
+uint32_t bootkeep_set_changes(const uint8_t *from, size_t from_len, const uint8_t *to, size_t to_len,
+                              struct bootkeep_change *changes, size_t cap, size_t *len,
+                              struct bootkeep_refusal *refusal) BOOTKEEP_CHECKED BOOTKEEP_NONNULL((7, 8));
 
 /* ---- Runs ------------------------------------------------------------------------------------------------------- */
 
@@ -378,7 +610,7 @@ uint32_t bootkeep_set_remove(const uint8_t *set, size_t set_len, const uint8_t *
  */
 uint32_t bootkeep_run(const uint8_t *set, size_t set_len, const uint8_t *stream, size_t stream_len, uint8_t *set_out,
                       size_t set_cap, size_t *set_len_out, uint8_t *lines, size_t lines_cap, size_t *lines_len,
-                      struct bootkeep_refusal *refusal);
+                      struct bootkeep_refusal *refusal) BOOTKEEP_CHECKED BOOTKEEP_NONNULL((7, 10, 11));
 
 /* ---- Keepers ---------------------------------------------------------------------------------------------------- */
 
@@ -388,9 +620,8 @@ uint32_t bootkeep_run(const uint8_t *set, size_t set_len, const uint8_t *stream,
  * each event. A keeper holds memory until it is closed, and writes nothing anywhere: whoever has to survive a loss of
  * power stores bootkeep_keeper_set after each event and before it goes on.
  *
- *     struct bootkeep_keeper keeper = {0};
- *
- * or `{}` in C++.
+ * It needs no first value: bootkeep_keeper_open reads nothing of it. One that is closed before it was ever opened is
+ * `{0}`, or `{}` in C++.
  */
 struct bootkeep_keeper {
     /* 0 if the keeper is closed. Read it, if you like. */
@@ -400,14 +631,14 @@ struct bootkeep_keeper {
 };
 
 /*
- * Opens a keeper of the variables of a set. One that is open already keeps that set from then on, and what it held is
- * given up; at any status but BOOTKEEP_DONE it stays as it was.
+ * Opens a keeper of the variables of a set. `*keeper` may be memory that was never written: nothing of it is read, and
+ * at any status but BOOTKEEP_DONE it is closed. So one that is open is closed first: what it holds is lost otherwise.
  *
  *     BOOTKEEP_DONE, BOOTKEEP_NO_MEMORY
  *     BOOTKEEP_REFUSED   a number of sets; otherwise one of variables
  */
 uint32_t bootkeep_keeper_open(struct bootkeep_keeper *keeper, const uint8_t *set, size_t set_len,
-                              struct bootkeep_refusal *refusal);
+                              struct bootkeep_refusal *refusal) BOOTKEEP_CHECKED BOOTKEEP_NONNULL((1, 4));
 
 /*
  * Each of these four is an event, and its answer is the line of its reply, without a line feed. At any status but
@@ -418,30 +649,110 @@ uint32_t bootkeep_keeper_open(struct bootkeep_keeper *keeper, const uint8_t *set
 
 /* These bytes are delivered, which may be a frame: `applied`, `waiting`, `repeat`, `malformed` and others. */
 uint32_t bootkeep_keeper_deliver(struct bootkeep_keeper *keeper, const uint8_t *frame, size_t frame_len, uint8_t *out,
-                                 size_t cap, size_t *len);
+                                 size_t cap, size_t *len) BOOTKEEP_CHECKED BOOTKEEP_NONNULL((1, 6));
 
 /* A boot is prepared: its plan is made, and BootNext is deleted. `prepared` or `already prepared`. */
-uint32_t bootkeep_keeper_prepare(struct bootkeep_keeper *keeper, uint8_t *out, size_t cap, size_t *len);
+uint32_t bootkeep_keeper_prepare(struct bootkeep_keeper *keeper, uint8_t *out, size_t cap, size_t *len)
+    BOOTKEEP_CHECKED BOOTKEEP_NONNULL((1, 4));
 
 /* The plan that is prepared is handed out, once. `plan` or `nothing prepared`. */
-uint32_t bootkeep_keeper_hand(struct bootkeep_keeper *keeper, uint8_t *out, size_t cap, size_t *len);
+uint32_t bootkeep_keeper_hand(struct bootkeep_keeper *keeper, uint8_t *out, size_t cap, size_t *len)
+    BOOTKEEP_CHECKED BOOTKEEP_NONNULL((1, 4));
 
 /* The keeper starts again, without what waits and what is prepared. `restarted`. */
-uint32_t bootkeep_keeper_restart(struct bootkeep_keeper *keeper, uint8_t *out, size_t cap, size_t *len);
+uint32_t bootkeep_keeper_restart(struct bootkeep_keeper *keeper, uint8_t *out, size_t cap, size_t *len)
+    BOOTKEEP_CHECKED BOOTKEEP_NONNULL((1, 4));
+
+/* What a reply is. */
+
+/* What was delivered isn't a frame: `fault` says why, and `option_fault` if that is BOOTKEEP_FRAME_OPTION. */
+#define BOOTKEEP_REPLY_MALFORMED 1
+/* The request was applied before, with this outcome. */
+#define BOOTKEEP_REPLY_REPEAT 2
+/* The request was applied before, and its outcome isn't kept any more. */
+#define BOOTKEEP_REPLY_OLD 3
+/* The number is too far ahead of `next_number`. */
+#define BOOTKEEP_REPLY_AHEAD 4
+/* Another request of this number waits. */
+#define BOOTKEEP_REPLY_CONFLICT 5
+/* The request waits for those before it. */
+#define BOOTKEEP_REPLY_WAITING 6
+/* The request was applied, with this outcome. */
+#define BOOTKEEP_REPLY_APPLIED 7
+/* A plan of `count` options is prepared. */
+#define BOOTKEEP_REPLY_PREPARED 8
+/* A plan was prepared before, and stays. */
+#define BOOTKEEP_REPLY_ALREADY_PREPARED 9
+/* The plan that was prepared: `plan_next`, and the numbers of the others. */
+#define BOOTKEEP_REPLY_PLAN 10
+/* No plan is prepared. */
+#define BOOTKEEP_REPLY_NOTHING_PREPARED 11
+/* What waited and what was prepared is forgotten. */
+#define BOOTKEEP_REPLY_RESTARTED 12
+
+/* What came of a request: nothing is told, it was carried out, or why it wasn't. */
+#define BOOTKEEP_OUTCOME_NONE 0
+#define BOOTKEEP_OUTCOME_DONE 1
+#define BOOTKEEP_OUTCOME_EXISTS 2
+#define BOOTKEEP_OUTCOME_MISSING 3
+#define BOOTKEEP_OUTCOME_ORDER_REPEATS 4
+#define BOOTKEEP_OUTCOME_ORDER_UNKNOWN 5
+#define BOOTKEEP_OUTCOME_NO_FREE 6
+
+/* A reply as a value. Later versions may add fields at its end. */
+struct bootkeep_reply {
+    /* sizeof(struct bootkeep_reply): the caller writes it before a call, and no call changes it. */
+    size_t size;
+    /* One of BOOTKEEP_REPLY_... */
+    uint32_t kind;
+    /* One of BOOTKEEP_FRAME_..., or BOOTKEEP_NO_KIND. */
+    uint32_t fault;
+    /* The fault of a frame's option, with its places in the option. Its `kind` is BOOTKEEP_NO_KIND if there is none. */
+    struct bootkeep_refusal option_fault;
+    /* One of BOOTKEEP_OUTCOME_... */
+    uint32_t outcome;
+    /* The entry that was added, or BOOTKEEP_NO_ENTRY. */
+    uint32_t entry;
+    /* The number of the request that is to be applied next, or BOOTKEEP_NO_NUMBER where the reply tells none. */
+    uint32_t next_number;
+    /* The number of the option that a plan tries first, or BOOTKEEP_NO_ENTRY. */
+    uint32_t plan_next;
+    /* How many options a plan has, that of `plan_next` included. */
+    size_t count;
+};
+
+/*
+ * The same four events, with the reply as a value and the numbers of a plan in place of the line: in `numbers` those of
+ * the normal options of the plan that is handed out, and none at any other reply. `cap` and `*len` count numbers.
+ *
+ *     BOOTKEEP_DONE, BOOTKEEP_NO_ROOM, BOOTKEEP_NO_MEMORY, BOOTKEEP_CLOSED
+ *     BOOTKEEP_BAD_SIZE   `reply->size` is below that of the library's struct
+ */
+uint32_t bootkeep_keeper_deliver_reply(struct bootkeep_keeper *keeper, const uint8_t *frame, size_t frame_len,
+                                       struct bootkeep_reply *reply, uint16_t *numbers, size_t cap, size_t *len)
+    BOOTKEEP_CHECKED BOOTKEEP_NONNULL((1, 4, 7));
+uint32_t bootkeep_keeper_prepare_reply(struct bootkeep_keeper *keeper, struct bootkeep_reply *reply, uint16_t *numbers,
+                                       size_t cap, size_t *len) BOOTKEEP_CHECKED BOOTKEEP_NONNULL((1, 2, 5));
+uint32_t bootkeep_keeper_hand_reply(struct bootkeep_keeper *keeper, struct bootkeep_reply *reply, uint16_t *numbers,
+                                    size_t cap, size_t *len) BOOTKEEP_CHECKED BOOTKEEP_NONNULL((1, 2, 5));
+uint32_t bootkeep_keeper_restart_reply(struct bootkeep_keeper *keeper, struct bootkeep_reply *reply, uint16_t *numbers,
+                                       size_t cap, size_t *len) BOOTKEEP_CHECKED BOOTKEEP_NONNULL((1, 2, 5));
 
 /*
  * The variables of the machine as they are to be stored: the bytes of a set file.
  *
  *     BOOTKEEP_DONE, BOOTKEEP_NO_ROOM, BOOTKEEP_NO_MEMORY, BOOTKEEP_CLOSED
  */
-uint32_t bootkeep_keeper_set(struct bootkeep_keeper *keeper, uint8_t *out, size_t cap, size_t *len);
+uint32_t bootkeep_keeper_set(struct bootkeep_keeper *keeper, uint8_t *out, size_t cap, size_t *len)
+    BOOTKEEP_CHECKED BOOTKEEP_NONNULL((1, 4));
 
 /*
  * In `*number` the number of the request that is to be applied next. This takes no memory.
  *
  *     BOOTKEEP_DONE, BOOTKEEP_CLOSED
  */
-uint32_t bootkeep_keeper_next_number(struct bootkeep_keeper *keeper, uint32_t *number);
+uint32_t bootkeep_keeper_next_number(struct bootkeep_keeper *keeper, uint32_t *number)
+    BOOTKEEP_CHECKED BOOTKEEP_NONNULL((1, 2));
 
 /*
  * Gives up what the keeper holds. It is closed then, and may be opened again; to close one that is closed is no
@@ -449,7 +760,7 @@ uint32_t bootkeep_keeper_next_number(struct bootkeep_keeper *keeper, uint32_t *n
  *
  *     BOOTKEEP_DONE, BOOTKEEP_CLOSED
  */
-uint32_t bootkeep_keeper_close(struct bootkeep_keeper *keeper);
+uint32_t bootkeep_keeper_close(struct bootkeep_keeper *keeper) BOOTKEEP_NONNULL((1));
 
 /* ---- Layouts ---------------------------------------------------------------------------------------------------- */
 
@@ -477,11 +788,40 @@ BOOTKEEP_ASSERT(offsetof(struct bootkeep_option_parts, optional) == 40);
 BOOTKEEP_ASSERT(offsetof(struct bootkeep_option_parts, optional_len) == 48);
 BOOTKEEP_ASSERT(sizeof(struct bootkeep_option_parts) == 56);
 
+BOOTKEEP_ASSERT(offsetof(struct bootkeep_variable, name) == 0);
+BOOTKEEP_ASSERT(offsetof(struct bootkeep_variable, name_len) == 8);
+BOOTKEEP_ASSERT(offsetof(struct bootkeep_variable, data) == 16);
+BOOTKEEP_ASSERT(offsetof(struct bootkeep_variable, data_len) == 24);
+BOOTKEEP_ASSERT(sizeof(struct bootkeep_variable) == 32);
+
+BOOTKEEP_ASSERT(offsetof(struct bootkeep_named, variable) == 0);
+BOOTKEEP_ASSERT(offsetof(struct bootkeep_named, number) == 4);
+BOOTKEEP_ASSERT(offsetof(struct bootkeep_named, state) == 8);
+BOOTKEEP_ASSERT(sizeof(struct bootkeep_named) == 12);
+
+BOOTKEEP_ASSERT(offsetof(struct bootkeep_change, variable) == 0);
+BOOTKEEP_ASSERT(offsetof(struct bootkeep_change, kind) == 4);
+BOOTKEEP_ASSERT(sizeof(struct bootkeep_change) == 8);
+
+BOOTKEEP_ASSERT(offsetof(struct bootkeep_reply, size) == 0);
+BOOTKEEP_ASSERT(offsetof(struct bootkeep_reply, kind) == 8);
+BOOTKEEP_ASSERT(offsetof(struct bootkeep_reply, fault) == 12);
+BOOTKEEP_ASSERT(offsetof(struct bootkeep_reply, option_fault) == 16);
+BOOTKEEP_ASSERT(offsetof(struct bootkeep_reply, outcome) == 40);
+BOOTKEEP_ASSERT(offsetof(struct bootkeep_reply, entry) == 44);
+BOOTKEEP_ASSERT(offsetof(struct bootkeep_reply, next_number) == 48);
+BOOTKEEP_ASSERT(offsetof(struct bootkeep_reply, plan_next) == 52);
+BOOTKEEP_ASSERT(offsetof(struct bootkeep_reply, count) == 56);
+BOOTKEEP_ASSERT(sizeof(struct bootkeep_reply) == 64);
+
 BOOTKEEP_ASSERT(offsetof(struct bootkeep_keeper, is_open) == 0);
 BOOTKEEP_ASSERT(offsetof(struct bootkeep_keeper, at) == 8);
 BOOTKEEP_ASSERT(sizeof(struct bootkeep_keeper) == 16);
 #undef BOOTKEEP_ASSERT
 #endif
+
+#undef BOOTKEEP_CHECKED
+#undef BOOTKEEP_NONNULL
 
 #ifdef __cplusplus
 }

@@ -1,11 +1,12 @@
 /*
  * Makes the calls that the lines of standard input ask for, and says on a line each what they answer.
  *
- * A line is the name of a call without `bootkeep_`, and what it is handed, in hexadecimal digits, or `-` for no bytes.
- * `keeper` is handed a set and then events: `d` and the digits of a frame, `p`, `h` or `r`. It tells of a closed keeper,
- * of one that is opened, refused no bytes in the place of its set, and opened again, of each event, and of the set and
- * the next number in the end. An answer is `done` with what was given, `refused` with its four numbers, or `status` and
- * its number.
+ * A line is the name of a call without `bootkeep_`, and what it is handed, in hexadecimal digits, or `-` for no bytes,
+ * for which the call is handed NULL. Numbers are little-endian, those of one call in one word.
+ * `keeper` is handed a set and then events: `d` and the digits of a frame, `p`, `h` or `r`, or the same in upper case
+ * for the reply as a value. It tells of a closed keeper, of one that is refused no bytes in the place of its set, and
+ * is opened, both in memory that was filled with marks, of each event, and of the set and the next number in the end.
+ * An answer is `done` with what was given, `refused` with its four numbers, or `status` and its number.
  *
  * Each call is made with no room, with one too little, with each of its requests for memory refused in turn, with as
  * much room as is needed, and with room to spare, and what has to stay as it was is compared, also behind the buffers.
@@ -61,7 +62,7 @@ struct bytes {
 /* What a call is handed, and what it tells. */
 struct call {
     const char *name;
-    struct bytes given[3];
+    struct bytes given[4];
     struct {
         uint8_t *out[2];
         size_t cap[2], len[2];
@@ -69,6 +70,7 @@ struct call {
     } told;
     struct bootkeep_option_parts parts;
     struct bootkeep_refusal refusal;
+    struct bootkeep_reply reply;
     struct bootkeep_keeper *keeper;
 };
 
@@ -88,11 +90,27 @@ static void *make(size_t len)
 
 #define GIVEN(which) call->given[which].at, call->given[which].len
 #define OUT(which) call->told.out[which], call->told.cap[which], &call->told.len[which]
-#define NUMBERS (uint16_t *)(void *)call->told.out[0], call->told.cap[0], &call->told.len[0]
+#define ITEMS(type) (type *)(void *)call->told.out[0], call->told.cap[0], &call->told.len[0]
+#define NUMBERS ITEMS(uint16_t)
 
 static bool is(const struct call *call, const char *name)
 {
     return !strcmp(call->name, name);
+}
+
+static bool ends_with(const struct call *call, const char *end)
+{
+    size_t len = strlen(call->name), end_len = strlen(end);
+    return len > end_len && !strcmp(call->name + len - end_len, end);
+}
+
+/* The number of this many bytes at this place of what is given. */
+static uint32_t number_at(const struct call *call, int which, size_t place, size_t len)
+{
+    uint32_t number = 0;
+    for (size_t at = 0; at < len; at++)
+        number |= (uint32_t)call->given[which].at[place + at] << 8 * at;
+    return number;
 }
 
 /* Makes a call on a set. */
@@ -105,6 +123,16 @@ static uint32_t once_set(struct call *call)
         status = bootkeep_set_plan(GIVEN(0), NUMBERS, &number, &call->refusal);
     else if (is(call, "set_at_risk"))
         status = bootkeep_set_at_risk(GIVEN(0), NUMBERS, &count, &call->refusal);
+    else if (is(call, "set_named"))
+        status = bootkeep_set_named(GIVEN(0), ITEMS(struct bootkeep_named), &call->refusal);
+    else if (is(call, "set_variables"))
+        status = bootkeep_set_variables(GIVEN(0), ITEMS(struct bootkeep_variable), &call->refusal);
+    else if (is(call, "set_changes"))
+        status = bootkeep_set_changes(GIVEN(0), GIVEN(1), ITEMS(struct bootkeep_change), &call->refusal);
+    else if (is(call, "set_lowest_free"))
+        status = bootkeep_set_lowest_free(GIVEN(0), &number, &call->refusal);
+    else if (is(call, "set_entry"))
+        status = bootkeep_set_entry(GIVEN(0), (uint16_t)number_at(call, 1, 0, 2), &number, &call->refusal);
     else if (is(call, "set_get"))
         status = bootkeep_set_get(GIVEN(0), GIVEN(1), OUT(0), &call->refusal);
     else if (is(call, "set_put"))
@@ -132,6 +160,14 @@ static uint32_t once_keeper(struct call *call)
         status = bootkeep_keeper_hand(call->keeper, OUT(0));
     else if (is(call, "keeper_restart"))
         status = bootkeep_keeper_restart(call->keeper, OUT(0));
+    else if (is(call, "keeper_deliver_reply"))
+        status = bootkeep_keeper_deliver_reply(call->keeper, GIVEN(0), &call->reply, NUMBERS);
+    else if (is(call, "keeper_prepare_reply"))
+        status = bootkeep_keeper_prepare_reply(call->keeper, &call->reply, NUMBERS);
+    else if (is(call, "keeper_hand_reply"))
+        status = bootkeep_keeper_hand_reply(call->keeper, &call->reply, NUMBERS);
+    else if (is(call, "keeper_restart_reply"))
+        status = bootkeep_keeper_restart_reply(call->keeper, &call->reply, NUMBERS);
     else if (is(call, "keeper_set"))
         status = bootkeep_keeper_set(call->keeper, OUT(0));
     else if (is(call, "keeper_next_number"))
@@ -142,6 +178,18 @@ static uint32_t once_keeper(struct call *call)
     return status;
 }
 
+/* Makes a call for a word. */
+static uint32_t once_word(struct call *call)
+{
+    uint32_t number = number_at(call, 0, 0, 4);
+
+    if (is(call, "status_word"))
+        return bootkeep_status_word(number, OUT(0));
+    if (is(call, "refusal_word"))
+        return bootkeep_refusal_word(number, OUT(0));
+    return bootkeep_outcome_word(number, OUT(0));
+}
+
 /* Makes any other call. */
 static uint32_t once_other(struct call *call)
 {
@@ -150,6 +198,8 @@ static uint32_t once_other(struct call *call)
 
     if (is(call, "path_text"))
         status = bootkeep_path_text(GIVEN(0), OUT(0), &taken, &call->refusal);
+    else if (is(call, "path_names"))
+        status = bootkeep_path_names(GIVEN(0), OUT(0), &taken, &call->refusal);
     else if (is(call, "path_check"))
         status = bootkeep_path_check(GIVEN(0), &taken, &call->refusal);
     else if (is(call, "text_path"))
@@ -158,6 +208,12 @@ static uint32_t once_other(struct call *call)
         status = bootkeep_option_parts(GIVEN(0), &call->parts, &call->refusal);
     else if (is(call, "option_description"))
         status = bootkeep_option_description(GIVEN(0), OUT(0), &call->refusal);
+    else if (is(call, "option_make"))
+        status = bootkeep_option_make(number_at(call, 0, 0, 4), GIVEN(1), GIVEN(2), GIVEN(3), OUT(0), &call->refusal);
+    else if (is(call, "frame_make"))
+        status = bootkeep_frame_make(
+            number_at(call, 0, 0, 4), number_at(call, 0, 4, 4), (uint16_t)number_at(call, 0, 8, 2), GIVEN(1),
+            (const uint16_t *)(const void *)call->given[2].at, call->given[2].len / 2, OUT(0), &call->refusal);
     else if (is(call, "run"))
         status = bootkeep_run(GIVEN(0), GIVEN(1), OUT(0), OUT(1), &call->refusal);
     else
@@ -169,15 +225,37 @@ static uint32_t once_other(struct call *call)
 /* Makes the call once. */
 static uint32_t once(struct call *call)
 {
+    if (ends_with(call, "_word"))
+        return once_word(call);
     if (!strncmp(call->name, "set_", 4))
         return once_set(call);
     return strncmp(call->name, "keeper_", 7) ? once_other(call) : once_keeper(call);
 }
 
+/* Whether the call tells a reply as a value. */
+static bool has_reply(const struct call *call)
+{
+    return ends_with(call, "_reply");
+}
+
 /* How many bytes an element of the first buffer has. */
 static size_t unit(const struct call *call)
 {
-    return is(call, "set_plan") || is(call, "set_at_risk") ? sizeof(uint16_t) : 1;
+    if (is(call, "set_variables"))
+        return sizeof(struct bootkeep_variable);
+    if (is(call, "set_named"))
+        return sizeof(struct bootkeep_named);
+    if (is(call, "set_changes"))
+        return sizeof(struct bootkeep_change);
+    return is(call, "set_plan") || is(call, "set_at_risk") || has_reply(call) ? sizeof(uint16_t) : 1;
+}
+
+/* Complains if a buffer has anything but marks between these places. */
+static void compare_marks(const uint8_t *buffer, size_t from, size_t to)
+{
+    for (; from < to; from++)
+        if (buffer[from] != MARK)
+            complain("a buffer is written where no answer is");
 }
 
 /* Compares what has to stay as it was after a call with this status. */
@@ -187,15 +265,17 @@ static void compare_rest(const struct call *call, uint32_t status, const struct 
         complain("the refusal is written");
     if (status != BOOTKEEP_DONE && memcmp(&before->parts, &call->parts, sizeof call->parts) != 0)
         complain("the parts are written");
+    if (status != BOOTKEEP_DONE && memcmp(&before->reply, &call->reply, sizeof call->reply) != 0)
+        complain("the reply is written");
     if (status != BOOTKEEP_DONE && call->told.extra != UNTOLD)
         complain("a number is written");
     for (int at = 0; at < 2; at++) {
         bool given = status == BOOTKEEP_DONE && call->told.len[at] != UNTOLD;
         if (given && call->told.len[at] > call->told.cap[at])
             complain("more is given than there is room for");
-        for (size_t from = given ? call->told.len[at] * (at ? 1 : unit(call)) : 0; from < sizes[at] + GUARD; from++)
-            if (call->told.out[at][from] != MARK)
-                complain("a buffer is written where no answer is");
+        if (sizes[at] > 0)
+            compare_marks(call->told.out[at], given ? call->told.len[at] * (at ? 1 : unit(call)) : 0,
+                          sizes[at] + GUARD);
         if (status != BOOTKEEP_DONE && status != BOOTKEEP_NO_ROOM && call->told.len[at] != UNTOLD)
             complain("a length is written");
     }
@@ -211,10 +291,13 @@ static uint32_t with_room(struct call *call, size_t first, size_t second)
 
     memset(&call->refusal, MARK, sizeof call->refusal);
     memset(&call->parts, MARK, sizeof call->parts);
+    memset(&call->reply, MARK, sizeof call->reply);
+    call->reply.size = sizeof call->reply;
     call->told.extra = UNTOLD;
     for (int at = 0; at < 2; at++) {
-        call->told.out[at] = make(sizes[at] + GUARD);
-        memset(call->told.out[at], MARK, sizes[at] + GUARD);
+        call->told.out[at] = sizes[at] > 0 ? make(sizes[at] + GUARD) : NULL;
+        if (sizes[at] > 0)
+            memset(call->told.out[at], MARK, sizes[at] + GUARD);
         call->told.cap[at] = at ? second : first;
         call->told.len[at] = UNTOLD;
     }
@@ -307,6 +390,19 @@ static void print_bytes(const uint8_t *bytes, size_t len)
         printf("%02x", bytes[at]);
 }
 
+/* Says the fields of a reply. */
+static void say_reply(const struct bootkeep_reply *reply)
+{
+    const struct bootkeep_refusal *option = &reply->option_fault;
+
+    if (reply->size != sizeof *reply)
+        complain("the size of a reply is written");
+    printf(" %" PRIu32 " %" PRIu32 " %" PRIu32 " %" PRIu32 " %zu %zu", reply->kind, reply->fault, option->kind,
+           option->inner_kind, option->place, option->inner_place);
+    printf(" %" PRIu32 " %" PRIu32 " %" PRIu32 " %" PRIu32 " %zu", reply->outcome, reply->entry, reply->next_number,
+           reply->plan_next, reply->count);
+}
+
 /* Says what the call answered, and gives up its buffers. */
 static void say(struct call *call, uint32_t status)
 {
@@ -322,10 +418,12 @@ static void say(struct call *call, uint32_t status)
                    call->parts.description_len, call->parts.list, call->parts.list_len, call->parts.optional,
                    call->parts.optional_len);
         for (int at = 0; at < 2; at++)
-            if (call->told.out[at] != NULL && call->told.len[at] != UNTOLD)
+            if (call->told.len[at] != UNTOLD)
                 print_bytes(call->told.out[at], call->told.len[at] * (at ? 1 : unit(call)));
         if (call->told.extra != UNTOLD)
             printf(" %" PRIu64, call->told.extra);
+        if (has_reply(call))
+            say_reply(&call->reply);
     } else
         printf("status %" PRIu32, status);
     putchar('\n');
@@ -342,20 +440,35 @@ static struct bytes bytes_of(const char *digits)
     struct bytes bytes;
 
     bytes.len = strcmp(digits, "-") ? strlen(digits) / 2 : 0;
-    bytes.at = make(bytes.len);
+    bytes.at = bytes.len > 0 ? make(bytes.len) : NULL;
     for (size_t at = 0; at < bytes.len; at++)
         bytes.at[at] = (uint8_t)(digit(digits[2 * at]) << 4 | digit(digits[2 * at + 1]));
     return bytes;
 }
 
-/* Makes one call of a keeper, and says what it answers. At any answer but done it is open or closed as before. */
+/* Makes a call of a keeper with too small a size of the reply. */
+static void try_size(struct call call)
+{
+    size_t len = 0;
+
+    call.told.len[0] = 0;
+    memset(&call.reply, 0, sizeof call.reply);
+    call.reply.size = sizeof call.reply - 1;
+    if (bootkeep_keeper_hand_reply(call.keeper, &call.reply, NULL, 0, &len) != BOOTKEEP_BAD_SIZE)
+        complain("a reply of too small a size is told");
+}
+
+/* Makes one call of a keeper, and says what it answers. At any answer but done it is open or closed as before, and
+ * closed if it was to be opened. */
 static uint32_t keeper_call(struct bootkeep_keeper *keeper, const char *name, const char *digits)
 {
     static const size_t nothing[2] = {0, 0};
     struct call call = {.name = name, .keeper = keeper};
-    uint32_t status, was_open = keeper->is_open;
+    uint32_t status, was_open = strcmp(name, "keeper_open") ? keeper->is_open : 0;
 
     call.given[0] = bytes_of(digits);
+    if (has_reply(&call))
+        try_size(call);
     status = is(&call, "keeper_open") ? try_memory(&call, nothing, SPARE) : try_call(&call);
     if (keeper->is_open != (status == BOOTKEEP_DONE ? 1 : was_open))
         complain("the keeper is open or closed, and shouldn't be");
@@ -371,22 +484,33 @@ static void close_keeper(struct bootkeep_keeper *keeper, uint32_t wanted)
         complain("closing says something else, or the keeper is open after it");
 }
 
+/* The call of an event, by its letter. */
+static const char *event_call(char letter)
+{
+    switch (letter) {
+    case 'd': return "keeper_deliver";
+    case 'p': return "keeper_prepare";
+    case 'h': return "keeper_hand";
+    case 'r': return "keeper_restart";
+    case 'D': return "keeper_deliver_reply";
+    case 'P': return "keeper_prepare_reply";
+    case 'H': return "keeper_hand_reply";
+    default: return "keeper_restart_reply";
+    }
+}
+
 /* Opens a keeper, takes the events, says the set and the next number, and closes it twice. */
 static void keep(char **words, size_t count)
 {
     struct bootkeep_keeper keeper = {0};
 
     keeper_call(&keeper, "keeper_set", "-");
+    memset(&keeper, MARK, sizeof keeper);
+    keeper_call(&keeper, "keeper_open", "-");
+    memset(&keeper, MARK, sizeof keeper);
     if (keeper_call(&keeper, "keeper_open", words[1]) == BOOTKEEP_DONE) {
-        keeper_call(&keeper, "keeper_open", "-");
-        keeper_call(&keeper, "keeper_open", words[1]);
-        for (size_t at = 2; at < count; at++) {
-            const char *name = words[at][0] == 'd'   ? "keeper_deliver"
-                               : words[at][0] == 'p' ? "keeper_prepare"
-                               : words[at][0] == 'h' ? "keeper_hand"
-                                                     : "keeper_restart";
-            keeper_call(&keeper, name, words[at][0] == 'd' ? words[at] + 1 : "-");
-        }
+        for (size_t at = 2; at < count; at++)
+            keeper_call(&keeper, event_call(words[at][0]), words[at][1] != '\0' ? words[at] + 1 : "-");
         keeper_call(&keeper, "keeper_set", "-");
         keeper_call(&keeper, "keeper_next_number", "-");
         close_keeper(&keeper, BOOTKEEP_DONE);
@@ -411,11 +535,11 @@ static void take_line(char *line)
         return;
     }
     call.name = words[0];
-    for (size_t at = 0; at < 3; at++)
+    for (size_t at = 0; at < 4; at++)
         call.given[at] = bytes_of(at + 1 < count ? words[at + 1] : "-");
     status = try_call(&call);
     say(&call, status);
-    for (size_t at = 0; at < 3; at++)
+    for (size_t at = 0; at < 4; at++)
         free(call.given[at].at);
 }
 

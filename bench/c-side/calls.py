@@ -2,13 +2,14 @@
 answer, as calls.c does by the header."""
 
 import sys
-from typing import Callable, Iterable
+from typing import Callable, Iterable, Optional
 
 import bootkeep
 
 NO_PLACE = 2**64 - 1
 ABSENT, CLOSED = 3, 5
 NO_ENTRY = 0x10000
+NO_NUMBER = 2**32 - 1
 
 
 def digits(data: bytes) -> str:
@@ -49,6 +50,23 @@ def path_text(data: bytes) -> str:
     return f"{digits(text.encode())} {taken}"
 
 
+def path_names(data: bytes) -> str:
+    text, taken = bootkeep.path_names_and_len(data)
+    return f"{digits(text.encode())} {taken}"
+
+
+def word(call: Callable[[int], Optional[str]]) -> Callable[[bytes], str]:
+    """A call for the word of a number."""
+
+    def made(number: bytes) -> str:
+        found = call(int.from_bytes(number, "little"))
+        if found is None:
+            raise KeyError
+        return digits(found.encode())
+
+    return made
+
+
 def option_parts(data: bytes) -> str:
     option = bootkeep.option(data)
     description, paths = len(option.description_bytes), sum(map(len, option.paths))
@@ -61,13 +79,71 @@ def digits_of(numbers: Iterable[int]) -> str:
 
 
 def set_plan(data: bytes) -> str:
-    plan = bootkeep.plan(data)
+    plan = bootkeep.set_plan(data)
     return f"{digits_of(plan.normal)} {NO_ENTRY if plan.next is None else plan.next}"
 
 
 def set_at_risk(data: bytes) -> str:
-    risk = bootkeep.entries_at_risk(data)
+    risk = bootkeep.set_at_risk(data)
     return f"{digits_of(risk.unnamed + risk.undecodable)} {len(risk.unnamed)}"
+
+
+def numbers_in(data: bytes, width: int) -> list[int]:
+    return [int.from_bytes(data[at : at + width], "little") for at in range(0, len(data), width)]
+
+
+def option_make(attributes: bytes, description: bytes, paths: bytes, optional: bytes) -> str:
+    number = int.from_bytes(attributes, "little")
+    return digits(
+        bootkeep.option_make(number, text_of(description), [paths] if paths else [], optional)
+    )
+
+
+def frame_make(numbers: bytes, option: bytes, order: bytes) -> str:
+    number, kind = numbers_in(numbers[:8], 4)
+    entry = int.from_bytes(numbers[8:], "little")
+    return digits(bootkeep.frame_make(number, kind, entry, option, numbers_in(order, 2)))
+
+
+def set_variables(data: bytes) -> str:
+    """The places of the variables, as C has them. The module gives their data in place."""
+    places, at = b"", 4
+    for name, value in bootkeep.set_variables(data).items():
+        assert data[at + 1 : at + 1 + len(name)] == name.encode()
+        start = at + len(name) + 5
+        assert value == data[start : start + len(value)]
+        places += b"".join(
+            number.to_bytes(8, "little") for number in (at + 1, len(name), start, len(value))
+        )
+        at = start + len(value)
+    return digits(places)
+
+
+def set_named(data: bytes) -> str:
+    stands_for = {"BootOrder": 0x10001, "BootNext": 0x10002}
+    named = b""
+    for one in bootkeep.set_named(data):
+        for number in (stands_for[one.variable], one.number, int(one.state)):
+            named += number.to_bytes(4, "little")
+    return digits(named)
+
+
+def set_lowest_free(data: bytes) -> str:
+    number = bootkeep.set_lowest_free(data)
+    return str(NO_ENTRY if number is None else number)
+
+
+def set_entry(data: bytes, number: bytes) -> str:
+    return str(int(bootkeep.set_entry(data, int.from_bytes(number, "little"))))
+
+
+def set_changes(before: bytes, after: bytes) -> str:
+    stands_for = {"BootOrder": 0x10001, "BootNext": 0x10002}
+    changes = b""
+    for change in bootkeep.set_changes(before, after):
+        number = stands_for.get(change.name) or int(change.name[4:], 16)
+        changes += number.to_bytes(4, "little") + int(change.kind).to_bytes(4, "little")
+    return digits(changes)
 
 
 def run(data: bytes, stream: bytes) -> str:
@@ -78,11 +154,22 @@ def run(data: bytes, stream: bytes) -> str:
 
 CALLS = {
     "path_text": path_text,
-    "path_check": lambda data: str(bootkeep.check_path(data)),
+    "path_names": path_names,
+    "status_word": word(bootkeep.status_word),
+    "refusal_word": word(bootkeep.refusal_word),
+    "outcome_word": word(bootkeep.outcome_word),
+    "path_check": lambda data: str(bootkeep.path_check(data)),
     "text_path": lambda text: digits(bootkeep.text_path(text_of(text))),
     "option_parts": option_parts,
     "option_description": lambda data: digits(bootkeep.option(data).description.encode()),
+    "option_make": option_make,
+    "frame_make": frame_make,
     "set_plan": set_plan,
+    "set_variables": set_variables,
+    "set_named": set_named,
+    "set_lowest_free": set_lowest_free,
+    "set_entry": set_entry,
+    "set_changes": set_changes,
     "set_at_risk": set_at_risk,
     "set_get": lambda data, name: digits(bootkeep.set_get(data, text_of(name))),
     "set_put": lambda data, name, value: digits(bootkeep.set_put(data, text_of(name), value)),
@@ -91,17 +178,47 @@ CALLS = {
 }
 
 
+def said(reply: bootkeep.Reply | bootkeep.Plan | None) -> str:
+    """The line of a reply."""
+    return "nothing prepared" if reply is None else str(reply)
+
+
+def told(reply: bootkeep.Reply | bootkeep.Plan | None) -> str:
+    """The fields of a reply, as calls.c says them."""
+    if reply is None:
+        reply = bootkeep.Reply(bootkeep.ReplyKind.NOTHING_PREPARED)
+    if isinstance(reply, bootkeep.Plan):
+        count = len(reply.normal) + (reply.next is not None)
+        reply = bootkeep.Reply(bootkeep.ReplyKind.PLAN, count=count, plan=reply)
+    plan, why = reply.plan, reply.option_fault
+    option = "0 0" if why is None else f"{int(why.kind)} {int(why.inner_kind or 0)}"
+    places = (None, None) if why is None else (why.place, why.inner_place)
+    numbers = digits_of(plan.normal if plan else ())
+    first = None if plan is None else plan.next
+    next_number = NO_NUMBER if reply.next_number is None else reply.next_number
+    return (
+        f"{numbers} {int(reply.kind)} {int(reply.fault or 0)} {option} "
+        f"{' '.join(str(NO_PLACE if place is None else place) for place in places)} "
+        f"{int(reply.outcome or 0)} {NO_ENTRY if reply.entry is None else reply.entry} {next_number} "
+        f"{NO_ENTRY if first is None else first} {reply.count or 0}"
+    )
+
+
 def keep(words: list[str]) -> None:
     closed = bootkeep.Keeper(data_of(words[0]))
     closed.close()
     print(answer(lambda: digits(closed.set)))
+    print(answer(lambda: str(bootkeep.Keeper(b""))))
     with bootkeep.Keeper(data_of(words[0])) as keeper:
         print("done")
-        print(answer(lambda: str(bootkeep.Keeper(b""))))
-        print("done")
         for word in words[1:]:
-            events = {"d": lambda: keeper.deliver(data_of(word[1:])), "p": keeper.prepare, "h": keeper.hand}
-            print(f"done {digits(events.get(word[0], keeper.restart)().encode())}")
+            events = {
+                "d": lambda: keeper.deliver(data_of(word[1:])),
+                "p": keeper.prepare,
+                "h": keeper.hand,
+            }
+            reply = events.get(word[0].lower(), keeper.restart)()
+            print(f"done {digits(said(reply).encode()) if word[0].islower() else told(reply)}")
         print(f"done {digits(keeper.set)}")
         print(f"done {keeper.next_number}")
 

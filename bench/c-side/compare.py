@@ -1,13 +1,14 @@
 """Compares the calls for C with the command: `compare.py [--cases N] [--seed N] ROOT COMMAND DRIVER..`.
 
 Values are taken from the examples and damaged at random: paths, texts, options, sets, streams, and runs of many events.
-DRIVER makes the calls that its lines ask for (calls.c), and COMMAND is `bootkeep`. The last line is `N calls, M differ`,
+DRIVER makes the calls that its lines ask for (calls.c, calls.py or calls.rs), and COMMAND is `bootkeep`. The last line is `N calls, M differ`,
 and the status is 1 if some do.
 """
 
 from __future__ import annotations
 
 import argparse
+import json
 import random
 import re
 import subprocess
@@ -27,6 +28,34 @@ FAMILIES = {
 NO_PLACE = 2**64 - 1
 ABSENT, CLOSED = 3, 5
 
+# The replies in the order of their numbers, and so that none begins another that comes after it.
+NUMBERED = [
+    "malformed",
+    "repeat",
+    "old",
+    "ahead",
+    "conflict",
+    "waiting",
+    "applied",
+    "prepared",
+    "already prepared",
+    "plan",
+    "nothing prepared",
+    "restarted",
+]
+REPLIES = sorted(NUMBERED, key=len, reverse=True)
+
+# The outcomes in the order of their numbers.
+OUTCOMES = ["Done", "Exists", "Missing", "OrderRepeats", "OrderUnknown", "NoFree"]
+
+
+# The statuses in the order of their numbers.
+STATUSES = ["DONE", "REFUSED", "NO_ROOM", "ABSENT", "NO_MEMORY", "CLOSED", "BAD_SIZE"]
+
+
+def camel(name: str) -> str:
+    return "".join(word.capitalize() for word in name.split("_"))
+
 
 def snake(word: str) -> str:
     return re.sub(r"(?<!^)(?=[A-Z])", "_", word).upper()
@@ -38,8 +67,15 @@ class Side:
     def __init__(self, root: Path, command: str, work: Path) -> None:
         self.command, self.work = command, work
         header = (root / "include/bootkeep.h").read_text()
-        found = re.findall(r"^#define BOOTKEEP_(\w+) (0x[0-9a-f]+)$", header, re.M)
+        found = re.findall(r"^#define BOOTKEEP_(\w+) (0x[0-9a-f]{4})$", header, re.M)
         self.kinds = {name: int(number, 16) for name, number in found}
+        self.numbers = {
+            "status": {name: number for number, name in enumerate(STATUSES)},
+            "refusal": self.kinds,
+            "outcome": {
+                name: number for number, name in enumerate(["NONE", *map(snake, OUTCOMES)])
+            },
+        }
 
     def ask(self, *words: str) -> tuple[int, str, str]:
         done = subprocess.run([self.command, *words], capture_output=True, text=True, check=False)
@@ -128,7 +164,9 @@ def number_bytes(numbers: Iterable[int]) -> bytes:
 
 def entries_of(variables: list[tuple[str, bytes]]) -> dict[int, bytes]:
     """The data of the entries, by their numbers."""
-    return {int(name[4:], 16): data for name, data in variables if re.fullmatch("Boot[0-9A-F]{4}", name)}
+    return {
+        int(name[4:], 16): data for name, data in variables if re.fullmatch("Boot[0-9A-F]{4}", name)
+    }
 
 
 def places_of(option: bytes) -> tuple[int, ...]:
@@ -164,9 +202,19 @@ class Cases:
         self.set = (root / "examples/set").read_bytes()
         self.frames = frames_of((root / "examples/stream").read_bytes())
         stored = variables_of(self.set)
-        self.options = [data for name, data in stored if re.fullmatch("Boot[0-9A-F]{4}", name) and len(data) > 8]
+        self.options = [
+            data for name, data in stored if re.fullmatch("Boot[0-9A-F]{4}", name) and len(data) > 8
+        ]
         self.paths = [paths_of(data) for data in self.options if self.is_option(data)]
         self.texts = [self.text(path) for path in self.paths]
+        cases = json.loads((root / "tests/cases/named_texts.json").read_text(encoding="utf-8"))
+        self.names = [
+            (bytes.fromhex(case["input"]), case["answer"])
+            for part in cases
+            if part["call"] == "named_text"
+            for case in part["cases"]
+            if isinstance(case["input"], str) and isinstance(case["answer"], str)
+        ]
 
     def is_option(self, data: bytes) -> bool:
         return self.side.ask("option", self.side.file("option", data))[0] == 0
@@ -183,6 +231,29 @@ class Cases:
         taken = len(data) - int(re.search(r"^rest (\d+)$", out, re.M)[1])
         text = out.partition("text ")[2].rstrip("\n").encode()
         return lines, [f"done {digits(text)} {taken}", f"done {taken}"]
+
+    def names_case(self) -> tuple[str, list[str]]:
+        """The text for a person of a path: what the cases of the repository say, or why there is none."""
+        if self.chance.randrange(3) == 0:
+            data = damage(self.chance, self.chance.choice(self.paths))
+            status, _, told = self.side.ask("path", data.hex())
+            if status:
+                return f"path_names {digits(data)}", [self.side.refusal("path", told)]
+        data, text = self.chance.choice(self.names)
+        rest = self.chance.randbytes(self.chance.randrange(5))
+        return f"path_names {digits(data + rest)}", [f"done {digits(text.encode())} {len(data)}"]
+
+    def word_case(self) -> tuple[str, list[str]]:
+        """The word of a status, of a refusal or of an outcome."""
+        family = self.chance.choice(["status", "refusal", "outcome"])
+        words = {number: camel(name) for name, number in self.side.numbers[family].items()}
+        number = self.chance.choice(
+            [*words, 2**32 - 1, max(words) + 1, self.chance.randrange(0x900)]
+        )
+        line = f"{family}_word {number.to_bytes(4, 'little').hex()}"
+        if number not in words:
+            return line, [f"status {ABSENT}"]
+        return line, [f"done {digits(words[number].encode())}"]
 
     def text_case(self) -> tuple[str, list[str]]:
         held = damage(self.chance, self.chance.choice(self.texts).encode()).replace(b"\0", b"0")
@@ -224,10 +295,14 @@ class Cases:
         if status:
             return line, [self.side.refusal("set", told)]
         variables = variables_of(data)
-        order, first = (numbers_of(dict(variables).get(name, b"")) for name in ("BootOrder", "BootNext"))
+        order, first = (
+            numbers_of(dict(variables).get(name, b"")) for name in ("BootOrder", "BootNext")
+        )
         entries = entries_of(variables)
         unnamed = sorted(set(entries).difference(order, first))
-        undecodable = sorted(number for number in set(order) & set(entries) if not self.is_option(entries[number]))
+        undecodable = sorted(
+            number for number in set(order) & set(entries) if not self.is_option(entries[number])
+        )
         return line, [f"done {digits(number_bytes(unnamed + undecodable))} {len(unnamed)}"]
 
     def reordered(self) -> list[tuple[str, bytes]]:
@@ -240,22 +315,189 @@ class Cases:
             stored.update({name: number_bytes(chosen)} if chosen else {})
         return list(stored.items())
 
+    def set_case(self) -> tuple[str, list[str]]:
+        """What is told of a set: its variables, its lowest free number, and what a boot makes of an entry."""
+        data = damage(self.chance, set_of(self.reordered()))
+        number = self.chance.choice([*entries_of(variables_of(self.set)), 0x77])
+        given = digits(data)
+        lines = f"set_variables {given}\nset_lowest_free {given}\nset_entry {given} {digits(number_bytes([number]))}"
+        told = self.side.ask("show", self.side.file("set", data))[2]
+        if told and "BadOrder" not in told and "BadNext" not in told:
+            return lines, [self.side.refusal("set", told)] * 3
+        variables = variables_of(data)
+        entries = entries_of(variables)
+        free = next(number for number in range(0x10001) if number not in entries)
+        return lines, [
+            f"done {digits(self.places(variables))}",
+            f"done {free}",
+            f"done {self.state(entries, number)}",
+        ]
+
+    def named_case(self) -> tuple[str, list[str]]:
+        """What BootNext and BootOrder name, and what a boot makes of it."""
+        data = damage(self.chance, set_of(self.reordered()))
+        line = f"set_named {digits(data)}"
+        status, _, told = self.side.ask("show", self.side.file("set", data))
+        if status:
+            return line, [self.side.refusal("set", told)]
+        variables = variables_of(data)
+        entries, named = entries_of(variables), b""
+        for name, stands_for in (("BootNext", 0x10002), ("BootOrder", 0x10001)):
+            for number in numbers_of(dict(variables).get(name, b"")):
+                for part in (stands_for, number, self.state(entries, number)):
+                    named += part.to_bytes(4, "little")
+        return line, [f"done {digits(named)}"]
+
+    def places(self, variables: list[tuple[str, bytes]]) -> bytes:
+        """The places of the variables in their set, as C has them."""
+        places, at = b"", 4
+        for name, data in variables:
+            start = at + 1 + len(name) + 4
+            places += b"".join(
+                number.to_bytes(8, "little") for number in (at + 1, len(name), start, len(data))
+            )
+            at = start + len(data)
+        return places
+
+    def state(self, entries: dict[int, bytes], number: int) -> int:
+        if number not in entries:
+            return 1
+        if not self.is_option(entries[number]):
+            return 2
+        attributes = int.from_bytes(entries[number][:4], "little")
+        if not attributes & 1:
+            return 3
+        return 4 if attributes & 0x1F00 else 0
+
+    def changes_case(self) -> tuple[str, list[str]]:
+        first, second = self.reordered(), self.reordered()
+        for name in self.chance.sample([name for name, _ in second], k=2):
+            second = [(held, b"\1" if held == name else data) for held, data in second]
+        second = [(name, data) for name, data in second if self.chance.randrange(4) > 0]
+        line = f"set_changes {digits(set_of(first))} {digits(set_of(second))}"
+        before, after = dict(first), dict(second)
+        entry = re.compile("Boot[0-9A-F]{4}").fullmatch
+        names = [name for name in sorted(after) if entry(name) and before.get(name) != after[name]]
+        names += [name for name in ("BootOrder", "BootNext") if before.get(name) != after.get(name)]
+        names += [name for name in sorted(before) if entry(name) and name not in after]
+        changes = b""
+        for name in names:
+            number = {"BootOrder": 0x10001, "BootNext": 0x10002}.get(name) or int(name[4:], 16)
+            kind = 1 if name not in before else 2 if name in after else 3
+            changes += number.to_bytes(4, "little") + kind.to_bytes(4, "little")
+        return line, [f"done {digits(changes)}"]
+
+    def option_make_case(self) -> tuple[str, list[str]]:
+        """An option of parts: the command reads what is expected of them."""
+        paths = self.chance.choice(
+            [b"", *self.paths] * 2 + [self.paths[0] + self.paths[-1], self.paths[0] * 3000]
+        )
+        if paths and self.chance.randrange(3) == 0:
+            paths = damage(self.chance, paths)
+        text = self.chance.choice(
+            ["Linux", "", "Bööt \N{PENGUIN}", "a\0b", "x" * 300, "\uffff\U00010000"]
+        ).encode()
+        if self.chance.randrange(4) == 0:
+            text = damage(self.chance, text)
+        attributes = self.chance.getrandbits(32).to_bytes(4, "little")
+        optional = self.chance.randbytes(self.chance.randrange(9))
+        line = f"option_make {digits(attributes)} {digits(text)} {digits(paths)} {digits(optional)}"
+        try:
+            units = text.decode().encode("utf-16-le")
+        except UnicodeDecodeError as error:
+            return line, [
+                f"refused {self.side.kinds['OPTION_NOT_UTF8']} 0 {error.start} {NO_PLACE}"
+            ]
+        fault = self.list_fault(paths)
+        if fault:
+            return line, [fault]
+        zero = any(units[at : at + 2] == b"\0\0" for at in range(0, len(units), 2))
+        if zero or not paths or len(paths) > 65535:
+            kind = "ZERO_UNIT" if zero else "LIST_TOO_LONG" if paths else "EMPTY_LIST"
+            return line, [self.refused(f"OPTION_{kind}")]
+        option = attributes + len(paths).to_bytes(2, "little") + units + b"\0\0" + paths + optional
+        return line, [f"done {digits(option)}"]
+
+    def list_fault(self, paths: bytes) -> str:
+        """The driver's line if the bytes aren't paths, one after the other."""
+        at = 0
+        while at < len(paths):
+            if paths[at:].startswith(self.paths[0]) and at + len(self.paths[0]) < len(paths):
+                at += len(self.paths[0])
+                continue
+            status, out, told = self.side.ask("path", paths[at:].hex())
+            if status:
+                inner = self.side.refusal("path", told).split()
+                return f"refused {self.side.kinds['OPTION_PATH']} {inner[1]} {at} {inner[3]}"
+            at = len(paths) - int(re.search(r"^rest (\d+)$", out, re.M)[1])
+        return ""
+
+    def frame_make_case(self) -> tuple[str, list[str]]:
+        number = self.chance.choice([0, 1, 2**32 - 2, 2**32 - 1])
+        kind, entry = self.chance.randrange(8), self.chance.randrange(0x10000)
+        option = self.chance.choice([b"", *self.options])
+        if self.chance.randrange(3) == 0:
+            option = damage(self.chance, option)
+        order = number_bytes(
+            self.chance.choices(range(0x10000), k=self.chance.choice([0, 1, 5, 65536, 65537]))
+        )
+        numbers = (
+            number.to_bytes(4, "little") + kind.to_bytes(4, "little") + entry.to_bytes(2, "little")
+        )
+        line = f"frame_make {digits(numbers)} {digits(option)} {digits(order)}"
+        if not 1 <= kind <= 6:
+            return line, [self.refused("FRAME_BAD_KIND")]
+        if kind in (1, 2, 6):
+            status, _, told = self.side.ask("option", self.side.file("option", option))
+            if status:
+                return line, [self.side.refusal("option", told)]
+        short = entry.to_bytes(2, "little")
+        payload = {1: short + option, 2: short + option, 3: short, 4: order, 5: short, 6: option}[
+            kind
+        ]
+        if len(payload) > 131072:
+            return line, [self.refused("FRAME_TOO_LONG")]
+        if number == 2**32 - 1:
+            return line, [self.refused("FRAME_BAD_NUMBER")]
+        header = (
+            b"BQ"
+            + bytes([2 if kind == 6 else 1, kind])
+            + numbers[:4]
+            + len(payload).to_bytes(4, "little")
+        )
+        return line, [f"done {digits(header + payload)}"]
+
     def name(self) -> bytes:
         """A name of the set, or one that it hasn't, or what is no name."""
         kept = [name.encode() for name, _ in variables_of(self.set)]
-        others = [b"Boot0009", b"A", b"~" * 64, b"", b"~" * 65, b"Boot 0000", b"Boot\xff", "Böot".encode()]
+        others = [
+            b"Boot0009",
+            b"A",
+            b"~" * 64,
+            b"",
+            b"~" * 65,
+            b"Boot 0000",
+            b"Boot\xff",
+            "Böot".encode(),
+        ]
         return self.chance.choice(kept + others)
 
     def change_case(self) -> tuple[str, list[str]]:
         data, name = damage(self.chance, self.set), self.name()
-        value = self.chance.randbytes(self.chance.choice([0, 1, 2, 300] * 4 + [1_048_576, 1_048_577]))
+        value = self.chance.randbytes(
+            self.chance.choice([0, 1, 2, 300] * 4 + [1_048_576, 1_048_577])
+        )
         given = f"{digits(data)} {digits(name)}"
         lines = f"set_get {given}\nset_put {given} {digits(value)}\nset_remove {given}"
         told = self.side.ask("show", self.side.file("set", data))[2]
         if told and "BadOrder" not in told and "BadNext" not in told:
             return lines, [self.side.refusal("set", told)] * 3
         variables = {held.encode(): kept for held, kept in variables_of(data)}
-        return lines, [self.got(variables, name), self.put(variables, name, value), self.removed(variables, name)]
+        return lines, [
+            self.got(variables, name),
+            self.put(variables, name, value),
+            self.removed(variables, name),
+        ]
 
     def got(self, variables: dict[bytes, bytes], name: bytes) -> str:
         return f"done {digits(variables[name])}" if name in variables else f"status {ABSENT}"
@@ -279,7 +521,9 @@ class Cases:
         frames = []
         for number in range(count):
             frame = bytearray(self.chance.choice(self.frames))
-            frame[4:8] = max(0, number + self.chance.choice([0, 0, 0, 0, 1, -1, 3, 80])).to_bytes(4, "little")
+            frame[4:8] = max(0, number + self.chance.choice([0, 0, 0, 0, 1, -1, 3, 80])).to_bytes(
+                4, "little"
+            )
             if self.chance.randrange(8) == 0:
                 frame[12:] = damage(self.chance, bytes(frame[12:]))
                 frame[8:12] = (len(frame) - 12).to_bytes(4, "little")
@@ -292,7 +536,12 @@ class Cases:
             stream = damage(self.chance, stream)
         out = self.side.work / "after"
         status, lines, told = self.side.ask(
-            "run", "--stream", self.side.file("set", self.set), self.side.file("stream", stream), "--out", str(out)
+            "run",
+            "--stream",
+            self.side.file("set", self.set),
+            self.side.file("stream", stream),
+            "--out",
+            str(out),
         )
         line = f"run {digits(self.set)} {digits(stream)}"
         if status:
@@ -306,14 +555,62 @@ class Cases:
         script = "".join(f"{words.get(event) or 'deliver ' + event[1:]}\n" for event in events)
         out = self.side.work / "after"
         status, lines, told = self.side.ask(
-            "run", self.side.file("set", self.set), self.side.file("script", script.encode()), "--out", str(out)
+            "run",
+            self.side.file("set", self.set),
+            self.side.file("script", script.encode()),
+            "--out",
+            str(out),
         )
         assert status == 0, told
-        answers = [f"done {digits(line.encode())}" for line in lines.splitlines()]
-        line = f"keeper {digits(self.set)} {' '.join(events)}"
+        as_values = [self.chance.randrange(2) == 0 for _ in events]
+        answers = [
+            f"done {self.value(line) if as_value else digits(line.encode())}"
+            for line, as_value in zip(lines.splitlines(), as_values)
+        ]
+        asked = (
+            event[0].upper() + event[1:] if as_value else event
+            for event, as_value in zip(events, as_values)
+        )
+        line = f"keeper {digits(self.set)} {' '.join(asked)}"
         numbers = re.findall(r"^(?:applied|waiting) .*?(\d+)$", lines, re.M)
-        opened = [f"status {CLOSED}", "done", f"refused {self.side.kinds['SET_BAD_MAGIC']} 0 0 {NO_PLACE}", "done"]
-        return line, [*opened, *answers, f"done {digits(out.read_bytes())}", f"done {numbers[-1] if numbers else 0}"]
+        opened = [
+            f"status {CLOSED}",
+            f"refused {self.side.kinds['SET_BAD_MAGIC']} 0 0 {NO_PLACE}",
+            "done",
+        ]
+        return line, [
+            *opened,
+            *answers,
+            f"done {digits(out.read_bytes())}",
+            f"done {numbers[-1] if numbers else 0}",
+        ]
+
+    def value(self, line: str) -> str:
+        """The fields of the reply of this line."""
+        fault = outcome = count = 0
+        entry = first = 0x10000
+        option, next_number, normal = f"0 0 {NO_PLACE} {NO_PLACE}", 2**32 - 1, b""
+        kind = next(kind for kind in REPLIES if line.startswith(kind))
+        words = line[len(kind) :].split()
+        if kind == "malformed":
+            fault = self.side.kinds[f"FRAME_{snake(words[0])}"]
+            if words[0] == "Option":
+                option = self.side.refusal("option", f"refused: {' '.join(words[1:])}").partition(
+                    " "
+                )[2]
+        elif kind in ("repeat", "applied"):
+            outcome = 1 + OUTCOMES.index(words.pop(0))
+            if words and re.fullmatch("[0-9A-F]{4}", words[0]) and len(words) > (kind == "applied"):
+                entry = int(words.pop(0), 16)
+        elif kind == "plan":
+            first = 0x10000 if words[1] == "-" else int(words[1], 16)
+            normal = number_bytes(int(word, 16) for word in words[3:] if word != "-")
+            count = len(normal) // 2 + (words[1] != "-")
+        elif kind == "prepared":
+            count = int(words[0])
+        if kind in ("ahead", "waiting", "applied", "restarted"):
+            next_number = int(words[-1])
+        return f"{digits(normal)} {1 + NUMBERED.index(kind)} {fault} {option} {outcome} {entry} {next_number} {first} {count}"
 
 
 def main() -> int:
@@ -325,19 +622,40 @@ def main() -> int:
     words.add_argument("--seed", type=int, default=1)
     given = words.parse_args()
     with tempfile.TemporaryDirectory() as work:
-        cases = Cases(given.root, Side(given.root, given.command, Path(work)), random.Random(given.seed))
+        cases = Cases(
+            given.root, Side(given.root, given.command, Path(work)), random.Random(given.seed)
+        )
         makers = [
-            cases.path_case, cases.text_case, cases.option_case, cases.plan_case, cases.risk_case, cases.change_case,
-            cases.run_case, cases.keeper_case,
+            cases.path_case,
+            cases.text_case,
+            cases.option_case,
+            cases.plan_case,
+            cases.risk_case,
+            cases.change_case,
+            cases.run_case,
+            cases.keeper_case,
+            cases.set_case,
+            cases.changes_case,
+            cases.option_make_case,
+            cases.frame_make_case,
+            cases.names_case,
+            cases.word_case,
+            cases.named_case,
         ]
         made = [maker() for _ in range(given.cases) for maker in makers]
     asked = "".join(f"{line}\n" for line, _ in made)
     done = subprocess.run(given.driver, input=asked, capture_output=True, text=True, check=False)
     answers, wanted = done.stdout.splitlines(), [answer for _, lines in made for answer in lines]
-    differ = sum(a != b for a, b in zip(answers, wanted)) + abs(len(answers) - len(wanted)) + (done.returncode != 0)
+    differ = (
+        sum(a != b for a, b in zip(answers, wanted))
+        + abs(len(answers) - len(wanted))
+        + (done.returncode != 0)
+    )
     for number, (answer, want) in enumerate(zip(answers, wanted)):
         if answer != want:
-            print(f"answer {number} of seed {given.seed} is {answer[:200]}\nand the command's {want[:200]}")
+            print(
+                f"answer {number} of seed {given.seed} is {answer[:200]}\nand the command's {want[:200]}"
+            )
     if done.stderr:
         print(done.stderr[:2000])
     print(f"{len(wanted)} calls, {differ} differ")

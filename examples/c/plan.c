@@ -6,7 +6,6 @@
 #include "files.h"
 
 #include <bootkeep.h>
-#include <inttypes.h>
 #include <stdio.h>
 #include <stdlib.h>
 
@@ -19,9 +18,16 @@ static uint8_t data[DATA], text[TEXT];
 /* Says why a call has no answer. */
 static int tell(const char *call, uint32_t status, const struct bootkeep_refusal *refusal)
 {
-    fprintf(stderr, "plan: %s: status %" PRIu32, call, status);
-    if (status == BOOTKEEP_REFUSED) {
-        fprintf(stderr, ", refusal 0x%04" PRIx32, refusal->kind);
+    uint8_t word[BOOTKEEP_WORD_MAX];
+    size_t len = 0;
+
+    fprintf(stderr, "plan: %s: ", call);
+    if (status != BOOTKEEP_REFUSED) {
+        if (bootkeep_status_word(status, word, sizeof word, &len) == BOOTKEEP_DONE)
+            fwrite(word, 1, len, stderr);
+    } else {
+        if (bootkeep_refusal_word(refusal->kind, word, sizeof word, &len) == BOOTKEEP_DONE)
+            fwrite(word, 1, len, stderr);
         if (refusal->place != BOOTKEEP_NO_PLACE)
             fprintf(stderr, " at %zu", refusal->place);
     }

@@ -10,7 +10,7 @@ import bootkeep
 
 
 def show(variables: bytes) -> None:
-    plan = bootkeep.plan(variables)
+    plan = bootkeep.set_plan(variables)
     first = [] if plan.next is None else [(plan.next, "next")]
     for number, when in [*first, *((number, "normal") for number in plan.normal)]:
         name = f"Boot{number:04X}"

@@ -1,6 +1,13 @@
 pub mod Telling
+pub mod Answering
+pub mod PartsOfOptions
 pub mod Failures
 pub mod Changes
 pub mod Openings
 pub mod Boxes
 pub mod Stepping
+pub mod Replying
+pub mod EntryStates
+pub mod NamesOfChanges
+pub mod NamedEntries
+pub mod PlacesInSets

@@ -16,6 +16,8 @@ use Rattle.boot_requests.specs.declared.fault.OpenFault.{OpenFault}
 use Rattle.boot_requests.specs.declared.fault.OpenFault.TheVariants as opening
 use Rattle.boot_requests.specs.declared.fault.FeedFault.{FeedFault}
 use Rattle.boot_requests.specs.declared.fault.FeedFault.TheVariants as feeding
+use Rattle.boot_requests.specs.declared.fault.FrameFault.{FrameFault}
+use Rattle.boot_requests.specs.declared.fault.FrameFault.TheVariants as frame
 use Rattle.boot_requests.specs.declared.script_fault.ScriptFault.{ScriptFault}
 use Rattle.boot_requests.specs.declared.script_fault.ScriptFault.TheVariants as script
 use Rattle.bootkeep_c.specs.declared.refusal.Refusal.{Refusal}
@@ -117,6 +119,19 @@ abbrev pub stream_failure : ScriptFault → Failure
 stream_failure (script.Stream fault) = feed_failure fault
 stream_failure (script.Rest count) = rest_failure count
 stream_failure _ = failure.Memory
+
+-- a frame that can't be made, or isn't one: the fault of an option is told as that of the option alone
+abbrev pub frame_failure : FrameFault → Failure
+frame_failure frame.Short = bare 0x0801
+frame_failure frame.BadMagic = bare 0x0802
+frame_failure frame.BadVersion = bare 0x0803
+frame_failure frame.TooLong = bare 0x0804
+frame_failure frame.BadSize = bare 0x0805
+frame_failure frame.BadKind = bare 0x0806
+frame_failure frame.BadNumber = bare 0x0807
+frame_failure frame.BadPayload = bare 0x0808
+frame_failure (frame.Option fault) = option_failure fault
+frame_failure frame.OutOfMemory = failure.Memory
 
 -- ---- what a call tells
 

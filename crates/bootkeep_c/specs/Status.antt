@@ -19,6 +19,9 @@ no_memory = 4
 abbrev pub closed : ℕ
 closed = 5
 
+abbrev pub bad_size : ℕ
+bad_size = 6
+
 -- ---- which statuses a call answers
 
 -- one that reads and takes no memory

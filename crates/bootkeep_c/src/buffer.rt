@@ -6,7 +6,7 @@ ghost use Rattle.bootkeep_c.specs.Buffer.{IsInFront, Gives};
 use crate::status::{DONE, NO_ROOM};
 
 /// Gives the answer, if there is room for it.
-pub(crate) fn give(answer: &[u8], out: &mut [u8], len: &mut usize) -> u32
+pub(crate) fn give<T: Copy>(answer: &[T], out: &mut [T], len: &mut usize) -> u32
     ensures { Gives result answer.now out.old out.new len.new }
 {
     *len = answer.len();
@@ -17,21 +17,8 @@ pub(crate) fn give(answer: &[u8], out: &mut [u8], len: &mut usize) -> u32
     DONE
 }
 
-/// Gives the numbers, if there is room for them.
-pub(crate) fn give_numbers(answer: &[u16], out: &mut [u16], len: &mut usize) -> u32
-    ensures { Gives result answer.now out.old out.new len.new }
-{
-    *len = answer.len();
-    if answer.len() > out.len() {
-        return NO_ROOM;
-    }
-    let (front, _) = out.split_at_mut(answer.len());
-    front.copy_from_slice(answer);
-    DONE
-}
-
 /// Writes the answer to the front of the buffer.
-pub(crate) fn put_in_front(answer: &[u8], out: &mut [u8])
+pub(crate) fn put_in_front<T: Copy>(answer: &[T], out: &mut [T])
     requires { length answer.now ≤ length out.old }
     ensures { IsInFront answer.now out.old out.new (length answer.now) }
 {

@@ -2,19 +2,20 @@
 
 ghost use Rattle.std.specs.Prelude.{◌≡◌};
 ghost use Rattle.bootkeep_c.specs.declared.failure.Failure.TheVariants as failure;
-ghost use Rattle.bootkeep_c.specs.Refusals.{at_place, bare, path_failure, text_failure, list_failure, option_failure, set_failure, vars_failure, open_failure, put_failure, feed_failure, Tells};
+ghost use Rattle.bootkeep_c.specs.Refusals.{at_place, bare, path_failure, text_failure, list_failure, option_failure, set_failure, vars_failure, open_failure, put_failure, feed_failure, frame_failure, Tells};
 
 use crate::refusal::{
-    NO_KIND, NO_PLACE, OPTION_EMPTY_LIST, OPTION_LIST_PAST_END, OPTION_LIST_TOO_LONG,
-    OPTION_NO_TERMINATOR, OPTION_PATH, OPTION_SHORT, OPTION_ZERO_UNIT, PATH_BAD_END,
-    PATH_BAD_LENGTH, PATH_NO_END, PATH_PAST_END, PATH_SHORT_HEADER, PUT_BAD_NAME,
-    PUT_DATA_TOO_LONG, PUT_EMPTY_DATA, Refusal, SET_BAD_DATA, SET_BAD_MAGIC, SET_BAD_NAME,
-    SET_NOT_RISING, SET_TRUNCATED, STREAM_BAD_MAGIC, STREAM_BAD_VERSION, STREAM_TOO_LONG,
-    TEXT_BAD_END, TEXT_BAD_NUMBER, TEXT_BAD_SEGMENT, TEXT_OUT_OF_RANGE, VARS_BAD_NEXT,
-    VARS_BAD_ORDER, VARS_BAD_STATE,
+    FRAME_BAD_KIND, FRAME_BAD_MAGIC, FRAME_BAD_NUMBER, FRAME_BAD_PAYLOAD, FRAME_BAD_SIZE,
+    FRAME_BAD_VERSION, FRAME_SHORT, FRAME_TOO_LONG, NO_KIND, NO_PLACE, OPTION_EMPTY_LIST,
+    OPTION_LIST_PAST_END, OPTION_LIST_TOO_LONG, OPTION_NO_TERMINATOR, OPTION_PATH, OPTION_SHORT,
+    OPTION_ZERO_UNIT, PATH_BAD_END, PATH_BAD_LENGTH, PATH_NO_END, PATH_PAST_END, PATH_SHORT_HEADER,
+    PUT_BAD_NAME, PUT_DATA_TOO_LONG, PUT_EMPTY_DATA, Refusal, SET_BAD_DATA, SET_BAD_MAGIC,
+    SET_BAD_NAME, SET_NOT_RISING, SET_TRUNCATED, STREAM_BAD_MAGIC, STREAM_BAD_VERSION,
+    STREAM_TOO_LONG, TEXT_BAD_END, TEXT_BAD_NUMBER, TEXT_BAD_SEGMENT, TEXT_OUT_OF_RANGE,
+    VARS_BAD_NEXT, VARS_BAD_ORDER, VARS_BAD_STATE,
 };
 use crate::status::{NO_MEMORY, REFUSED};
-use boot_requests::{FeedFault, OpenFault};
+use boot_requests::{FeedFault, FrameFault, OpenFault};
 use std::alloc::{AllocError, AllocFailed};
 use uefi_option::OptionFault;
 use uefi_path::PathFault;
@@ -51,7 +52,7 @@ impl Failure {
     }
 
     /// The refusal of a load option whose list has, at this place, bytes that fail so.
-    fn in_list(self, place: usize) -> Failure
+    pub(crate) fn in_list(self, place: usize) -> Failure
         ensures { result ≡ list_failure place self }
     {
         match self {
@@ -203,6 +204,25 @@ impl From<FeedFault> for Failure {
             FeedFault::BadVersion => Failure::bare(STREAM_BAD_VERSION),
             FeedFault::TooLong => Failure::bare(STREAM_TOO_LONG),
             FeedFault::OutOfMemory => Failure::Memory,
+        }
+    }
+}
+
+impl From<FrameFault> for Failure {
+    ghost from_gives = { λ fault made. made ≡ frame_failure fault };
+
+    fn from(fault: FrameFault) -> Failure {
+        match fault {
+            FrameFault::Short => Failure::bare(FRAME_SHORT),
+            FrameFault::BadMagic => Failure::bare(FRAME_BAD_MAGIC),
+            FrameFault::BadVersion => Failure::bare(FRAME_BAD_VERSION),
+            FrameFault::TooLong => Failure::bare(FRAME_TOO_LONG),
+            FrameFault::BadSize => Failure::bare(FRAME_BAD_SIZE),
+            FrameFault::BadKind => Failure::bare(FRAME_BAD_KIND),
+            FrameFault::BadNumber => Failure::bare(FRAME_BAD_NUMBER),
+            FrameFault::BadPayload => Failure::bare(FRAME_BAD_PAYLOAD),
+            FrameFault::Option(fault) => Failure::from(fault),
+            FrameFault::OutOfMemory => Failure::Memory,
         }
     }
 }

@@ -82,7 +82,7 @@ const _: () = prove!(size_of::<KeeperHandle>() == 16);
 
 impl KeeperHandle {
     /// A closed handle.
-    fn closed(alloc: Global) -> KeeperHandle
+    pub(crate) fn closed(alloc: Global) -> KeeperHandle
         ensures { result.seal.kept ≡ None }
     {
         KeeperHandle {
@@ -113,12 +113,43 @@ impl KeeperHandle {
         Some(seal.into_parts().into_box())
     }
 
+    /// What the handle is in memory.
+    fn into_room(self) -> KeeperRoom
+        ensures kept { result.seal.kept ≡ self.seal.kept }
+        ensures is_open { result.is_open ≡ open_number self.seal.kept }
+    {
+        let KeeperHandle { is_open, seal } = self;
+        KeeperRoom { is_open, seal }
+    }
+
     /// Takes the keeper out, if the handle is open. It is closed then.
     pub(crate) fn take(&mut self, alloc: Global) -> Option<Box<Keeper>>
         ensures taken { option_map (λ keeper. keeper.value) result ≡ self.old.seal.kept }
         ensures left { self.new.seal.kept ≡ None }
     {
         mem::replace(self, KeeperHandle::closed(alloc)).into_keeper()
+    }
+}
+
+/// Memory for a handle of a keeper, which may never have been written: it is `struct bootkeep_keeper` too.
+#[repr(C)]
+pub struct KeeperRoom {
+    pub(crate) is_open: u32,
+    pub(crate) seal: Seal,
+}
+
+// As many bytes as the handle.
+const _: () = prove!(size_of::<KeeperRoom>() == 16);
+
+impl KeeperRoom {
+    /// Writes the handle here, over what owns nothing.
+    pub(crate) fn fill(&mut self, handle: KeeperHandle)
+        requires { self.old.seal.kept ≡ None }
+        ensures kept { self.new.seal.kept ≡ handle.seal.kept }
+        ensures is_open { self.new.is_open ≡ open_number handle.seal.kept }
+    {
+        let KeeperRoom { is_open: _, seal } = mem::replace(self, handle.into_room());
+        seal.forget();
     }
 }
 

@@ -16,13 +16,14 @@ ghost use Rattle.boot_requests.specs.Words.{line_of};
 ghost use Rattle.bootkeep_c.specs.declared.failure.Failure.{Failure};
 ghost use Rattle.bootkeep_c.specs.Status.{done, refused, no_memory, closed, IsMakeStatus};
 ghost use Rattle.bootkeep_c.specs.Refusals.{set_failure, open_failure, Tells, TellsUnless};
+ghost use Rattle.bootkeep_c.specs.Handle.{open_number};
 ghost use Rattle.bootkeep_c.specs.Buffer.{IsKept};
 ghost use Rattle.bootkeep_c.specs.Steps.{StepsTo, ComesOf, TellsSet};
 ghost use Rattle.bootkeep_c.specs.Runnings.{IsKeepFailure};
 
 use crate::buffer::give;
 use crate::failure::Failure;
-use crate::handle::KeeperHandle;
+use crate::handle::{KeeperHandle, KeeperRoom};
 use crate::open::open;
 use crate::refusal::Refusal;
 use crate::status::{CLOSED, DONE, NO_MEMORY};
@@ -30,14 +31,16 @@ use boot_requests::{Bytes, Event, Keeper, laws, reply_line};
 use std::alloc::{AllocError, Global};
 use uefi_vars::{laws as vars_laws, read_set, write_set};
 
-/// Opens a keeper of the variables of a set, in the place of one that is open.
+/// Opens a keeper of the variables of a set, in memory of which nothing is read.
 #[unsafe(no_mangle)]
 pub extern "C" fn bootkeep_keeper_open(
     alloc: Global,
-    keeper: &mut KeeperHandle,
+    keeper: &mut KeeperRoom,
     set: &[u8],
     refusal: &mut Refusal,
 ) -> u32
+    // What is there owns nothing: an open keeper would be lost.
+    requires { keeper.old.seal.kept ≡ None }
     // The keeper of variables that open as a state, in which nothing waits and nothing is prepared.
     ensures opened { (vars : Variables) (m : State) → SpellsSet set.now vars → OpensAs vars m →
         ((result ≡ done) × (keeper.new.seal.kept ≡ Some (plain_start m))) ⊎ (result ≡ no_memory) }
@@ -51,8 +54,9 @@ pub extern "C" fn bootkeep_keeper_open(
     ensures told { result ≡ refused → (failed : Failure)
         × IsKeepFailure set.now failed × Tells failed result refusal.old refusal.new }
     ensures status { IsMakeStatus result }
-    // What isn't opened stays as it was.
-    ensures untouched { result ≢ done → keeper.new.seal.kept ≡ keeper.old.seal.kept }
+    // What isn't opened is closed, and the handle tells which it is.
+    ensures closed { result ≢ done → keeper.new.seal.kept ≡ None }
+    ensures handle { keeper.new.is_open ≡ open_number keeper.new.seal.kept }
     ensures refusal { result ≢ refused → refusal.new ≡ refusal.old }
 {
     vars_laws::bytes_spell_one_set();
@@ -60,11 +64,27 @@ pub extern "C" fn bootkeep_keeper_open(
     laws::what_opens_has_no_fault();
     match boxed(alloc, set) {
         Ok(opened) => {
-            *keeper = KeeperHandle::opened(opened);
+            keeper.fill(KeeperHandle::opened(opened));
             DONE
         }
-        Err(failure) => failure.tell(refusal),
+        Err(failure) => tell_closed(alloc, failure, keeper, refusal),
     }
+}
+
+/// Tells why there is no keeper, and writes a closed handle.
+fn tell_closed(
+    alloc: Global,
+    failure: Failure,
+    keeper: &mut KeeperRoom,
+    refusal: &mut Refusal,
+) -> u32
+    requires { keeper.old.seal.kept ≡ None }
+    ensures told { Tells failure result refusal.old refusal.new }
+    ensures left { keeper.new.seal.kept ≡ None }
+    ensures is_open { keeper.new.is_open ≡ 0 }
+{
+    keeper.fill(KeeperHandle::closed(alloc));
+    failure.tell(refusal)
 }
 
 /// A keeper of the variables of a set, in a box.
@@ -179,7 +199,7 @@ fn answered(
 }
 
 /// Puts the next keeper in the place of this one, if the line of the reply was given.
-fn go_on(keeper: &mut Box<Keeper>, next: Keeper, status: u32)
+pub(crate) fn go_on(keeper: &mut Box<Keeper>, next: Keeper, status: u32)
     ensures given { status ≡ done → keeper.new.value ≡ next }
     ensures otherwise { status ≢ done → keeper.new.value ≡ keeper.old.value }
 {

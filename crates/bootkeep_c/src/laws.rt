@@ -1,19 +1,23 @@
 //! Laws of the numbers that C sees. Each function's contract is one law; calling it does nothing.
 
 ghost use Rattle.std.specs.Prelude.{◌≡◌};
-ghost use Rattle.bootkeep_c.specs.Status.{done, refused, no_room, absent, no_memory, closed};
+ghost use Rattle.bootkeep_c.specs.Status.{done, refused, no_room, absent, no_memory, closed, bad_size};
 ghost use Rattle.bootkeep_c.specs.Refusals.{no_place};
+ghost use Rattle.bootkeep_c.specs.Words.{word_max};
 
+use crate::limits::WORD_MAX;
 use crate::refusal::{
-    NO_KIND, NO_PLACE, OPTION_EMPTY_LIST, OPTION_LIST_PAST_END, OPTION_LIST_TOO_LONG,
-    OPTION_NO_TERMINATOR, OPTION_PATH, OPTION_SHORT, OPTION_ZERO_UNIT, PATH_BAD_END,
-    PATH_BAD_LENGTH, PATH_NO_END, PATH_PAST_END, PATH_SHORT_HEADER, PUT_BAD_NAME,
-    PUT_DATA_TOO_LONG, PUT_EMPTY_DATA, SET_BAD_DATA, SET_BAD_MAGIC, SET_BAD_NAME, SET_NOT_RISING,
-    SET_TRUNCATED, STREAM_BAD_MAGIC, STREAM_BAD_VERSION, STREAM_REST, STREAM_TOO_LONG,
-    TEXT_BAD_END, TEXT_BAD_NUMBER, TEXT_BAD_SEGMENT, TEXT_NOT_UTF8, TEXT_OUT_OF_RANGE,
-    VARS_BAD_NEXT, VARS_BAD_ORDER, VARS_BAD_STATE,
+    FRAME_BAD_KIND, FRAME_BAD_MAGIC, FRAME_BAD_NUMBER, FRAME_BAD_PAYLOAD, FRAME_BAD_SIZE,
+    FRAME_BAD_VERSION, FRAME_OPTION, FRAME_SHORT, FRAME_TOO_LONG, NO_KIND, NO_PLACE,
+    OPTION_EMPTY_LIST, OPTION_LIST_PAST_END, OPTION_LIST_TOO_LONG, OPTION_NO_TERMINATOR,
+    OPTION_NOT_UTF8, OPTION_PATH, OPTION_SHORT, OPTION_ZERO_UNIT, PATH_BAD_END, PATH_BAD_LENGTH,
+    PATH_NO_END, PATH_PAST_END, PATH_SHORT_HEADER, PUT_BAD_NAME, PUT_DATA_TOO_LONG, PUT_EMPTY_DATA,
+    SET_BAD_DATA, SET_BAD_MAGIC, SET_BAD_NAME, SET_NOT_RISING, SET_TRUNCATED, STREAM_BAD_MAGIC,
+    STREAM_BAD_VERSION, STREAM_REST, STREAM_TOO_LONG, TEXT_BAD_END, TEXT_BAD_NUMBER,
+    TEXT_BAD_SEGMENT, TEXT_NOT_UTF8, TEXT_OUT_OF_RANGE, VARS_BAD_NEXT, VARS_BAD_ORDER,
+    VARS_BAD_STATE,
 };
-use crate::status::{ABSENT, CLOSED, DONE, NO_MEMORY, NO_ROOM, REFUSED};
+use crate::status::{ABSENT, BAD_SIZE, CLOSED, DONE, NO_MEMORY, NO_ROOM, REFUSED};
 
 /// The statuses are those of the definitions.
 pub fn statuses_are_those_of_the_definitions()
@@ -23,6 +27,12 @@ pub fn statuses_are_those_of_the_definitions()
     ensures absent { ABSENT ≡ absent }
     ensures no_memory { NO_MEMORY ≡ no_memory }
     ensures closed { CLOSED ≡ closed }
+    ensures bad_size { BAD_SIZE ≡ bad_size }
+{}
+
+/// No word has more bytes than the constant says.
+pub fn the_most_bytes_of_a_word_are_those_of_the_definition()
+    ensures { WORD_MAX ≡ word_max }
 {}
 
 /// The numbers of refusals are those that were given out with version 1 of the interface. None is ever given out again.
@@ -45,6 +55,7 @@ pub fn numbers_of_refusals_stay()
     ensures option_path { OPTION_PATH ≡ 0x0305 }
     ensures option_zero_unit { OPTION_ZERO_UNIT ≡ 0x0306 }
     ensures option_list_too_long { OPTION_LIST_TOO_LONG ≡ 0x0307 }
+    ensures option_not_utf8 { OPTION_NOT_UTF8 ≡ 0x0308 }
     ensures set_bad_magic { SET_BAD_MAGIC ≡ 0x0401 }
     ensures set_truncated { SET_TRUNCATED ≡ 0x0402 }
     ensures set_bad_name { SET_BAD_NAME ≡ 0x0403 }
@@ -60,5 +71,14 @@ pub fn numbers_of_refusals_stay()
     ensures stream_bad_version { STREAM_BAD_VERSION ≡ 0x0702 }
     ensures stream_too_long { STREAM_TOO_LONG ≡ 0x0703 }
     ensures stream_rest { STREAM_REST ≡ 0x0704 }
+    ensures frame_short { FRAME_SHORT ≡ 0x0801 }
+    ensures frame_bad_magic { FRAME_BAD_MAGIC ≡ 0x0802 }
+    ensures frame_bad_version { FRAME_BAD_VERSION ≡ 0x0803 }
+    ensures frame_too_long { FRAME_TOO_LONG ≡ 0x0804 }
+    ensures frame_bad_size { FRAME_BAD_SIZE ≡ 0x0805 }
+    ensures frame_bad_kind { FRAME_BAD_KIND ≡ 0x0806 }
+    ensures frame_bad_number { FRAME_BAD_NUMBER ≡ 0x0807 }
+    ensures frame_bad_payload { FRAME_BAD_PAYLOAD ≡ 0x0808 }
+    ensures frame_option { FRAME_OPTION ≡ 0x0809 }
     ensures no_place { NO_PLACE ≡ no_place }
 {}

@@ -5,35 +5,60 @@
 //! pointer and a length there, and [`Global`](std::alloc::Global) is nothing: memory comes from the program's `malloc`.
 #![tactic(auto)]
 
+mod answer;
 mod buffer;
+mod change;
+mod entry;
 mod failure;
+mod frame;
 mod handle;
 mod keeper;
+mod keeper_reply;
 pub mod laws;
+mod limits;
+mod making;
+mod named;
+mod named_path;
 mod open;
 mod option;
 mod path;
 mod refusal;
+mod reply;
 mod run;
 mod set;
 mod status;
 mod text;
+mod variable;
 mod version;
+mod word;
 
+pub use change::{ChangeNumbers, bootkeep_set_changes};
+pub use entry::{EntryState, bootkeep_set_entry, bootkeep_set_lowest_free};
 pub use failure::Failure;
-pub use handle::KeeperHandle;
+pub use frame::{Asked, bootkeep_frame_make};
+pub use handle::{KeeperHandle, KeeperRoom};
 pub use keeper::{
     bootkeep_keeper_close, bootkeep_keeper_deliver, bootkeep_keeper_hand,
     bootkeep_keeper_next_number, bootkeep_keeper_open, bootkeep_keeper_prepare,
     bootkeep_keeper_restart, bootkeep_keeper_set,
 };
+pub use keeper_reply::{
+    bootkeep_keeper_deliver_reply, bootkeep_keeper_hand_reply, bootkeep_keeper_prepare_reply,
+    bootkeep_keeper_restart_reply,
+};
+pub use making::bootkeep_option_make;
+pub use named::{NamedEntry, bootkeep_set_named};
+pub use named_path::bootkeep_path_names;
 pub use option::{OptionPlaces, bootkeep_option_description, bootkeep_option_parts};
 pub use path::{bootkeep_path_check, bootkeep_path_text};
 pub use refusal::Refusal;
+pub use reply::ReplyNumbers;
 pub use run::bootkeep_run;
 pub use set::{
     bootkeep_set_at_risk, bootkeep_set_get, bootkeep_set_plan, bootkeep_set_put,
     bootkeep_set_remove,
 };
 pub use text::bootkeep_text_path;
+pub use variable::{VariablePlaces, bootkeep_set_variables};
 pub use version::{VERSION, bootkeep_version};
+pub use word::{bootkeep_outcome_word, bootkeep_refusal_word, bootkeep_status_word};

@@ -51,11 +51,14 @@ pub const OPTION_EMPTY_LIST: u32 = 0x0304;
 /// [`OptionFault::Path`](uefi_option::OptionFault::Path), with the path's fault within.
 pub const OPTION_PATH: u32 = 0x0305;
 
-/// [`OptionFault::ZeroUnit`](uefi_option::OptionFault::ZeroUnit), which no call answers yet.
+/// [`OptionFault::ZeroUnit`](uefi_option::OptionFault::ZeroUnit).
 pub const OPTION_ZERO_UNIT: u32 = 0x0306;
 
-/// [`OptionFault::ListTooLong`](uefi_option::OptionFault::ListTooLong), which no call answers yet.
+/// [`OptionFault::ListTooLong`](uefi_option::OptionFault::ListTooLong).
 pub const OPTION_LIST_TOO_LONG: u32 = 0x0307;
+
+/// The description of which an option is to be made isn't UTF-8 from the place on.
+pub const OPTION_NOT_UTF8: u32 = 0x0308;
 
 /// [`SetFault::BadMagic`](uefi_vars::SetFault::BadMagic).
 pub const SET_BAD_MAGIC: u32 = 0x0401;
@@ -101,6 +104,33 @@ pub const STREAM_TOO_LONG: u32 = 0x0703;
 
 /// The last frame of a stream isn't whole.
 pub const STREAM_REST: u32 = 0x0704;
+
+/// [`FrameFault::Short`](boot_requests::FrameFault::Short).
+pub const FRAME_SHORT: u32 = 0x0801;
+
+/// [`FrameFault::BadMagic`](boot_requests::FrameFault::BadMagic).
+pub const FRAME_BAD_MAGIC: u32 = 0x0802;
+
+/// [`FrameFault::BadVersion`](boot_requests::FrameFault::BadVersion).
+pub const FRAME_BAD_VERSION: u32 = 0x0803;
+
+/// [`FrameFault::TooLong`](boot_requests::FrameFault::TooLong).
+pub const FRAME_TOO_LONG: u32 = 0x0804;
+
+/// [`FrameFault::BadSize`](boot_requests::FrameFault::BadSize).
+pub const FRAME_BAD_SIZE: u32 = 0x0805;
+
+/// [`FrameFault::BadKind`](boot_requests::FrameFault::BadKind).
+pub const FRAME_BAD_KIND: u32 = 0x0806;
+
+/// [`FrameFault::BadNumber`](boot_requests::FrameFault::BadNumber).
+pub const FRAME_BAD_NUMBER: u32 = 0x0807;
+
+/// [`FrameFault::BadPayload`](boot_requests::FrameFault::BadPayload).
+pub const FRAME_BAD_PAYLOAD: u32 = 0x0808;
+
+/// [`FrameFault::Option`](boot_requests::FrameFault::Option), with the option's fault beside it.
+pub const FRAME_OPTION: u32 = 0x0809;
 
 /// Why a call refuses: `struct bootkeep_refusal`.
 #[repr(C)]

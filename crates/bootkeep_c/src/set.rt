@@ -19,7 +19,7 @@ ghost use Rattle.bootkeep_c.specs.Buffer.{IsInFront, Gives, GivesUnless};
 ghost use Rattle.bootkeep_c.specs.Plans.{number_or_none, next_number, normal_numbers};
 ghost use Rattle.bootkeep_c.specs.Sets.{IsPlanFailure, HasPlanNumbers, AreAtRisk, HasAtRisk, IsPut, IsPutFault, IsPutFailure, IsNameText, GivesValue};
 
-use crate::buffer::{give, give_numbers};
+use crate::buffer::give;
 use crate::failure::Failure;
 use crate::refusal::Refusal;
 use crate::status::{ABSENT, DONE};
@@ -30,7 +30,7 @@ use uefi_vars::{
 };
 
 /// What stands for the number of no entry.
-const NO_ENTRY: u32 = 0x10000;
+pub const NO_ENTRY: u32 = 0x10000;
 
 /// What a boot would try (UEFI 2.10, 3.3): the number of BootNext's entry, and those of the normal entries of BootOrder.
 #[unsafe(no_mangle)]
@@ -70,9 +70,9 @@ pub extern "C" fn bootkeep_set_plan(
     laws::a_bad_next_gives_no_next();
     match planned(alloc, set) {
         Ok(plan) => {
-            let status = give_numbers(&plan.normal, numbers, len);
+            let status = give(&plan.normal, numbers, len);
             if status == DONE {
-                *next = next_of(plan.next);
+                *next = number_or_none(plan.next);
             }
             status
         }
@@ -81,10 +81,10 @@ pub extern "C" fn bootkeep_set_plan(
 }
 
 /// The number, or what stands for none.
-fn next_of(next: Option<u16>) -> u32
-    ensures { result ≡ number_or_none next }
+pub(crate) fn number_or_none(number: Option<u16>) -> u32
+    ensures { result ≡ number_or_none number }
 {
-    match next {
+    match number {
         Some(number) => u32::from(number),
         None => NO_ENTRY,
     }
@@ -136,7 +136,7 @@ pub extern "C" fn bootkeep_set_at_risk(
     laws::bytes_spell_one_set();
     match at_risk(alloc, set) {
         Ok(risk) => {
-            let status = give_numbers(&risk.numbers, numbers, len);
+            let status = give(&risk.numbers, numbers, len);
             if status == DONE {
                 *unnamed = risk.unnamed;
             }

@@ -17,3 +17,6 @@ pub const NO_MEMORY: u32 = 4;
 
 /// The keeper isn't open.
 pub const CLOSED: u32 = 5;
+
+/// The size that a struct of the caller states is too small.
+pub const BAD_SIZE: u32 = 6;

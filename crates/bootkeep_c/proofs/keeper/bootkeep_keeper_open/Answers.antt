@@ -14,7 +14,7 @@ returns-in-Ok-clause-opened c = λ vars m spelled opens.
     let found = c.in-Ok.ensures.found in
     let same = same_set c.args.set.now found.0 vars found.2 spelled in
     let state = c.variables_open_as_one_state.ensures found.1 m vars (subst (λ (v : Variables). OpensAs v found.1) same found.3) opens in
-    inl (refl, c.opened.ensures ∙ ap (λ (k : Plain). Some k) (found.4 ∙ ap (λ (s : State). plain_start s) state))
+    inl (refl, c.fill.ensures.kept ∙ c.opened.ensures ∙ ap (λ (k : Plain). Some k) (found.4 ∙ ap (λ (s : State). plain_start s) state))
 
 pub returns-in-Ok-clause-set_fault : goal.returns-in-Ok-clause-set_fault
 returns-in-Ok-clause-set_fault c = λ fault first.
@@ -28,19 +28,19 @@ returns-in-Ok-clause-open_fault c = λ vars fault spelled is.
 pub returns-in-Ok-clause-found : goal.returns-in-Ok-clause-found
 returns-in-Ok-clause-found c = λ done.
     let found = c.in-Ok.ensures.found in
-    (found.0, found.1, found.2, found.3, c.opened.ensures ∙ ap (λ (k : Plain). Some k) found.4)
+    (found.0, found.1, found.2, found.3, c.fill.ensures.kept ∙ c.opened.ensures ∙ ap (λ (k : Plain). Some k) found.4)
 
 pub returns-in-Err-clause-opened : goal.returns-in-Err-clause-opened
 returns-in-Err-clause-opened c = λ vars m spelled opens.
-    inr (only_memory c.in-Err.failure c.tell.result c.args.refusal.now c.tell.new.refusal c.tell.ensures
+    inr (only_memory c.in-Err.failure c.tell_closed.result c.args.refusal.now c.tell_closed.new.refusal c.tell_closed.ensures.told
     (λ other. no_keep_failure c.what_opens_has_no_fault.ensures c.args.set.now vars m c.in-Err.failure spelled opens (c.in-Err.ensures.fault other)))
 
 pub returns-in-Err-clause-set_fault : goal.returns-in-Err-clause-set_fault
 returns-in-Err-clause-set_fault c = λ fault first.
-    only_failure c.in-Err.failure (set_failure fault) c.tell.result c.args.refusal.now c.tell.new.refusal c.tell.ensures
+    only_failure c.in-Err.failure (set_failure fault) c.tell_closed.result c.args.refusal.now c.tell_closed.new.refusal c.tell_closed.ensures.told
     (λ other. keep_failure_is_of_set c.args.set.now fault c.in-Err.failure first (c.in-Err.ensures.fault other))
 
 pub returns-in-Err-clause-open_fault : goal.returns-in-Err-clause-open_fault
 returns-in-Err-clause-open_fault c = λ vars fault spelled is.
-    only_failure c.in-Err.failure (open_failure fault) c.tell.result c.args.refusal.now c.tell.new.refusal c.tell.ensures
+    only_failure c.in-Err.failure (open_failure fault) c.tell_closed.result c.args.refusal.now c.tell_closed.new.refusal c.tell_closed.ensures.told
     (λ other. keep_failure_is c.args.set.now vars fault c.in-Err.failure spelled is (c.in-Err.ensures.fault other))

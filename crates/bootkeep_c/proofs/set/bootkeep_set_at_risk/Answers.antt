@@ -14,8 +14,8 @@ pub returns-after-status-eq-DONE-clause-numbers : goal.returns-after-status-eq-D
 returns-after-status-eq-DONE-clause-numbers c = λ vars unnamed undecodable spelled are.
     let listed = c.in-Ok.risk in
     let same = risk_of c.args.set.now listed.numbers.items listed.unnamed vars unnamed undecodable c.in-Ok.ensures.found spelled are in (
-      inl (subst (λ (answer : List ℕ). Gives c.give_numbers-status.result answer c.args.numbers.now c.give_numbers-status.new.out c.give_numbers-status.new.len)
-          (c.deref.ensures.value ∙ same.0) c.give_numbers-status.ensures),
+      inl (subst (λ (answer : List ℕ). Gives c.give-status.result answer c.args.numbers.now c.give-status.new.out c.give-status.new.len)
+          (c.deref.ensures.value ∙ same.0) c.give-status.ensures),
       λ done. elim c.if-status-eq-DONE.branch [
         | then-status-eq-DONE w ↦ w.unnamed-is ∙ same.1
         | else-status-eq-DONE w ↦ absurd (w.if-status-eq-DONE.false done)
@@ -39,14 +39,14 @@ returns-after-status-eq-DONE-clause-bad_next c = λ vars spelled order bad.
 pub returns-after-status-eq-DONE-clause-found : goal.returns-after-status-eq-DONE-clause-found
 returns-after-status-eq-DONE-clause-found c = λ done.
     let found = c.in-Ok.ensures.found in
-    let gives = subst (λ (answer : List ℕ). Gives c.give_numbers-status.result answer c.args.numbers.now c.give_numbers-status.new.out c.give_numbers-status.new.len)
-    (c.deref.ensures.value ∙ found.numbers_are) c.give_numbers-status.ensures in (
+    let gives = subst (λ (answer : List ℕ). Gives c.give-status.result answer c.args.numbers.now c.give-status.new.out c.give-status.new.len)
+    (c.deref.ensures.value ∙ found.numbers_are) c.give-status.ensures in (
       found.vars,
       found.unnamed,
       found.undecodable,
       found.spelled,
       found.are,
-      given c.give_numbers-status.result _ c.args.numbers.now c.give_numbers-status.new.out c.give_numbers-status.new.len gives done,
+      given c.give-status.result _ c.args.numbers.now c.give-status.new.out c.give-status.new.len gives done,
       elim c.if-status-eq-DONE.branch [
         | then-status-eq-DONE w ↦ w.unnamed-is ∙ found.count_is
         | else-status-eq-DONE w ↦ absurd (w.if-status-eq-DONE.false done)

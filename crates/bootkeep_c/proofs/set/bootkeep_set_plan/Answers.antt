@@ -16,10 +16,10 @@ returns-after-status-eq-DONE-clause-plan c = λ vars plan spelled has.
     let found = c.in-Ok.ensures.found in
     let normal = normal_of one c.args.set.now c.in-Ok.plan.next c.in-Ok.plan.normal.items vars plan found spelled has in
     let next = next_of one c.args.set.now c.in-Ok.plan.next c.in-Ok.plan.normal.items vars plan found spelled has in (
-      inl (subst (λ (answer : List ℕ). Gives c.give_numbers-status.result answer c.args.numbers.now c.give_numbers-status.new.out c.give_numbers-status.new.len)
-          (c.deref.ensures.value ∙ normal) c.give_numbers-status.ensures),
+      inl (subst (λ (answer : List ℕ). Gives c.give-status.result answer c.args.numbers.now c.give-status.new.out c.give-status.new.len)
+          (c.deref.ensures.value ∙ normal) c.give-status.ensures),
       λ done. elim c.if-status-eq-DONE.branch [
-        | then-status-eq-DONE w ↦ w.next-is ∙ w.next_of.ensures ∙ next
+        | then-status-eq-DONE w ↦ w.next-is ∙ w.number_or_none.ensures ∙ next
         | else-status-eq-DONE w ↦ absurd (w.if-status-eq-DONE.false done)
       ],
     )
@@ -40,15 +40,15 @@ returns-after-status-eq-DONE-clause-found c = λ done.
     let found = c.in-Ok.ensures.found in
     let normal = normal_of one c.args.set.now c.in-Ok.plan.next c.in-Ok.plan.normal.items found.vars found.plan found found.spelled found.has in
     let next = next_of one c.args.set.now c.in-Ok.plan.next c.in-Ok.plan.normal.items found.vars found.plan found found.spelled found.has in
-    let gives = subst (λ (answer : List ℕ). Gives c.give_numbers-status.result answer c.args.numbers.now c.give_numbers-status.new.out c.give_numbers-status.new.len)
-    (c.deref.ensures.value ∙ normal) c.give_numbers-status.ensures in (
+    let gives = subst (λ (answer : List ℕ). Gives c.give-status.result answer c.args.numbers.now c.give-status.new.out c.give-status.new.len)
+    (c.deref.ensures.value ∙ normal) c.give-status.ensures in (
       found.vars,
       found.plan,
       found.spelled,
       found.has,
-      given c.give_numbers-status.result _ c.args.numbers.now c.give_numbers-status.new.out c.give_numbers-status.new.len gives done,
+      given c.give-status.result _ c.args.numbers.now c.give-status.new.out c.give-status.new.len gives done,
       elim c.if-status-eq-DONE.branch [
-        | then-status-eq-DONE w ↦ w.next-is ∙ w.next_of.ensures ∙ next
+        | then-status-eq-DONE w ↦ w.next-is ∙ w.number_or_none.ensures ∙ next
         | else-status-eq-DONE w ↦ absurd (w.if-status-eq-DONE.false done)
       ],
     )

@@ -1,0 +1,317 @@
+//! Makes the calls that the lines of standard input ask for by the crate for Rust, and says on a line each what they
+//! answer, as calls.c does by the header. What the crate's types leave no room for, as text that isn't UTF-8, a kind of
+//! request that there isn't and a keeper that is closed, is answered here.
+
+use bootkeep::frame::Request;
+use bootkeep::set::{BootVariable, ChangeKind, EntryState, Plan};
+use bootkeep::{frame, option, path, set, Error, Fault, Keeper, Outcome, Refusal, Reply};
+use std::io::{self, BufRead};
+
+const NO_ENTRY: u32 = 0x1_0000;
+const VARIABLE_ORDER: u32 = 0x1_0001;
+const VARIABLE_NEXT: u32 = 0x1_0002;
+const CLOSED: u32 = 5;
+
+fn main() {
+    for line in io::stdin().lock().lines() {
+        let line = line.expect("standard input is text");
+        let mut words = line.split(' ');
+        let name = words.next().unwrap_or_default();
+        let words: Vec<&str> = words.collect();
+        if name == "keeper" {
+            keep(&words);
+        } else {
+            let given: Vec<Vec<u8>> = words.iter().map(|word| bytes_of(word)).collect();
+            println!("{}", said(made(name, &given)));
+        }
+    }
+}
+
+fn bytes_of(digits: &str) -> Vec<u8> {
+    let digits = if digits == "-" { "" } else { digits };
+    let pairs = (0..digits.len()).step_by(2).map(|at| &digits[at..at + 2]);
+    pairs.map(|pair| u8::from_str_radix(pair, 16).expect("two digits")).collect()
+}
+
+fn digits(bytes: &[u8]) -> String {
+    if bytes.is_empty() {
+        return "-".to_owned();
+    }
+    bytes.iter().map(|byte| format!("{byte:02x}")).collect()
+}
+
+fn digits_of(numbers: impl IntoIterator<Item = u16>) -> String {
+    digits(&numbers.into_iter().flat_map(u16::to_le_bytes).collect::<Vec<_>>())
+}
+
+fn digits_of_longs(numbers: impl IntoIterator<Item = u32>) -> String {
+    digits(&numbers.into_iter().flat_map(u32::to_le_bytes).collect::<Vec<_>>())
+}
+
+fn number(bytes: &[u8]) -> u32 {
+    bytes.iter().rev().fold(0, |number, byte| number << 8 | u32::from(*byte))
+}
+
+fn said(answer: Result<String, Error>) -> String {
+    match answer {
+        Ok(told) => format!("done {told}").trim_end().to_owned(),
+        Err(Error::Refused(why)) => format!("refused {}", numbers_of(Some(why))),
+        Err(Error::Absent) => "status 3".to_owned(),
+        Err(Error::NoMemory) => "status 4".to_owned(),
+        Err(Error::Closed) => format!("status {CLOSED}"),
+        Err(other) => format!("status {other}"),
+    }
+}
+
+/// The four numbers of a refusal, or of none.
+fn numbers_of(refusal: Option<Refusal>) -> String {
+    let place = |place: Option<usize>| place.unwrap_or(usize::MAX);
+    let kind = refusal.map_or(0, |why| why.fault.number());
+    let within = refusal.and_then(|why| why.within);
+    let inner = within.map_or(0, |(fault, _)| fault.number());
+    format!(
+        "{kind} {inner} {} {}",
+        place(refusal.and_then(|why| why.place)),
+        place(within.and_then(|(_, place)| place))
+    )
+}
+
+fn refused<T>(fault: Fault, place: Option<usize>) -> Result<T, Error> {
+    Err(Error::Refused(Refusal { fault, place, within: None }))
+}
+
+fn text_of(bytes: &[u8], fault: Fault) -> Result<&str, Error> {
+    std::str::from_utf8(bytes).or_else(|error| refused(fault, Some(error.valid_up_to())))
+}
+
+fn made(name: &str, given: &[Vec<u8>]) -> Result<String, Error> {
+    let first = &given[0][..];
+    match name {
+        "status_word" => word(&Error::Other(number(first)).to_string().replace("the library answers ", "")),
+        "refusal_word" => word(&Fault::Other(number(first)).to_string()),
+        "outcome_word" => word(&Outcome::Other(number(first)).to_string()),
+        "path_text" => path::text(first).map(|(text, taken)| format!("{} {taken}", digits(text.as_bytes()))),
+        "path_names" => path::names(first).map(|(text, taken)| format!("{} {taken}", digits(text.as_bytes()))),
+        "path_check" => path::check(first).map(|taken| taken.to_string()),
+        "text_path" => path::parse(text_of(first, Fault::TextNotUtf8)?).map(|bytes| digits(&bytes)),
+        "option_parts" => option_parts(first),
+        "option_description" => option::description(first).map(|text| digits(text.as_bytes())),
+        "option_make" => {
+            let description = text_of(&given[1], Fault::OptionNotUtf8)?;
+            option::make(number(first), description, &given[2], &given[3]).map(|bytes| digits(&bytes))
+        }
+        "frame_make" => frame_make(first, &given[1], &given[2]),
+        "run" => {
+            let (after, lines) = bootkeep::run(first, &given[1])?;
+            Ok(format!("{} {}", digits(&after), digits(lines.as_bytes())))
+        }
+        _ => made_of_set(name, first, &given[1..]),
+    }
+}
+
+fn made_of_set(name: &str, set: &[u8], given: &[Vec<u8>]) -> Result<String, Error> {
+    // A name that isn't UTF-8 is none, and neither is what stands for it here.
+    let named = given.first().map(|name| String::from_utf8_lossy(name)).unwrap_or_default();
+    match name {
+        "set_plan" => set::plan(set).map(|plan| format!("{} {}", digits_of(plan.normal), entry_or_none(plan.next))),
+        "set_at_risk" => {
+            let risk = set::at_risk(set)?;
+            let count = risk.unnamed.len();
+            Ok(format!("{} {count}", digits_of([risk.unnamed, risk.undecodable].concat())))
+        }
+        "set_variables" => set_variables(set),
+        "set_named" => {
+            let named = set::named(set)?;
+            let numbers = named.iter().map(|one| [stands_for(one.variable), one.number.into(), state(one.state)]);
+            Ok(digits_of_longs(numbers.flatten()))
+        }
+        "set_lowest_free" => set::lowest_free(set).map(|free| entry_or_none(free).to_string()),
+        "set_entry" => set::entry(set, number(&given[0]) as u16).map(|told| state(told).to_string()),
+        "set_changes" => {
+            let changes = set::changes(set, &given[0])?;
+            let numbers = changes.iter().map(|(variable, kind)| [stands_for(*variable), change(*kind)]);
+            Ok(digits_of_longs(numbers.flatten()))
+        }
+        "set_get" => set::get(set, &named).map(|data| digits(&data)),
+        "set_put" => set::put(set, &named, &given[1]).map(|after| digits(&after)),
+        "set_remove" => set::remove(set, &named).map(|after| digits(&after)),
+        _ => panic!("no such call: {name}"),
+    }
+}
+
+/// A word, unless it is a number, as there is no word.
+fn word(text: &str) -> Result<String, Error> {
+    if text.starts_with("0x") {
+        return Err(Error::Absent);
+    }
+    Ok(digits(text.as_bytes()))
+}
+
+/// Where a part of some bytes begins.
+fn start(of: &[u8], part: &[u8]) -> usize {
+    part.as_ptr() as usize - of.as_ptr() as usize
+}
+
+fn option_parts(bytes: &[u8]) -> Result<String, Error> {
+    let parts = option::parts(bytes)?;
+    let places = [parts.description, parts.list, parts.optional];
+    assert_eq!(parts.paths()?.concat(), parts.list);
+    let places: Vec<_> = places.iter().map(|part| format!("{} {}", start(bytes, part), part.len())).collect();
+    Ok(format!("{} {}", parts.attributes, places.join(" ")))
+}
+
+fn frame_make(numbers: &[u8], option: &[u8], order: &[u8]) -> Result<String, Error> {
+    let order: Vec<u16> = order.chunks(2).map(|pair| number(pair) as u16).collect();
+    let entry = number(&numbers[8..]) as u16;
+    let request = match number(&numbers[4..8]) {
+        1 => Request::Add(entry, option),
+        2 => Request::Replace(entry, option),
+        3 => Request::Remove(entry),
+        4 => Request::Order(&order),
+        5 => Request::Next(entry),
+        6 => Request::AddFree(option),
+        _ => return refused(Fault::FrameBadKind, None),
+    };
+    frame::make(number(&numbers[..4]), request).map(|bytes| digits(&bytes))
+}
+
+fn set_variables(set: &[u8]) -> Result<String, Error> {
+    let places = set::variables(set)?.flat_map(|(name, data)| {
+        let name = name.as_bytes();
+        [start(set, name), name.len(), start(set, data), data.len()]
+    });
+    Ok(digits(&places.flat_map(usize::to_le_bytes).collect::<Vec<_>>()))
+}
+
+fn entry_or_none(entry: Option<u16>) -> u32 {
+    entry.map_or(NO_ENTRY, u32::from)
+}
+
+fn stands_for(variable: BootVariable) -> u32 {
+    match variable {
+        BootVariable::Entry(number) => number.into(),
+        BootVariable::Order => VARIABLE_ORDER,
+        BootVariable::Next => VARIABLE_NEXT,
+    }
+}
+
+fn state(state: EntryState) -> u32 {
+    match state {
+        EntryState::Normal => 0,
+        EntryState::Absent => 1,
+        EntryState::Undecodable => 2,
+        EntryState::Inactive => 3,
+        EntryState::OtherCategory => 4,
+        other => panic!("{other:?}"),
+    }
+}
+
+fn change(kind: ChangeKind) -> u32 {
+    match kind {
+        ChangeKind::Added => 1,
+        ChangeKind::Replaced => 2,
+        ChangeKind::Removed => 3,
+        other => panic!("{other:?}"),
+    }
+}
+
+/// Opens a keeper, takes the events, and says the set and the next number.
+fn keep(words: &[&str]) {
+    println!("status {CLOSED}");
+    println!("{}", said(Keeper::open(b"").map(|_| String::new())));
+    let mut keeper = Keeper::open(&bytes_of(words[0])).expect("the set of a case is one");
+    println!("done");
+    for word in &words[1..] {
+        let (letter, frame) = word.split_at(1);
+        let reply = match letter {
+            "d" | "D" => keeper.deliver(&bytes_of(frame)),
+            "p" | "P" => keeper.prepare(),
+            "h" | "H" => keeper.hand().map(|plan| plan.map_or(Reply::NothingPrepared, Reply::Plan)),
+            _ => keeper.restart(),
+        };
+        let is_line = letter.chars().all(char::is_lowercase);
+        println!(
+            "{}",
+            said(reply.map(|reply| if is_line { digits(reply.to_string().as_bytes()) } else { told(&reply) }))
+        );
+    }
+    println!("{}", said(keeper.set().map(|set| digits(&set))));
+    println!("{}", said(keeper.next_number().map(|number| number.to_string())));
+}
+
+/// What a reply has beside its kind: fields that most replies leave as they are here.
+struct Fields {
+    normal: Vec<u16>,
+    fault: u32,
+    option: Option<Refusal>,
+    outcome: u32,
+    entry: Option<u16>,
+    next_number: u32,
+    first: Option<u16>,
+    count: usize,
+}
+
+const NO_FIELDS: Fields = Fields {
+    normal: Vec::new(),
+    fault: 0,
+    option: None,
+    outcome: 0,
+    entry: None,
+    next_number: u32::MAX,
+    first: None,
+    count: 0,
+};
+
+/// The fields of a reply, as calls.c says them.
+fn told(reply: &Reply) -> String {
+    let (kind, fields) = fields_of(reply);
+    format!(
+        "{} {kind} {} {} {} {} {} {} {}",
+        digits_of(fields.normal),
+        fields.fault,
+        numbers_of(fields.option),
+        fields.outcome,
+        entry_or_none(fields.entry),
+        fields.next_number,
+        entry_or_none(fields.first),
+        fields.count
+    )
+}
+
+fn fields_of(reply: &Reply) -> (u32, Fields) {
+    match reply {
+        Reply::Malformed { fault, option } => (1, Fields { fault: fault.number(), option: *option, ..NO_FIELDS }),
+        Reply::Repeat { outcome, entry } => (2, Fields { outcome: outcome_of(*outcome), entry: *entry, ..NO_FIELDS }),
+        Reply::Old => (3, NO_FIELDS),
+        Reply::Ahead { next_number } => (4, Fields { next_number: *next_number, ..NO_FIELDS }),
+        Reply::Conflict => (5, NO_FIELDS),
+        Reply::Waiting { next_number } => (6, Fields { next_number: *next_number, ..NO_FIELDS }),
+        Reply::Applied { outcome, entry, next_number } => {
+            let outcome = outcome_of(*outcome);
+            (7, Fields { outcome, entry: *entry, next_number: *next_number, ..NO_FIELDS })
+        }
+        Reply::Prepared(count) => (8, Fields { count: *count, ..NO_FIELDS }),
+        Reply::AlreadyPrepared => (9, NO_FIELDS),
+        Reply::Plan(plan) => (10, fields_of_plan(plan)),
+        Reply::NothingPrepared => (11, NO_FIELDS),
+        Reply::Restarted { next_number } => (12, Fields { next_number: *next_number, ..NO_FIELDS }),
+        other => panic!("{other:?}"),
+    }
+}
+
+fn fields_of_plan(plan: &Plan) -> Fields {
+    let count = plan.normal.len() + usize::from(plan.next.is_some());
+    Fields { normal: plan.normal.clone(), first: plan.next, count, ..NO_FIELDS }
+}
+
+fn outcome_of(outcome: Outcome) -> u32 {
+    match outcome {
+        Outcome::Done => 1,
+        Outcome::Exists => 2,
+        Outcome::Missing => 3,
+        Outcome::OrderRepeats => 4,
+        Outcome::OrderUnknown => 5,
+        Outcome::NoFree => 6,
+        other => panic!("{other:?}"),
+    }
+}

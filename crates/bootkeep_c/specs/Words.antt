@@ -1,0 +1,126 @@
+-- The words that statuses, refusals and outcomes have for a person, by their numbers.
+use Rattle.std.specs.Prelude.{◌≡◌, ℕ, ◌==◌, ◌/◌, if◌then◌else◌, List, codes, Option, Some, None}
+use Rattle.bootkeep_c.specs.Status.{absent}
+use Rattle.bootkeep_c.specs.Buffer.{Gives, IsKept}
+
+-- no word has more bytes
+abbrev pub word_max : ℕ
+word_max = 32
+
+abbrev pub status_word : ℕ → Option (List ℕ)
+status_word status =
+    if status == 0 then Some (codes "Done")
+    else (if status == 1 then Some (codes "Refused")
+    else (if status == 2 then Some (codes "NoRoom")
+    else (if status == 3 then Some (codes "Absent")
+    else (if status == 4 then Some (codes "NoMemory")
+    else (if status == 5 then Some (codes "Closed")
+    else (if status == 6 then Some (codes "BadSize")
+    else None))))))
+
+-- ---- refusals, by what they are of
+
+abbrev pub path_word : ℕ → Option (List ℕ)
+path_word kind =
+    if kind == 0x0101 then Some (codes "PathNoEnd")
+    else (if kind == 0x0102 then Some (codes "PathShortHeader")
+    else (if kind == 0x0103 then Some (codes "PathBadLength")
+    else (if kind == 0x0104 then Some (codes "PathPastEnd")
+    else (if kind == 0x0105 then Some (codes "PathBadEnd")
+    else None))))
+
+abbrev pub text_word : ℕ → Option (List ℕ)
+text_word kind =
+    if kind == 0x0201 then Some (codes "TextBadSegment")
+    else (if kind == 0x0202 then Some (codes "TextBadNumber")
+    else (if kind == 0x0203 then Some (codes "TextOutOfRange")
+    else (if kind == 0x0204 then Some (codes "TextBadEnd")
+    else (if kind == 0x0205 then Some (codes "TextNotUtf8")
+    else None))))
+
+abbrev pub option_word : ℕ → Option (List ℕ)
+option_word kind =
+    if kind == 0x0301 then Some (codes "OptionShort")
+    else (if kind == 0x0302 then Some (codes "OptionNoTerminator")
+    else (if kind == 0x0303 then Some (codes "OptionListPastEnd")
+    else (if kind == 0x0304 then Some (codes "OptionEmptyList")
+    else (if kind == 0x0305 then Some (codes "OptionPath")
+    else (if kind == 0x0306 then Some (codes "OptionZeroUnit")
+    else (if kind == 0x0307 then Some (codes "OptionListTooLong")
+    else (if kind == 0x0308 then Some (codes "OptionNotUtf8")
+    else None)))))))
+
+abbrev pub set_word : ℕ → Option (List ℕ)
+set_word kind =
+    if kind == 0x0401 then Some (codes "SetBadMagic")
+    else (if kind == 0x0402 then Some (codes "SetTruncated")
+    else (if kind == 0x0403 then Some (codes "SetBadName")
+    else (if kind == 0x0404 then Some (codes "SetBadData")
+    else (if kind == 0x0405 then Some (codes "SetNotRising")
+    else None))))
+
+abbrev pub vars_word : ℕ → Option (List ℕ)
+vars_word kind =
+    if kind == 0x0501 then Some (codes "VarsBadOrder")
+    else (if kind == 0x0502 then Some (codes "VarsBadNext")
+    else (if kind == 0x0503 then Some (codes "VarsBadState")
+    else None))
+
+abbrev pub put_word : ℕ → Option (List ℕ)
+put_word kind =
+    if kind == 0x0601 then Some (codes "PutBadName")
+    else (if kind == 0x0602 then Some (codes "PutEmptyData")
+    else (if kind == 0x0603 then Some (codes "PutDataTooLong")
+    else None))
+
+abbrev pub stream_word : ℕ → Option (List ℕ)
+stream_word kind =
+    if kind == 0x0701 then Some (codes "StreamBadMagic")
+    else (if kind == 0x0702 then Some (codes "StreamBadVersion")
+    else (if kind == 0x0703 then Some (codes "StreamTooLong")
+    else (if kind == 0x0704 then Some (codes "StreamRest")
+    else None)))
+
+abbrev pub frame_word : ℕ → Option (List ℕ)
+frame_word kind =
+    if kind == 0x0801 then Some (codes "FrameShort")
+    else (if kind == 0x0802 then Some (codes "FrameBadMagic")
+    else (if kind == 0x0803 then Some (codes "FrameBadVersion")
+    else (if kind == 0x0804 then Some (codes "FrameTooLong")
+    else (if kind == 0x0805 then Some (codes "FrameBadSize")
+    else (if kind == 0x0806 then Some (codes "FrameBadKind")
+    else (if kind == 0x0807 then Some (codes "FrameBadNumber")
+    else (if kind == 0x0808 then Some (codes "FrameBadPayload")
+    else (if kind == 0x0809 then Some (codes "FrameOption")
+    else None))))))))
+
+-- the upper byte of its number tells of what a refusal is
+abbrev pub refusal_word : ℕ → Option (List ℕ)
+refusal_word kind =
+    if kind / 0x100 == 1 then path_word kind
+    else (if kind / 0x100 == 2 then text_word kind
+    else (if kind / 0x100 == 3 then option_word kind
+    else (if kind / 0x100 == 4 then set_word kind
+    else (if kind / 0x100 == 5 then vars_word kind
+    else (if kind / 0x100 == 6 then put_word kind
+    else (if kind / 0x100 == 7 then stream_word kind
+    else (if kind / 0x100 == 8 then frame_word kind
+    else None)))))))
+
+-- ---- outcomes, and what is given
+
+abbrev pub outcome_word : ℕ → Option (List ℕ)
+outcome_word outcome =
+    if outcome == 0 then Some (codes "None")
+    else (if outcome == 1 then Some (codes "Done")
+    else (if outcome == 2 then Some (codes "Exists")
+    else (if outcome == 3 then Some (codes "Missing")
+    else (if outcome == 4 then Some (codes "OrderRepeats")
+    else (if outcome == 5 then Some (codes "OrderUnknown")
+    else (if outcome == 6 then Some (codes "NoFree")
+    else None))))))
+
+-- the word is given, if there is one, and otherwise the status says that there is none
+abbrev pub GivesWord : Option (List ℕ) → ℕ → List ℕ → List ℕ → ℕ → ℕ → Type 0
+GivesWord (Some word) status old new old_len len = Gives status word old new len
+GivesWord None status old new old_len len = (status ≡ absent) × IsKept old new old_len len

@@ -1,0 +1,30 @@
+//! Sizes that callers in C need, each that of the library.
+
+/// The most bytes that a frame has: those of its header and of the longest payload.
+pub const FRAME_MAX: u32 = 131_084;
+
+/// The most bytes that the name of a variable has.
+pub const NAME_MAX: u32 = 64;
+
+/// The most bytes that the data of a variable has.
+pub const DATA_MAX: u32 = 1_048_576;
+
+/// The most numbers that BootOrder has.
+pub const ORDER_MAX: u32 = 65_536;
+
+/// The most bytes that the list of paths of an option has.
+pub const LIST_MAX: u32 = 65_535;
+
+/// The most bytes that the word of a status, a refusal or an outcome has.
+pub const WORD_MAX: u32 = 32;
+
+// The twelve bytes before a payload, and the payload.
+const _: () = prove!(FRAME_MAX as usize == 12 + boot_requests::PAYLOAD_MAX);
+
+const _: () = prove!(NAME_MAX as usize == uefi_vars::NAME_MAX);
+
+const _: () = prove!(DATA_MAX as usize == uefi_vars::DATA_MAX);
+
+const _: () = prove!(ORDER_MAX as usize == uefi_vars::ORDER_MAX);
+
+const _: () = prove!(LIST_MAX as usize == uefi_option::LIST_MAX);

@@ -1,0 +1,96 @@
+"""Load options (UEFI 2.10, 3.1.3)."""
+
+from __future__ import annotations
+
+from ctypes import byref
+from dataclasses import dataclass
+from typing import Iterable, Tuple, Union
+
+from ._buffers import Bytes, bytes_in, bytes_of, utf8
+from ._faults import failure, number_in
+from ._library import RawParts, RawRefusal, library
+from ._numbers import DONE, OPTION_ACTIVE, OPTION_CATEGORY, OPTION_CATEGORY_BOOT
+from ._paths import path_check, text_path
+
+
+@dataclass(frozen=True)
+class LoadOption:
+    """A load option (UEFI 2.10, 3.1.3), as :func:`option` reads it."""
+
+    #: All 32 bits as they are stored.
+    attributes: int
+    #: The description as one line of ASCII.
+    description: str
+    #: The units of the description, two bytes each, little-endian, without the zero unit that closes it.
+    description_bytes: bytes
+    #: The device paths of the list, each as its bytes.
+    paths: Tuple[bytes, ...]
+    #: The optional data.
+    optional: bytes
+
+    @property
+    def is_active(self) -> bool:
+        """Whether the option has LOAD_OPTION_ACTIVE."""
+        return bool(self.attributes & OPTION_ACTIVE)
+
+    @property
+    def category(self) -> int:
+        """The bits of LOAD_OPTION_CATEGORY, where they are in the attributes."""
+        return self.attributes & OPTION_CATEGORY
+
+    @property
+    def is_normal(self) -> bool:
+        """Whether the boot manager tries the option by itself."""
+        return self.is_active and self.category == OPTION_CATEGORY_BOOT
+
+
+def option(data: Bytes) -> LoadOption:
+    """The load option that the bytes are, all of them. ``Refused`` has a kind ``OPTION_..``; ``OPTION_PATH`` has the
+    place of the path in the bytes, and the path's fault within."""
+    parts, refusal, given = RawParts(), RawRefusal(), bytes_in(data)
+    status = library.bootkeep_option_parts(*given, byref(parts), byref(refusal))
+    if status != DONE:
+        raise failure(status, refusal)
+    description = bytes_of(
+        lambda *out: library.bootkeep_option_description(*given, *out, byref(refusal)),
+        refusal=refusal,
+    )
+    held = given[0]
+    return LoadOption(
+        parts.attributes,
+        description.decode("ascii"),
+        held[parts.description : parts.description + parts.description_len],
+        _paths(held[parts.list : parts.list + parts.list_len]),
+        held[parts.optional : parts.optional + parts.optional_len],
+    )
+
+
+def _paths(data: bytes) -> Tuple[bytes, ...]:
+    """The paths that the bytes are, one after the other."""
+    paths, start = [], 0
+    while start < len(data):
+        end = start + path_check(data[start:])
+        paths.append(data[start:end])
+        start = end
+    return tuple(paths)
+
+
+def option_make(
+    attributes: int, description: str, paths: Iterable[Union[str, Bytes]], optional: Bytes = b""
+) -> bytes:
+    """The load option of these parts. A path is its text or its bytes; the place of a fault of bytes is in all of them,
+    one path after the other. ``Refused`` has a kind ``OPTION_..``, or ``TEXT_..`` of a path's text; ``OverflowError``
+    is of attributes with more than 32 bits."""
+    held = b"".join(
+        text_path(path) if isinstance(path, str) else bytes_in(path)[0] for path in paths
+    )
+    refusal = RawRefusal()
+    given = (
+        number_in(attributes, 32),
+        *bytes_in(utf8(description)),
+        *bytes_in(held),
+        *bytes_in(optional),
+    )
+    return bytes_of(
+        lambda *out: library.bootkeep_option_make(*given, *out, byref(refusal)), refusal=refusal
+    )

@@ -1,0 +1,257 @@
+"""Tests of the package `bootkeep` over the library that it finds, with the examples of the repository."""
+
+from __future__ import annotations
+
+import copy
+import doctest
+import gc
+import os
+import pickle
+import subprocess
+import sys
+import threading
+import unittest
+import warnings
+from pathlib import Path
+from typing import Any, Callable, List, Optional
+
+import bootkeep
+from bootkeep import Kind, Outcome, ReplyKind, Request
+
+ROOT = Path(__file__).resolve().parents[2]
+SET = (ROOT / "examples/set").read_bytes()
+STREAM = (ROOT / "examples/stream").read_bytes()
+
+TEXT = "PciRoot(0x0)/Pci(0x1,0x0)"
+PATH = bytes.fromhex("02010c00d041030a00000000010106000001" "7fff0400")
+
+HEADER = 12
+THREADS = 50
+
+
+def frames(stream: bytes) -> List[bytes]:
+    """The frames of a stream."""
+    found = []
+    while stream:
+        end = HEADER + int.from_bytes(stream[8:HEADER], "little")
+        found.append(stream[:end])
+        stream = stream[end:]
+    return found
+
+
+def removal(number: int) -> bytes:
+    """A request that does nothing, since there is no such entry."""
+    return bootkeep.frame_make(number, Request.REMOVE, 0xFFFF)
+
+
+class Values(unittest.TestCase):
+    """What goes in and comes out."""
+
+    def test_a_path_has_its_text(self) -> None:
+        self.assertEqual(bootkeep.path_text_and_len(PATH + b"rest"), (TEXT, len(PATH)))
+        self.assertEqual(bootkeep.path_check(PATH + b"rest"), len(PATH))
+        self.assertEqual(bootkeep.text_path(TEXT), PATH)
+
+    def test_bytes_come_in_each_type(self) -> None:
+        spread = bytes(byte for one in PATH for byte in (one, 0))
+        for data in (bytearray(PATH), memoryview(PATH), memoryview(spread)[::2]):
+            self.assertEqual(bootkeep.path_text(data), TEXT)
+
+    def test_an_option_has_its_parts(self) -> None:
+        made = bootkeep.option_make(bootkeep.OPTION_ACTIVE, "Bööt", [TEXT, PATH], b"\1\0")
+        option = bootkeep.option(made)
+        self.assertEqual(option.description_bytes.decode("utf-16-le"), "Bööt")
+        self.assertEqual((option.paths, option.optional), ((PATH, PATH), b"\1\0"))
+        self.assertTrue(option.is_normal)
+        app = bootkeep.option(bootkeep.option_make(bootkeep.OPTION_CATEGORY_APP | 1, "", [PATH]))
+        self.assertEqual((app.is_active, app.is_normal), (True, False))
+
+    def test_the_variables_are_those_that_are_got(self) -> None:
+        variables = bootkeep.set_variables(SET)
+        self.assertEqual(list(variables), sorted(variables))
+        for name, data in variables.items():
+            self.assertEqual(bootkeep.set_get(SET, name), data)
+        with_one = bootkeep.set_put(SET, "Nothing", b"1")
+        self.assertEqual(bootkeep.set_variables(with_one)["Nothing"], b"1")
+        self.assertEqual(bootkeep.set_remove(with_one, "Nothing"), SET)
+        self.assertRaises(KeyError, bootkeep.set_get, SET, "Nothing")
+        self.assertRaises(KeyError, bootkeep.set_remove, SET, "Nothing")
+
+    def test_changes_have_names(self) -> None:
+        after = bootkeep.set_remove(bootkeep.set_put(SET, "Boot00AF", b"1"), "BootNext")
+        changes = [(it.name, it.kind) for it in bootkeep.set_changes(SET, after)]
+        wanted = [("Boot00AF", 1), ("BootNext", 3)]
+        self.assertEqual(changes, wanted)
+
+    def test_states_are_of_entries(self) -> None:
+        plan = bootkeep.set_plan(SET)
+        free = bootkeep.set_lowest_free(SET)
+        assert free is not None
+        self.assertEqual(bootkeep.set_entry(SET, plan.normal[0]), bootkeep.EntryState.NORMAL)
+        self.assertEqual(bootkeep.set_entry(SET, free), bootkeep.EntryState.ABSENT)
+
+    def test_a_run_is_that_of_a_keeper(self) -> None:
+        after, lines = bootkeep.run(SET, STREAM)
+        with bootkeep.Keeper(SET) as keeper:
+            self.assertEqual([str(keeper.deliver(frame)) for frame in frames(STREAM)], lines)
+            self.assertEqual(keeper.set, after)
+
+    def test_names_of_before_stay(self) -> None:
+        self.assertEqual(bootkeep.plan(SET), bootkeep.set_plan(SET))
+        self.assertEqual(bootkeep.entries_at_risk(SET), bootkeep.set_at_risk(SET))
+        self.assertEqual(bootkeep.check_path(PATH), bootkeep.path_check(PATH))
+
+    def test_each_public_name_is_there(self) -> None:
+        for name in bootkeep.__all__:
+            self.assertTrue(hasattr(bootkeep, name), name)
+        self.assertGreaterEqual(bootkeep.library_version(), bootkeep.VERSION)
+
+
+class Faults(unittest.TestCase):
+    """What is refused, and what isn't of the type that it has to be."""
+
+    def refused(self, call: Callable[..., Any], *words: Any) -> bootkeep.Refused:
+        with self.assertRaises(bootkeep.Refused) as caught:
+            call(*words)
+        return caught.exception
+
+    def test_a_refusal_has_its_place(self) -> None:
+        why = self.refused(bootkeep.path_check, PATH[:-4])
+        self.assertEqual(
+            (why.kind, why.place, str(why)), (Kind.PATH_NO_END, 18, "PATH_NO_END at 18")
+        )
+        self.assertIsInstance(why, ValueError)
+
+    def test_a_refusal_has_the_fault_within(self) -> None:
+        why = self.refused(bootkeep.option, b"\1\0\0\0\1\0\0\0\x7f")
+        self.assertEqual((why.kind, why.place), (Kind.OPTION_PATH, 8))
+        self.assertEqual((why.inner_kind, why.inner_place), (Kind.PATH_SHORT_HEADER, 0))
+        self.assertEqual(str(why), "OPTION_PATH at 8: PATH_SHORT_HEADER at 0")
+
+    def test_a_surrogate_is_no_text(self) -> None:
+        why = self.refused(bootkeep.text_path, "ö\ud800")
+        self.assertEqual((why.kind, why.place), (Kind.TEXT_NOT_UTF8, 2))
+
+    def test_a_refusal_goes_to_another_process(self) -> None:
+        why = self.refused(bootkeep.option, b"\1\0\0\0\1\0\0\0\x7f")
+        same = pickle.loads(pickle.dumps(why))
+        self.assertEqual(str(same), str(why))
+        self.assertEqual(str(bootkeep.Refused(0xFFFF, 3)), "0xffff at 3")
+
+    def test_bytes_are_no_text_and_texts_no_bytes(self) -> None:
+        wrong: Any = b"Boot0000"
+        for call in (bootkeep.set_get, bootkeep.set_remove):
+            self.assertRaises(TypeError, call, SET, wrong)
+        self.assertRaises(TypeError, bootkeep.set_put, SET, wrong, b"1")
+        self.assertRaises(TypeError, bootkeep.text_path, wrong)
+        self.assertRaises(TypeError, bootkeep.option_make, 1, wrong, [PATH])
+        for text in ("text", None, 5):
+            given: Any = text
+            self.assertRaises(TypeError, bootkeep.path_text, given)
+            self.assertRaises(TypeError, bootkeep.Keeper, given)
+
+    def test_numbers_have_their_bits(self) -> None:
+        self.assertRaises(OverflowError, bootkeep.set_entry, SET, 0x10000)
+        self.assertRaises(OverflowError, bootkeep.option_make, -1, "", [PATH])
+        self.assertRaises(OverflowError, bootkeep.frame_make, 0, Request.ORDER, order=[0x10000])
+        fraction: Any = 1.5
+        self.assertRaises(TypeError, bootkeep.set_entry, SET, fraction)
+
+    def test_a_library_that_is_missing_says_how_to_name_it(self) -> None:
+        env = {**os.environ, "BOOTKEEP_LIBRARY": "/nowhere/libbootkeep.so.1"}
+        said = subprocess.run(
+            [sys.executable, "-c", "import bootkeep"],
+            env=env,
+            stderr=subprocess.PIPE,
+            text=True,
+            check=False,
+        )
+        self.assertEqual(said.returncode, 1)
+        self.assertRegex(said.stderr, "ImportError: .*/nowhere/.*BOOTKEEP_LIBRARY")
+
+
+class Keepers(unittest.TestCase):
+    """Keepers, their replies, and their threads."""
+
+    def test_replies_are_values(self) -> None:
+        option = bootkeep.option_make(1, "Mine", [PATH])
+        with bootkeep.Keeper(SET) as keeper:
+            added = keeper.deliver(bootkeep.frame_make(0, Request.ADD_FREE, option=option))
+            self.assertEqual((added.kind, added.outcome), (ReplyKind.APPLIED, Outcome.DONE))
+            self.assertEqual((added.entry, added.next_number), (bootkeep.set_lowest_free(SET), 1))
+            self.assertEqual(str(keeper.deliver(removal(2))), "waiting 1")
+            malformed = keeper.deliver(b"")
+            self.assertEqual(
+                (malformed.kind, malformed.fault), (ReplyKind.MALFORMED, Kind.FRAME_SHORT)
+            )
+            self.assertEqual(keeper.next_number, 1)
+            self.assertEqual(str(keeper.restart()), "restarted 1")
+
+    def test_a_plan_is_handed_out_once(self) -> None:
+        with bootkeep.Keeper(SET) as keeper:
+            self.assertIsNone(keeper.hand())
+            prepared = keeper.prepare()
+            plan = keeper.hand()
+            assert plan is not None
+            self.assertEqual(plan, bootkeep.set_plan(SET))
+            self.assertEqual(prepared.count, len(plan.normal) + (plan.next is not None))
+            self.assertIsNone(keeper.hand())
+            self.assertNotIn("BootNext", bootkeep.set_variables(keeper.set))
+
+    def test_one_that_is_closed_says_so(self) -> None:
+        keeper = bootkeep.Keeper(SET)
+        keeper.close()
+        keeper.close()
+        self.assertRaises(bootkeep.Closed, keeper.deliver, b"")
+        self.assertRaises(bootkeep.Closed, keeper.hand)
+        self.assertRaises(bootkeep.Closed, lambda: keeper.set)
+        self.assertRaises(bootkeep.Closed, lambda: keeper.next_number)
+
+    def test_it_has_one_owner(self) -> None:
+        with bootkeep.Keeper(SET) as keeper:
+            ways: List[Callable[[Any], Any]] = [copy.copy, copy.deepcopy, pickle.dumps]
+            for way in ways:
+                self.assertRaises(TypeError, way, keeper)
+
+    def test_one_that_is_collected_warns(self) -> None:
+        with warnings.catch_warnings(record=True) as caught:
+            warnings.simplefilter("always")
+            keeper = bootkeep.Keeper(SET)
+            del keeper
+            gc.collect()
+        self.assertEqual([it.category for it in caught], [ResourceWarning])
+
+    def test_another_thread_may_collect_it(self) -> None:
+        held = [bootkeep.Keeper(SET)]
+        held[0].prepare()
+        with warnings.catch_warnings(record=True) as caught:
+            warnings.simplefilter("always")
+            thread = threading.Thread(target=held.clear)
+            thread.start()
+            thread.join()
+            gc.collect()
+        self.assertEqual([it.category for it in caught], [ResourceWarning])
+
+    def test_many_threads_may_call_it(self) -> None:
+        with bootkeep.Keeper(SET) as keeper:
+            numbers = range(THREADS)
+            threads = [
+                threading.Thread(target=keeper.deliver, args=(removal(it),)) for it in numbers
+            ]
+            for thread in threads:
+                thread.start()
+            for thread in threads:
+                thread.join()
+            self.assertEqual(keeper.next_number, THREADS)
+
+
+def load_tests(
+    loader: unittest.TestLoader, tests: unittest.TestSuite, pattern: Optional[str]
+) -> unittest.TestSuite:
+    """Adds the examples of the package's own text."""
+    tests.addTests(doctest.DocTestSuite(bootkeep))
+    return tests
+
+
+if __name__ == "__main__":
+    unittest.main()

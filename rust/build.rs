@@ -1,0 +1,29 @@
+//! Finds the library: in the folder that BOOTKEEP_LIBRARY_DIR names, as `./build-c FOLDER` makes it, or by pkg-config.
+
+use std::env;
+use std::path::Path;
+use std::process::{self, Command};
+
+const ARCHIVE: &str = "libbootkeep.a";
+
+fn main() {
+    println!("cargo:rerun-if-changed=build.rs");
+    println!("cargo:rerun-if-env-changed=BOOTKEEP_LIBRARY_DIR");
+    let folder = env::var("BOOTKEEP_LIBRARY_DIR").ok().or_else(installed);
+    let folder = match folder.filter(|folder| Path::new(folder).join(ARCHIVE).is_file()) {
+        Some(folder) => folder,
+        None => {
+            eprintln!("BOOTKEEP_LIBRARY_DIR has to name the folder of {ARCHIVE}, which ./build-c FOLDER makes");
+            process::exit(1);
+        }
+    };
+    println!("cargo:rerun-if-changed={folder}/{ARCHIVE}");
+    println!("cargo:rustc-link-search=native={folder}");
+    println!("cargo:rustc-link-lib=static=bootkeep");
+}
+
+/// The folder of the library that is installed, if pkg-config knows it.
+fn installed() -> Option<String> {
+    let asked = Command::new("pkg-config").args(["--variable=libdir", "bootkeep"]).output().ok()?;
+    Some(String::from_utf8(asked.stdout).ok()?.trim().to_owned()).filter(|_| asked.status.success())
+}

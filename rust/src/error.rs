@@ -1,0 +1,177 @@
+//! What the calls refuse.
+
+use crate::library::{RawRefusal, WordOf};
+use crate::numbers::{NO_KIND, NO_PLACE};
+use std::fmt;
+
+/// Why a call has no answer.
+#[derive(Clone, Copy, Debug, PartialEq, Eq)]
+#[non_exhaustive]
+pub enum Error {
+    /// What was handed in isn't what it has to be.
+    Refused(Refusal),
+    /// There is no variable of the name.
+    Absent,
+    /// Memory was refused.
+    NoMemory,
+    /// The keeper isn't open.
+    Closed,
+    /// The library answers a status that this crate doesn't know.
+    Other(u32),
+}
+
+/// Why what was handed in is refused.
+#[derive(Clone, Copy, Debug, PartialEq, Eq)]
+pub struct Refusal {
+    /// The fault.
+    pub fault: Fault,
+    /// Where it is, in bytes from the first one of what was handed in, if it has a place.
+    pub place: Option<usize>,
+    /// The fault within, and where that is, counted from `place`.
+    pub within: Option<(Fault, Option<usize>)>,
+}
+
+impl Refusal {
+    pub(crate) fn of(told: &RawRefusal) -> Refusal {
+        let inner = (Fault::of(told.inner_kind), place_of(told.inner_place));
+        Refusal {
+            fault: Fault::of(told.kind),
+            place: place_of(told.place),
+            within: if told.inner_kind == NO_KIND { None } else { Some(inner) },
+        }
+    }
+
+    /// The same, unless it stands for none.
+    pub(crate) fn if_any(told: &RawRefusal) -> Option<Refusal> {
+        if told.kind == NO_KIND {
+            None
+        } else {
+            Some(Refusal::of(told))
+        }
+    }
+}
+
+fn place_of(place: usize) -> Option<usize> {
+    if place == NO_PLACE {
+        None
+    } else {
+        Some(place)
+    }
+}
+
+macro_rules! faults {
+    ($($name:ident = $number:literal,)*) => {
+        /// A fault, by the numbers of `include/bootkeep.h`, which says what each means. None is ever given out again.
+        #[derive(Clone, Copy, Debug, PartialEq, Eq, Hash)]
+        #[non_exhaustive]
+        #[allow(missing_docs)]
+        pub enum Fault {
+            $($name,)*
+            /// One that this crate doesn't know.
+            Other(u32),
+        }
+
+        impl Fault {
+            pub(crate) fn of(number: u32) -> Fault {
+                match number {
+                    $($number => Fault::$name,)*
+                    other => Fault::Other(other),
+                }
+            }
+
+            /// Its number.
+            pub fn number(self) -> u32 {
+                match self {
+                    $(Fault::$name => $number,)*
+                    Fault::Other(number) => number,
+                }
+            }
+        }
+    };
+}
+
+faults! {
+    PathNoEnd = 0x0101,
+    PathShortHeader = 0x0102,
+    PathBadLength = 0x0103,
+    PathPastEnd = 0x0104,
+    PathBadEnd = 0x0105,
+    TextBadSegment = 0x0201,
+    TextBadNumber = 0x0202,
+    TextOutOfRange = 0x0203,
+    TextBadEnd = 0x0204,
+    TextNotUtf8 = 0x0205,
+    OptionShort = 0x0301,
+    OptionNoTerminator = 0x0302,
+    OptionListPastEnd = 0x0303,
+    OptionEmptyList = 0x0304,
+    OptionPath = 0x0305,
+    OptionZeroUnit = 0x0306,
+    OptionListTooLong = 0x0307,
+    OptionNotUtf8 = 0x0308,
+    SetBadMagic = 0x0401,
+    SetTruncated = 0x0402,
+    SetBadName = 0x0403,
+    SetBadData = 0x0404,
+    SetNotRising = 0x0405,
+    VarsBadOrder = 0x0501,
+    VarsBadNext = 0x0502,
+    VarsBadState = 0x0503,
+    PutBadName = 0x0601,
+    PutEmptyData = 0x0602,
+    PutDataTooLong = 0x0603,
+    StreamBadMagic = 0x0701,
+    StreamBadVersion = 0x0702,
+    StreamTooLong = 0x0703,
+    StreamRest = 0x0704,
+    FrameShort = 0x0801,
+    FrameBadMagic = 0x0802,
+    FrameBadVersion = 0x0803,
+    FrameTooLong = 0x0804,
+    FrameBadSize = 0x0805,
+    FrameBadKind = 0x0806,
+    FrameBadNumber = 0x0807,
+    FrameBadPayload = 0x0808,
+    FrameOption = 0x0809,
+}
+
+impl fmt::Display for Refusal {
+    fn fmt(&self, formatter: &mut fmt::Formatter<'_>) -> fmt::Result {
+        write_fault(formatter, self.fault, self.place)?;
+        match self.within {
+            Some((fault, place)) => {
+                formatter.write_str(": ")?;
+                write_fault(formatter, fault, place)
+            }
+            None => Ok(()),
+        }
+    }
+}
+
+fn write_fault(formatter: &mut fmt::Formatter<'_>, fault: Fault, place: Option<usize>) -> fmt::Result {
+    match place {
+        Some(place) => write!(formatter, "{fault} at {place}"),
+        None => write!(formatter, "{fault}"),
+    }
+}
+
+impl fmt::Display for Fault {
+    /// Its word, as `PathNoEnd`: that of the library, which may know more of them.
+    fn fmt(&self, formatter: &mut fmt::Formatter<'_>) -> fmt::Result {
+        formatter.write_str(&crate::word(WordOf::Refusal, self.number()))
+    }
+}
+
+impl fmt::Display for Error {
+    fn fmt(&self, formatter: &mut fmt::Formatter<'_>) -> fmt::Result {
+        match self {
+            Error::Refused(refusal) => refusal.fmt(formatter),
+            Error::Absent => formatter.write_str("there is no variable of this name"),
+            Error::NoMemory => formatter.write_str("out of memory"),
+            Error::Closed => formatter.write_str("the keeper is closed"),
+            Error::Other(status) => write!(formatter, "the library answers {}", crate::word(WordOf::Status, *status)),
+        }
+    }
+}
+
+impl std::error::Error for Error {}

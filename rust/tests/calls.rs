@@ -1,0 +1,153 @@
+//! Calls of each family, over the examples.
+
+use bootkeep::frame::{self, Request};
+use bootkeep::set::{BootVariable, ChangeKind, EntryState};
+use bootkeep::{option, path, set, Error, Fault, Keeper, Outcome, Reply};
+
+const SET: &[u8] = include_bytes!("../../examples/set");
+const STREAM: &[u8] = include_bytes!("../../examples/stream");
+const TEXT: &str = r"HD(1,GPT,5C1E6A3B-7D2F-4A8C-9B1E-2F3A4B5C6D7E,0x800,0x100000)/\EFI\a.efi";
+
+fn new_option() -> Vec<u8> {
+    option::make(option::ACTIVE, "Bööt", &path::parse(TEXT).unwrap(), b"\x01").unwrap()
+}
+
+#[test]
+fn a_path_has_its_text_again() {
+    let bytes = path::parse(TEXT).unwrap();
+    assert_eq!(path::check(&bytes), Ok(bytes.len()));
+    assert_eq!(path::parse(&path::text(&bytes).unwrap().0), Ok(bytes));
+}
+
+#[test]
+fn an_option_has_its_parts_again() {
+    let bytes = new_option();
+    let parts = option::parts(&bytes).unwrap();
+    assert_eq!((parts.attributes, parts.optional), (1, &b"\x01"[..]));
+    assert_eq!(parts.paths().unwrap(), [&path::parse(TEXT).unwrap()[..]]);
+    assert_eq!(option::make(1, "a\0", parts.list, b"").unwrap_err(), refused(Fault::OptionZeroUnit));
+    assert_eq!(option::make(1, "a", b"", b"").unwrap_err(), refused(Fault::OptionEmptyList));
+}
+
+fn refused(fault: Fault) -> Error {
+    Error::Refused(bootkeep::Refusal { fault, place: None, within: None })
+}
+
+#[test]
+fn what_is_no_option_is_refused() {
+    assert_eq!(option::parts(b"").unwrap_err(), refused(Fault::OptionShort));
+    let within = match option::parts(&[1, 0, 0, 0, 1, 0, 0, 0, 0x7f]) {
+        Err(Error::Refused(why)) => (why.fault, why.place, why.within),
+        other => panic!("{other:?}"),
+    };
+    assert_eq!(within, (Fault::OptionPath, Some(8), Some((Fault::PathShortHeader, Some(0)))));
+}
+
+#[test]
+fn a_variable_is_put_and_removed() {
+    let with = set::put(SET, "Nothing", b"1").unwrap();
+    assert_eq!(set::get(&with, "Nothing").unwrap(), b"1");
+    assert_eq!(set::remove(&with, "Nothing").unwrap(), SET);
+    assert_eq!(set::put(SET, "Nothing", b"").unwrap_err(), refused(Fault::PutEmptyData));
+}
+
+#[test]
+fn an_entry_is_put_first() {
+    let number = set::lowest_free(SET).unwrap().unwrap();
+    let mut order = number.to_le_bytes().to_vec();
+    order.extend(set::get(SET, "BootOrder").unwrap());
+    let after = set::put(SET, &format!("Boot{number:04X}"), &new_option()).unwrap();
+    let after = set::put(&after, "BootOrder", &order).unwrap();
+    assert_eq!(set::plan(&after).unwrap().normal[0], number);
+    assert_eq!(set::entry(&after, number), Ok(EntryState::Normal));
+    let added = (BootVariable::Entry(number), ChangeKind::Added);
+    assert_eq!(set::changes(SET, &after), Ok(vec![added, (BootVariable::Order, ChangeKind::Replaced)]));
+    assert_eq!(set::entry(SET, number), Ok(EntryState::Absent));
+    assert_eq!(set::get(SET, "Nothing"), Err(Error::Absent));
+}
+
+#[test]
+fn the_variables_are_those_that_are_got() {
+    let variables = set::variables(SET).unwrap();
+    assert!(variables.len() > 0);
+    for (name, data) in variables {
+        assert_eq!(set::get(SET, name).unwrap(), data);
+    }
+}
+
+#[test]
+fn a_keeper_comes_to_what_a_run_comes_to() {
+    let option = new_option();
+    let frames = [
+        frame::make(0, Request::AddFree(&option)).unwrap(),
+        frame::make(1, Request::Remove(0xFFFF)).unwrap(),
+        frame::make(3, Request::Order(&[])).unwrap(),
+    ];
+    let mut keeper = Keeper::open(SET).unwrap();
+    let free = set::lowest_free(SET).unwrap();
+    let replies: Vec<_> = frames.iter().map(|frame| keeper.deliver(frame).unwrap()).collect();
+    let expected = [
+        Reply::Applied { outcome: Outcome::Done, entry: free, next_number: 1 },
+        Reply::Applied { outcome: Outcome::Missing, entry: None, next_number: 2 },
+        Reply::Waiting { next_number: 2 },
+    ];
+    assert_eq!(replies, expected);
+    assert_eq!(keeper.set().unwrap(), bootkeep::run(SET, &frames.concat()).unwrap().0);
+    let malformed = Reply::Malformed { fault: Fault::FrameShort, option: None };
+    assert_eq!(keeper.deliver(b"").unwrap(), malformed);
+    assert_eq!(malformed.to_string(), "malformed Short");
+    assert_eq!(keeper.next_number(), Ok(2));
+}
+
+#[test]
+fn faults_have_words() {
+    assert_eq!(path::check(b"").unwrap_err().to_string(), "PathNoEnd at 0");
+    assert_eq!(Fault::Other(0xFFFF).to_string(), "0xffff");
+    let within = option::parts(&[1, 0, 0, 0, 1, 0, 0, 0, 0x7f]).unwrap_err();
+    assert_eq!(within.to_string(), "OptionPath at 8: PathShortHeader at 0");
+}
+
+#[test]
+fn a_path_has_its_names() {
+    let path = path::parse("PciRoot(0x0)").unwrap();
+    assert_eq!(path::names(&path).unwrap(), ("PciRoot(0x0)".to_owned(), path.len()));
+}
+
+#[test]
+fn what_is_named_has_its_state() {
+    let named = set::named(SET).unwrap();
+    let plan = set::plan(SET).unwrap();
+    assert_eq!((named[0].variable, Some(named[0].number)), (BootVariable::Next, plan.next));
+    let normal = named[1..].iter().filter(|one| one.state == EntryState::Normal).map(|one| one.number);
+    assert_eq!(normal.collect::<Vec<_>>(), plan.normal);
+}
+
+#[test]
+fn replies_have_the_lines_of_a_run() {
+    let mut keeper = Keeper::open(SET).unwrap();
+    let (mut rest, mut lines) = (STREAM, Vec::new());
+    while !rest.is_empty() {
+        let len = u32::from_le_bytes(rest[8..12].try_into().unwrap()) as usize;
+        let (frame, others) = rest.split_at(12 + len);
+        lines.push(keeper.deliver(frame).unwrap().to_string());
+        rest = others;
+    }
+    assert_eq!(lines, bootkeep::run(SET, STREAM).unwrap().1.lines().collect::<Vec<_>>());
+}
+
+#[test]
+fn a_keeper_goes_over_to_another_thread() {
+    let mut keeper = Keeper::open(SET).unwrap();
+    let plan = std::thread::spawn(move || {
+        keeper.prepare().unwrap();
+        keeper.hand().unwrap()
+    });
+    assert_eq!(plan.join().unwrap(), Some(set::plan(SET).unwrap()));
+}
+
+#[test]
+fn a_run_has_a_line_for_each_frame() {
+    let (after, lines) = bootkeep::run(SET, STREAM).unwrap();
+    assert!(lines.lines().count() > 0 && !after.is_empty());
+    assert_eq!(bootkeep::version(), 1);
+}
