@@ -4,7 +4,8 @@ _bootvars() {
     local command=bootvars words= word
     for word in "${COMP_WORDS[@]:1:COMP_CWORD-1}"; do
         case "$command $word" in
-            "bootvars read" | \
+            "bootvars check" | \
+"bootvars read" | \
 "bootvars show" | \
 "bootvars diff" | \
 "bootvars get" | \
@@ -26,12 +27,16 @@ _bootvars() {
 "bootvars frame remove" | \
 "bootvars frame order" | \
 "bootvars frame next" | \
-"bootvars explain") command+=" $word" ;;
+"bootvars explain" | \
+"bootvars efibootmgr") command+=" $word" ;;
         esac
     done
     case "$command $before" in
-        "bootvars read --out" | \
+        "bootvars check --root" | \
+"bootvars read --out" | \
 "bootvars get --out" | \
+"bootvars add --loader" | \
+"bootvars add --root" | \
 "bootvars add --optional-file" | \
 "bootvars add --state" | \
 "bootvars remove --state" | \
@@ -43,9 +48,13 @@ _bootvars() {
 "bootvars undo --state" | \
 "bootvars write --state" | \
 "bootvars update --state" | \
+"bootvars option --loader" | \
+"bootvars option --root" | \
 "bootvars option --optional-file" | \
 "bootvars option --out") COMPREPLY=($(compgen -f -- "$current")); return ;;
         "bootvars add --description" | \
+"bootvars add --disk" | \
+"bootvars add --part" | \
 "bootvars add --path" | \
 "bootvars add --entry" | \
 "bootvars add --attributes" | \
@@ -71,18 +80,21 @@ _bootvars() {
 "bootvars update --boot-id" | \
 "bootvars update --machine" | \
 "bootvars option --description" | \
+"bootvars option --disk" | \
+"bootvars option --part" | \
 "bootvars option --path" | \
 "bootvars option --attributes" | \
 "bootvars option --optional-hex" | \
 "bootvars option --optional-text") return ;;
     esac
     case $command in
-        "bootvars") words="read show diff get add remove first order next activate deactivate undo write update option frame explain --help --version -h -V" ;;
+        "bootvars") words="check read show diff get add remove first order next activate deactivate undo write update option frame explain efibootmgr --help --version -h -V" ;;
+        "bootvars check") words="--json --root --help --version -h -V" ;;
         "bootvars read") words="--out --boot-only --help --version -h -V" ;;
         "bootvars show") words="--json --help --version -h -V" ;;
         "bootvars diff") words="--json --help --version -h -V" ;;
         "bootvars get") words="--out --help --version -h -V" ;;
-        "bootvars add") words="--description --path --first --last --no-order --entry --again --inactive --hidden --app --reconnect --attributes --optional-hex --optional-file --optional-text --dry-run --json --state --boot-id --machine --adopt --force --help --version -h -V" ;;
+        "bootvars add") words="--description --loader --disk --part --root --path --first --last --no-order --entry --again --inactive --hidden --app --reconnect --attributes --optional-hex --optional-file --optional-text --dry-run --json --state --boot-id --machine --adopt --force --help --version -h -V" ;;
         "bootvars remove") words="--dry-run --json --state --boot-id --machine --adopt --force --help --version -h -V" ;;
         "bootvars first") words="--dry-run --json --state --boot-id --machine --adopt --force --help --version -h -V" ;;
         "bootvars order") words="--empty --stale --only --dry-run --json --state --boot-id --machine --adopt --force --help --version -h -V" ;;
@@ -92,7 +104,7 @@ _bootvars() {
         "bootvars undo") words="--list --dry-run --json --state --boot-id --machine --adopt --force --help --version -h -V" ;;
         "bootvars write") words="--dry-run --json --empty --state --machine --force --help --version -h -V" ;;
         "bootvars update") words="--state --stream --dry-run --json --next --settle --boot-id --machine --adopt --force --help --version -h -V" ;;
-        "bootvars option") words="--description --path --inactive --hidden --app --reconnect --attributes --optional-hex --optional-file --optional-text --out --help --version -h -V" ;;
+        "bootvars option") words="--description --loader --disk --part --root --path --inactive --hidden --app --reconnect --attributes --optional-hex --optional-file --optional-text --out --help --version -h -V" ;;
         "bootvars frame") words="add replace add-free remove order next --raw --help --version -h -V" ;;
         "bootvars frame add") words="--raw --help --version -h -V" ;;
         "bootvars frame replace") words="--raw --help --version -h -V" ;;
@@ -101,6 +113,7 @@ _bootvars() {
         "bootvars frame order") words="--empty --raw --help --version -h -V" ;;
         "bootvars frame next") words="--raw --help --version -h -V" ;;
         "bootvars explain") words="--stream --json --help --version -h -V" ;;
+        "bootvars efibootmgr") words="--help --version -h -V" ;;
     esac
     COMPREPLY=($(compgen -W "$words" -- "$current"))
     [[ $current == -* || $command == bootvars ]] || COMPREPLY+=($(compgen -f -- "$current"))

@@ -3,7 +3,8 @@ function __bootvars_at
     set -l command bootvars
     for word in (commandline -opc)[2..-1]
         switch "$command $word"
-            case 'bootvars read' \
+            case 'bootvars check' \
+'bootvars read' \
 'bootvars show' \
 'bootvars diff' \
 'bootvars get' \
@@ -25,13 +26,15 @@ function __bootvars_at
 'bootvars frame remove' \
 'bootvars frame order' \
 'bootvars frame next' \
-'bootvars explain'
+'bootvars explain' \
+'bootvars efibootmgr'
                 set command "$command $word"
         end
     end
     test "$command" = "$argv"
 end
 complete -c bootvars -f -n '__bootvars_at bootvars'
+complete -c bootvars -n '__bootvars_at bootvars' -a check -d 'Tells which boot entries can be started, and what is wrong with the others'
 complete -c bootvars -n '__bootvars_at bootvars' -a read -d 'Makes a set file of a machine'\''s variables'
 complete -c bootvars -n '__bootvars_at bootvars' -a show -d 'Shows the boot entries, their order and what the next boot tries'
 complete -c bootvars -n '__bootvars_at bootvars' -a diff -d 'Shows how the boot variables of two places differ'
@@ -49,8 +52,13 @@ complete -c bootvars -n '__bootvars_at bootvars' -a update -d 'Runs requests ove
 complete -c bootvars -n '__bootvars_at bootvars' -a option -d 'Makes a load option, the value of a variable Boot####'
 complete -c bootvars -n '__bootvars_at bootvars' -a frame -d 'Makes the frame of a request: a line of a script for `bootkeep run`'
 complete -c bootvars -n '__bootvars_at bootvars' -a explain -d 'Shows what the frames of a script or a stream ask for'
+complete -c bootvars -n '__bootvars_at bootvars' -a efibootmgr -d 'Takes the words of efibootmgr, and prints its lines'
 complete -c bootvars -n '__bootvars_at bootvars' -l help -s h -d 'Print help'
 complete -c bootvars -n '__bootvars_at bootvars' -l version -s V -d 'Print version'
+complete -c bootvars -n '__bootvars_at bootvars check' -l json -d 'Prints JSON'
+complete -c bootvars -n '__bootvars_at bootvars check' -l root -r -F -d 'The folder below which the system is whose disks and files are looked at'
+complete -c bootvars -n '__bootvars_at bootvars check' -l help -s h -d 'Print help (see a summary with '\''-h'\'')'
+complete -c bootvars -n '__bootvars_at bootvars check' -l version -s V -d 'Print version'
 complete -c bootvars -n '__bootvars_at bootvars read' -l out -r -F -d 'The set file that is made'
 complete -c bootvars -n '__bootvars_at bootvars read' -l boot-only -d 'Leaves out all but Boot####, BootOrder and BootNext'
 complete -c bootvars -n '__bootvars_at bootvars read' -l help -s h -d 'Print help'
@@ -65,7 +73,11 @@ complete -c bootvars -n '__bootvars_at bootvars get' -l out -r -F -d 'The file t
 complete -c bootvars -n '__bootvars_at bootvars get' -l help -s h -d 'Print help'
 complete -c bootvars -n '__bootvars_at bootvars get' -l version -s V -d 'Print version'
 complete -c bootvars -n '__bootvars_at bootvars add' -l description -x -d 'The name that menus show'
-complete -c bootvars -n '__bootvars_at bootvars add' -l path -x -d 'The device path as text; again for each path of the list'
+complete -c bootvars -n '__bootvars_at bootvars add' -l loader -r -F -d 'The file that is started, in a mounted file system, as /boot/efi/EFI/debian/shimx64.efi'
+complete -c bootvars -n '__bootvars_at bootvars add' -l disk -x -d 'The disk or the partition that FILE is on, as /dev/nvme0n1; FILE is then its name there, as \EFI\debian\shimx64.efi'
+complete -c bootvars -n '__bootvars_at bootvars add' -l part -x -d 'The number of the partition of the disk, in place of 1'
+complete -c bootvars -n '__bootvars_at bootvars add' -l root -r -F -d 'The folder below which the system is whose disks are meant'
+complete -c bootvars -n '__bootvars_at bootvars add' -l path -x -d 'The device path as text, in place of a FILE; again for each path of the list'
 complete -c bootvars -n '__bootvars_at bootvars add' -l first -d 'Puts it in front of the order'
 complete -c bootvars -n '__bootvars_at bootvars add' -l last -d 'Puts it at the end of the order, as without this'
 complete -c bootvars -n '__bootvars_at bootvars add' -l no-order -d 'Leaves the order as it is'
@@ -177,7 +189,11 @@ complete -c bootvars -n '__bootvars_at bootvars update' -l force -d 'Writes a va
 complete -c bootvars -n '__bootvars_at bootvars update' -l help -s h -d 'Print help (see a summary with '\''-h'\'')'
 complete -c bootvars -n '__bootvars_at bootvars update' -l version -s V -d 'Print version'
 complete -c bootvars -n '__bootvars_at bootvars option' -l description -x -d 'The name that menus show'
-complete -c bootvars -n '__bootvars_at bootvars option' -l path -x -d 'The device path as text; again for each path of the list'
+complete -c bootvars -n '__bootvars_at bootvars option' -l loader -r -F -d 'The file that is started, in a mounted file system, as /boot/efi/EFI/debian/shimx64.efi'
+complete -c bootvars -n '__bootvars_at bootvars option' -l disk -x -d 'The disk or the partition that FILE is on, as /dev/nvme0n1; FILE is then its name there, as \EFI\debian\shimx64.efi'
+complete -c bootvars -n '__bootvars_at bootvars option' -l part -x -d 'The number of the partition of the disk, in place of 1'
+complete -c bootvars -n '__bootvars_at bootvars option' -l root -r -F -d 'The folder below which the system is whose disks are meant'
+complete -c bootvars -n '__bootvars_at bootvars option' -l path -x -d 'The device path as text, in place of a FILE; again for each path of the list'
 complete -c bootvars -n '__bootvars_at bootvars option' -l inactive -d 'The entry isn'\''t tried'
 complete -c bootvars -n '__bootvars_at bootvars option' -l hidden -d 'The firmware'\''s menu doesn'\''t show the entry'
 complete -c bootvars -n '__bootvars_at bootvars option' -l app -d 'The entry is an application, and not tried by a normal boot'
@@ -221,3 +237,5 @@ complete -c bootvars -n '__bootvars_at bootvars explain' -l stream -d 'FILE is a
 complete -c bootvars -n '__bootvars_at bootvars explain' -l json -d 'Prints JSON'
 complete -c bootvars -n '__bootvars_at bootvars explain' -l help -s h -d 'Print help'
 complete -c bootvars -n '__bootvars_at bootvars explain' -l version -s V -d 'Print version'
+complete -c bootvars -n '__bootvars_at bootvars efibootmgr' -l help -s h -d 'Print help'
+complete -c bootvars -n '__bootvars_at bootvars efibootmgr' -l version -s V -d 'Print version'

@@ -9,7 +9,7 @@ import subprocess
 import tempfile
 from contextlib import ExitStack
 from pathlib import Path
-from typing import Any, Dict, List, NamedTuple, Optional, Sequence, Tuple
+from typing import Any, Dict, List, Mapping, NamedTuple, Optional, Sequence, Tuple
 
 FULL = "/dev/full"
 """What takes no byte."""
@@ -31,7 +31,7 @@ class NoAnswer(Exception):
 
 
 class Surroundings(NamedTuple):
-    """What a program finds when it runs. It finds no environment."""
+    """What a program finds when it runs."""
 
     folder: Optional[Path] = None
     """The folder that it runs in, if that matters."""
@@ -42,6 +42,8 @@ class Surroundings(NamedTuple):
     """Whether nobody reads standard output."""
     memory: Optional[int] = None
     """How many MiB it has at most, if that is limited."""
+    environment: Optional[Mapping[str, str]] = None
+    """The variables of its environment, if it has some."""
 
 
 ANYWHERE = Surroundings()
@@ -54,10 +56,11 @@ def ask(
 
     Raises NoAnswer if it doesn't end by itself within so many seconds."""
     with ExitStack() as closing:
-        settings: Dict[str, Any] = {"executable": program, "args": words, "env": {}}
+        settings: Dict[str, Any] = {"executable": program, "args": words}
+        settings["env"] = dict(around.environment or {})
         if around.memory is not None and _is_sanitized(program):
             logs = closing.enter_context(tempfile.TemporaryDirectory(prefix="bootkeep-asan-"))
-            settings["env"] = {"ASAN_OPTIONS": _sanitizer_options(around.memory, logs)}
+            settings["env"]["ASAN_OPTIONS"] = _sanitizer_options(around.memory, logs)
         elif around.memory is not None:
             settings["executable"], settings["args"] = _limited(program, words, around.memory)
         for stream in ("stdout", "stderr"):

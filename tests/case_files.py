@@ -1,4 +1,4 @@
-"""Files of cases: what they state. docs/formats.md has their form."""
+"""Files of cases: what they state. tests/cases/FORMAT.md has their form."""
 
 from __future__ import annotations
 

@@ -18,12 +18,12 @@ SECONDS = 300
 def runs_in_a_folder(case: Case) -> bool:
     """Whether a case needs a folder and no more.
 
-    Others have files elsewhere, or some that are refused or locked."""
+    Others have files elsewhere, or some that are refused, locked or hidden."""
     members = case.members
-    if any(name in members for name in ("in_memory", "refused", "locked")):
+    if any(name in members for name in ("in_memory", "refused", "locked", "hidden")):
         return False
-    paths = [*members.get("files", {}), *members.get("after", {}), *members.get("unchecked", [])]
-    return not any(path.startswith("/") for path in paths)
+    stated = ("files", "texts", "after", "links", "unchecked")
+    return not any(path.startswith("/") for name in stated for path in members.get(name, []))
 
 
 def differences(program: Path, case: Case) -> List[str]:
@@ -55,6 +55,7 @@ def _run(program: Path, case: Case, words: str, home: Path) -> Answer:
         full=members.get("full", []),
         closed="closed" in members,
         memory=members.get("memory"),
+        environment=members.get("environment"),
     )
     given = [case.call.encode(), *(_word_of(word) for word in members[words])]
     return ask(program, given, SECONDS, around)
@@ -98,6 +99,8 @@ class Contents:
         members = case.members
         stated = members.get("files", {})
         self.files = {path: bytes_of(it) for path, it in stated.items() if path[-1] != "/"}
+        texts: Dict[str, Stated] = members.get("texts", {})
+        self.files.update({path: text_of(it).encode() for path, it in texts.items()})
         self.folders = {path.rstrip("/") for path in stated if path[-1] == "/"}
         self.links: Dict[str, str] = members.get("links", {})
         self.modes = {path: int(it, 8) for path, it in members.get("modes", {}).items()}
@@ -112,6 +115,7 @@ class Contents:
             (home / path).parent.mkdir(parents=True, exist_ok=True)
             (home / path).write_bytes(content)
         for path, target in self.links.items():
+            (home / path).parent.mkdir(parents=True, exist_ok=True)
             (home / path).symlink_to(target)
         for path, mode in self.modes.items():
             (home / path).chmod(mode)

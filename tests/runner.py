@@ -26,9 +26,9 @@ CRATE = "case_runner"
 """The program that makes calls. Its sources are in the folder `program`."""
 
 LIBRARIES = (
-    "uefi_path uefi_text uefi_names uefi_option uefi_vars var_stores boot_requests whole_files "
-    "boot_journal boot_edits boot_commands boot_texts var_places boot_history var_commands "
-    "serde_json hex anyhow"
+    "uefi_path uefi_text uefi_names uefi_option partitions uefi_vars var_stores boot_requests "
+    "whole_files boot_journal boot_edits boot_commands boot_texts var_places boot_history "
+    "disk_files var_commands serde_json hex anyhow"
 )
 """What it stands on."""
 

@@ -116,9 +116,13 @@ class Unproved(Clone):
     def test_words_that_show(self) -> None:
         for program, words in (
             ("bootvars", ["write", "set", "place", "--dry-run"]),
+            ("bootvars", ["first", "--dry-run", "place", "0000"]),
+            ("bootvars", ["undo", "place", "--list"]),
             ("bootvars", ["read", "--help"]),
             ("bootvars", ["update", "-V"]),
             ("bootvars", ["explain", "script"]),
+            ("bootvars", ["check", "place"]),
+            ("bootvars", ["efibootmgr", "-v"]),
             ("bootkeep", ["option", "file"]),
             ("bootkeep", []),
         ):
@@ -131,9 +135,12 @@ class Unproved(Clone):
             ("bootvars", ["read", "place", "--out", "set"]),
             ("bootvars", ["write", "set", "place"]),
             ("bootvars", ["write", "set", "--", "--dry-run"]),
+            ("bootvars", ["first", "place", "0000"]),
+            ("bootvars", ["option", "--dry-run", "--out", "option"]),
             ("bootvars", ["update", "--state", "folder", "place", "script"]),
             ("bootvars", ["option", "--out", "option"]),
             ("bootvars", ["frame", "0", "next", "1"]),
+            ("bootvars", ["efibootmgr", "-v", "-n", "1"]),
             ("bootkeep", ["run", "set", "script", "--out", "set"]),
         ):
             called = self.call(program, *words)

@@ -47,15 +47,22 @@ PROGRAMS: Dict[str, Commands] = {
         of_places=frozenset(["option", "show"]),
     ),
     "bootvars": Commands(
-        shows=frozenset(["show", "diff", "explain", "help"]),
+        shows=frozenset(["check", "show", "diff", "explain", "help"]),
         keeps=frozenset(
-            "read get add remove first order next activate deactivate undo write update option frame".split()
+            "read get add remove first order next activate deactivate undo write update option frame"
+            " efibootmgr".split()
         ),
-        of_places=frozenset(["show", "diff", "explain", "write"]),
+        of_places=frozenset(["check", "show", "diff", "explain", "write"]),
     ),
 }
 
+DRY = frozenset("add remove first order next activate deactivate undo write update".split())
+"""The commands of which `--dry-run` makes nothing that is kept."""
+
 HELP = frozenset(["-h", "--help", "-V", "--version"])
+
+LISTS = frozenset(["-v", "--verbose"])
+"""The words by which `efibootmgr` only lists, as without any."""
 
 
 def options_of(words: List[str]) -> List[str]:
@@ -69,8 +76,12 @@ def only_shows(program: str, words: List[str]) -> bool:
         return True
     if program == "bootkeep":
         return False
+    if words[0] == "efibootmgr":
+        return HELP.union(LISTS).issuperset(words[1:])
     is_help = len(words) > 1 and words[1] in HELP
-    return is_help or words[0] == "write" and "--dry-run" in options_of(words)
+    options = options_of(words)
+    is_list = words[0] == "undo" and "--list" in options
+    return is_help or is_list or words[0] in DRY and "--dry-run" in options
 
 
 def absolute(program: str, words: List[str]) -> List[str]:
@@ -97,6 +108,8 @@ def run_unproved(program: str, words: List[str]) -> int:
             status = subprocess.run([file, *words], check=False).returncode
             status = 128 - status if status < 0 else status
         except trying.NotTried:
+            if words and words[0] in DRY - PROGRAMS[program].of_places:
+                raise
             sys.stdout.flush()
             status, told, complained = trying.answer(
                 ROOT, program, absolute(program, words), sys.stdin.buffer

@@ -7,7 +7,7 @@ use std::os::unix::fs::DirBuilderExt;
 use std::path::{Path, PathBuf};
 use std::rt::Files;
 use var_places::Failure;
-use whole_files::sync_folder;
+use whole_files::{folder_of, sync_folder};
 
 /// The state folder, unless another is given.
 pub const DEFAULT_STATE: &str = "/var/lib/bootkeep";
@@ -25,7 +25,7 @@ const MODE: u32 = 0o700;
 ///
 /// [`Failure::Write`] if it can't be made, and [`Failure::Memory`] if memory was refused.
 pub fn make_state_folder<R: Files + AllocGlobal>(rt: &R, state: &str) -> Result<(), Failure> {
-    make_folder(rt, state, parent_of(state))
+    make_folder(rt, state, folder_of(Path::new(state)).as_str())
 }
 
 /// Makes the folder of the records in the state folder at this path, if nothing is there, and gives its path.
@@ -45,14 +45,6 @@ pub(crate) fn make_history<R: Files + AllocGlobal>(
 /// The path of the folder of the records in the state folder at this path.
 pub(crate) fn history_path(alloc: Global, state: &str) -> Result<PathBuf, AllocError> {
     Path::new(state).join(alloc, HISTORY)
-}
-
-/// The path of the folder that the last name of this path is in.
-fn parent_of(path: &str) -> &str {
-    match Path::new(path).parent() {
-        Some(parent) if !parent.as_str().is_empty() => parent.as_str(),
-        _ => ".",
-    }
 }
 
 /// Makes the folder at this path, whose name is in the folder at the other one, unless something is there.

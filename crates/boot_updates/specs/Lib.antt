@@ -1,1 +1,2 @@
+pub mod KeptFault
 pub mod Replies

@@ -1,5 +1,6 @@
 //! What keeps an update from being made, in words.
 
+use crate::kept_run::KeptFault;
 use crate::machine_words::MachineWords;
 use boot_journal::{CallError, CommandError, RunFault, UpdateError};
 use boot_texts::open_reason;
@@ -24,11 +25,12 @@ impl Display for Cause<'_> {
 pub(crate) fn of_command(
     alloc: Global,
     words: &MachineWords<'_>,
-    error: CommandError<Failure, RunFault>,
+    error: CommandError<Failure, KeptFault<RunFault>>,
 ) -> Failure {
     match error {
         CommandError::OutOfMemory => Failure::Memory,
-        CommandError::Run(fault) => of_run(alloc, words, fault),
+        CommandError::Run(KeptFault::Run(fault)) => of_run(alloc, words, fault),
+        CommandError::Run(KeptFault::History(failure)) => failure,
         CommandError::Settling(error) => of_settling(alloc, words, error),
         CommandError::Updating(error) => of_updating(alloc, words, error),
     }

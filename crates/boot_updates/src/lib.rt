@@ -6,14 +6,16 @@
 //! [`command`](boot_journal::command) over a device that is the place and that folder.
 //!
 //! Other changes of a place are made over the same [`Machine`]: [`lock_folder`] keeps others from its journal, [`open_place`]
-//! reads the variables, and [`open_machine`] makes the machine of the two. [`stands_for`] tells
-//! without any change what a machine stands for. [`of_settling`] and [`of_updating`] are what keeps a change from being made,
-//! in words.
+//! reads the variables, [`open_machine`] makes the machine of the two, and [`kept_command`] makes a change of it, before which
+//! a [`History`] keeps what was there. [`stands_for`] tells without any change what a machine stands for. [`of_settling`] and
+//! [`of_updating`] are what keeps a change from being made, in words.
 #![tactic(auto)]
 
 mod boot_identity;
 mod device;
 mod failures;
+mod history;
+mod kept_run;
 mod kept_vars;
 mod left_out;
 mod machine_words;
@@ -32,6 +34,8 @@ mod variable_file;
 
 pub use device::PlaceDevice;
 pub use failures::{of_settling, of_updating};
+pub use history::History;
+pub use kept_run::{KeptFault, kept_command};
 pub use kept_vars::{KeptVars, kept_of};
 pub use left_out::{left_out_entry, left_out_name};
 pub use machine_words::MachineWords;

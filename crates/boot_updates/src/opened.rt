@@ -2,13 +2,14 @@
 
 use crate::boot_identity::boot_id;
 use crate::device::{Place, PlaceDevice};
+use crate::history::copies;
 use crate::kept_vars::{KeptVars, kept_of};
 use crate::machine_words::MachineWords;
 use crate::owner::{name_of_machine, own_journal};
 use crate::state_folder::stored_journal;
 use crate::told::tell_of_settling;
 use boot_journal::{BootId, Journal, Recorded};
-use std::alloc::Global;
+use std::alloc::{AllocError, Global};
 use std::rt::Files;
 use uefi_vars::Vars;
 use var_places::{
@@ -31,6 +32,16 @@ impl<F> OpenedPlace<F> {
     /// The names of the variables of the boot manager that are there, and that no set can hold.
     pub fn left_out(&self) -> &[String] {
         &self.kept.left_out
+    }
+
+    /// The same names, which are kept when the place is given away. This fails only when out of memory.
+    pub fn copy_left_out(&self, alloc: Global) -> Result<Vec<String>, AllocError> {
+        copies(alloc, &self.kept.left_out)
+    }
+
+    /// Whether it is a folder.
+    pub(crate) fn is_folder(&self) -> bool {
+        self.kept.is_folder
     }
 }
 

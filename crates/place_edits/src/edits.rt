@@ -3,7 +3,7 @@
 use crate::file_edits::{edit_set_file, edit_variable_file};
 use crate::folder_edits::{edit_folder, plan_edit};
 use crate::led::Led;
-use crate::notes::tell;
+use crate::notes::{print_change, tell};
 use crate::place_kind::{PlaceKind, place_kind};
 use boot_edits::{Edit, EditAnswer};
 use boot_updates::MachineWords;
@@ -43,9 +43,31 @@ pub fn edit_place<R: Files<File: OutputFile> + Clock + Input + Print + Eprint + 
     rt: &R,
     words: &EditWords<'_>,
 ) -> Result<(), Failure> {
+    print_change(rt, words.json, &made_and_told(rt, words)?)
+}
+
+/// Changes boot entries of a place as [`edit_place`] does, and prints nothing but what standard error is told. Returns what the
+/// edit answers.
+///
+/// # Errors
+///
+/// Those of [`edit_place`], but for an answer that can't be printed.
+pub fn change_place<R: Files<File: OutputFile> + Clock + Input + Print + Eprint + AllocGlobal>(
+    rt: &R,
+    words: &EditWords<'_>,
+) -> Result<EditAnswer, Failure> {
+    Ok(made_and_told(rt, words)?.answer)
+}
+
+/// Makes the change, and tells on standard error what there is to tell of it.
+fn made_and_told<R: Files<File: OutputFile> + Clock + Input + Print + Eprint + AllocGlobal>(
+    rt: &R,
+    words: &EditWords<'_>,
+) -> Result<Led<EditAnswer>, Failure> {
     let kind = place_kind(rt, words.machine.place)?;
     let led = made(rt, words, kind)?;
-    tell(rt, words, kind, &led)
+    tell(rt, words, kind, &led)?;
+    Ok(led)
 }
 
 /// Makes the change in a place of this kind, or looks what it would be.

@@ -32,17 +32,37 @@ pub(crate) fn edit_variable_file<
     if let Some(folder) = &folder {
         settle_left(rt, machine, folder.journal())?;
     }
+    let led = edit_locked_file(rt, words, folder.is_some())?;
+    without_attributes(rt.alloc(), words, led)
+}
+
+/// Makes the change in an emulator's variable file, of which the state folder may keep what was there before.
+fn edit_locked_file<R: Files<File: OutputFile> + Clock + Input + Print + Eprint + AllocGlobal>(
+    rt: &R,
+    words: &EditWords<'_>,
+    is_kept: bool,
+) -> Result<Led<EditAnswer>, Failure> {
+    let machine = &words.machine;
     let output = lock(rt, machine.place)?;
     let kept = read_kept(rt, machine)?;
-    check_edit(rt.alloc(), machine.place, &words.edit, &kept.left_out)?;
-    let led = run_over(rt.alloc(), words, &kept.vars)?;
+    let led = edited(rt.alloc(), words, &kept)?;
     if let Some(bytes) = changed_file(rt, machine, &kept, (&led.from, &led.to))? {
-        if folder.is_some() {
+        if is_kept {
             keep_before(rt, machine, false, words.command, (&led.from, &led.to))?;
         }
         write(rt, output, &bytes)?;
     }
-    without_attributes(rt.alloc(), words, led)
+    Ok(led)
+}
+
+/// What the change leads to of what a machine keeps, unless it would change what no set can hold.
+fn edited(
+    alloc: Global,
+    words: &EditWords<'_>,
+    kept: &KeptVars,
+) -> Result<Led<EditAnswer>, Failure> {
+    check_edit(alloc, words.machine.place, &words.edit, &kept.left_out)?;
+    run_over(alloc, words, &kept.vars)
 }
 
 /// Does what an earlier update of the variable file has left to do, by the journal at this path.

@@ -2,15 +2,14 @@
 
 use crate::edits::EditWords;
 use crate::fault_words::of_edit_run;
-use crate::history::{History, made_and_locked};
-use crate::kept_run::{KeptFault, KeptRun};
+use crate::history::made_and_locked;
 use crate::led::{Led, LedRun};
 use crate::left_out::check_edit;
 use boot_edits::{EditAnswer, EditRun, EditRunFault};
-use boot_journal::{CallError, CommandError, Machine, Run, UpdateError, command};
+use boot_journal::{CallError, CommandError, Run};
 use boot_updates::{
-    SettledVars, name_of_machine, of_settling, of_updating, open_machine, open_place, read_kept,
-    set_of, stands_for, tell_of_due,
+    History, KeptFault, SettledVars, kept_command, name_of_machine, of_settling, of_updating,
+    open_machine, open_place, read_kept, set_of, stands_for, tell_of_due,
 };
 use std::alloc::Global;
 use std::rt::{Clock, Files};
@@ -49,21 +48,9 @@ fn edit_machine<R: Files<File: OutputFile> + Clock + Input + Print + Eprint + Al
         command: words.command,
     };
     let edit = EditRun { edit: words.edit };
-    let run = KeptRun {
-        rt,
-        history,
-        run: &edit,
-    };
-    match command(alloc, &mut kept, &run, &boot) {
-        Ok(led) => Ok(led),
-        Err(error) => {
-            if let CommandError::Updating(UpdateError::TakenBack(_)) = &error {
-                // If that fails, an undoing passes it over.
-                let _ = history.forget_unmade(rt, &kept.read_vars(alloc)?);
-            }
-            Err(of_command(alloc, words, error))
-        }
-    }
+    kept_command(rt, &mut kept, &LedRun { run: &edit }, history, &boot).map_err(|error| of_command(
+        alloc, words, error,
+    ))
 }
 
 /// What the change would be of the machine, in a folder or a variable file, once what is left of earlier updates is done.

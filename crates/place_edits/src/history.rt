@@ -1,76 +1,11 @@
-//! What was there before a change, kept so that the change can be undone.
+//! What was there before a change of a file, kept so that the change can be undone, and the folder in which it is kept.
 
-use boot_history::{
-    Record, Standing, make_state_folder, newest, push, remove, standing_of, time_now,
-};
-use boot_journal::MachineName;
-use boot_updates::{MachineWords, StateFolder, lock_folder, name_of_machine};
-use std::alloc::{AllocError, Global};
+use boot_history::make_state_folder;
+use boot_updates::{History, MachineWords, StateFolder, lock_folder, name_of_machine};
 use std::rt::{Clock, Files};
-use uefi_vars::{Vars, boot_changes};
+use uefi_vars::Vars;
 use var_places::{Failure, note};
 use whole_files::OutputFile;
-
-/// Where what was there before the changes of a machine is kept, and by which words a change is told.
-#[derive(Clone, Copy)]
-pub(crate) struct History<'a> {
-    /// The path of the state folder, which is locked.
-    pub(crate) state: &'a str,
-    /// The machine.
-    pub(crate) machine: &'a MachineName,
-    /// The words of the command.
-    pub(crate) command: &'a [String],
-}
-
-impl History<'_> {
-    /// Keeps what the machine keeps before and after a change that is yet to be made, unless it changes nothing.
-    ///
-    /// # Errors
-    ///
-    /// [`Failure::Read`] and [`Failure::Write`] with the system's reason, [`Failure::Refused`] if it would be too long, and
-    /// [`Failure::Memory`] if memory was refused.
-    pub(crate) fn keep<R: Files<File: OutputFile> + Clock + AllocGlobal>(
-        &self,
-        rt: &R,
-        from: &Vars,
-        to: &Vars,
-    ) -> Result<(), Failure> {
-        let alloc = rt.alloc();
-        if boot_changes(alloc, from, to)?.is_empty() {
-            return Ok(());
-        }
-        let record = Record::new(
-            alloc,
-            same_name(alloc, self.machine)?,
-            time_now(rt)?,
-            copies(alloc, self.command)?,
-            from,
-            to,
-        )?;
-        push(rt, self.state, &record)?;
-        Ok(())
-    }
-
-    /// Takes out what was kept of a change that was taken back, which left what the machine keeps now.
-    ///
-    /// # Errors
-    ///
-    /// [`Failure::Read`] and [`Failure::Write`] with the system's reason, [`Failure::Refused`] if something that is kept is
-    /// damaged, and [`Failure::Memory`] if memory was refused.
-    pub(crate) fn forget_unmade<R: Files<File: OutputFile> + AllocGlobal>(
-        &self,
-        rt: &R,
-        now: &Vars,
-    ) -> Result<(), Failure> {
-        let Some(kept) = newest(rt, self.state, self.machine)? else {
-            return Ok(());
-        };
-        match standing_of(rt.alloc(), &kept.record, now)? {
-            Standing::NotMade => remove(rt, self.state, kept.number),
-            Standing::Unchanged | Standing::Changed => Ok(()),
-        }
-    }
-}
 
 /// Keeps in the state folder, which is locked, what a machine keeps before a change and after it. If that can't be, it is
 /// told.
@@ -142,18 +77,4 @@ pub(crate) fn made_and_locked<R: Files<File: OutputFile> + AllocGlobal>(
 ) -> Result<StateFolder<R::File>, Failure> {
     make_state_folder(rt, state)?;
     lock_folder(rt, state)
-}
-
-/// The same texts. This fails only when out of memory.
-pub(crate) fn copies(alloc: Global, texts: &[String]) -> Result<Vec<String>, AllocError> {
-    let mut copies = Vec::with_capacity(alloc, texts.len())?;
-    for text in texts {
-        copies.push(text.clone()?)?;
-    }
-    Ok(copies)
-}
-
-/// The same name. This fails only when out of memory.
-pub(crate) fn same_name(alloc: Global, name: &MachineName) -> Result<MachineName, AllocError> {
-    MachineName::new(Vec::from_slice(alloc, name.as_bytes())?).ok_or(AllocError)
 }

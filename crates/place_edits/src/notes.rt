@@ -12,12 +12,12 @@ use uefi_vars::{BOOT_NEXT, BOOT_ORDER, Vars, boot_changes, boot_next, boot_order
 use var_places::{Failure, Shortened, note, print};
 
 /// Tells on standard error what a change of the place loses and repairs, and which entries it leaves in no order, or would if
-/// it is a dry run; and prints it.
+/// it is a dry run.
 ///
 /// # Errors
 ///
-/// [`Failure::Write`] if it can't be printed, and [`Failure::Memory`] if memory was refused.
-pub(crate) fn tell<R: Print + Eprint + AllocGlobal>(
+/// [`Failure::Memory`] if memory was refused.
+pub(crate) fn tell<R: Eprint + AllocGlobal>(
     rt: &R,
     words: &EditWords<'_>,
     kind: PlaceKind,
@@ -37,7 +37,20 @@ pub(crate) fn tell<R: Print + Eprint + AllocGlobal>(
     } else {
         tell_of_unnamed(rt, place, &unnamed);
     }
-    print(rt, printed(alloc, words.json, led)?.as_bytes())
+    Ok(())
+}
+
+/// Prints a change.
+///
+/// # Errors
+///
+/// [`Failure::Write`] if it can't be printed, and [`Failure::Memory`] if memory was refused.
+pub(crate) fn print_change<R: Print + AllocGlobal>(
+    rt: &R,
+    json: bool,
+    led: &Led<EditAnswer>,
+) -> Result<(), Failure> {
+    print(rt, printed(rt.alloc(), json, led)?.as_bytes())
 }
 
 /// What is printed of a change: of a new entry its name, and then what differs, as lines or as JSON.

@@ -1,7 +1,6 @@
 //! The command `undo`, which brings back what was there before the last change of a machine.
 
 use crate::file_edits::{changed_file, settle_left};
-use crate::history::copies;
 use crate::place_kind::{PlaceKind, place_kind};
 use crate::undo_run::{UndoFault, UndoRun, Undone};
 use crate::written::Written;
@@ -13,7 +12,7 @@ use boot_updates::{
 };
 use std::rt::Files;
 use uefi_vars::Vars;
-use var_places::{Failure, lock, print, write};
+use var_places::{Failure, lock, note, print, write};
 use whole_files::OutputFile;
 
 /// The words of an undoing.
@@ -52,9 +51,14 @@ pub fn undo_change<R: Files<File: OutputFile> + Input + Print + Eprint + AllocGl
         PlaceKind::Folder => undo_folder(rt, words),
         PlaceKind::VariableFile => undo_file(rt, words),
     }?;
-    let text = changes_text(rt.alloc(), place, (&undone.from, &undone.to), words.json)?;
+    let text = changes_text(
+        rt.alloc(),
+        place,
+        (&undone.led.from, &undone.led.to),
+        words.json,
+    )?;
     print(rt, text.as_bytes())?;
-    Ok(Written::without(&undone.missing))
+    Ok(Written::without(&undone.led.answer.missing))
 }
 
 /// Undoes the last change of a folder.
@@ -65,8 +69,22 @@ fn undo_folder<R: Files<File: OutputFile> + Input + Print + Eprint + AllocGlobal
     let machine = &words.machine;
     let folder = lock_folder(rt, machine.state)?;
     let undone = undo_machine(rt, words, folder.journal())?;
-    remove(rt, machine.state, undone.kept.number)?;
+    forget(rt, machine.state, &undone);
     Ok(undone)
+}
+
+/// Takes away what the state folder at this path keeps of a change that is undone. If that fails, it is told, and the next
+/// undoing passes the change over.
+fn forget<R: Files<File: OutputFile> + Eprint + AllocGlobal>(rt: &R, state: &str, undone: &Undone) {
+    if let Err(failure) = remove(rt, state, undone.kept.number) {
+        note(
+            rt,
+            state,
+            format_args!(
+                "what was kept of the change stays, and the next undo passes it over: {failure}"
+            ),
+        );
+    }
 }
 
 /// Undoes the last change of the machine with the journal at this path, whose folder is locked.
@@ -79,7 +97,7 @@ fn undo_machine<R: Files<File: OutputFile> + Input + Print + Eprint + AllocGloba
     let machine = &words.machine;
     let name = name_of_machine(rt, machine, true)?;
     let opened = open_place(rt, machine)?;
-    let left_out = copies(alloc, opened.left_out())?;
+    let left_out = opened.copy_left_out(alloc)?;
     let (mut kept, boot) = open_machine(rt, machine, opened, journal_path)?;
     let run = UndoRun {
         rt,
@@ -107,10 +125,10 @@ fn undo_file<R: Files<File: OutputFile> + Input + Print + Eprint + AllocGlobal>(
     let output = lock(rt, machine.place)?;
     let kept = read_kept(rt, machine)?;
     let undone = undone_over(rt, words, &kept, &kept.vars)?;
-    if let Some(bytes) = changed_file(rt, machine, &kept, (&undone.from, &undone.to))? {
+    if let Some(bytes) = changed_file(rt, machine, &kept, (&undone.led.from, &undone.led.to))? {
         write(rt, output, &bytes)?;
     }
-    remove(rt, machine.state, undone.kept.number)?;
+    forget(rt, machine.state, &undone);
     Ok(undone)
 }
 

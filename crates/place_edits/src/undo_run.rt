@@ -1,8 +1,9 @@
 //! Runs that bring back what was there before the last change of a machine.
 
-ghost use Rattle.std.specs.Prelude.{IfOk};
+ghost use Rattle.std.specs.Prelude.{◌≡◌, IfOk};
 ghost use Rattle.boot_edits.specs.Restore.{IsRestored};
 
+use crate::led::Led;
 use crate::takeable::{Takeable, takeable_part, tell_of_missing};
 use crate::undo::UndoWords;
 use boot_edits::Restore;
@@ -11,7 +12,7 @@ use boot_journal::{AttributesFault, CallError, MachineName, Run, with_attributes
 use boot_updates::set_of;
 use std::alloc::{AllocError, Global};
 use std::rt::Files;
-use uefi_vars::{Vars, entry_number};
+use uefi_vars::{BOOT_NEXT, Vars, boot_changes, entry_number};
 use var_places::Failure;
 use whole_files::OutputFile;
 
@@ -35,14 +36,8 @@ pub(crate) struct UndoRun<'a, 'w, R> {
 pub(crate) struct Undone {
     /// The change that is undone.
     pub(crate) kept: KeptRecord,
-    /// What the machine keeps before it.
-    pub(crate) from: Vars,
-    /// What it keeps after it.
-    pub(crate) to: Vars,
-    /// What is brought back of what was there before the change.
-    pub(crate) back: Vars,
-    /// The entries that are left out of it, since firmware refuses them.
-    pub(crate) missing: Vec<u16>,
+    /// What the machine keeps before the undoing and after it, and what is brought back of what was there before the change.
+    pub(crate) led: Led<Takeable>,
 }
 
 /// Why nothing is undone.
@@ -72,37 +67,43 @@ impl<R: Files<File: OutputFile> + Eprint + AllocGlobal> Run for UndoRun<'_, '_, 
 
     type Fault = UndoFault;
 
-    ghost leads = { λ undo from to undone. IsRestored undone.back from to × (undone.from ≡ from) × (undone.to ≡ to) };
+    ghost leads = { λ undo from to undone. IsRestored undone.led.answer.vars from to × (undone.led.from ≡ from) × (undone.led.to ≡ to) };
 
     ghost refuses = { λ undo from fault. Unit {0} };
 
     fn run(&self, alloc: Global, vars: &Vars) -> Result<(Vars, Undone), CallError<UndoFault>> {
         let kept = self.last(alloc, vars)?;
-        let back = self.back(alloc, vars, &kept.record).map_err(call_error)?;
-        let Takeable {
-            vars: back,
-            missing,
-        } = back;
-        let to = restored(alloc, vars, &back)?;
-        let undone = Undone {
-            kept,
-            from: vars.copy(alloc)?,
-            to: to.copy(alloc)?,
-            back,
-            missing,
-        };
-        Ok((to, undone))
+        let led = self.led(alloc, vars, &kept.record)?;
+        Ok((led.to.copy(alloc)?, Undone { kept, led }))
     }
 }
 
 impl<R: Files<File: OutputFile> + Eprint + AllocGlobal> UndoRun<'_, '_, R> {
-    /// The last change that was made of the machine, which keeps these variables. What is kept of later ones, which weren't
-    /// made, is taken away.
+    /// What undoing the change leads to from these variables. Tells which entries are left out.
+    fn led(
+        &self,
+        alloc: Global,
+        vars: &Vars,
+        change: &Record,
+    ) -> Result<Led<Takeable>, CallError<UndoFault>>
+        ensures { IfOk result (λ led. IsRestored led.answer.vars vars.now led.to × (led.from ≡ vars.now)) }
+    {
+        let back = self.back(alloc, vars, change).map_err(call_error)?;
+        self.tell(alloc, change, &back.missing).map_err(call_error)?;
+        Ok(Led {
+            from: vars.copy(alloc)?,
+            to: restored(alloc, vars, &back.vars)?,
+            answer: back,
+        })
+    }
+
+    /// The last change that was made of the machine, which keeps these variables, and isn't undone. What is kept of later ones
+    /// is taken away: they weren't made, or undoing them was cut off before that.
     fn last(&self, alloc: Global, vars: &Vars) -> Result<KeptRecord, CallError<UndoFault>> {
         let words = self.words;
         let kept = records(self.rt, words.machine.state, self.machine).map_err(call_error)?;
         for change in kept {
-            match standing_of(alloc, &change.record, vars)? {
+            match self.standing(alloc, vars, &change.record)? {
                 Standing::NotMade => self.forget(change.number).map_err(call_error)?,
                 Standing::Changed if !words.force => {
                     return Err(CallError::Refused(UndoFault::Changed(vars.copy(alloc)?, change)));
@@ -113,7 +114,31 @@ impl<R: Files<File: OutputFile> + Eprint + AllocGlobal> UndoRun<'_, '_, R> {
         Err(CallError::Refused(UndoFault::Nothing))
     }
 
-    /// Takes away what is kept of a change that wasn't made, unless it is a dry run.
+    /// How a change of the machine, which keeps these variables, stands: one that was undone counts as not made.
+    fn standing(
+        &self,
+        alloc: Global,
+        vars: &Vars,
+        change: &Record,
+    ) -> Result<Standing, AllocError> {
+        let standing = standing_of(alloc, change, vars)?;
+        if standing == Standing::Changed && self.is_undone(alloc, vars, change)? {
+            Ok(Standing::NotMade)
+        } else {
+            Ok(standing)
+        }
+    }
+
+    /// Whether the machine keeps what undoing the change leads to, but perhaps for a BootNext, which a start uses.
+    fn is_undone(&self, alloc: Global, vars: &Vars, change: &Record) -> Result<bool, AllocError> {
+        match self.back(alloc, vars, change) {
+            Ok(back) => is_there(alloc, vars, &back.vars),
+            Err(Failure::Memory) => Err(AllocError),
+            Err(_) => Ok(false),
+        }
+    }
+
+    /// Takes away what is kept of a change that isn't there, unless it is a dry run.
     fn forget(&self, number: u64) -> Result<(), Failure> {
         let words = self.words;
         if words.dry_run {
@@ -139,13 +164,29 @@ impl<R: Files<File: OutputFile> + Eprint + AllocGlobal> UndoRun<'_, '_, R> {
         let now = set_of(alloc, place, vars)?;
         let wanted = set_of(alloc, place, &before)?;
         let Takeable { vars: set, missing } = takeable_part(alloc, place, &now, &wanted)?;
-        tell_of_missing(self.rt, place, &wanted, &missing);
         match with_attributes(alloc, &set, &before) {
             Ok(vars) => Ok(Takeable { vars, missing }),
             Err(AttributesFault::OutOfMemory) => Err(Failure::Memory),
             Err(fault) => Err(Failure::of_fault(alloc, place, fault)),
         }
     }
+
+    /// Tells of each entry of what was there before the change that is left out why.
+    fn tell(&self, alloc: Global, change: &Record, missing: &[u16]) -> Result<(), Failure> {
+        let words = self.words;
+        let place = words.machine.place;
+        let wanted = set_of(alloc, place, &change.before)?;
+        tell_of_missing(self.rt, place, &wanted, missing);
+        Ok(())
+    }
+}
+
+/// Whether the variables have what is to be brought back, but perhaps for BootNext, where they have none.
+fn is_there(alloc: Global, vars: &Vars, back: &Vars) -> Result<bool, AllocError> {
+    Ok(
+        boot_changes(alloc, vars, back)?.iter().all(|change| change.name == BOOT_NEXT
+            && change.before.is_none()),
+    )
 }
 
 /// The variables, with those of the boot manager that are brought back.

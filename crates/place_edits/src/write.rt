@@ -153,33 +153,48 @@ fn write_to_file<R: Files<File: OutputFile> + Clock + Input + Print + Eprint + A
     check_regular(rt, place)?;
     if words.dry_run {
         let planned = plan_file(rt, words, to)?;
-        return print(rt, planned.report.as_bytes());
+        return print(rt, planned.change.report.as_bytes());
     }
     let folder = state_folder(rt, words)?;
-    let output = lock(rt, place)?;
+    change_file(rt, words, to, folder.is_some())
+}
+
+/// Writes to a set file or an emulator's variable file, of which the state folder may keep what was there before.
+fn change_file<R: Files<File: OutputFile> + Clock + Input + Print + Eprint + AllocGlobal>(
+    rt: &R,
+    words: &WriteWords<'_>,
+    to: &Vars,
+    is_kept: bool,
+) -> Result<(), Failure> {
+    let output = lock(rt, words.machine.place)?;
     let planned = plan_file(rt, words, to)?;
-    if planned.changes {
-        if folder.is_some()
-            && let Some(kept) = &planned.kept
-        {
+    if planned.change.is_some {
+        if is_kept && let Some(kept) = &planned.kept {
             keep(rt, words, kept, to)?;
         }
-        write(rt, output, &planned.bytes)?;
+        write(rt, output, &planned.change.bytes)?;
     }
-    print(rt, planned.report.as_bytes())
+    print(rt, planned.change.report.as_bytes())
 }
 
 /// What a file is to be.
 #[derive(Drop)]
 struct PlannedFile {
+    /// How it is changed.
+    change: FileChange,
+    /// What the machine keeps so far, if it is a variable file.
+    kept: Option<KeptVars>,
+}
+
+/// How a file is changed.
+#[derive(Drop)]
+struct FileChange {
     /// Its bytes.
     bytes: Vec<u8>,
     /// Whether a variable changes.
-    changes: bool,
+    is_some: bool,
     /// The lines that tell of the changes.
     report: String,
-    /// What the machine keeps so far, if it is a variable file.
-    kept: Option<KeptVars>,
 }
 
 /// What the set file or the variable file is to be.
@@ -194,15 +209,26 @@ fn plan_file<R: Files + Input + Eprint + AllocGlobal>(
     if !words.machine.force {
         check_damage(alloc, place, &bytes)?;
     }
-    let FileVars { vars: from, kept } = file_vars(rt, place, &bytes)?;
-    let changes = boot_changes(alloc, &from, to)?;
-    let bytes = changed_bytes(rt, words, &bytes, (&from, to), &changes)?;
-    note_unnamed(rt, words, &from, to)?;
-    Ok(PlannedFile {
-        report: report(alloc, words, (&from, to), &changes)?,
+    let FileVars { vars, kept } = file_vars(rt, place, &bytes)?;
+    let change = plan_change(rt, words, &bytes, (&vars, to))?;
+    Ok(PlannedFile { change, kept })
+}
+
+/// How a file with these bytes is changed, from the one set of variables to the other.
+fn plan_change<R: Eprint + AllocGlobal>(
+    rt: &R,
+    words: &WriteWords<'_>,
+    bytes: &[u8],
+    (from, to): (&Vars, &Vars),
+) -> Result<FileChange, Failure> {
+    let alloc = rt.alloc();
+    let changes = boot_changes(alloc, from, to)?;
+    let bytes = changed_bytes(rt, words, bytes, (from, to), &changes)?;
+    note_unnamed(rt, words, from, to)?;
+    Ok(FileChange {
+        report: report(alloc, words, (from, to), &changes)?,
         bytes,
-        changes: !changes.is_empty(),
-        kept,
+        is_some: !changes.is_empty(),
     })
 }
 
@@ -302,36 +328,86 @@ fn write_folder<R: Files<File: OutputFile> + Clock + Print + Eprint + AllocGloba
     words: &WriteWords<'_>,
     to: &Vars,
 ) -> Result<Written, Failure> {
-    let alloc = rt.alloc();
-    let place = words.machine.place;
-    let state = if words.dry_run {
-        None
-    } else {
-        state_folder(rt, words)?
-    };
-    let folder = read_folder(rt, place)?;
-    let from = &folder.found.vars;
-    let Takeable { vars, missing } = takeable_part(alloc, name_of(words.set), from, to)?;
-    note_keep_state(rt, words, to);
-    tell_of_missing(rt, name_of(words.set), to, &missing);
-    note_unnamed(rt, words, from, &vars)?;
-    let changes = boot_changes(alloc, from, &vars)?;
     if words.dry_run {
-        print(
-            rt,
-            report(alloc, words, (from, &vars), &changes)?.as_bytes(),
-        )?;
-        return Ok(Written::without(&missing));
+        return plan_folder(rt, words, to);
     }
-    if state.is_some() {
-        let kept = kept_of(alloc, place, true, folder.found.copy(alloc)?)?;
-        keep(rt, words, &kept, &vars)?;
+    let state = state_folder(rt, words)?;
+    change_folder(rt, words, to, state.is_some())
+}
+
+/// Prints how a folder would be changed.
+fn plan_folder<R: Files + Print + Eprint + AllocGlobal>(
+    rt: &R,
+    words: &WriteWords<'_>,
+    to: &Vars,
+) -> Result<Written, Failure> {
+    let folder = read_folder(rt, words.machine.place)?;
+    let from = &folder.found.vars;
+    let takeable = told_takeable(rt, words, from, to)?;
+    let changes = boot_changes(rt.alloc(), from, &takeable.vars)?;
+    print(
+        rt,
+        report(rt.alloc(), words, (from, &takeable.vars), &changes)?.as_bytes(),
+    )?;
+    Ok(Written::without(&takeable.missing))
+}
+
+/// Changes a folder, of which the state folder may keep what was there before.
+fn change_folder<R: Files<File: OutputFile> + Clock + Print + Eprint + AllocGlobal>(
+    rt: &R,
+    words: &WriteWords<'_>,
+    to: &Vars,
+    is_kept: bool,
+) -> Result<Written, Failure> {
+    let folder = read_folder(rt, words.machine.place)?;
+    let takeable = told_takeable(rt, words, &folder.found.vars, to)?;
+    if is_kept {
+        keep_folder(rt, words, &folder, &takeable.vars)?;
     }
-    make_changes(rt, words, &folder, &changes)?;
+    change_variables(rt, words, &folder, &takeable.vars)?;
+    Ok(Written::without(&takeable.missing))
+}
+
+/// What firmware takes of a set, of which it is told what isn't written and what is in no order.
+fn told_takeable<R: Eprint + AllocGlobal>(
+    rt: &R,
+    words: &WriteWords<'_>,
+    from: &Vars,
+    to: &Vars,
+) -> Result<Takeable, Failure> {
+    let takeable = takeable_part(rt.alloc(), name_of(words.set), from, to)?;
+    note_keep_state(rt, words, to);
+    tell_of_missing(rt, name_of(words.set), to, &takeable.missing);
+    note_unnamed(rt, words, from, &takeable.vars)?;
+    Ok(takeable)
+}
+
+/// Keeps in the state folder what is in a folder before it has the boot variables of a set.
+fn keep_folder<R: Files<File: OutputFile> + Clock + Eprint + AllocGlobal>(
+    rt: &R,
+    words: &WriteWords<'_>,
+    folder: &Folder,
+    to: &Vars,
+) -> Result<(), Failure> {
+    let alloc = rt.alloc();
+    let kept = kept_of(alloc, words.machine.place, true, folder.found.copy(alloc)?)?;
+    keep(rt, words, &kept, to)
+}
+
+/// Makes the boot variables of a folder those of a set, and prints the changes.
+fn change_variables<R: Files + Print + AllocGlobal>(
+    rt: &R,
+    words: &WriteWords<'_>,
+    folder: &Folder,
+    to: &Vars,
+) -> Result<(), Failure> {
+    let alloc = rt.alloc();
+    let from = &folder.found.vars;
+    make_changes(rt, words, folder, &boot_changes(alloc, from, to)?)?;
     if words.json {
-        print(rt, diff_json(alloc, from, &vars)?.as_bytes())?;
+        print(rt, diff_json(alloc, from, to)?.as_bytes())?;
     }
-    Ok(Written::without(&missing))
+    Ok(())
 }
 
 /// Makes the changes in their order, and prints each that is made as lines, up to the first that the system refuses.

@@ -3,8 +3,9 @@ use Rattle.std.specs.Prelude.{ℕ}
 use Rattle.var_commands.specs.declared.program.Ending.{Ending}
 use Rattle.var_commands.specs.declared.program.Ending.TheVariants as ending
 
--- 1 if two places differ, and 6 if not all requests were applied and carried out
+-- 1 if two places differ, or something is wrong with the first entry, and 6 if not all requests were applied and carried out
 abbrev pub ending_status : Ending → ℕ
 ending_status ending.Done = 0
 ending_status ending.Differs = 1
+ending_status ending.Wrong = 1
 ending_status ending.NotAll = 6

@@ -2,7 +2,8 @@
 
 use boot_edits::Position;
 use boot_texts::Flags;
-use boot_updates::{MachineWords, UpdateWords};
+use boot_updates::{Job, MachineWords};
+use place_checks::CheckWords;
 use place_edits::UndoWords;
 
 /// What the words of the command line ask for.
@@ -24,6 +25,8 @@ pub enum Action<'a> {
         /// How they are shown.
         form: Form,
     },
+    /// To tell which boot entries of a place can be started.
+    Check(CheckWords<'a>),
     /// To show how the boot variables of two places differ.
     Diff {
         /// The first place.
@@ -56,7 +59,12 @@ pub enum Action<'a> {
     /// To make the boot variables of a place those of a set.
     Write(SetWords<'a>),
     /// To run requests over the boot variables of a place.
-    Update(UpdateWords<'a>),
+    Update {
+        /// The machine.
+        machine: MachineWords<'a>,
+        /// What is to be done.
+        job: Job<'a>,
+    },
     /// To make a load option.
     LoadOption {
         /// What it has.
@@ -167,12 +175,34 @@ pub struct AddWords<'a> {
 pub struct LoadOptionWords<'a> {
     /// The description.
     pub description: &'a str,
-    /// The text of each path.
-    pub paths: &'a [&'a str],
+    /// Its paths.
+    pub paths: PathWords<'a>,
     /// The attributes.
     pub attributes: AttributeWords<'a>,
     /// The optional data.
     pub optional: OptionalWords<'a>,
+}
+
+/// What is said of a load option's paths.
+#[derive(Clone, Copy)]
+pub enum PathWords<'a> {
+    /// The text of each.
+    Texts(&'a [&'a str]),
+    /// The one that leads to a file.
+    Loader(LoaderWords<'a>),
+}
+
+/// The words that say a file which firmware loads.
+#[derive(Clone, Copy)]
+pub struct LoaderWords<'a> {
+    /// The file: its path in a mounted file system, or its name on the disk that is named.
+    pub file: &'a str,
+    /// The path of the disk or of the partition, if one is named.
+    pub disk: Option<&'a str>,
+    /// The number of the partition, as it is written, if one is named.
+    pub part: Option<&'a str>,
+    /// The path of the folder that stands for the root of the system, or nothing.
+    pub root: &'a str,
 }
 
 /// What is said of a load option's attributes.

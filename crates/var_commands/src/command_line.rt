@@ -1,15 +1,16 @@
 //! The words of the command line, and what they ask for.
 
 use crate::action::{
-    Action, AddWords, AttributeWords, ChangeWords, EntryChange, Form, LoadOptionWords,
-    OptionalWords, RequestWords, SetWords,
+    Action, AddWords, AttributeWords, ChangeWords, EntryChange, Form, LoadOptionWords, LoaderWords,
+    OptionalWords, PathWords, RequestWords, SetWords,
 };
 use crate::commands::program;
 use boot_edits::Position;
 use boot_history::DEFAULT_STATE;
 use boot_texts::Flags;
-use boot_updates::{Job, MachineWords, UpdateWords};
+use boot_updates::{Job, MachineWords};
 use clap::{ArgMatches, Error};
+use place_checks::CheckWords;
 use place_edits::UndoWords;
 use std::alloc::Global;
 
@@ -29,6 +30,7 @@ pub(crate) fn action_of<'a>(matches: &'a ArgMatches<'_>) -> Option<Action<'a>> {
     match name {
         "read" => read_of(matches),
         "show" => show_of(matches),
+        "check" => check_of(matches),
         "diff" => diff_of(matches),
         "get" => get_of(matches),
         "write" => write_of(matches),
@@ -56,6 +58,14 @@ fn show_of<'a>(matches: &'a ArgMatches<'_>) -> Option<Action<'a>> {
     })
 }
 
+fn check_of<'a>(matches: &'a ArgMatches<'_>) -> Option<Action<'a>> {
+    Some(Action::Check(CheckWords {
+        place: matches.get_str("PLACE")?,
+        root: matches.get_str("root").unwrap_or(""),
+        json: matches.get_flag("json"),
+    }))
+}
+
 fn diff_of<'a>(matches: &'a ArgMatches<'_>) -> Option<Action<'a>> {
     Some(Action::Diff {
         from: matches.get_str("FROM")?,
@@ -76,10 +86,10 @@ fn write_of<'a>(matches: &'a ArgMatches<'_>) -> Option<Action<'a>> {
 }
 
 fn update_of<'a>(matches: &'a ArgMatches<'_>) -> Option<Action<'a>> {
-    Some(Action::Update(UpdateWords {
+    Some(Action::Update {
         machine: machine_of(matches)?,
         job: job_of(matches)?,
-    }))
+    })
 }
 
 /// The machine of a command that keeps a journal.
@@ -201,10 +211,22 @@ fn load_option_of<'a>(matches: &'a ArgMatches<'_>) -> Option<Action<'a>> {
 fn option_of<'a>(matches: &'a ArgMatches<'_>) -> Option<LoadOptionWords<'a>> {
     Some(LoadOptionWords {
         description: matches.get_str("description")?,
-        paths: matches.get_strs("path")?,
+        paths: paths_of(matches)?,
         attributes: attributes_of(matches),
         optional: optional_of(matches),
     })
+}
+
+fn paths_of<'a>(matches: &'a ArgMatches<'_>) -> Option<PathWords<'a>> {
+    match matches.get_str("loader") {
+        Some(file) => Some(PathWords::Loader(LoaderWords {
+            file,
+            disk: matches.get_str("disk"),
+            part: matches.get_str("part"),
+            root: matches.get_str("root").unwrap_or(""),
+        })),
+        None => Some(PathWords::Texts(matches.get_strs("path")?)),
+    }
 }
 
 fn attributes_of<'a>(matches: &'a ArgMatches<'_>) -> AttributeWords<'a> {

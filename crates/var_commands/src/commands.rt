@@ -50,6 +50,7 @@ fn bare_program<'a>(alloc: Global) -> Command<'a> {
 /// square of the number of its slices.
 fn commands<'a>(alloc: Global) -> Result<Vec<Command<'a>>, AllocError> {
     let mut commands = Vec::new(alloc);
+    add_commands(alloc, &mut commands, &CHECK_COMMANDS)?;
     add_commands(alloc, &mut commands, &PLACE_COMMANDS)?;
     add_commands(alloc, &mut commands, &ADD_COMMANDS)?;
     add_commands(alloc, &mut commands, &LIST_COMMANDS)?;
@@ -61,6 +62,7 @@ fn commands<'a>(alloc: Global) -> Result<Vec<Command<'a>>, AllocError> {
     add_commands(alloc, &mut commands, &OPTION_COMMANDS)?;
     add_frame(alloc, &mut commands)?;
     add_commands(alloc, &mut commands, &EXPLAIN_COMMANDS)?;
+    add_commands(alloc, &mut commands, &EFIBOOTMGR_COMMANDS)?;
     Ok(commands)
 }
 
@@ -77,6 +79,29 @@ fn frame<'a>(alloc: Global) -> Result<Command<'a>, AllocError> {
         .subcommand_required(true)
         .subcommands(requests)
 }
+
+/// The command that checks entries.
+static CHECK_COMMANDS: [CommandRow; 1] = [CommandRow {
+    name: "check",
+    about: "Tells which boot entries can be started, and what is wrong with the others",
+    long_about: Some(
+        "Tells which boot entries can be started on this machine, and what is wrong with the others: first those that the \
+        next boot tries, in its order. Each is looked for by its partition and its file, if that is mounted.\n\n\
+        The status is 0 if nothing is wrong with the first one, 1 if something is or there is none, and above 1 if it \
+        could not be told.",
+    ),
+    after_help: "Example:\n  bootvars check /sys/firmware/efi/efivars",
+    args: &[
+        PLACE,
+        JSON,
+        ArgRow {
+            help: "The folder below which the system is whose disks and files are looked at",
+            needs: &[],
+            ..ROOT
+        },
+    ],
+    ..CommandRow::EMPTY
+}];
 
 /// The commands that read, show and compare places.
 static PLACE_COMMANDS: [CommandRow; 4] = [
@@ -143,15 +168,19 @@ static ADD_COMMANDS: [CommandRow; 1] = [CommandRow {
     name: "add",
     about: "Adds an entry, and prints its name",
     long_about: Some(
-        "Adds an entry with a load option, and prints its name, and then each change. The entry is put at the end of the \
+        "Adds an entry that starts a file, and prints its name, and then each change. The entry is put at the end of the \
         order. If an entry with the same description and the same paths is there already, its name is printed, and nothing \
         is changed.",
     ),
     after_help: "Example:\n  bootvars add /sys/firmware/efi/efivars --description debian \\\n    \
-        --path 'HD(1,GPT,5f2c1a9e-7d64-4b0e-9c3b-1e8f60a2d7c4,0x800,0x64000)/File(\\EFI\\debian\\shimx64.efi)'",
+        --loader /boot/efi/EFI/debian/shimx64.efi",
     args: &[
         CHANGED,
         DESCRIPTION,
+        LOADER,
+        DISK,
+        PART,
+        ROOT,
         PATH,
         ArgRow {
             name: "first",
@@ -196,6 +225,7 @@ static ADD_COMMANDS: [CommandRow; 1] = [CommandRow {
         FORCE,
     ],
     groups: &[
+        PATHS,
         OPTIONAL,
         GroupRow {
             name: "position",
@@ -455,11 +485,13 @@ static UPDATE_COMMANDS: [CommandRow; 1] = [CommandRow {
 static OPTION_COMMANDS: [CommandRow; 1] = [CommandRow {
     name: "option",
     about: "Makes a load option, the value of a variable Boot####",
-    after_help: "Example:\n  bootvars option --description debian \\\n    \
-            --path 'HD(1,GPT,5f2c1a9e-7d64-4b0e-9c3b-1e8f60a2d7c4,0x800,0x64000)/File(\\EFI\\debian\\shimx64.efi)' \\\n    \
-            --out option",
+    after_help: "Example:\n  bootvars option --description debian --loader /boot/efi/EFI/debian/shimx64.efi --out option",
     args: &[
         DESCRIPTION,
+        LOADER,
+        DISK,
+        PART,
+        ROOT,
         PATH,
         INACTIVE,
         HIDDEN,
@@ -471,7 +503,7 @@ static OPTION_COMMANDS: [CommandRow; 1] = [CommandRow {
         OPTIONAL_TEXT,
         OUT,
     ],
-    groups: &[OPTIONAL],
+    groups: &[PATHS, OPTIONAL],
     ..CommandRow::EMPTY
 }];
 
@@ -687,12 +719,56 @@ const DESCRIPTION: ArgRow = ArgRow {
     ..ArgRow::OPTION
 };
 
+const LOADER: ArgRow = ArgRow {
+    name: "loader",
+    help: "The file that is started, in a mounted file system, as /boot/efi/EFI/debian/shimx64.efi",
+    kind: ArgKind::Option("FILE"),
+    ..ArgRow::OPTION
+};
+
+const DISK: ArgRow = ArgRow {
+    name: "disk",
+    help: "The disk or the partition that FILE is on, as /dev/nvme0n1; FILE is then its name there, as \\EFI\\debian\\shimx64.efi",
+    kind: ArgKind::Option("DEVICE"),
+    ..OF_LOADER
+};
+
+const PART: ArgRow = ArgRow {
+    name: "part",
+    help: "The number of the partition of the disk, in place of 1",
+    kind: ArgKind::Option("N"),
+    needs: &["disk"],
+    ..OF_LOADER
+};
+
+const ROOT: ArgRow = ArgRow {
+    name: "root",
+    help: "The folder below which the system is whose disks are meant",
+    kind: ArgKind::Option("FOLDER"),
+    ..OF_LOADER
+};
+
+/// An option that goes with a file alone. The conflict has to be named here, since `clap` no longer asks for the file where a
+/// path excludes it.
+const OF_LOADER: ArgRow = ArgRow {
+    needs: &["loader"],
+    excludes: &["path"],
+    ..ArgRow::OPTION
+};
+
 const PATH: ArgRow = ArgRow {
     name: "path",
-    help: "The device path as text; again for each path of the list",
+    help: "The device path as text, in place of a FILE; again for each path of the list",
     action: ArgAction::Append,
-    is_required: true,
+    is_required: false,
     ..ArgRow::OPTION
+};
+
+/// What says the paths.
+const PATHS: GroupRow = GroupRow {
+    name: "paths",
+    args: &["loader", "path"],
+    is_required: true,
 };
 
 const INACTIVE: ArgRow = ArgRow {
@@ -766,3 +842,11 @@ const SCRIPT_FLAG: ArgRow = ArgRow {
     excludes: &INSTEAD_OF_SCRIPT,
     ..ArgRow::FLAG
 };
+
+/// The command whose words are those of `efibootmgr`: they aren't read by this table, which has it for the help alone.
+static EFIBOOTMGR_COMMANDS: [CommandRow; 1] = [CommandRow {
+    name: "efibootmgr",
+    about: "Takes the words of efibootmgr, and prints its lines",
+    after_help: "Example:\n  bootvars efibootmgr -v\n\n`bootvars efibootmgr -h` prints its words.",
+    ..CommandRow::EMPTY
+}];

@@ -1,15 +1,20 @@
 //! The commands `option`, `frame` and `explain`, which make load options and requests, and show requests.
 
-use crate::action::{AttributeWords, Form, LoadOptionWords, OptionalWords, RequestWords};
+use crate::action::{
+    AttributeWords, Form, LoadOptionWords, LoaderWords, OptionalWords, PathWords, RequestWords,
+};
 use boot_requests::InputFormat;
 use boot_texts::{
     DigitsFault, FrameWords, FrameWordsFault, OptionWords, OptionWordsFault, attribute_bits,
     attributes_of_text, entry_of_digits, explain_json, explain_report, frame_bytes, frame_line,
     number_of_digits, option_bytes, optional_text, single_backslashes,
 };
+use disk_files::{disk_path, loader_path};
 use hex::FromHexError;
 use std::alloc::{AllocError, Global};
 use std::rt::Files;
+use uefi_path::Path;
+use uefi_text::path_text;
 use var_places::{Failure, Quoted, Reason, lock, name_of, no_option, print, read, write};
 use whole_files::OutputFile;
 
@@ -32,7 +37,8 @@ pub(crate) fn make_option<R: Files<File: OutputFile> + Input + Print + Eprint + 
 /// # Errors
 ///
 /// [`Failure::Words`] if a word isn't what it is to be; [`Failure::Read`] and [`Failure::Refused`] if the file with the
-/// optional data can't be read or is too long; and [`Failure::Memory`] if memory was refused.
+/// optional data can't be read or is too long, and those of [`loader_path`] and [`disk_path`]; and [`Failure::Memory`] if
+/// memory was refused.
 pub(crate) fn option_of_words<R: Files + Input + Eprint + AllocGlobal>(
     rt: &R,
     words: &LoadOptionWords<'_>,
@@ -60,7 +66,54 @@ pub(crate) fn option_of_words<R: Files + Input + Eprint + AllocGlobal>(
 
 /// The text of each path, with single backslashes, as a path of UEFI has them. Tells on standard error which had others: it
 /// was escaped for a shell or for JSON.
-fn path_texts<R: Eprint + AllocGlobal>(rt: &R, words: &[&str]) -> Result<Vec<String>, AllocError> {
+fn path_texts<R: Files + Eprint + AllocGlobal>(
+    rt: &R,
+    words: PathWords<'_>,
+) -> Result<Vec<String>, Failure> {
+    match words {
+        PathWords::Texts(texts) => Ok(single_texts(rt, texts)?),
+        PathWords::Loader(loader) => {
+            let text = path_text(rt.alloc(), &path_of_loader(rt, &loader)?)?;
+            Ok(single_texts(rt, &[text.as_str()])?)
+        }
+    }
+}
+
+/// The path that leads to the file that firmware is to load.
+fn path_of_loader<R: Files + AllocGlobal>(
+    rt: &R,
+    words: &LoaderWords<'_>,
+) -> Result<Path, Failure> {
+    let Some(disk) = words.disk else {
+        return loader_path(rt, words.root, words.file);
+    };
+    let part = match words.part {
+        Some(word) => Some(part_of(rt.alloc(), word)?),
+        None => None,
+    };
+    disk_path(rt, words.root, disk, part, words.file)
+}
+
+/// The number of the partition that a word names.
+fn part_of(alloc: Global, word: &str) -> Result<u32, Failure> {
+    let is_decimal = word.bytes().all(|byte| byte.is_ascii_digit());
+    match word.parse::<u32>() {
+        Ok(number) if number > 0 && is_decimal => Ok(number),
+        _ => {
+            let word = Quoted(word);
+            Err(Failure::of_word(
+                alloc,
+                format_args!("--part {word} is no number of a partition, which is 1 or more"),
+            ))
+        }
+    }
+}
+
+/// The texts with single backslashes.
+fn single_texts<R: Eprint + AllocGlobal>(
+    rt: &R,
+    words: &[&str],
+) -> Result<Vec<String>, AllocError> {
     let alloc = rt.alloc();
     let mut paths = Vec::with_capacity(alloc, words.len())?;
     for word in words {

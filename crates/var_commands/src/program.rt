@@ -11,6 +11,7 @@ use crate::making::{entry_of, explain, make_frame, make_option};
 use boot_texts::{diff_json, diff_report, vars_json, vars_report};
 use boot_updates::{Ended, UpdateWords, update};
 use clap::error::ErrorKind;
+use place_checks::{CheckWords, Verdict, check_place};
 use place_edits::{
     UndoWords, WriteWords, Written, get_entry, list_changes, undo_change, write_place,
 };
@@ -33,33 +34,52 @@ pub(crate) enum Ending {
     Done,
     /// It was asked how two places differ, and they do.
     Differs,
+    /// It was asked which entries can be started, and something is wrong with the first.
+    Wrong,
     /// It ran requests, and not all of them were applied and carried out; or it left out what firmware refuses.
     NotAll,
 }
 
 impl Ending {
-    /// The status that the program ends with: 1 if two places differ, 6 if not all requests were applied and carried out,
-    /// otherwise 0.
+    /// The status that the program ends with: 1 if two places differ or something is wrong with the first entry, 6 if not
+    /// all requests were applied and carried out, otherwise 0.
     fn status(self) -> u8
         ensures { result ≡ ending_status self }
     {
         match self {
             Ending::Done => 0,
-            Ending::Differs => 1,
+            Ending::Differs | Ending::Wrong => 1,
             Ending::NotAll => 6,
         }
     }
 }
 
 /// Does what the words of the command line ask for, and returns the status to end with: 0, or 1 if two places were
-/// compared and differ, 6 if requests were run and not all of them were applied and carried out; or, with a message on
-/// standard error, 1 if requests aren't run, 2 if the words are wrong, 3 if a file or a variable can't be read or changed, 4
-/// if memory was refused, 5 if an input is refused, 7 if another update is at work, and 8 if an update was neither made nor
-/// taken back; or 141, without a message, if nobody reads standard output any more.
+/// compared and differ or something is wrong with the first entry that was checked, 6 if requests were run and not all of
+/// them were applied and carried out; or, with a message on standard error, 1 if requests aren't run, 2 if the words are
+/// wrong, 3 if a file or a variable can't be read or changed, 4 if memory was refused, 5 if an input is refused, 7 if
+/// another update is at work, and 8 if an update was neither made nor taken back; or 141, without a message, if nobody
+/// reads standard output any more.
 pub fn run<R: Env + Files<File: OutputFile> + Clock + Input + Print + Eprint + AllocGlobal>(
     rt: &R,
 ) -> u8 {
-    tell(rt, answer(rt))
+    match words(rt) {
+        Ok(words) => match words.as_slice() {
+            [_, called @ ..] if is_efibootmgr(called) => efibootmgr_runs::run(rt, called),
+            words => tell(rt, answer(rt, words)),
+        },
+        Err(failure) => tell(rt, Err(failure)),
+    }
+}
+
+/// The command whose words are those of `efibootmgr`, which no other command has.
+const EFIBOOTMGR: &str = "efibootmgr";
+
+/// Whether the words begin with that command.
+fn is_efibootmgr(words: &[String]) -> bool {
+    words
+        .first()
+        .is_some_and(|word| word.as_str() == EFIBOOTMGR)
 }
 
 /// Ends a run: writes the message of a failure to standard error, if it has one, and returns the status.
@@ -79,17 +99,18 @@ fn tell<R: Eprint>(rt: &R, outcome: Result<Ending, Failure>) -> u8
     }
 }
 
-fn answer<R: Env + Files<File: OutputFile> + Clock + Input + Print + Eprint + AllocGlobal>(
+/// Does what the words of the command line ask for, of which the first is the program's name.
+fn answer<R: Files<File: OutputFile> + Clock + Input + Print + Eprint + AllocGlobal>(
     rt: &R,
+    words: &[String],
 ) -> Result<Ending, Failure> {
     let alloc = rt.alloc();
-    let words = words(rt)?;
-    match read_words(alloc, words.as_slice()) {
+    match read_words(alloc, words) {
         Ok(matches) => match action_of(&matches) {
             Some(action) => act(rt, action, words.get(1..).unwrap_or(&[])),
             None => Err(Failure::of_word(alloc, "no command is named")),
         },
-        Err(error) => end_without_action(rt, words.as_slice(), &error),
+        Err(error) => end_without_action(rt, words, &error),
     }
 }
 
@@ -182,6 +203,7 @@ fn act<R: Files<File: OutputFile> + Clock + Input + Print + Eprint + AllocGlobal
             boot_only,
         } => done(make_set(rt, place, out, boot_only)),
         Action::Show { place, form } => done(show(rt, place, form)),
+        Action::Check(words) => check(rt, &words),
         Action::Diff { from, to, form } => diff(rt, from, to, form),
         Action::Get { place, entry, out } => {
             done(get_entry(rt, place, entry_of(rt.alloc(), entry)?, out))
@@ -192,7 +214,16 @@ fn act<R: Files<File: OutputFile> + Clock + Input + Print + Eprint + AllocGlobal
             done(list_changes(rt, &machine, matches!(form, Form::Json)))
         }
         Action::Write(set) => write_set_to_place(rt, &set, words),
-        Action::Update(words) => update_place(rt, &words),
+        Action::Update { machine, job } => {
+            update_place(
+                rt,
+                &UpdateWords {
+                    machine,
+                    job,
+                    command: words,
+                },
+            )
+        }
         Action::LoadOption { option, out } => done(make_option(rt, &option, out)),
         Action::Frame {
             number,
@@ -247,7 +278,7 @@ fn undo<R: Files<File: OutputFile> + Input + Print + Eprint + AllocGlobal>(
 }
 
 /// Updates a machine.
-fn update_place<R: Files<File: OutputFile> + Input + Print + Eprint + AllocGlobal>(
+fn update_place<R: Files<File: OutputFile> + Clock + Input + Print + Eprint + AllocGlobal>(
     rt: &R,
     words: &UpdateWords<'_>,
 ) -> Result<Ending, Failure> {
@@ -321,6 +352,17 @@ fn show<R: Files + Input + Print + Eprint + AllocGlobal>(
         Form::Json => vars_json(rt.alloc(), &vars)?,
     };
     print(rt, text.as_bytes())
+}
+
+/// Prints which boot entries of a place can be started.
+fn check<R: Files + Input + Print + Eprint + AllocGlobal>(
+    rt: &R,
+    words: &CheckWords<'_>,
+) -> Result<Ending, Failure> {
+    match check_place(rt, words)? {
+        Verdict::Fine => Ok(Ending::Done),
+        Verdict::Wrong => Ok(Ending::Wrong),
+    }
 }
 
 /// Prints how the boot variables of two places differ.

@@ -5,8 +5,9 @@
 //! [`read_folder`], [`variable_file`] and [`file_vars`] read folders and files; a [`PlaceVars`] has the attributes too.
 //! A folder is changed one variable at a time, by [`make_change`] and [`set_variable`]. A file is replaced as a whole:
 //! [`changed_set`] and [`changed_variable_file`] give its bytes, [`check_damage`] refuses one that is damaged,
-//! [`lock()`] locks it and [`write()`] replaces it. [`machine_name`] tells the machine of a place from others. What
-//! goes wrong is a [`Failure`], which has a message and the status of a program that ends with it.
+//! [`lock()`] locks it and [`write()`] replaces it. [`machine_name`] tells the machine of a place from others, and
+//! [`resolved()`] gives a path without links. What goes wrong is a [`Failure`], which has a message and the status of a
+//! program that ends with it.
 #![tactic(auto)]
 
 mod failure;
@@ -33,6 +34,7 @@ pub use folder::{Folder, LeftOut, read_folder};
 pub use folder_change::{has_value, make_change, set_variable};
 pub use input::{STANDARD, name_of, read};
 pub use machine::machine_name;
+pub use mounts::resolved;
 pub use notes::{Quoted, SHOWN_MAX, Shortened, note, shown};
 pub use output::{Output, lock, print, write};
 pub use place::{is_folder, read_place};

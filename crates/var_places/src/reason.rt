@@ -109,14 +109,6 @@ pub enum Reason {
     /// Standard input is to be read twice.
     #[error("it can be read only once: name a file for the other place")]
     StandardTwice,
-    /// An entry is to be stored that firmware refuses.
-    #[error("{name} isn't a load option ({fault}), and firmware refuses it; nothing is changed")]
-    EntryRefused {
-        /// The name of the entry.
-        name: String,
-        /// The words of the option's fault.
-        fault: String,
-    },
     /// A BootOrder is to be stored that firmware refuses.
     #[error("BootOrder isn't two bytes for each entry, and firmware refuses it; nothing is changed")]
     OrderRefused,

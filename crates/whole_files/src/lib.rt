@@ -4,7 +4,8 @@
 //! [`write_file`] replaces a whole file, which [`lock_file`] has locked: whoever changes a file this way reads it in
 //! between, and nobody's change is lost. [`rewrite_file`] keeps the lock, for one change after the other, and
 //! [`replace_file`] replaces a file that the caller keeps others from by other means. [`sync_file`] and
-//! [`sync_folder`] bring to the disk what was written otherwise. What fails is told by the system's reason.
+//! [`sync_folder`] bring to the disk what was written otherwise; [`folder_of`] tells which folder has a name. What fails is
+//! told by the system's reason.
 #![tactic(auto)]
 
 mod input;
@@ -13,6 +14,6 @@ mod output;
 mod sync;
 
 pub use input::{LIMIT, read_file, read_input};
-pub use lock::{FileLock, OutputFile, lock_file};
+pub use lock::{FileLock, OutputFile, folder_of, lock_file};
 pub use output::{replace_file, rewrite_file, write_file};
 pub use sync::{sync_file, sync_folder};

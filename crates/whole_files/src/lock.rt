@@ -177,8 +177,8 @@ fn is_same(one: &Metadata, other: &Metadata) -> bool {
     one.dev() == other.dev() && one.ino() == other.ino()
 }
 
-/// The folder that the path's last name is in.
-pub(crate) fn folder_of<'a>(path: Path<'a>) -> Path<'a> {
+/// The folder that the path's last name is in: `.` if the path is that name alone.
+pub fn folder_of<'a>(path: Path<'a>) -> Path<'a> {
     match path.parent() {
         Some(folder) if !folder.as_str().is_empty() => folder,
         _ => Path::new("."),

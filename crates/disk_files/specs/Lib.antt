@@ -1,0 +1,2 @@
+-- What these contracts are in terms of.
+pub mod FilePath

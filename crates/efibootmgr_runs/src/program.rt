@@ -1,0 +1,136 @@
+//! A run of the program.
+
+use crate::fault_words::FaultWords;
+use crate::machine::{Machine, place};
+use crate::steps::make_changes;
+use crate::stopped::{Step, Stopped};
+use boot_texts::{EntryName, option_reason};
+use efibootmgr_words::{Asked, HELP, OPTIONS, VERSION, WordFault, list_vars, read_words};
+use std::alloc::AllocError;
+use std::fmt::Display;
+use std::rt::{Clock, Env, Files};
+use uefi_option::check_option;
+use uefi_vars::Vars;
+use var_places::{Failure, note, print};
+use whole_files::OutputFile;
+
+/// Does what the words ask for, of which the first is the name by which the program is called, and returns the status to end
+/// with: that of `efibootmgr`, which is 0 if all is done. What goes wrong is told on standard error.
+pub fn run<R: Env + Files<File: OutputFile> + Clock + Input + Print + Eprint + AllocGlobal>(
+    rt: &R,
+    words: &[String],
+) -> u8 {
+    match asked_of(rt, words) {
+        Ok(Ok(asked)) => match answer(rt, words, &asked) {
+            Ok(()) => 0,
+            Err(stopped) => tell_stop(rt, &stopped),
+        },
+        Ok(Err(fault)) => {
+            tell(rt, FaultWords(fault));
+            fault.status()
+        }
+        Err(AllocError) => {
+            tell(rt, Failure::Memory);
+            NO_MEMORY
+        }
+    }
+}
+
+/// The status if memory was refused before anything was done.
+const NO_MEMORY: u8 = 1;
+
+/// What the words ask for, or what is wrong with them.
+fn asked_of<'a, R: AllocGlobal>(
+    rt: &R,
+    words: &'a [String],
+) -> Result<Result<Asked<'a>, WordFault<'a>>, AllocError> {
+    let given = read_words(rt.alloc(), &OPTIONS, words.get(1..).unwrap_or(&[]))?;
+    Asked::new(rt.alloc(), given)
+}
+
+/// Tells why a run stopped, and returns the status to end with.
+fn tell_stop<R: Eprint>(rt: &R, stopped: &Stopped) -> u8 {
+    if let Some(failure) = stopped.told() {
+        tell(rt, format_args!("{failure}"));
+    }
+    stopped.status()
+}
+
+/// Tells something on standard error.
+fn tell<R: Eprint, D: Display + Drop>(rt: &R, text: D) {
+    // If standard error takes nothing, there is no place left to say so: the status tells it all the same.
+    let _ = eprintln!(rt; "efibootmgr: {text}");
+}
+
+/// Does what is asked for.
+fn answer<R: Env + Files<File: OutputFile> + Clock + Input + Print + Eprint + AllocGlobal>(
+    rt: &R,
+    words: &[String],
+    asked: &Asked<'_>,
+) -> Result<(), Stopped> {
+    if asked.help {
+        return show(rt, HELP);
+    }
+    if asked.version {
+        return show(rt, VERSION);
+    }
+    let place = match place(rt) {
+        Ok(place) => place,
+        Err(failure) => return Err(Stopped::at(Step::Read, failure)),
+    };
+    let machine = Machine {
+        place: place.as_str(),
+        command: words,
+    };
+    if let Err(failure) = machine.read(rt) {
+        return Err(Stopped::at(Step::Read, failure));
+    }
+    make_changes(rt, &machine, asked)?;
+    if asked.quiet {
+        return Ok(());
+    }
+    list(rt, &machine, asked.verbose)
+}
+
+/// Prints a text.
+fn show<R: Print + AllocGlobal>(rt: &R, text: &str) -> Result<(), Stopped> {
+    match print(rt, text.as_bytes()) {
+        Ok(()) => Ok(()),
+        Err(failure) => Err(Stopped::at(Step::List, failure)),
+    }
+}
+
+/// Prints the variables of the machine.
+fn list<R: Files + Print + Eprint + AllocGlobal>(
+    rt: &R,
+    machine: &Machine<'_>,
+    verbose: bool,
+) -> Result<(), Stopped> {
+    let vars = match machine.read(rt) {
+        Ok(folder) => folder.found.vars,
+        Err(failure) => return Err(Stopped::at(Step::List, failure)),
+    };
+    let listing = list_vars(rt.alloc(), &vars, verbose)?;
+    show(rt, &listing.text)?;
+    if verbose {
+        tell_of_faulty(rt, machine.place, &vars, &listing.faulty);
+    }
+    Ok(())
+}
+
+/// Tells which entries are no load options, and why.
+fn tell_of_faulty<R: Eprint>(rt: &R, place: &str, vars: &Vars, faulty: &[u16]) {
+    for entry in faulty {
+        if let Some(data) = vars.entry(*entry)
+            && let Err(fault) = check_option(data)
+        {
+            let name = EntryName(*entry);
+            let reason = option_reason(data, &fault);
+            note(
+                rt,
+                place,
+                format_args!("{name} is no load option: {reason}"),
+            );
+        }
+    }
+}

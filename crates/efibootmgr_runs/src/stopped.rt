@@ -1,0 +1,95 @@
+//! Why a run stops.
+
+use std::alloc::AllocError;
+use var_places::Failure;
+
+/// What was to be done when a run stopped.
+#[derive(Clone, Copy, Debug, PartialEq, Eq)]
+pub(crate) enum Step {
+    /// The variables were to be read.
+    Read,
+    /// An entry was to be taken out.
+    Delete,
+    /// An entry was to become active or inactive.
+    Activate,
+    /// An entry was to be made.
+    Create,
+    /// An entry was to be made under a number that has one.
+    CreateTaken,
+    /// BootOrder was to be taken out.
+    DeleteOrder,
+    /// BootOrder was to be set.
+    Order,
+    /// Repeated numbers were to be taken out of BootOrder.
+    RemoveRepeats,
+    /// BootNext was to be taken out.
+    DeleteNext,
+    /// Timeout was to be taken out.
+    DeleteTimeout,
+    /// BootNext was to be set.
+    Next,
+    /// Timeout was to be set.
+    Timeout,
+    /// The variables were to be listed.
+    List,
+}
+
+impl Step {
+    /// The status that `efibootmgr` ends with if this can't be done.
+    fn status(self) -> u8 {
+        match self {
+            Step::List => 1,
+            Step::Read => 2,
+            Step::Create => 5,
+            Step::DeleteOrder => 7,
+            Step::Order => 8,
+            Step::RemoveRepeats => 9,
+            Step::DeleteNext => 10,
+            Step::DeleteTimeout => 11,
+            Step::Next => 12,
+            Step::Timeout => 14,
+            Step::Delete => 15,
+            Step::Activate => 16,
+            Step::CreateTaken => 40,
+        }
+    }
+}
+
+/// Why a run stops.
+#[derive(Debug, Drop)]
+pub(crate) struct Stopped {
+    /// What was to be done.
+    step: Step,
+    /// What kept it from being done.
+    failure: Failure,
+}
+
+impl Stopped {
+    /// What it is to a run that this can't be done.
+    pub(crate) fn at(step: Step, failure: Failure) -> Stopped {
+        Stopped { step, failure }
+    }
+
+    /// The status to end with: that of what was to be done, unless nobody reads what is printed any more.
+    pub(crate) fn status(&self) -> u8 {
+        match self.failure {
+            Failure::Closed => self.failure.status(),
+            _ => self.step.status(),
+        }
+    }
+
+    /// What is told of it, if there is something to tell.
+    pub(crate) fn told(&self) -> Option<&Failure> {
+        match self.failure {
+            Failure::Closed => None,
+            _ => Some(&self.failure),
+        }
+    }
+}
+
+/// What it is to a run that memory was refused while variables were read or listed.
+impl From<AllocError> for Stopped {
+    fn from(_refusal: AllocError) -> Stopped {
+        Stopped::at(Step::List, Failure::Memory)
+    }
+}

@@ -1,0 +1,189 @@
+//! Device paths as libefivar prints them.
+
+use crate::efivar_rows::efivar_table;
+use std::alloc::{AllocError, Global};
+use std::fmt::{self, Display};
+use uefi_names::{NamedPath, NodeTable};
+use uefi_path::{FileNode, Node, OtherNode, PCI_ROOT_HID, PCIE_ROOT_HID, Path, make_path};
+use uefi_text::{DigitsText, NodeText, NumberText};
+
+/// The `_HID` of a serial port, PNP0501, as a compressed EISA identifier.
+const SERIAL_HID: u32 = 0x0501_41d0;
+
+/// The `_HID` of a floppy disk, PNP0604, as a compressed EISA identifier.
+const FLOPPY_HID: u32 = 0x0604_41d0;
+
+/// The bytes of an address of Ethernet.
+const ETHERNET_LEN: usize = 6;
+
+/// The text of a path in the forms of libefivar 37 (UEFI 2.10, 10.6), but for nodes that it prints wrong: those are as
+/// `uefi_names` shows them, as docs/machines.md says. This fails only when out of memory.
+pub fn efivar_text(alloc: Global, path: &Path) -> Result<String, AllocError> {
+    let mut text = String::new(alloc);
+    for (index, nodes) in path.instances().iter().enumerate() {
+        if index > 0 {
+            text.push(',')?;
+        }
+        append_instance(alloc, nodes, &mut text)?;
+    }
+    Ok(text)
+}
+
+/// Appends the text of the nodes of an instance, joined by slashes.
+fn append_instance(alloc: Global, nodes: &[Node], text: &mut String) -> Result<(), AllocError> {
+    for (index, node) in nodes.iter().enumerate() {
+        if index > 0 {
+            text.push('/')?;
+        }
+        append_node(alloc, node, text)?;
+    }
+    Ok(())
+}
+
+/// Appends the text of a node.
+fn append_node(alloc: Global, node: &Node, text: &mut String) -> Result<(), AllocError> {
+    match node {
+        Node::FilePath(file) => append_file(file, text),
+        Node::Other(other) => append_other(alloc, node, other, text),
+        node => write!(text, "{}", EfivarNode(node)),
+    }
+}
+
+/// Appends the node of a file: the characters of its name up to the first zero unit.
+fn append_file(file: &FileNode, text: &mut String) -> Result<(), AllocError> {
+    text.push_str("File(")?;
+    append_units(file.units(), text)?;
+    text.push(')')
+}
+
+/// Appends the characters of units up to the first zero unit. Those that steer a terminal, and units that are half of a
+/// character, are escaped.
+pub(crate) fn append_units(units: &[u16], text: &mut String) -> Result<(), AllocError> {
+    for read in char::decode_utf16(units.iter().copied()) {
+        match read {
+            Ok('\0') => break,
+            Ok(character) if character.is_control() => {
+                write!(text, "\\u{:04x}", u32::from(character))?;
+            }
+            Ok(character) => text.push(character)?,
+            Err(half) => write!(text, "\\u{:04x}", half.unpaired_surrogate())?,
+        }
+    }
+    Ok(())
+}
+
+/// Appends a node that is kept as bytes: in the form that libefivar has for it, otherwise in that which a person is shown.
+fn append_other(
+    alloc: Global,
+    node: &Node,
+    other: &OtherNode,
+    text: &mut String,
+) -> Result<(), AllocError> {
+    let (kind, sub, body) = (other.kind(), other.sub(), other.body());
+    let table = efivar_table();
+    if table.form_of(kind, sub, body).is_some() {
+        return append_named(alloc, node, &table, text);
+    }
+    let table = NodeTable::standard();
+    if table.form_of(kind, sub, body).is_some() {
+        return append_named(alloc, node, &table, text);
+    }
+    match name_of_kind(kind) {
+        Some(name) => write!(text, "{name}({sub},{})", DigitsText(body)),
+        None => write!(text, "{}", NodeText(node)),
+    }
+}
+
+/// What nodes of a type are called that have no name of their own.
+fn name_of_kind(kind: u8) -> Option<&'static str> {
+    match kind {
+        1 => Some("HardwarePath"),
+        2 => Some("AcpiPath"),
+        3 => Some("Msg"),
+        4 => Some("MediaPath"),
+        5 => Some("BbsPath"),
+        _ => None,
+    }
+}
+
+/// Appends the text of a node by a table that has a form for it.
+fn append_named(
+    alloc: Global,
+    node: &Node,
+    table: &NodeTable,
+    text: &mut String,
+) -> Result<(), AllocError> {
+    let mut nodes = Vec::with_capacity(alloc, 1)?;
+    nodes.push(node.copy(alloc)?)?;
+    let mut instances = Vec::with_capacity(alloc, 1)?;
+    instances.push(nodes)?;
+    match make_path(instances) {
+        Ok(path) => write!(text, "{}", NamedPath { path: &path, table }),
+        // It has an instance.
+        Err(_) => Err(AllocError),
+    }
+}
+
+/// A node with a case of its own.
+#[derive(Clone, Copy)]
+struct EfivarNode<'a>(&'a Node);
+
+impl Display for EfivarNode<'_> {
+    fn fmt<W: fmt::Write>(&self, f: &mut fmt::Formatter<W>) -> fmt::Result {
+        match self.0 {
+            Node::Acpi { hid, uid } => acpi(f, *hid, *uid),
+            Node::Usb { port, interface } => write!(f, "USB({port},{interface})"),
+            Node::Mac { address, if_kind } => mac(f, address, *if_kind),
+            Node::Sata {
+                hba,
+                multiplier,
+                lun,
+            } => write!(f, "Sata({hba},{multiplier},{lun})"),
+            Node::Vlan { id } => write!(f, "Vlan({id})"),
+            Node::Nvme { namespace, eui } => {
+                let namespace = NumberText(u64::from(*namespace));
+                write!(f, "NVMe({namespace},{})", UpperEui(eui))
+            }
+            Node::Cdrom { entry, start, size } => {
+                let start = NumberText(*start);
+                let size = NumberText(*size);
+                write!(f, "CDROM({entry},{start},{size})")
+            }
+            node => write!(f, "{}", NodeText(node)),
+        }
+    }
+}
+
+fn acpi<W: fmt::Write>(f: &mut fmt::Formatter<W>, hid: u32, uid: u32) -> fmt::Result {
+    let number = NumberText(u64::from(uid));
+    match hid {
+        PCI_ROOT_HID => write!(f, "PciRoot({number})"),
+        PCIE_ROOT_HID => write!(f, "PcieRoot({number})"),
+        SERIAL_HID => write!(f, "Serial({number})"),
+        FLOPPY_HID => write!(f, "Floppy({number})"),
+        _ => write!(f, "Acpi(0x{hid:08x},{number})"),
+    }
+}
+
+fn mac<W: fmt::Write>(f: &mut fmt::Formatter<W>, address: &[u8; 32], if_kind: u8) -> fmt::Result {
+    let whole = address.as_slice();
+    let shown = match if_kind {
+        0 | 1 => whole.get(..ETHERNET_LEN).unwrap_or(whole),
+        _ => whole,
+    };
+    write!(f, "MAC({},{if_kind})", DigitsText(shown))
+}
+
+/// The bytes of an EUI-64 in upper case, with a hyphen between two.
+#[derive(Clone, Copy)]
+struct UpperEui<'a>(&'a [u8; 8]);
+
+impl Display for UpperEui<'_> {
+    fn fmt<W: fmt::Write>(&self, f: &mut fmt::Formatter<W>) -> fmt::Result {
+        let [a, b, c, d, e, g, h, i] = *self.0;
+        write!(
+            f,
+            "{a:02X}-{b:02X}-{c:02X}-{d:02X}-{e:02X}-{g:02X}-{h:02X}-{i:02X}"
+        )
+    }
+}

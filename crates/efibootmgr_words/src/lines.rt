@@ -1,0 +1,143 @@
+//! The lines that show a machine's boot variables.
+
+use crate::efivar_path::{append_units, efivar_text};
+use std::alloc::{AllocError, Global};
+use uefi_option::{OptionFault, check_option, is_active};
+use uefi_path::{PathFault, read_path, read_units};
+use uefi_vars::{BOOT_NEXT, BOOT_ORDER, Vars, entry_number};
+
+/// The variable with the entry that was started, which firmware sets (UEFI 2.10, 3.3).
+const BOOT_CURRENT: &str = "BootCurrent";
+
+/// The variable with how many seconds a menu waits (UEFI 2.10, 3.3).
+const TIMEOUT: &str = "Timeout";
+
+/// What is listed.
+#[derive(Debug, Drop)]
+pub struct Listing {
+    /// The lines.
+    pub text: String,
+    /// The entries of which less is listed, by rising number: they are no load options.
+    pub faulty: Vec<u16>,
+}
+
+/// The lines that show the variables of a machine: BootNext, BootCurrent, Timeout and BootOrder, each if it is there and as long
+/// as it has to be, and then each entry, with a star if it is active. If it is asked for, an entry's first path follows its
+/// description, behind a tab, and right behind the path its optional data, with a dot for each byte that doesn't print. An entry
+/// that is no load option is shown as far as it can be read. This fails only when out of memory.
+pub fn list_vars(alloc: Global, vars: &Vars, verbose: bool) -> Result<Listing, AllocError> {
+    let mut listing = Listing {
+        text: String::new(alloc),
+        faulty: Vec::new(alloc),
+    };
+    append_numbers(vars, &mut listing.text)?;
+    append_order(vars.get(BOOT_ORDER), &mut listing.text)?;
+    for (name, data) in vars.iter() {
+        if let Some(number) = entry_number(name) {
+            append_entry(alloc, &mut listing, number, data, verbose)?;
+        }
+    }
+    Ok(listing)
+}
+
+/// Appends the lines of the variables that are one number.
+fn append_numbers(vars: &Vars, text: &mut String) -> Result<(), AllocError> {
+    if let Some(next) = number_of(vars, BOOT_NEXT) {
+        write!(text, "BootNext: {next:04X}\n")?;
+    }
+    if let Some(current) = number_of(vars, BOOT_CURRENT) {
+        write!(text, "BootCurrent: {current:04X}\n")?;
+    }
+    if let Some(seconds) = number_of(vars, TIMEOUT) {
+        write!(text, "Timeout: {seconds} seconds\n")?;
+    }
+    Ok(())
+}
+
+/// The number that a variable of two bytes has.
+fn number_of(vars: &Vars, name: &str) -> Option<u16> {
+    match vars.get(name)? {
+        [low, high] => Some(u16::from_le_bytes([*low, *high])),
+        _ => None,
+    }
+}
+
+/// Appends the line of BootOrder, which has this data.
+fn append_order(data: Option<&[u8]>, text: &mut String) -> Result<(), AllocError> {
+    let Some(data) = data else {
+        return text.push_str("No BootOrder is set; firmware will attempt recovery\n");
+    };
+    text.push_str("BootOrder: ")?;
+    let mut rest = data;
+    let mut comma = "";
+    while let [low, high, behind @ ..] = rest {
+        let number = u16::from_le_bytes([*low, *high]);
+        write!(text, "{comma}{number:04X}")?;
+        comma = ",";
+        rest = behind;
+    }
+    text.push('\n')
+}
+
+/// Appends the line of the entry with this number and this data.
+fn append_entry(
+    alloc: Global,
+    listing: &mut Listing,
+    number: u16,
+    data: &[u8],
+    verbose: bool,
+) -> Result<(), AllocError> {
+    let star = if is_active(attributes_of(data)) {
+        '*'
+    } else {
+        ' '
+    };
+    write!(listing.text, "Boot{number:04X}{star} ")?;
+    let units = read_units(alloc, data.get(6..).unwrap_or(&[]))?;
+    append_units(&units, &mut listing.text)?;
+    let is_faulty = match check_option(data) {
+        Ok(view) if verbose => {
+            append_path(alloc, view.list, &mut listing.text)?;
+            append_printable(view.optional, &mut listing.text)?;
+            false
+        }
+        Ok(_) => false,
+        Err(OptionFault::OutOfMemory) => return Err(AllocError),
+        Err(_) => true,
+    };
+    if is_faulty {
+        listing.faulty.push(number)?;
+    }
+    listing.text.push('\n')
+}
+
+/// The attributes at the front of an entry (UEFI 2.10, 3.1.3), with zeros for bytes that aren't there.
+fn attributes_of(data: &[u8]) -> u32 {
+    match data {
+        [a, b, c, d, ..] => u32::from_le_bytes([*a, *b, *c, *d]),
+        [a, ..] => u32::from(*a),
+        [] => 0,
+    }
+}
+
+/// Appends a tab and the first path of a list.
+fn append_path(alloc: Global, list: &[u8], text: &mut String) -> Result<(), AllocError> {
+    text.push('\t')?;
+    match read_path(alloc, list) {
+        Ok((path, _)) => text.push_str(&efivar_text(alloc, &path)?),
+        Err(PathFault::OutOfMemory) => Err(AllocError),
+        // A load option has a path.
+        Err(_) => Ok(()),
+    }
+}
+
+/// Appends bytes as the characters that they are in ASCII, and a dot for each that doesn't print.
+fn append_printable(bytes: &[u8], text: &mut String) -> Result<(), AllocError> {
+    for byte in bytes {
+        text.push(match byte {
+            b' '..=b'~' => char::from(*byte),
+            _ => '.',
+        })?;
+    }
+    Ok(())
+}

@@ -1,0 +1,129 @@
+//! What is known of an entry, and what is found by that.
+
+ghost use Rattle.std.specs.Prelude.{◌≡◌, ◌++◌, ◌↔◌, IfOk, OnOk, IsTrue};
+ghost use Rattle.std.specs.List.{AllByRecursion};
+ghost use Rattle.entry_checks.specs.Facts.{when, findings_of, option_findings_of, is_hidden, is_inactive, is_of_other_category, IsNoFault};
+
+use crate::finding::{Finding, Weight};
+use crate::lead::Lead;
+use std::alloc::{AllocError, Global};
+use uefi_option::{CATEGORY_BOOT, HIDDEN, category, is_active};
+
+/// What is known of an entry.
+#[derive(Clone, Copy, Debug, PartialEq, Eq)]
+pub struct Facts {
+    /// Whether BootNext names it.
+    pub is_next: bool,
+    /// Whether neither BootOrder nor BootNext names it.
+    pub is_unnamed: bool,
+    /// What its data is.
+    pub held: Held,
+}
+
+/// What the data of an entry is.
+#[derive(Clone, Copy, Debug, PartialEq, Eq)]
+pub enum Held {
+    /// No load option.
+    NoOption,
+    /// A load option.
+    Option(OptionFacts),
+}
+
+/// What is known of the load option of an entry.
+#[derive(Clone, Copy, Debug, PartialEq, Eq)]
+pub struct OptionFacts {
+    /// Its attributes, all 32 bits.
+    pub attributes: u32,
+    /// Where it leads.
+    pub lead: Lead,
+    /// Whether an entry that is told before leads to the same file with the same data.
+    pub is_twin: bool,
+}
+
+/// What is found of an entry of which this is known, in the order in which it is told. An entry that BootNext names is tried
+/// whatever its attributes are (UEFI 2.10, 3.1.3 and 3.3).
+///
+/// # Errors
+///
+/// [`AllocError`] if memory was refused.
+pub fn findings(alloc: Global, facts: &Facts) -> Result<Vec<Finding>, AllocError>
+    ensures { IfOk result (λ found. found.items ≡ findings_of facts.now) }
+{
+    let mut found = Vec::new(alloc);
+    match facts.held {
+        Held::NoOption => found.push(Finding::Undecodable)?,
+        Held::Option(option) => push_option(facts.is_next, option, &mut found)?,
+    }
+    push_if(facts.is_unnamed, Finding::Unnamed, &mut found)?;
+    Ok(found)
+}
+
+/// Appends what is found of the load option of an entry that BootNext names, or doesn't.
+fn push_option(
+    is_next: bool,
+    option: OptionFacts,
+    found: &mut Vec<Finding>,
+) -> Result<(), AllocError>
+    ensures { OnOk result (found.new.items ≡ found.old.items ++ option_findings_of is_next option) }
+{
+    let attributes = option.attributes;
+    found.push(Finding::Leads(option.lead))?;
+    push_if(option.is_twin, Finding::Twin, found)?;
+    push_if(
+        !is_next && is_inactive(attributes),
+        Finding::Inactive,
+        found,
+    )?;
+    push_if(
+        !is_next && is_of_other_category(attributes),
+        Finding::OtherCategory,
+        found,
+    )?;
+    push_if(is_hidden(attributes), Finding::Hidden, found)
+}
+
+/// Appends a finding, if it is one.
+fn push_if(holds: bool, finding: Finding, found: &mut Vec<Finding>) -> Result<(), AllocError>
+    ensures { OnOk result (found.new.items ≡ found.old.items ++ when holds finding) }
+{
+    if !holds {
+        return Ok(());
+    }
+    found.push(finding)?;
+    Ok(())
+}
+
+/// Whether an option of these attributes isn't active.
+fn is_inactive(attributes: u32) -> bool
+    ensures { result ≡ is_inactive attributes }
+{
+    !is_active(attributes)
+}
+
+/// Whether an option of these attributes isn't of the category of the normal boot.
+fn is_of_other_category(attributes: u32) -> bool
+    ensures { result ≡ is_of_other_category attributes }
+{
+    category(attributes) != CATEGORY_BOOT
+}
+
+/// Whether menus leave out an option of these attributes.
+fn is_hidden(attributes: u32) -> bool
+    ensures { result ≡ is_hidden attributes }
+{
+    attributes & HIDDEN != 0
+}
+
+/// Whether nothing is wrong by these findings of an entry.
+pub fn is_ok(found: &[Finding]) -> bool
+    ensures { IsTrue result ↔ AllByRecursion IsNoFault found.now }
+{
+    found.iter().all(|finding| is_no_fault(*finding))
+}
+
+/// Whether the finding says of nothing that it is wrong.
+fn is_no_fault(finding: Finding) -> bool
+    ensures { IsTrue result ↔ IsNoFault finding }
+{
+    finding.row().weight != Weight::Fault
+}

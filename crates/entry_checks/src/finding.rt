@@ -1,0 +1,146 @@
+//! What is found of an entry, and the words for it.
+
+ghost use Rattle.std.specs.Prelude.{◌≡◌};
+ghost use Rattle.entry_checks.specs.Finding.{weight_of, weight_of_lead};
+
+use crate::lead::Lead;
+
+/// What is found of an entry.
+#[derive(Clone, Copy, Debug, PartialEq, Eq)]
+pub enum Finding {
+    /// Its data is no load option.
+    Undecodable,
+    /// It isn't active, and BootNext doesn't name it.
+    Inactive,
+    /// It isn't of the category of the normal boot, and BootNext doesn't name it.
+    OtherCategory,
+    /// Menus don't show it.
+    Hidden,
+    /// Neither BootOrder nor BootNext names it.
+    Unnamed,
+    /// Where it leads.
+    Leads(Lead),
+    /// It leads to the same file as another one, with the same data.
+    Twin,
+}
+
+/// What a finding says of its entry.
+#[derive(Clone, Copy, Debug, PartialEq, Eq)]
+pub enum Weight {
+    /// The entry can't be started, or a boot doesn't try it by itself though it is in an order, or it is one too many.
+    Fault,
+    /// Nothing is wrong.
+    Remark,
+    /// Something wasn't looked at, which may be right or wrong.
+    Unseen,
+}
+
+/// A row of the table of findings.
+#[derive(Clone, Copy, Debug, PartialEq, Eq)]
+pub struct FindingRow {
+    /// What its JSON calls it.
+    pub kind: &'static str,
+    /// What it says of its entry.
+    pub weight: Weight,
+    /// The words for a person.
+    pub words: &'static str,
+}
+
+impl Finding {
+    /// Its row of the table.
+    pub fn row(self) -> FindingRow
+        ensures { result.weight ≡ weight_of self }
+    {
+        match self {
+            Finding::Undecodable => fault("undecodable", "its data is no load option"),
+            Finding::Inactive => fault(
+                "inactive",
+                "it isn't active, so no boot tries it by itself",
+            ),
+            Finding::OtherCategory => remark(
+                "category",
+                "it isn't of the category of boots, so no boot tries it by itself",
+            ),
+            Finding::Hidden => remark("hidden", "it is hidden: menus don't show it"),
+            Finding::Unnamed => remark(
+                "unnamed",
+                "neither BootOrder nor BootNext names it, so no boot tries it",
+            ),
+            Finding::Leads(lead) => lead.row(),
+            Finding::Twin => fault(
+                "same_file",
+                "it leads to one file, with the same data, with an entry above",
+            ),
+        }
+    }
+}
+
+impl Lead {
+    /// Its row of the table.
+    fn row(self) -> FindingRow
+        ensures { result.weight ≡ weight_of_lead self }
+    {
+        match self {
+            Lead::File => remark("file", "its file is there"),
+            Lead::NoFile => fault("no_file", "its file isn't on its partition"),
+            Lead::Folder => fault("folder", "a folder is where its file should be"),
+            Lead::Partition => remark(
+                "partition",
+                "its partition is there, and firmware seeks its own file name on it",
+            ),
+            Lead::NoPartition => fault("no_partition", "its partition isn't on this machine"),
+            Lead::Unmounted => unseen("not_mounted", "not looked at: its partition isn't mounted"),
+            Lead::Closed => unseen("not_readable", "not looked at: its folder may not be read"),
+            Lead::Unsigned => unseen("unsigned", "not looked at: its partition has no signature"),
+            Lead::Onward => unseen(
+                "onward",
+                "not looked at: its path goes on behind a partition",
+            ),
+            Lead::Instances => unseen("instances", "not looked at: its path has several instances"),
+            Lead::FileAlone => unseen(
+                "file_alone",
+                "not looked at: it names a file without a partition",
+            ),
+            Lead::Network => unseen("network", "not looked at: it leads over a network"),
+            Lead::Firmware => unseen(
+                "firmware",
+                "not looked at: it is an application of the firmware",
+            ),
+            Lead::Legacy => unseen("legacy", "not looked at: it is for a BIOS"),
+            Lead::Device => unseen("device", "not looked at: it leads to a device"),
+        }
+    }
+}
+
+/// The row of something that is wrong.
+fn fault(kind: &'static str, words: &'static str) -> FindingRow
+    ensures { result.weight ≡ Weight.Fault }
+{
+    FindingRow {
+        kind,
+        weight: Weight::Fault,
+        words,
+    }
+}
+
+/// The row of something that is as it may be.
+fn remark(kind: &'static str, words: &'static str) -> FindingRow
+    ensures { result.weight ≡ Weight.Remark }
+{
+    FindingRow {
+        kind,
+        weight: Weight::Remark,
+        words,
+    }
+}
+
+/// The row of something that wasn't looked at.
+fn unseen(kind: &'static str, words: &'static str) -> FindingRow
+    ensures { result.weight ≡ Weight.Unseen }
+{
+    FindingRow {
+        kind,
+        weight: Weight::Unseen,
+        words,
+    }
+}

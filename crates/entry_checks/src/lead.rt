@@ -1,0 +1,36 @@
+//! Where an entry leads, as far as that is known.
+
+/// What is known of where the first path of an entry leads.
+#[derive(Clone, Copy, Debug, PartialEq, Eq)]
+pub enum Lead {
+    /// The partition is this machine's, and the file is there.
+    File,
+    /// The partition is this machine's, and no file of the name is there.
+    NoFile,
+    /// The partition is this machine's, and a folder of the name is there.
+    Folder,
+    /// The partition is this machine's, and isn't mounted.
+    Unmounted,
+    /// The partition is this machine's, and one of its folders may not be read.
+    Closed,
+    /// The partition is this machine's, and the path names no file there.
+    Partition,
+    /// No partition of this machine is known by what the path has.
+    NoPartition,
+    /// The path's partition is known by nothing.
+    Unsigned,
+    /// Behind the partition the path goes on, and not by one file.
+    Onward,
+    /// The path has several instances.
+    Instances,
+    /// The path is a file without a partition.
+    FileAlone,
+    /// The path leads over a network.
+    Network,
+    /// The path leads into the firmware's own memory.
+    Firmware,
+    /// The path is one for the BIOS of before UEFI.
+    Legacy,
+    /// The path leads to something else.
+    Device,
+}

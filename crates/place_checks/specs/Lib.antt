@@ -1,0 +1,2 @@
+-- What contracts are in terms of.
+pub mod Look

@@ -1,0 +1,17 @@
+//! Checks of the boot entries of a place: which of them can be started on this machine, and what is wrong with the others
+//! (UEFI specification, version 2.10, chapters 3 and 10).
+//!
+//! [`check_place`] reads a place, looks where the path of each entry leads, by the partitions that the system has and by the
+//! files on those that are mounted, and prints what is found, as lines for a person or as JSON. What is found is said by
+//! `entry_checks`; docs/formats.md has each line and each member. What goes wrong is a `Failure` of `var_places`.
+#![tactic(auto)]
+
+mod check;
+mod checked;
+mod entry;
+mod json;
+mod machine;
+mod report;
+mod words;
+
+pub use check::{CheckWords, Verdict, check_place};

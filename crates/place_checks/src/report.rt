@@ -1,0 +1,108 @@
+//! What is found, as lines for a person.
+
+use crate::checked::{Checked, Found};
+use crate::entry::LookedEntry;
+use crate::words::{NumberList, state_word};
+use boot_requests::OpenFault;
+use boot_texts::{EntryName, open_reason};
+use entry_checks::{Finding, NextFinding, OrderFindings};
+use std::alloc::{AllocError, Global};
+use uefi_vars::PlanNumbers;
+
+/// The lines of what is found.
+pub(crate) fn report_of(alloc: Global, checked: &Checked) -> Result<String, AllocError> {
+    let mut report = String::new(alloc);
+    append_plan(checked.plan.as_ref(), &mut report)?;
+    for (entry, found) in checked.entries.iter().zip(&checked.found) {
+        append_entry(entry, found, &mut report)?;
+    }
+    append_order(&checked.order, &mut report)?;
+    append_next(checked.next, &mut report)?;
+    Ok(report)
+}
+
+/// Appends the line of what the next boot tries.
+fn append_plan(plan: Option<&PlanNumbers>, report: &mut String) -> Result<(), AllocError> {
+    match plan {
+        Some(plan) => {
+            let next = NumberList(plan.next.as_slice());
+            let normal = NumberList(&plan.normal);
+            writeln!(report, "plan next{next} normal{normal}")
+        }
+        None => report.push_str("plan none: it takes an order and a next entry that can be read\n"),
+    }
+}
+
+/// Appends the lines of an entry.
+fn append_entry(entry: &LookedEntry, found: &Found, report: &mut String) -> Result<(), AllocError> {
+    let name = EntryName(entry.number);
+    let state = state_word(found.is_ok());
+    let blank = if entry.title.is_empty() { "" } else { " " };
+    writeln!(report, "{name} {state}{blank}{}", entry.title)?;
+    for finding in &found.findings {
+        append_finding(entry, found.twin, *finding, report)?;
+    }
+    Ok(())
+}
+
+/// Appends the line of what is found of an entry that has this twin.
+fn append_finding(
+    entry: &LookedEntry,
+    twin: Option<u16>,
+    finding: Finding,
+    report: &mut String,
+) -> Result<(), AllocError> {
+    let words = finding.row().words;
+    match (finding, twin) {
+        (Finding::Undecodable | Finding::Leads(_), _) => {
+            writeln!(report, "  {words}: {}", entry.detail)
+        }
+        (Finding::Twin, Some(twin)) => writeln!(report, "  {words}: {}", EntryName(twin)),
+        _ => writeln!(report, "  {words}"),
+    }
+}
+
+/// Appends the lines of BootOrder.
+fn append_order(order: &OrderFindings, report: &mut String) -> Result<(), AllocError> {
+    match order {
+        OrderFindings::Unreadable => {
+            writeln!(
+                report,
+                "BootOrder wrong\n  {}",
+                open_reason(&OpenFault::BadOrder)
+            )
+        }
+        OrderFindings::Numbers { stale, twice } => append_numbers(stale, twice, report),
+    }
+}
+
+/// Appends the lines of a BootOrder that has these numbers without an entry, and these twice.
+fn append_numbers(stale: &[u16], twice: &[u16], report: &mut String) -> Result<(), AllocError> {
+    let state = state_word(stale.is_empty() && twice.is_empty());
+    writeln!(report, "BootOrder {state}")?;
+    for number in stale {
+        writeln!(report, "  it names {number:04X}, which has no entry")?;
+    }
+    for number in twice {
+        writeln!(report, "  it names {number:04X} more than once")?;
+    }
+    Ok(())
+}
+
+/// Appends the lines of BootNext.
+fn append_next(next: Option<NextFinding>, report: &mut String) -> Result<(), AllocError> {
+    match next {
+        None => report.push_str("BootNext ok\n"),
+        Some(NextFinding::Unreadable) => {
+            writeln!(
+                report,
+                "BootNext wrong\n  {}",
+                open_reason(&OpenFault::BadNext)
+            )
+        }
+        Some(NextFinding::Missing(number)) => writeln!(
+            report,
+            "BootNext wrong\n  it names {number:04X}, which has no entry"
+        ),
+    }
+}
