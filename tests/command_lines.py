@@ -110,7 +110,7 @@ class Contents:
     def make(self, home: Path) -> None:
         """Makes the files, the folders and the links."""
         for path in self.folders:
-            (home / path).mkdir(parents=True)
+            (home / path).mkdir(parents=True, exist_ok=True)
         for path, content in self.files.items():
             (home / path).parent.mkdir(parents=True, exist_ok=True)
             (home / path).write_bytes(content)
