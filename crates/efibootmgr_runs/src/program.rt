@@ -5,7 +5,7 @@ use crate::machine::{Machine, place};
 use crate::steps::make_changes;
 use crate::stopped::{Step, Stopped};
 use boot_texts::{EntryName, option_reason};
-use efibootmgr_words::{Asked, HELP, OPTIONS, VERSION, WordFault, list_vars, read_words};
+use efibootmgr_words::{Asked, HELP, VERSION, WordFault, list_vars, options, read_words};
 use std::alloc::AllocError;
 use std::fmt::Display;
 use std::rt::{Clock, Env, Files};
@@ -44,7 +44,7 @@ fn asked_of<'a, R: AllocGlobal>(
     rt: &R,
     words: &'a [String],
 ) -> Result<Result<Asked<'a>, WordFault<'a>>, AllocError> {
-    let given = read_words(rt.alloc(), &OPTIONS, words.get(1..).unwrap_or(&[]))?;
+    let given = read_words(rt.alloc(), options(), words.get(1..).unwrap_or(&[]))?;
     Asked::new(rt.alloc(), given)
 }
 

@@ -102,7 +102,12 @@ fn change_order<R: Files<File: OutputFile> + Clock + Input + Print + Eprint + Al
         edit(rt, machine, Step::DeleteOrder, order_edit(&[], false))?;
     }
     if let Some(order) = &asked.order {
-        edit(rt, machine, Step::Order, order_edit(order, false))?;
+        let new = NewOrder {
+            entries: order,
+            stale: false,
+            only: !asked.keep,
+        };
+        edit(rt, machine, Step::Order, Edit::Order(new))?;
     }
     if asked.remove_repeats {
         remove_repeats(rt, machine)?;

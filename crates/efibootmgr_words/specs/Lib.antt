@@ -1,2 +1,9 @@
+-- What contracts are in terms of.
+pub mod Asked
+pub mod Cut
+pub mod Number
+pub mod Options
+pub mod Parts
 pub mod Statuses
+pub mod Values
 pub mod Words

@@ -1,5 +1,11 @@
 //! What words ask for.
 
+ghost use Rattle.std.specs.Prelude.{◌≡◌, Ok, MatchResult, Err, IfOk};
+ghost use Rattle.std.specs.Option.{option_map};
+ghost use Rattle.efibootmgr_words.specs.Parts.{fault_parts, given_parts, option_parts};
+ghost use Rattle.efibootmgr_words.specs.Values.{IsRefusal};
+ghost use Rattle.efibootmgr_words.specs.Asked.{asked_parts, nothing_asked, plainly_asked, asked_with, asked_and, not_done, fault_together, asked_of};
+
 use crate::fault::WordFault;
 use crate::given_words::{Given, GivenOption};
 use crate::option_table::Choice;
@@ -45,6 +51,8 @@ pub struct Asked<'a> {
     pub delete_order: bool,
     /// What BootOrder is to be.
     pub order: Option<Vec<u16>>,
+    /// Whether what BootOrder had stays in it, behind that.
+    pub keep: bool,
     /// Whether repeated numbers are to be taken out of BootOrder.
     pub remove_repeats: bool,
     /// Whether BootNext is to be taken out.
@@ -86,7 +94,11 @@ impl<'a> Asked<'a> {
     pub fn new(
         alloc: Global,
         given: Given<'a>,
-    ) -> Result<Result<Asked<'a>, WordFault<'a>>, AllocError> {
+    ) -> Result<Result<Asked<'a>, WordFault<'a>>, AllocError>
+        ensures { IfOk result (λ told. MatchResult told
+            (λ asked. asked_of (given_parts given.entry) ≡ Ok (asked_parts asked))
+            (λ fault. asked_of (given_parts given.entry) ≡ Err (fault_parts fault))) }
+    {
         match asked_of(alloc, given) {
             Ok(asked) => Ok(Ok(asked)),
             Err(ValueFault::Word(fault)) => Ok(Err(fault)),
@@ -95,7 +107,9 @@ impl<'a> Asked<'a> {
     }
 
     /// What is asked for by no word.
-    fn nothing(alloc: Global) -> Asked<'a> {
+    fn nothing(alloc: Global) -> Asked<'a>
+        ensures { asked_parts result ≡ nothing_asked }
+    {
         Asked {
             help: false,
             version: false,
@@ -116,6 +130,7 @@ impl<'a> Asked<'a> {
             },
             delete_order: false,
             order: None,
+            keep: false,
             remove_repeats: false,
             delete_next: false,
             next: None,
@@ -126,15 +141,27 @@ impl<'a> Asked<'a> {
     }
 
     /// Takes an option into account.
-    fn take(&mut self, alloc: Global, option: GivenOption<'a>) -> Result<(), ValueFault<'a>> {
+    fn take(&mut self, alloc: Global, option: GivenOption<'a>) -> Result<(), ValueFault<'a>>
+        ensures { MatchResult result
+            (λ _. asked_and (option_parts option.entry) (asked_parts self.entry.now) ≡ Ok (asked_parts self.exit.now))
+            (λ fault. IsRefusal fault (asked_and (option_parts option.entry) (asked_parts self.entry.now))) }
+    {
+        if let Some(name) = not_done(option.choice) {
+            return Err(ValueFault::Word(WordFault::NotDone(name)));
+        }
         match option.value {
             Some(value) => self.take_value(alloc, option.choice, value),
-            None => self.take_plain(option.choice).map_err(ValueFault::Word),
+            None => {
+                self.take_plain(option.choice);
+                Ok(())
+            }
         }
     }
 
     /// Takes an option without a value into account.
-    fn take_plain(&mut self, choice: Choice) -> Result<(), WordFault<'a>> {
+    fn take_plain(&mut self, choice: Choice)
+        ensures { asked_parts self.exit.now ≡ plainly_asked choice (asked_parts self.entry.now) }
+    {
         match choice {
             Choice::Activate => self.active = Some(true),
             Choice::Deactivate => self.active = Some(false),
@@ -144,6 +171,7 @@ impl<'a> Asked<'a> {
                 self.create = true;
                 self.no_order = true;
             }
+            Choice::Keep => self.keep = true,
             Choice::RemoveRepeats => self.remove_repeats = true,
             Choice::DeleteNext => self.delete_next = true,
             Choice::DeleteOrder => self.delete_order = true,
@@ -153,11 +181,8 @@ impl<'a> Asked<'a> {
             Choice::Verbose => self.verbose = true,
             Choice::Version => self.version = true,
             Choice::Help => self.help = true,
-            Choice::Driver => return Err(WordFault::NotDone("driver")),
-            Choice::SysPrep => return Err(WordFault::NotDone("sysprep")),
             _ => {}
         }
-        Ok(())
     }
 
     /// Takes an option with this value into account.
@@ -166,38 +191,32 @@ impl<'a> Asked<'a> {
         alloc: Global,
         choice: Choice,
         value: &'a str,
-    ) -> Result<(), ValueFault<'a>> {
-        if choice == Choice::Order {
-            self.order = Some(order_value(alloc, value)?);
-            return Ok(());
-        }
-        self.take_word(choice, value).map_err(ValueFault::Word)
-    }
-
-    /// Takes an option with this value into account, which isn't an order.
-    fn take_word(&mut self, choice: Choice, value: &'a str) -> Result<(), WordFault<'a>> {
+    ) -> Result<(), ValueFault<'a>>
+        ensures { MatchResult result
+            (λ _. asked_with choice value.now (asked_parts self.entry.now) ≡ Ok (asked_parts self.exit.now))
+            (λ fault. IsRefusal fault (asked_with choice value.now (asked_parts self.entry.now))) }
+    {
         match choice {
             Choice::Entry => self.entry = Some(entry_value(value)?),
             Choice::Next => self.next = Some(next_value(value)?),
+            Choice::Order => self.order = Some(order_value(alloc, value)?),
             Choice::Timeout => self.timeout = Some(timeout_value(value)?),
             Choice::Part => self.new.part = Some(part_value(value)?),
+            Choice::Verbose => self.verbose = verbose_value(value)?,
             Choice::Edd => check_edd(value)?,
-            Choice::Verbose => self.verbose = verbose_value(Some(value))?,
             Choice::Disk => self.new.disk = value,
             Choice::Loader => self.new.loader = value,
             Choice::Label => self.new.label = value,
             Choice::BinaryArguments => self.new.binary_arguments = Some(value),
-            Choice::EddDevice => return Err(WordFault::NotDone("edd-device")),
-            Choice::Interface => return Err(WordFault::NotDone("iface")),
-            Choice::MirrorBelow => return Err(WordFault::NotDone("mirror-below-4G")),
-            Choice::MirrorAbove => return Err(WordFault::NotDone("mirror-above-4G")),
             _ => {}
         }
         Ok(())
     }
 
     /// What is wrong with the words together.
-    fn fault_together(&self) -> Option<WordFault<'a>> {
+    fn fault_together(&self) -> Option<WordFault<'a>>
+        ensures { option_map fault_parts result ≡ fault_together (asked_parts self.now) }
+    {
         if self.version || self.entry.is_some() {
             None
         } else if self.delete {
@@ -210,8 +229,27 @@ impl<'a> Asked<'a> {
     }
 }
 
+/// The name of an option that isn't done here.
+fn not_done(choice: Choice) -> Option<&'static str>
+    ensures { option_map (λ name. name.now) result ≡ not_done choice }
+{
+    match choice {
+        Choice::Driver => Some("driver"),
+        Choice::SysPrep => Some("sysprep"),
+        Choice::EddDevice => Some("edd-device"),
+        Choice::Interface => Some("iface"),
+        Choice::MirrorBelow => Some("mirror-below-4G"),
+        Choice::MirrorAbove => Some("mirror-above-4G"),
+        _ => None,
+    }
+}
+
 /// What is asked for by what was given.
-fn asked_of<'a>(alloc: Global, given: Given<'a>) -> Result<Asked<'a>, ValueFault<'a>> {
+fn asked_of<'a>(alloc: Global, given: Given<'a>) -> Result<Asked<'a>, ValueFault<'a>>
+    ensures { MatchResult result
+        (λ asked. asked_of (given_parts given.entry) ≡ Ok (asked_parts asked))
+        (λ fault. IsRefusal fault (asked_of (given_parts given.entry))) }
+{
     let mut asked = Asked::nothing(alloc);
     for option in &given.options {
         asked.take(alloc, *option)?;

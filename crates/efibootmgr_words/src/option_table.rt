@@ -1,5 +1,8 @@
 //! The options, as rows of a table.
 
+ghost use Rattle.std.specs.Prelude.{◌≡◌, map};
+ghost use Rattle.efibootmgr_words.specs.Options.{row_parts, option_rows};
+
 /// What an option is.
 #[derive(Clone, Copy, Debug, PartialEq, Eq)]
 pub enum Choice {
@@ -27,7 +30,7 @@ pub enum Choice {
     Gpt,
     /// An entry that starts from a network.
     Interface,
-    /// Something that changes nothing.
+    /// What BootOrder had stays in it when it is set.
     Keep,
     /// The name of the loader's file.
     Loader,
@@ -107,8 +110,15 @@ macro_rules! row {
     };
 }
 
+/// The options of `efibootmgr`.
+pub fn options() -> &'static [OptionRow]
+    ensures { map row_parts result.now ≡ option_rows }
+{
+    &OPTIONS
+}
+
 /// The options.
-pub static OPTIONS: [OptionRow; 34] = [
+static OPTIONS: [OptionRow; 34] = [
     row!('a', "active", Nothing, Activate),
     row!('A', "inactive", Nothing, Deactivate),
     row!('b', "bootnum", Value, Entry),

@@ -1,5 +1,5 @@
-use Rattle.std.proofs.Common.{length}
+use Rattle.efibootmgr_words.proofs.Reading.{IsReadSo}
 use Rattle.efibootmgr_words.proofs.given_words.read_words.Given as goal
 
-abbrev pub decreases-loop-rest : goal.decreases-loop-rest
-decreases-loop-rest l = length l.rest
+abbrev pub invariant-loop-word : goal.invariant-loop-word
+invariant-loop-word l = IsReadSo l.table l.words l.word-index l.behind l.given

@@ -1,0 +1,8 @@
+-- Lemmas.
+pub mod Cuts
+pub mod Letters
+pub mod Orders
+pub mod Reading
+pub mod Rows
+pub mod Saturated
+pub mod Taking

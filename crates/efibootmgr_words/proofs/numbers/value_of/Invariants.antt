@@ -1,0 +1,7 @@
+use Rattle.std.proofs.Common.{◌≡◌, take}
+use Rattle.std.specs.Prelude.{min}
+use Rattle.std.specs.Str.Parse.{digits_value}
+use Rattle.efibootmgr_words.proofs.numbers.value_of.Given as goal
+
+abbrev pub invariant-loop-digit : goal.invariant-loop-digit
+invariant-loop-digit l = l.value ≡ min (digits_value l.base (take l.digit-index l.digits)) 0xFFFFFFFF
