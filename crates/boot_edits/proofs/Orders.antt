@@ -1,12 +1,12 @@
 -- Orders that are made of one another number by number, and what is in them.
-use Rattle.std.proofs.Common.{◌≡◌, ℕ, ◌+◌, ◌<◌, ◌≤◌, ◌==◌, ◌&&◌, ◌||◌, not, Bool, true, false, cond, List, [], ◌∷◌, ◌++◌, length, take, get_or, refl, sym, ap, ◌∙◌, inl, inr, arith}
+use Rattle.std.proofs.Common.{◌≡◌, ℕ, ◌+◌, ◌<◌, ◌==◌, ◌&&◌, ◌||◌, not, Bool, true, false, cond, List, [], ◌∷◌, ◌++◌, length, take, get_or, refl, sym, ap, ◌∙◌, inl, inr}
 use Rattle.std.proofs.lemmas.Bool.{cases_eq, cases_Bool, cond-true, cond-false, eqb-true}
 use Rattle.std.proofs.lemmas.List.{append-nil}
 use Rattle.std.proofs.lemmas.List.Elements.{filter_more}
 use Rattle.std.proofs.lemmas.List.Folds.{list_any-append}
 use Rattle.std.proofs.lemmas.Map.Views.{any-filter_same}
-use Rattle.boot_requests.specs.Apply.{is_in, repeats}
-use Rattle.boot_edits.specs.Orders.{without_all, in_front, with_last, extended}
+use Rattle.boot_requests.specs.Apply.{is_in, repeats, without_all, in_front}
+use Rattle.boot_edits.specs.Orders.{with_last, extended}
 use Rattle.boot_requests.proofs.Variables.OrderLists.{repeats_none}
 
 -- ---- what is in a list
@@ -36,15 +36,6 @@ in_front_has numbers order number =
 
 pub not_behind : (numbers order : List ℕ) (number : ℕ) → is_in numbers number ≡ true → is_in (without_all numbers order) number ≡ false
 not_behind numbers order number there = is_left numbers order number ∙ ap (λ b. not b && is_in order number) there
-
--- an order without some numbers isn't longer
-pub left_fits : (numbers order : List ℕ) → length (without_all numbers order) ≤ length order
-left_fits numbers [] = omega arith
-left_fits numbers (number ∷ order) =
-    elim (is_in numbers number) as (λ b. length (cond (not b) (number ∷ without_all numbers order) (without_all numbers order)) ≤ length (number ∷ order)) [
-      | true ↦ omega (arith, left_fits numbers order)
-      | false ↦ omega (arith, left_fits numbers order)
-    ]
 
 -- one more number is left, or isn't
 module _ (numbers order : List ℕ) (i : ℕ) (within : i < length order) where

@@ -10,6 +10,7 @@ use Rattle.uefi_vars.specs.Vars.{Variables, entry_of}
 use Rattle.uefi_vars.proofs.Maps.{name_cmp-IsAntisymmetric}
 use Rattle.uefi_vars.proofs.NameTests.{same_name-is, same_name-of, entry_of_name, name_of_entry}
 use Rattle.uefi_option.specs.LoadOption.{OptionParts}
+use Rattle.boot_requests.specs.Apply.{without_all, in_front}
 use Rattle.boot_edits.specs.declared.addition.Addition.{Addition}
 use Rattle.boot_edits.specs.declared.addition.Position.{Position}
 use Rattle.boot_edits.specs.declared.addition.Position.TheVariants.{First, Last, NoOrder}
@@ -22,7 +23,7 @@ use Rattle.boot_edits.specs.declared.fault.EditFault.TheVariants.{BadOption}
 use Rattle.boot_edits.specs.Addition.{placed, IsSame, IsLowestSame, IsPresent, IsWanted, IsNewNumber, StoresPlaced, IsPlaced, IsEntryAdded, IsAdded, IsAdditionDone, IsNumberFault, IsOrderFault, IsPlaceFault, IsRoomFaultAt, IsAdditionFault}
 use Rattle.boot_edits.specs.Edit.{IsRemoved, IsRemoveFault, IsFrontOrder, IsNewOrder, IsOrderOf, IsReordered, IsReorderFault, IsNextSet, IsNextFault, IsEdited, IsEditFault}
 use Rattle.boot_edits.specs.Lists.{IsMissing, IsStale, IsNoOption}
-use Rattle.boot_edits.specs.Orders.{without_all, in_front, extended, next_without_all}
+use Rattle.boot_edits.specs.Orders.{extended, next_without_all}
 use Rattle.boot_edits.specs.Parts.{BootParts, parts_of, Becomes, IsOtherName, entries_with, entries_changed, is_stored, IsOldOrder}
 use Rattle.boot_edits.specs.Readings.{HasOneReading}
 use Rattle.boot_edits.proofs.Lists.{HasOneFault, fine_or_not, one_first}

@@ -8,6 +8,7 @@ use Rattle.uefi_vars.specs.Free.{IsLowestFree}
 use Rattle.uefi_vars.specs.Name.{order_text}
 use Rattle.uefi_vars.specs.Order.{order_max, IsEntryNumber, HasOrder, HasBadOrder, stored_order}
 use Rattle.uefi_vars.specs.Vars.{Variables, data_max, entry_of}
+use Rattle.boot_requests.specs.Apply.{in_front}
 use Rattle.boot_edits.specs.declared.addition.Addition.{Addition}
 use Rattle.boot_edits.specs.declared.addition.Position.{Position}
 use Rattle.boot_edits.specs.declared.addition.Position.TheVariants.{First, Last, NoOrder}
@@ -15,7 +16,7 @@ use Rattle.boot_edits.specs.declared.answer.EditAnswer.{EditAnswer}
 use Rattle.boot_edits.specs.declared.answer.EditAnswer.TheVariants.{Done, Added, Present}
 use Rattle.boot_edits.specs.declared.fault.EditFault.{EditFault}
 use Rattle.boot_edits.specs.declared.fault.EditFault.TheVariants.{BadOption, OptionTooLong, Taken, NoFree, BadOrder, OrderTooLong}
-use Rattle.boot_edits.specs.Orders.{in_front, with_last}
+use Rattle.boot_edits.specs.Orders.{with_last}
 use Rattle.boot_edits.specs.Parts.{parts_of, Becomes, entries_with}
 
 -- ---- an entry that is there already

@@ -3,6 +3,7 @@ use Rattle.std.specs.Prelude.{◌≡◌, ◌≢◌, ◌⊎◌, ℕ, ◌<◌, ◌
 use Rattle.std.specs.Option.{option_map}
 use Rattle.uefi_vars.specs.Order.{order_max, HasOrder, HasNext, HasBadOrder, HasBadNext, stored_order, stored_next}
 use Rattle.uefi_vars.specs.Vars.{Variables, entry_of}
+use Rattle.boot_requests.specs.Apply.{without_all, in_front}
 use Rattle.boot_edits.specs.declared.answer.EditAnswer.{EditAnswer}
 use Rattle.boot_edits.specs.declared.answer.EditAnswer.TheVariants.{Done}
 use Rattle.boot_edits.specs.declared.edit.Edit.{Edit}
@@ -11,7 +12,7 @@ use Rattle.boot_edits.specs.declared.fault.EditFault.{EditFault}
 use Rattle.boot_edits.specs.declared.fault.EditFault.TheVariants.{BadOrder, BadNext, OrderTooLong}
 use Rattle.boot_edits.specs.Addition.{IsAdditionDone, IsAdditionFault}
 use Rattle.boot_edits.specs.Lists.{IsMissing, IsStale, IsNoOption, AreFine, IsFirstFault}
-use Rattle.boot_edits.specs.Orders.{without_all, in_front, extended, next_without_all}
+use Rattle.boot_edits.specs.Orders.{extended, next_without_all}
 use Rattle.boot_edits.specs.Parts.{parts_of, Becomes, entries_changed, is_stored, IsOldOrder}
 use Rattle.boot_edits.specs.Switch.{switched}
 

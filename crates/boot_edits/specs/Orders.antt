@@ -1,14 +1,6 @@
 -- Orders of numbers, as edits make them of one another.
-use Rattle.std.specs.Prelude.{ℕ, not, Bool, if◌then◌else◌, List, [], ◌∷◌, ◌++◌, filter, Option, Some, None}
+use Rattle.std.specs.Prelude.{ℕ, Bool, if◌then◌else◌, List, [], ◌∷◌, ◌++◌, Option, Some, None}
 use Rattle.boot_requests.specs.Apply.{is_in}
-
--- the order without these numbers, wherever they are
-abbrev pub without_all : List ℕ → List ℕ → List ℕ
-without_all numbers order = filter (λ number. not (is_in numbers number)) order
-
--- these numbers, and behind them the others of the order, as they stood
-abbrev pub in_front : List ℕ → List ℕ → List ℕ
-in_front numbers order = numbers ++ without_all numbers order
 
 -- the order with the number as its last one, unless it is there already
 abbrev pub with_last : List ℕ → ℕ → List ℕ

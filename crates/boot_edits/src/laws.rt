@@ -4,12 +4,12 @@ ghost use Rattle.std.specs.Prelude.{◌≡◌, ◌&&◌, ◌||◌, ℕ, Bool, tr
 ghost use Rattle.std.specs.FinMap as map;
 ghost use Rattle.uefi_option.specs.LoadOption.{OptionParts, SpellsOption};
 ghost use Rattle.uefi_vars.specs.Vars.{Variables};
-ghost use Rattle.boot_requests.specs.Apply.{is_in, repeats};
+ghost use Rattle.boot_requests.specs.Apply.{is_in, repeats, without_all, in_front};
 ghost use Rattle.boot_edits.specs.declared.answer.EditAnswer.{EditAnswer};
 ghost use Rattle.boot_edits.specs.declared.edit.Edit.{Edit};
 ghost use Rattle.boot_edits.specs.declared.fault.EditFault.{EditFault};
 ghost use Rattle.boot_edits.specs.Edit.{IsEdited, IsEditFault};
-ghost use Rattle.boot_edits.specs.Orders.{without_all, in_front, extended};
+ghost use Rattle.boot_edits.specs.Orders.{extended};
 ghost use Rattle.boot_edits.specs.Parts.{IsOtherName};
 ghost use Rattle.boot_edits.specs.Readings.{HasOneReading};
 ghost use Rattle.boot_edits.specs.Switch.{with_bit_0, switched};

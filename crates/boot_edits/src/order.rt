@@ -4,8 +4,9 @@ ghost use Rattle.std.specs.Prelude.{◌≡◌, ◌≢◌, ◌<◌, ◌≤◌, �
 ghost use Rattle.uefi_vars.specs.Name.{order_text};
 ghost use Rattle.uefi_vars.specs.NameChanges.{with_data};
 ghost use Rattle.uefi_vars.specs.Order.{order_max, stored_order, HasOrder, HasBadOrder};
+ghost use Rattle.boot_requests.specs.Apply.{without_all, in_front};
 ghost use Rattle.boot_edits.specs.declared.fault.EditFault.{EditFault};
-ghost use Rattle.boot_edits.specs.Orders.{without_all, in_front, extended};
+ghost use Rattle.boot_edits.specs.Orders.{extended};
 ghost use Rattle.boot_edits.specs.Parts.{is_stored, IsOldOrder};
 ghost use Rattle.boot_edits.specs.Steps.{Tells};
 

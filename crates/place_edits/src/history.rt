@@ -1,6 +1,7 @@
 //! What was there before a change of a file, kept so that the change can be undone, and the folder in which it is kept.
 
 use boot_history::make_state_folder;
+use boot_journal::CallError;
 use boot_updates::{History, MachineWords, StateFolder, lock_folder, name_of_machine};
 use std::rt::{Clock, Files};
 use uefi_vars::Vars;
@@ -28,8 +29,8 @@ pub(crate) fn keep_before<R: Files<File: OutputFile> + Clock + Eprint + AllocGlo
         command,
     };
     match history.keep(rt, from, to) {
-        Err(Failure::Memory) => Err(Failure::Memory),
-        Err(failure) => {
+        Err(CallError::OutOfMemory) => Err(Failure::Memory),
+        Err(CallError::Refused(failure)) => {
             tell_of_no_undo(rt, machine.place, &failure);
             Ok(())
         }

@@ -2,10 +2,10 @@
 
 use crate::file_edits::{changed_file, settle_left};
 use crate::place_kind::{PlaceKind, place_kind};
-use crate::undo_run::{UndoFault, UndoRun, Undone};
+use crate::undo_run::{ChangedSince, UndoFault, UndoRun, Undone};
 use crate::written::Written;
-use boot_history::{KeptRecord, remove, time_text};
-use boot_journal::{CallError, CommandError, Run, command};
+use boot_history::{records, remove, time_text};
+use boot_journal::{CallError, CommandError, Run, command, settle};
 use boot_updates::{
     KeptVars, MachineWords, SettledVars, changes_text, lock_folder, name_of_machine, of_settling,
     of_updating, open_machine, open_place, read_kept, stands_for, tell_of_due,
@@ -76,7 +76,7 @@ fn undo_folder<R: Files<File: OutputFile> + Input + Print + Eprint + AllocGlobal
 /// Takes away what the state folder at this path keeps of a change that is undone. If that fails, it is told, and the next
 /// undoing passes the change over.
 fn forget<R: Files<File: OutputFile> + Eprint + AllocGlobal>(rt: &R, state: &str, undone: &Undone) {
-    if let Err(failure) = remove(rt, state, undone.kept.number) {
+    if let Err(failure) = remove(rt, state, undone.number) {
         note(
             rt,
             state,
@@ -99,10 +99,12 @@ fn undo_machine<R: Files<File: OutputFile> + Input + Print + Eprint + AllocGloba
     let opened = open_place(rt, machine)?;
     let left_out = opened.copy_left_out(alloc)?;
     let (mut kept, boot) = open_machine(rt, machine, opened, journal_path)?;
+    settle(alloc, &mut kept, &boot).map_err(|error| of_settling(alloc, machine, error))?;
+    let changes = records(rt, machine.state, &name)?;
     let run = UndoRun {
         rt,
         words,
-        machine: &name,
+        changes: &changes,
         left_out: &left_out,
         has_firmware: true,
     };
@@ -153,11 +155,13 @@ fn undone_over<R: Files<File: OutputFile> + Print + Eprint + AllocGlobal>(
     kept: &KeptVars,
     vars: &Vars,
 ) -> Result<Undone, Failure> {
-    let name = name_of_machine(rt, &words.machine, kept.is_folder)?;
+    let machine = &words.machine;
+    let name = name_of_machine(rt, machine, kept.is_folder)?;
+    let changes = records(rt, machine.state, &name)?;
     let run = UndoRun {
         rt,
         words,
-        machine: &name,
+        changes: &changes,
         left_out: &kept.left_out,
         has_firmware: kept.is_folder,
     };
@@ -175,7 +179,7 @@ fn of_undo<R: Print + AllocGlobal>(rt: &R, words: &UndoWords<'_>, fault: UndoFau
     match fault {
         UndoFault::Nothing => Failure::of_run(alloc, place, "nothing is kept that could be undone"),
         UndoFault::Failure(failure) => failure,
-        UndoFault::Changed(now, kept) => match tell_of_change(rt, words, &now, &kept) {
+        UndoFault::Changed(since) => match tell_of_change(rt, words, &since) {
             Ok(failure) | Err(failure) => failure,
         },
     }
@@ -185,14 +189,13 @@ fn of_undo<R: Print + AllocGlobal>(rt: &R, words: &UndoWords<'_>, fault: UndoFau
 fn tell_of_change<R: Print + AllocGlobal>(
     rt: &R,
     words: &UndoWords<'_>,
-    now: &Vars,
-    kept: &KeptRecord,
+    since: &ChangedSince,
 ) -> Result<Failure, Failure> {
     let alloc = rt.alloc();
     let place = words.machine.place;
-    let text = changes_text(alloc, place, (&kept.record.after, now), words.json)?;
+    let text = changes_text(alloc, place, (&since.after, &since.now), words.json)?;
     print(rt, text.as_bytes())?;
-    let time = time_text(alloc, kept.record.time)?;
+    let time = time_text(alloc, since.time)?;
     let fault = format!(in alloc;
         "something else has changed since the change of {time}, which is shown: --force undoes that all the same"
     )?;

@@ -1,14 +1,19 @@
 //! Runs that bring back what was there before the last change of a machine.
 
-ghost use Rattle.std.specs.Prelude.{◌≡◌, IfOk};
+ghost use Rattle.std.specs.Prelude.{◌≡◌, ◌≢◌, true, false, [], map, IfOk, IfErr, OnOk};
+ghost use Rattle.std.specs.String.{string_bytes};
 ghost use Rattle.boot_edits.specs.Restore.{IsRestored};
+ghost use Rattle.boot_journal.specs.Cause.{IfRefused};
+ghost use Rattle.var_places.specs.declared.failure.Failure.{Failure};
+ghost use Rattle.place_edits.specs.declared.undo_run.UndoFault.{UndoFault};
+ghost use Rattle.place_edits.specs.Undo.{CanBeUndone, IsPassedOver, IsLast, IsBack, IsFailure, IsChangeFault, IsUndoFault, IsCounted, IsKept};
 
 use crate::led::Led;
 use crate::takeable::{Takeable, takeable_part, tell_of_missing};
 use crate::undo::UndoWords;
 use boot_edits::Restore;
-use boot_history::{KeptRecord, Record, Standing, records, remove, standing_of};
-use boot_journal::{AttributesFault, CallError, MachineName, Run, with_attributes};
+use boot_history::{KeptRecord, Record, Standing, remove, standing_of};
+use boot_journal::{AttributesFault, CallError, Run, with_attributes};
 use boot_updates::set_of;
 use std::alloc::{AllocError, Global};
 use std::rt::Files;
@@ -23,8 +28,8 @@ pub(crate) struct UndoRun<'a, 'w, R> {
     pub(crate) rt: &'a R,
     /// The words of the undoing.
     pub(crate) words: &'a UndoWords<'w>,
-    /// The machine.
-    pub(crate) machine: &'a MachineName,
+    /// The changes of the machine that are kept, the last one first.
+    pub(crate) changes: &'a [KeptRecord],
     /// The names of its variables that no set can hold.
     pub(crate) left_out: &'a [String],
     /// Whether firmware has a say in what is stored.
@@ -34,8 +39,8 @@ pub(crate) struct UndoRun<'a, 'w, R> {
 /// What an undoing tells.
 #[derive(Drop)]
 pub(crate) struct Undone {
-    /// The change that is undone.
-    pub(crate) kept: KeptRecord,
+    /// The number of the change that is undone.
+    pub(crate) number: u64,
     /// What the machine keeps before the undoing and after it, and what is brought back of what was there before the change.
     pub(crate) led: Led<Takeable>,
 }
@@ -45,14 +50,27 @@ pub(crate) struct Undone {
 pub(crate) enum UndoFault {
     /// Nothing is kept that could be.
     Nothing,
-    /// Something else has changed since: what the machine keeps now, and the last change.
-    Changed(Vars, KeptRecord),
-    /// What is kept can't be read, or firmware refuses it.
+    /// Something else has changed since.
+    Changed(ChangedSince),
+    /// What is kept can't be taken away or brought back. The failure is never [`Failure::Memory`].
     Failure(Failure),
 }
 
+/// What has changed since the last change.
+#[derive(Debug, Drop)]
+pub(crate) struct ChangedSince {
+    /// What the machine keeps now.
+    pub(crate) now: Vars,
+    /// The boot manager's variables after the last change.
+    pub(crate) after: Vars,
+    /// When that was made: how many seconds after 1970-01-01T00:00:00Z.
+    pub(crate) time: u64,
+}
+
 /// What it is to a run that something failed.
-fn call_error(failure: Failure) -> CallError<UndoFault> {
+fn call_error(failure: Failure) -> CallError<UndoFault>
+    ensures { IfRefused result (λ fault. (fault ≡ UndoFault.Failure failure) × (failure ≢ Failure.Memory)) }
+{
     match failure {
         Failure::Memory => CallError::OutOfMemory,
         failure => CallError::Refused(UndoFault::Failure(failure)),
@@ -60,21 +78,29 @@ fn call_error(failure: Failure) -> CallError<UndoFault> {
 }
 
 impl<R: Files<File: OutputFile> + Eprint + AllocGlobal> Run for UndoRun<'_, '_, R> {
-    ghost use Rattle.std.specs.Prelude.{◌≡◌};
+    ghost use Rattle.std.specs.Prelude.{◌≡◌, map};
+    ghost use Rattle.std.specs.String.{string_bytes};
     ghost use Rattle.boot_edits.specs.Restore.{IsRestored};
+    ghost use Rattle.place_edits.specs.Undo.{IsUndoing, IsUndoFault};
 
     type Answer = Undone;
 
     type Fault = UndoFault;
 
-    ghost leads = { λ undo from to undone. IsRestored undone.led.answer.vars from to × (undone.led.from ≡ from) × (undone.led.to ≡ to) };
+    ghost leads = { λ undo from to undone. IsUndoing undo.words.now.force undo.changes.now (map string_bytes undo.left_out.now) from undone
+        × IsRestored undone.led.answer.vars from to × (undone.led.from ≡ from) × (undone.led.to ≡ to) };
 
-    ghost refuses = { λ undo from fault. Unit {0} };
+    ghost refuses = { λ undo from fault. IsUndoFault undo.words.now.force undo.words.now.dry_run undo.changes.now from fault };
 
     fn run(&self, alloc: Global, vars: &Vars) -> Result<(Vars, Undone), CallError<UndoFault>> {
         let kept = self.last(alloc, vars)?;
         let led = self.led(alloc, vars, &kept.record)?;
-        Ok((led.to.copy(alloc)?, Undone { kept, led }))
+        let to = led.to.copy(alloc)?;
+        let undone = Undone {
+            number: kept.number,
+            led,
+        };
+        Ok((to, undone))
     }
 }
 
@@ -86,7 +112,11 @@ impl<R: Files<File: OutputFile> + Eprint + AllocGlobal> UndoRun<'_, '_, R> {
         vars: &Vars,
         change: &Record,
     ) -> Result<Led<Takeable>, CallError<UndoFault>>
-        ensures { IfOk result (λ led. IsRestored led.answer.vars vars.now led.to × (led.from ≡ vars.now)) }
+        ensures from { IfOk result (λ led. led.from ≡ vars.now) }
+        ensures to { IfOk result (λ led. IsRestored led.answer.vars vars.now led.to) }
+        ensures back { IfOk result (λ led. led.answer.missing.items ≡ [] →
+            IsBack (map string_bytes self.now.left_out.now) vars.now change.now.before led.answer.vars) }
+        ensures refused { IfErr result (λ error. IfRefused error IsFailure) }
     {
         let back = self.back(alloc, vars, change).map_err(call_error)?;
         self.tell(alloc, change, &back.missing).map_err(call_error)?;
@@ -99,28 +129,52 @@ impl<R: Files<File: OutputFile> + Eprint + AllocGlobal> UndoRun<'_, '_, R> {
 
     /// The last change that was made of the machine, which keeps these variables, and isn't undone. What is kept of later ones
     /// is taken away: they weren't made, or undoing them was cut off before that.
-    fn last(&self, alloc: Global, vars: &Vars) -> Result<KeptRecord, CallError<UndoFault>> {
-        let words = self.words;
-        let kept = records(self.rt, words.machine.state, self.machine).map_err(call_error)?;
-        for change in kept {
-            match self.standing(alloc, vars, &change.record)? {
-                Standing::NotMade => self.forget(change.number).map_err(call_error)?,
-                Standing::Changed if !words.force => {
-                    return Err(CallError::Refused(UndoFault::Changed(vars.copy(alloc)?, change)));
-                }
-                Standing::Unchanged | Standing::Changed => return Ok(change),
+    fn last(&self, alloc: Global, vars: &Vars) -> Result<&KeptRecord, CallError<UndoFault>>
+        ensures last { IfOk result (λ kept. IsLast self.now.changes.now vars.now kept.now
+            × CanBeUndone self.now.words.now.force vars.now kept.now.«record») }
+        ensures refused { IfErr result (λ error. IfRefused error
+            (IsUndoFault self.now.words.now.force self.now.words.now.dry_run self.now.changes.now vars.now)) }
+    {
+        let changes = self.changes;
+        for change in changes {
+            if !self.passes_over(alloc, vars, change)? {
+                return Ok(change);
             }
         }
         Err(CallError::Refused(UndoFault::Nothing))
     }
 
-    /// How a change of the machine, which keeps these variables, stands: one that was undone counts as not made.
-    fn standing(
+    /// Whether the change is passed over, and another one is undone. What is kept of it is taken away then.
+    fn passes_over(
         &self,
         alloc: Global,
         vars: &Vars,
-        change: &Record,
-    ) -> Result<Standing, AllocError> {
+        change: &KeptRecord,
+    ) -> Result<bool, CallError<UndoFault>>
+        ensures over { IfOk result (λ over. over ≡ true → IsPassedOver vars.now change.now.«record») }
+        ensures last { IfOk result (λ over. over ≡ false →
+            CanBeUndone self.now.words.now.force vars.now change.now.«record») }
+        ensures refused { IfErr result (λ error. IfRefused error
+            (IsChangeFault self.now.words.now.force self.now.words.now.dry_run vars.now change.now)) }
+    {
+        let words = self.words;
+        match self.standing(alloc, vars, &change.record)? {
+            Standing::NotMade => {
+                self.forget(change.number).map_err(call_error)?;
+                Ok(true)
+            }
+            Standing::Changed if !words.force => {
+                let since = changed_since(alloc, vars, &change.record)?;
+                Err(CallError::Refused(UndoFault::Changed(since)))
+            }
+            Standing::Unchanged | Standing::Changed => Ok(false),
+        }
+    }
+
+    /// How a change of the machine, which keeps these variables, stands: one that was undone counts as not made.
+    fn standing(&self, alloc: Global, vars: &Vars, change: &Record) -> Result<Standing, AllocError>
+        ensures { IfOk result (IsCounted change.now vars.now) }
+    {
         let standing = standing_of(alloc, change, vars)?;
         if standing == Standing::Changed && self.is_undone(alloc, vars, change)? {
             Ok(Standing::NotMade)
@@ -139,7 +193,9 @@ impl<R: Files<File: OutputFile> + Eprint + AllocGlobal> UndoRun<'_, '_, R> {
     }
 
     /// Takes away what is kept of a change that isn't there, unless it is a dry run.
-    fn forget(&self, number: u64) -> Result<(), Failure> {
+    fn forget(&self, number: u64) -> Result<(), Failure>
+        ensures { IfErr result (λ _. self.now.words.now.dry_run ≡ false) }
+    {
         let words = self.words;
         if words.dry_run {
             Ok(())
@@ -150,21 +206,38 @@ impl<R: Files<File: OutputFile> + Eprint + AllocGlobal> UndoRun<'_, '_, R> {
 
     /// What the machine, which keeps these variables, is to have again of what was there before the change: as far as
     /// firmware takes it. What no set can hold stays.
-    fn back(&self, alloc: Global, vars: &Vars, change: &Record) -> Result<Takeable, Failure> {
+    fn back(&self, alloc: Global, vars: &Vars, change: &Record) -> Result<Takeable, Failure>
+        ensures { IfOk result (λ back. back.missing.items ≡ [] →
+            IsBack (map string_bytes self.now.left_out.now) vars.now change.now.before back.vars) }
+    {
         let mut before = change.before.copy(alloc)?;
         keep_left_out(&mut before, vars, self.left_out)?;
-        if !self.has_firmware {
-            return Ok(Takeable {
+        if self.has_firmware {
+            self.taken(alloc, vars, before)
+        } else {
+            Ok(Takeable {
                 vars: before,
                 missing: Vec::new(alloc),
-            });
+            })
         }
+    }
+
+    /// What firmware takes of these variables on the machine, which keeps the others.
+    fn taken(&self, alloc: Global, vars: &Vars, wanted: Vars) -> Result<Takeable, Failure>
+        ensures { IfOk result (λ taken. taken.missing.items ≡ [] → taken.vars ≡ wanted) }
+    {
         let words = self.words;
         let place = words.machine.place;
         let now = set_of(alloc, place, vars)?;
-        let wanted = set_of(alloc, place, &before)?;
-        let Takeable { vars: set, missing } = takeable_part(alloc, place, &now, &wanted)?;
-        match with_attributes(alloc, &set, &before) {
+        let set = set_of(alloc, place, &wanted)?;
+        let Takeable { vars: set, missing } = takeable_part(alloc, place, &now, &set)?;
+        if missing.is_empty() {
+            return Ok(Takeable {
+                vars: wanted,
+                missing,
+            });
+        }
+        match with_attributes(alloc, &set, &wanted) {
             Ok(vars) => Ok(Takeable { vars, missing }),
             Err(AttributesFault::OutOfMemory) => Err(Failure::Memory),
             Err(fault) => Err(Failure::of_fault(alloc, place, fault)),
@@ -190,25 +263,51 @@ fn is_there(alloc: Global, vars: &Vars, back: &Vars) -> Result<bool, AllocError>
 }
 
 /// The variables, with those of the boot manager that are brought back.
-fn restored(alloc: Global, vars: &Vars, back: &Vars) -> Result<Vars, CallError<UndoFault>>
+fn restored(alloc: Global, vars: &Vars, back: &Vars) -> Result<Vars, AllocError>
     ensures { IfOk result (λ to. IsRestored back.now vars.now to) }
 {
     match (Restore { to: back }).run(alloc, vars) {
         Ok((to, ())) => Ok(to),
         // It refuses nothing, so only memory was refused.
-        Err(_) => Err(CallError::OutOfMemory),
+        Err(_) => Err(AllocError),
     }
 }
 
 /// Gives each entry of these names, which no set can hold, what stands for it among the variables.
-fn keep_left_out(before: &mut Vars, vars: &Vars, left_out: &[String]) -> Result<(), AllocError> {
+fn keep_left_out(before: &mut Vars, vars: &Vars, left_out: &[String]) -> Result<(), AllocError>
+    ensures { OnOk result (IsBack (map string_bytes left_out.now) vars.now before.old before.new) }
+{
     for name in left_out {
-        if entry_number(name).is_some()
-            && let Some(data) = vars.get(name)
-        {
-            // It is from a set, so only memory can be refused.
-            before.put(name, data).map_err(|_| AllocError)?;
-        }
+        keep_entry(before, vars, name)?;
     }
     Ok(())
+}
+
+/// The same for one name.
+fn keep_entry(before: &mut Vars, vars: &Vars, name: &str) -> Result<(), AllocError>
+    ensures { OnOk result (IsKept name.now vars.now before.old before.new) }
+{
+    if entry_number(name).is_none() {
+        return Ok(());
+    }
+    let Some(data) = vars.get(name) else {
+        return Ok(());
+    };
+    match before.put(name, data) {
+        Ok(()) => Ok(()),
+        // It is from a set, so only memory can be refused.
+        Err(_) => Err(AllocError),
+    }
+}
+
+/// What has changed since this change.
+fn changed_since(alloc: Global, vars: &Vars, change: &Record) -> Result<ChangedSince, AllocError>
+    ensures { IfOk result (λ since. (since.now ≡ vars.now) × (since.after ≡ change.now.after)
+        × (since.time ≡ change.now.time)) }
+{
+    Ok(ChangedSince {
+        now: vars.copy(alloc)?,
+        after: change.after.copy(alloc)?,
+        time: change.time,
+    })
 }

@@ -1,5 +1,5 @@
 use Rattle.std.proofs.Common.{◌≡◌, ℕ, List, take}
-use Rattle.boot_edits.specs.Orders.{without_all}
+use Rattle.boot_requests.specs.Apply.{without_all}
 use Rattle.boot_edits.specs.Steps.{Tells}
 use Rattle.boot_edits.proofs.order.without_all.Given as goal
 

@@ -3,9 +3,9 @@ use Rattle.std.proofs.lemmas.Result.{err_from_is_err_and}
 use Rattle.uefi_vars.specs.Name.{order_text}
 use Rattle.uefi_vars.specs.NameChanges.{with_data}
 use Rattle.uefi_vars.specs.Order.{stored_order}
-use Rattle.boot_edits.specs.Orders.{without_all}
+use Rattle.boot_requests.specs.Apply.{without_all}
 use Rattle.boot_edits.specs.Parts.{Becomes}
-use Rattle.boot_edits.proofs.Orders.{left_fits}
+use Rattle.boot_requests.proofs.Variables.OrderLists.{left_fits}
 use Rattle.boot_edits.proofs.Parts.{without_becomes, then_order, forgotten}
 use Rattle.boot_edits.proofs.remove.remove.Goals as goal
 
