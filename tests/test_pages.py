@@ -1,0 +1,57 @@
+"""The pages and the manuals: how long they are, and that what they name is there."""
+
+from __future__ import annotations
+
+import re
+import unittest
+from pathlib import Path
+from typing import Dict, List
+
+ROOT = Path(__file__).resolve().parents[1]
+
+MOST_WORDS = 45_000
+"""How many words all pages may have together, as CONTRIBUTING.md says."""
+
+MOST_WORDS_OF = {"docs/promises.md": 6_000, "docs/DECISIONS.md": 4_000}
+
+FILE = re.compile(
+    r"`((?:bench|crates|docs|examples|include|man|python|rust|tests|tools)/[\w./-]+)`"
+)
+SECTION = re.compile(r'`([\w/]+\.md)`, "([^"]+)"|"([^"]+)" in\s+`([\w/]+\.md)`')
+
+
+def pages() -> List[Path]:
+    return sorted([*ROOT.glob("*.md"), *ROOT.glob("docs/*.md"), *ROOT.glob("man/*")])
+
+
+def texts() -> Dict[str, str]:
+    """Each page, by its path in the repository."""
+    return {str(page.relative_to(ROOT)): page.read_text(encoding="utf-8") for page in pages()}
+
+
+class Pages(unittest.TestCase):
+    def test_they_are_short(self) -> None:
+        words = {name: len(text.split()) for name, text in texts().items()}
+        self.assertLessEqual(sum(words.values()), MOST_WORDS)
+        for name, most in MOST_WORDS_OF.items():
+            self.assertLessEqual(words[name], most, name)
+
+    def test_files_that_are_named_are_there(self) -> None:
+        for name, text in texts().items():
+            for file in FILE.findall(text):
+                if "CRATE" not in file:
+                    self.assertTrue((ROOT / file).exists(), f"{name}: {file}")
+
+    def test_sections_that_are_named_are_there(self) -> None:
+        found = 0
+        for name, text in texts().items():
+            for page, section, other, where in SECTION.findall(" ".join(text.split())):
+                heads = (ROOT / (page or where)).read_text(encoding="utf-8")
+                head = re.escape(section or other)
+                self.assertRegex(heads, rf"(?m)^#+ {head}$", f"{name}: {section or other}")
+                found += 1
+        self.assertGreater(found, 0)
+
+
+if __name__ == "__main__":
+    unittest.main()
