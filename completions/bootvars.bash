@@ -24,9 +24,11 @@ _bootvars() {
 "bootvars frame add" | \
 "bootvars frame replace" | \
 "bootvars frame add-free" | \
+"bootvars frame add-first" | \
 "bootvars frame remove" | \
 "bootvars frame order" | \
 "bootvars frame next" | \
+"bootvars frame first" | \
 "bootvars explain" | \
 "bootvars efibootmgr") command+=" $word" ;;
         esac
@@ -103,15 +105,17 @@ _bootvars() {
         "bootvars deactivate") words="--dry-run --json --state --boot-id --machine --adopt --force --help --version -h -V" ;;
         "bootvars undo") words="--list --dry-run --json --state --boot-id --machine --adopt --force --help --version -h -V" ;;
         "bootvars write") words="--dry-run --json --empty --state --machine --force --help --version -h -V" ;;
-        "bootvars update") words="--state --stream --dry-run --json --next --settle --boot-id --machine --adopt --force --help --version -h -V" ;;
+        "bootvars update") words="--state --stream --dry-run --json --look --next --settle --boot-id --machine --adopt --force --help --version -h -V" ;;
         "bootvars option") words="--description --loader --disk --part --root --path --inactive --hidden --app --reconnect --attributes --optional-hex --optional-file --optional-text --out --help --version -h -V" ;;
-        "bootvars frame") words="add replace add-free remove order next --raw --help --version -h -V" ;;
+        "bootvars frame") words="add replace add-free add-first remove order next first --raw --help --version -h -V" ;;
         "bootvars frame add") words="--raw --help --version -h -V" ;;
         "bootvars frame replace") words="--raw --help --version -h -V" ;;
         "bootvars frame add-free") words="--raw --help --version -h -V" ;;
+        "bootvars frame add-first") words="--raw --help --version -h -V" ;;
         "bootvars frame remove") words="--raw --help --version -h -V" ;;
         "bootvars frame order") words="--empty --raw --help --version -h -V" ;;
         "bootvars frame next") words="--raw --help --version -h -V" ;;
+        "bootvars frame first") words="--raw --help --version -h -V" ;;
         "bootvars explain") words="--stream --json --help --version -h -V" ;;
         "bootvars efibootmgr") words="--help --version -h -V" ;;
     esac

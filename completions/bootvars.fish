@@ -23,9 +23,11 @@ function __bootvars_at
 'bootvars frame add' \
 'bootvars frame replace' \
 'bootvars frame add-free' \
+'bootvars frame add-first' \
 'bootvars frame remove' \
 'bootvars frame order' \
 'bootvars frame next' \
+'bootvars frame first' \
 'bootvars explain' \
 'bootvars efibootmgr'
                 set command "$command $word"
@@ -180,6 +182,7 @@ complete -c bootvars -n '__bootvars_at bootvars update' -l state -r -F -d 'The f
 complete -c bootvars -n '__bootvars_at bootvars update' -l stream -d 'SCRIPT is a stream of frames'
 complete -c bootvars -n '__bootvars_at bootvars update' -l dry-run -d 'Prints the replies and the changes, and makes none'
 complete -c bootvars -n '__bootvars_at bootvars update' -l json -d 'Prints JSON'
+complete -c bootvars -n '__bootvars_at bootvars update' -l look -d 'Prints the replies, the next number and what there is then, as one object of JSON'
 complete -c bootvars -n '__bootvars_at bootvars update' -l next -d 'Prints the number of the next request'
 complete -c bootvars -n '__bootvars_at bootvars update' -l settle -d 'Does what an update that was cut off has left to do'
 complete -c bootvars -n '__bootvars_at bootvars update' -l boot-id -x -d 'The identity of the machine'\''s start; needed for a variable file'
@@ -208,9 +211,11 @@ complete -c bootvars -n '__bootvars_at bootvars option' -l version -s V -d 'Prin
 complete -c bootvars -n '__bootvars_at bootvars frame' -a add -d 'Stores a load option as a new entry'
 complete -c bootvars -n '__bootvars_at bootvars frame' -a replace -d 'Stores a load option in the place of that of an entry'
 complete -c bootvars -n '__bootvars_at bootvars frame' -a add-free -d 'Stores a load option as a new entry under the lowest free number'
+complete -c bootvars -n '__bootvars_at bootvars frame' -a add-first -d 'Stores a load option as a new entry, and puts it first in the order'
 complete -c bootvars -n '__bootvars_at bootvars frame' -a remove -d 'Takes an entry out'
 complete -c bootvars -n '__bootvars_at bootvars frame' -a order -d 'Sets the order in which entries are tried'
 complete -c bootvars -n '__bootvars_at bootvars frame' -a next -d 'Sets the entry that the next boot tries first, once'
+complete -c bootvars -n '__bootvars_at bootvars frame' -a first -d 'Puts an entry first in the order'
 complete -c bootvars -n '__bootvars_at bootvars frame' -l raw -d 'Prints the bytes of the frame, as a stream has them'
 complete -c bootvars -n '__bootvars_at bootvars frame' -l help -s h -d 'Print help'
 complete -c bootvars -n '__bootvars_at bootvars frame' -l version -s V -d 'Print version'
@@ -223,6 +228,9 @@ complete -c bootvars -n '__bootvars_at bootvars frame replace' -l version -s V -
 complete -c bootvars -n '__bootvars_at bootvars frame add-free' -l raw -d 'Prints the bytes of the frame, as a stream has them'
 complete -c bootvars -n '__bootvars_at bootvars frame add-free' -l help -s h -d 'Print help'
 complete -c bootvars -n '__bootvars_at bootvars frame add-free' -l version -s V -d 'Print version'
+complete -c bootvars -n '__bootvars_at bootvars frame add-first' -l raw -d 'Prints the bytes of the frame, as a stream has them'
+complete -c bootvars -n '__bootvars_at bootvars frame add-first' -l help -s h -d 'Print help'
+complete -c bootvars -n '__bootvars_at bootvars frame add-first' -l version -s V -d 'Print version'
 complete -c bootvars -n '__bootvars_at bootvars frame remove' -l raw -d 'Prints the bytes of the frame, as a stream has them'
 complete -c bootvars -n '__bootvars_at bootvars frame remove' -l help -s h -d 'Print help'
 complete -c bootvars -n '__bootvars_at bootvars frame remove' -l version -s V -d 'Print version'
@@ -233,6 +241,9 @@ complete -c bootvars -n '__bootvars_at bootvars frame order' -l version -s V -d 
 complete -c bootvars -n '__bootvars_at bootvars frame next' -l raw -d 'Prints the bytes of the frame, as a stream has them'
 complete -c bootvars -n '__bootvars_at bootvars frame next' -l help -s h -d 'Print help'
 complete -c bootvars -n '__bootvars_at bootvars frame next' -l version -s V -d 'Print version'
+complete -c bootvars -n '__bootvars_at bootvars frame first' -l raw -d 'Prints the bytes of the frame, as a stream has them'
+complete -c bootvars -n '__bootvars_at bootvars frame first' -l help -s h -d 'Print help'
+complete -c bootvars -n '__bootvars_at bootvars frame first' -l version -s V -d 'Print version'
 complete -c bootvars -n '__bootvars_at bootvars explain' -l stream -d 'FILE is a stream of frames, whatever it begins with'
 complete -c bootvars -n '__bootvars_at bootvars explain' -l json -d 'Prints JSON'
 complete -c bootvars -n '__bootvars_at bootvars explain' -l help -s h -d 'Print help'

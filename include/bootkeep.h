@@ -244,7 +244,7 @@ struct bootkeep_refusal {
 
 /* A header doesn't begin with 0x42 0x51. */
 #define BOOTKEEP_STREAM_BAD_MAGIC 0x0701
-/* The version of a header is neither 1 nor 2. */
+/* The version of a header is none of 1 to 3. */
 #define BOOTKEEP_STREAM_BAD_VERSION 0x0702
 /* A payload is to have more bytes than a frame can have. */
 #define BOOTKEEP_STREAM_TOO_LONG 0x0703
@@ -260,7 +260,7 @@ struct bootkeep_refusal {
 #define BOOTKEEP_FRAME_SHORT 0x0801
 /* The bytes don't begin with 0x42 0x51. */
 #define BOOTKEEP_FRAME_BAD_MAGIC 0x0802
-/* The version is neither 1 nor 2. */
+/* The version is none of 1 to 3. */
 #define BOOTKEEP_FRAME_BAD_VERSION 0x0803
 /* The payload has more bytes than a frame can have. */
 #define BOOTKEEP_FRAME_TOO_LONG 0x0804
@@ -414,6 +414,10 @@ uint32_t bootkeep_option_make(uint32_t attributes, const uint8_t *description, s
 #define BOOTKEEP_REQUEST_NEXT 5
 /* To store the option under the lowest free number, and to append that to BootOrder. */
 #define BOOTKEEP_REQUEST_ADD_FREE 6
+/* To store the option under the lowest free number, and to put that in front of BootOrder. */
+#define BOOTKEEP_REQUEST_ADD_FIRST 7
+/* To put the entry in front of BootOrder. */
+#define BOOTKEEP_REQUEST_FIRST 8
 
 /* No request has this number. */
 #define BOOTKEEP_NO_NUMBER 0xffffffff

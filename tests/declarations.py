@@ -157,8 +157,9 @@ def header_calls(text: str) -> List[Call]:
 
 def manual_calls(text: str) -> List[Call]:
     """The calls of the manual's synopsis."""
-    found = re.findall(r"^\.Ft uint32_t\n\.Fo (\w+)\n(.*?)^\.Fc$", text, re.DOTALL | re.MULTILINE)
-    return [Call(name, _handed(",".join(re.findall('"(.*)"', words)))) for name, words in found]
+    lines = text.replace(" \\\n", " ")
+    found = re.findall(r"^\.Ft uint32_t\n\.F[no] (\w+)(.*(?:\n\.Fa .*)*)$", lines, re.MULTILINE)
+    return [Call(name, _handed(",".join(re.findall('"(.*?)"', words)))) for name, words in found]
 
 
 def _handed(words: str) -> List[str]:

@@ -170,6 +170,8 @@ fn frame_make(numbers: &[u8], option: &[u8], order: &[u8]) -> Result<String, Err
         4 => Request::Order(&order),
         5 => Request::Next(entry),
         6 => Request::AddFree(option),
+        7 => Request::AddFirst(option),
+        8 => Request::First(entry),
         _ => return refused(Fault::FrameBadKind, None),
     };
     frame::make(number(&numbers[..4]), request).map(|bytes| digits(&bytes))

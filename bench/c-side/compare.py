@@ -25,6 +25,10 @@ FAMILIES = {
     "run": ["SET", "STREAM", "VARS"],
 }
 
+# The kinds of requests, and the versions of the frames of those that aren't in version 1.
+KINDS = range(1, 9)
+VERSIONS = {6: 2, 7: 3, 8: 3}
+
 NO_PLACE = 2**64 - 1
 ABSENT, CLOSED = 3, 5
 
@@ -185,6 +189,19 @@ def paths_of(option: bytes) -> bytes:
     return option[start : start + length]
 
 
+def payload_of(kind: int, entry: int, option: bytes, order: bytes) -> bytes:
+    """The payload of a request of this kind: of an entry, an option and an order what its kind takes."""
+    short = number_bytes([entry])
+    payloads = {1: short + option, 2: short + option, 4: order, 6: option, 7: option}
+    return payloads.get(kind, short)
+
+
+def frame_of(number: int, kind: int, payload: bytes) -> bytes:
+    """The frame of these parts."""
+    head = [number.to_bytes(4, "little"), len(payload).to_bytes(4, "little")]
+    return b"BQ" + bytes([VERSIONS.get(kind, 1), kind]) + b"".join(head) + payload
+
+
 def frames_of(stream: bytes) -> list[bytes]:
     frames, at = [], 0
     while at < len(stream):
@@ -205,7 +222,13 @@ class Cases:
         self.options = [
             data for name, data in stored if re.fullmatch("Boot[0-9A-F]{4}", name) and len(data) > 8
         ]
-        self.paths = [paths_of(data) for data in self.options if self.is_option(data)]
+        whole = [data for data in self.options if self.is_option(data)]
+        self.frames += [
+            frame_of(0, kind, payload_of(kind, entry, whole[0], number_bytes([0, 1])))
+            for kind in KINDS
+            for entry in (0, 1, 5, 0x77)
+        ]
+        self.paths = [paths_of(data) for data in whole]
         self.texts = [self.text(path) for path in self.paths]
         cases = json.loads((root / "tests/cases/named_texts.json").read_text(encoding="utf-8"))
         self.names = [
@@ -389,11 +412,13 @@ class Cases:
 
     def option_make_case(self) -> tuple[str, list[str]]:
         """An option of parts: the command reads what is expected of them."""
-        paths = self.chance.choice(
-            [b"", *self.paths] * 2 + [self.paths[0] + self.paths[-1], self.paths[0] * 3000]
+        *others, last = self.chance.choice(
+            [[b""], *([path] for path in self.paths)] * 2
+            + [[self.paths[0], self.paths[-1]], [self.paths[0]] * 3000]
         )
-        if paths and self.chance.randrange(3) == 0:
-            paths = damage(self.chance, paths)
+        if last and self.chance.randrange(3) == 0:
+            last = damage(self.chance, last)
+        paths = b"".join(others) + last
         text = self.chance.choice(
             ["Linux", "", "Bööt \N{PENGUIN}", "a\0b", "x" * 300, "\uffff\U00010000"]
         ).encode()
@@ -419,7 +444,8 @@ class Cases:
         return line, [f"done {digits(option)}"]
 
     def list_fault(self, paths: bytes) -> str:
-        """The driver's line if the bytes aren't paths, one after the other."""
+        """The driver's line if the bytes aren't paths, one after the other. Of these the command is asked for those alone
+        that aren't the first path of the set, since a word has at most 131,071 bytes."""
         at = 0
         while at < len(paths):
             if paths[at:].startswith(self.paths[0]) and at + len(self.paths[0]) < len(paths):
@@ -434,7 +460,7 @@ class Cases:
 
     def frame_make_case(self) -> tuple[str, list[str]]:
         number = self.chance.choice([0, 1, 2**32 - 2, 2**32 - 1])
-        kind, entry = self.chance.randrange(8), self.chance.randrange(0x10000)
+        kind, entry = self.chance.randrange(10), self.chance.randrange(0x10000)
         option = self.chance.choice([b"", *self.options])
         if self.chance.randrange(3) == 0:
             option = damage(self.chance, option)
@@ -445,27 +471,18 @@ class Cases:
             number.to_bytes(4, "little") + kind.to_bytes(4, "little") + entry.to_bytes(2, "little")
         )
         line = f"frame_make {digits(numbers)} {digits(option)} {digits(order)}"
-        if not 1 <= kind <= 6:
+        if kind not in KINDS:
             return line, [self.refused("FRAME_BAD_KIND")]
-        if kind in (1, 2, 6):
+        if kind in (1, 2, 6, 7):
             status, _, told = self.side.ask("option", self.side.file("option", option))
             if status:
                 return line, [self.side.refusal("option", told)]
-        short = entry.to_bytes(2, "little")
-        payload = {1: short + option, 2: short + option, 3: short, 4: order, 5: short, 6: option}[
-            kind
-        ]
+        payload = payload_of(kind, entry, option, order)
         if len(payload) > 131072:
             return line, [self.refused("FRAME_TOO_LONG")]
         if number == 2**32 - 1:
             return line, [self.refused("FRAME_BAD_NUMBER")]
-        header = (
-            b"BQ"
-            + bytes([2 if kind == 6 else 1, kind])
-            + numbers[:4]
-            + len(payload).to_bytes(4, "little")
-        )
-        return line, [f"done {digits(header + payload)}"]
+        return line, [f"done {digits(frame_of(number, kind, payload))}"]
 
     def name(self) -> bytes:
         """A name of the set, or one that it hasn't, or what is no name."""

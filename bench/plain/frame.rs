@@ -12,6 +12,8 @@ pub enum Request {
     Remove(u16),
     Order(Vec<u16>),
     Next(u16),
+    AddFirst(LoadOption),
+    First(u16),
 }
 
 /// Why bytes aren't a frame, or a request has none.
@@ -50,7 +52,7 @@ pub fn read_frame(bytes: &[u8]) -> Result<(u32, Request), Fault> {
     if [m, n] != [0x42, 0x51] {
         return Err(Fault::BadMagic);
     }
-    if version != 1 {
+    if version != 1 && version != 3 {
         return Err(Fault::BadVersion);
     }
     if len > PAYLOAD_MAX {
@@ -59,7 +61,7 @@ pub fn read_frame(bytes: &[u8]) -> Result<(u32, Request), Fault> {
     if payload.len() != len {
         return Err(Fault::BadSize);
     }
-    if !(1..=5).contains(&kind) {
+    if !matches!((version, kind), (1, 1..=5) | (3, 7 | 8)) {
         return Err(Fault::BadKind);
     }
     if number == u32::MAX {
@@ -80,6 +82,8 @@ fn read_payload(kind: u8, payload: &[u8]) -> Result<Request, Fault> {
         )),
         (3, [low, high]) => Ok(Request::Remove(u16::from_le_bytes([*low, *high]))),
         (5, [low, high]) => Ok(Request::Next(u16::from_le_bytes([*low, *high]))),
+        (7, option) => Ok(Request::AddFirst(read_option(option).map_err(Fault::Option)?)),
+        (8, [low, high]) => Ok(Request::First(u16::from_le_bytes([*low, *high]))),
         (4, numbers) if numbers.len() % 2 == 0 => Ok(Request::Order(
             numbers
                 .chunks_exact(2)
@@ -92,7 +96,8 @@ fn read_payload(kind: u8, payload: &[u8]) -> Result<Request, Fault> {
 
 /// The bytes of a request with its number.
 pub fn write_frame(number: u32, request: &Request) -> Result<Vec<u8>, Fault> {
-    let mut out = vec![0x42, 0x51, 1, kind_of(request)];
+    let kind = kind_of(request);
+    let mut out = vec![0x42, 0x51, if kind < 6 { 1 } else { 3 }, kind];
     out.extend_from_slice(&number.to_le_bytes());
     out.extend_from_slice(&[0; 4]);
     append_payload(request, &mut out)?;
@@ -114,6 +119,8 @@ fn kind_of(request: &Request) -> u8 {
         Request::Remove(_) => 3,
         Request::Order(_) => 4,
         Request::Next(_) => 5,
+        Request::AddFirst(_) => 7,
+        Request::First(_) => 8,
     }
 }
 
@@ -123,7 +130,8 @@ fn append_payload(request: &Request, out: &mut Vec<u8>) -> Result<(), Fault> {
             out.extend_from_slice(&entry.to_le_bytes());
             append_option(option, out).map_err(Fault::Option)?;
         }
-        Request::Remove(entry) | Request::Next(entry) => {
+        Request::AddFirst(option) => append_option(option, out).map_err(Fault::Option)?,
+        Request::Remove(entry) | Request::Next(entry) | Request::First(entry) => {
             out.extend_from_slice(&entry.to_le_bytes())
         }
         Request::Order(numbers) => {

@@ -2,7 +2,7 @@
 
 use crate::frame::{Request, read_frame};
 use crate::option::write_option;
-use crate::plan::{ORDER_MAX, boot_order, entry_name};
+use crate::plan::{ORDER_MAX, boot_order, entry_name, lowest_free};
 use crate::set::Vars;
 use std::error::Error;
 
@@ -15,6 +15,28 @@ pub enum Outcome {
     Missing,
     OrderRepeats,
     OrderUnknown,
+    NoFree,
+    /// An entry was added under this number, which the request left open.
+    Added(u16),
+}
+
+impl Outcome {
+    /// The bytes in which it is kept.
+    fn bytes(self) -> [u8; 4] {
+        let code = match self {
+            Outcome::Done => 0,
+            Outcome::Exists => 1,
+            Outcome::Missing => 2,
+            Outcome::OrderRepeats => 3,
+            Outcome::OrderUnknown => 4,
+            Outcome::NoFree => 5,
+            Outcome::Added(entry) => {
+                let [low, high] = entry.to_le_bytes();
+                return [0, 1, low, high];
+            }
+        };
+        [code, 0, 0, 0]
+    }
 }
 
 /// What is answered to a delivery, as far as it is timed here.
@@ -91,7 +113,7 @@ impl Keeper {
         state.extend_from_slice(&self.next.to_le_bytes());
         state.push(self.kept.len() as u8);
         for outcome in &self.kept {
-            state.extend_from_slice(&[*outcome as u8, 0, 0, 0]);
+            state.extend_from_slice(&outcome.bytes());
         }
         self.vars.put("BootKeepState", state);
     }
@@ -122,6 +144,21 @@ fn apply(vars: &mut Vars, request: &Request) -> Result<Outcome, Box<dyn Error>> 
             vars.put(name, write_option(option)?);
             Ok(Outcome::Done)
         }
+        Request::AddFirst(option) => {
+            let Some(number) = lowest_free(vars) else {
+                return Ok(Outcome::NoFree);
+            };
+            vars.put(str::from_utf8(&entry_name(number))?, write_option(option)?);
+            put_first(vars, number)?;
+            Ok(Outcome::Added(number))
+        }
+        Request::First(number) => {
+            if vars.get(str::from_utf8(&entry_name(*number))?).is_none() {
+                return Ok(Outcome::Missing);
+            }
+            put_first(vars, *number)?;
+            Ok(Outcome::Done)
+        }
         Request::Remove(number) => remove(vars, *number),
         Request::Order(numbers) => set_order(vars, numbers),
         Request::Next(number) => {
@@ -132,6 +169,16 @@ fn apply(vars: &mut Vars, request: &Request) -> Result<Outcome, Box<dyn Error>> 
             Ok(Outcome::Done)
         }
     }
+}
+
+fn put_first(vars: &mut Vars, number: u16) -> Result<(), Box<dyn Error>> {
+    let order = boot_order(vars)?;
+    if order.len() < ORDER_MAX || order.contains(&number) {
+        let others = order.iter().copied().filter(|other| *other != number);
+        let order: Vec<u16> = std::iter::once(number).chain(others).collect();
+        store_order(vars, &order);
+    }
+    Ok(())
 }
 
 fn remove(vars: &mut Vars, number: u16) -> Result<Outcome, Box<dyn Error>> {

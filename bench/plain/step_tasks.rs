@@ -1,4 +1,4 @@
-//! Steps: an Add, a Replace and a repeat, each from a keeper to a new one.
+//! Steps: an Add, a Replace, a repeat, a First and an AddFirst, each from a keeper to a new one.
 
 use crate::frame::{Request, write_frame};
 use crate::keeper::{Keeper, Outcome, Reply};
@@ -18,7 +18,7 @@ pub fn held(bytes: &[u8]) -> Result<String, Box<dyn Error>> {
     Ok(format!("{entries} {} {exists}", bytes.len()))
 }
 
-/// The time of the Add of an entry, of the Replace of one, and of the repeat of the first.
+/// The time of the Add of an entry, of the Replace of one, of the repeat of the first, and of a First and an AddFirst.
 pub fn times(bytes: &[u8]) -> Result<Vec<Duration>, Box<dyn Error>> {
     let vars = read_set(bytes)?;
     let entries = boot_order(&vars)?.len();
@@ -38,7 +38,12 @@ pub fn times(bytes: &[u8]) -> Result<Vec<Duration>, Box<dyn Error>> {
     if write_set(after.vars()) != write_set(keeper.vars()) {
         return Err("plain Rust changes variables at a repeat".into());
     }
-    Ok(vec![added, replaced, repeated])
+    let first = write_frame(2, &Request::First(0))?;
+    let add_first = write_frame(3, &Request::AddFirst(option()?))?;
+    let (keeper, put) = step_timed(&after, &first, Reply::Applied(Outcome::Done, 3))?;
+    let told = u16::try_from(entries + 1).map_or(Outcome::NoFree, Outcome::Added);
+    let (_, added_first) = step_timed(&keeper, &add_first, Reply::Applied(told, 4))?;
+    Ok(vec![added, replaced, repeated, put, added_first])
 }
 
 /// The step is made once before it is timed, so that how much was read before doesn't count.

@@ -100,6 +100,10 @@ class Request(IntEnum):
     NEXT = 5
     #: To store an option under the lowest free number, and to append that to BootOrder.
     ADD_FREE = 6
+    #: To store an option under the lowest free number, and to put that in front of BootOrder.
+    ADD_FIRST = 7
+    #: To put an entry in front of BootOrder.
+    FIRST = 8
 
 
 class ReplyKind(IntEnum):

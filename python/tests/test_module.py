@@ -187,6 +187,18 @@ class Keepers(unittest.TestCase):
             self.assertEqual(keeper.next_number, 1)
             self.assertEqual(str(keeper.restart()), "restarted 1")
 
+    def test_a_request_puts_an_entry_first(self) -> None:
+        option = bootkeep.option_make(1, "Mine", [PATH])
+        *others, last = bootkeep.set_plan(SET).normal
+        with bootkeep.Keeper(SET) as keeper:
+            added = keeper.deliver(bootkeep.frame_make(0, Request.ADD_FIRST, option=option))
+            self.assertEqual((added.outcome, added.next_number), (Outcome.DONE, 1))
+            self.assertEqual(added.entry, bootkeep.set_lowest_free(SET))
+            first = keeper.deliver(bootkeep.frame_make(1, Request.FIRST, last))
+            self.assertEqual(str(first), "applied Done 2")
+            normal = bootkeep.set_plan(keeper.set).normal
+            self.assertEqual(normal, (last, added.entry, *others))
+
     def test_a_plan_is_handed_out_once(self) -> None:
         with bootkeep.Keeper(SET) as keeper:
             self.assertIsNone(keeper.hand())

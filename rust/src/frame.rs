@@ -19,6 +19,10 @@ pub enum Request<'a> {
     Next(u16),
     /// To store the option under the lowest free number, and to append that to BootOrder.
     AddFree(&'a [u8]),
+    /// To store the option under the lowest free number, and to put that in front of BootOrder.
+    AddFirst(&'a [u8]),
+    /// To put an entry in front of BootOrder.
+    First(u16),
 }
 
 /// The frame of the request with this number.
@@ -35,6 +39,8 @@ pub fn make(number: u32, request: Request<'_>) -> Result<Vec<u8>, Error> {
         Request::Order(order) => (REQUEST_ORDER, 0, &[], order),
         Request::Next(entry) => (REQUEST_NEXT, entry, &[], &[]),
         Request::AddFree(option) => (REQUEST_ADD_FREE, 0, option, &[]),
+        Request::AddFirst(option) => (REQUEST_ADD_FIRST, 0, option, &[]),
+        Request::First(entry) => (REQUEST_FIRST, entry, &[], &[]),
     };
     library::frame_make(number, kind, entry, option, order)
 }

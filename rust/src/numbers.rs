@@ -49,6 +49,8 @@ pub(crate) const REQUEST_REMOVE: u32 = 3;
 pub(crate) const REQUEST_ORDER: u32 = 4;
 pub(crate) const REQUEST_NEXT: u32 = 5;
 pub(crate) const REQUEST_ADD_FREE: u32 = 6;
+pub(crate) const REQUEST_ADD_FIRST: u32 = 7;
+pub(crate) const REQUEST_FIRST: u32 = 8;
 
 pub(crate) const REPLY_MALFORMED: u32 = 1;
 pub(crate) const REPLY_REPEAT: u32 = 2;

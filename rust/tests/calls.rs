@@ -81,7 +81,8 @@ fn a_keeper_comes_to_what_a_run_comes_to() {
     let frames = [
         frame::make(0, Request::AddFree(&option)).unwrap(),
         frame::make(1, Request::Remove(0xFFFF)).unwrap(),
-        frame::make(3, Request::Order(&[])).unwrap(),
+        frame::make(2, Request::First(0xFFFF)).unwrap(),
+        frame::make(4, Request::Order(&[])).unwrap(),
     ];
     let mut keeper = Keeper::open(SET).unwrap();
     let free = set::lowest_free(SET).unwrap();
@@ -89,14 +90,27 @@ fn a_keeper_comes_to_what_a_run_comes_to() {
     let expected = [
         Reply::Applied { outcome: Outcome::Done, entry: free, next_number: 1 },
         Reply::Applied { outcome: Outcome::Missing, entry: None, next_number: 2 },
-        Reply::Waiting { next_number: 2 },
+        Reply::Applied { outcome: Outcome::Missing, entry: None, next_number: 3 },
+        Reply::Waiting { next_number: 3 },
     ];
     assert_eq!(replies, expected);
     assert_eq!(keeper.set().unwrap(), bootkeep::run(SET, &frames.concat()).unwrap().0);
     let malformed = Reply::Malformed { fault: Fault::FrameShort, option: None };
     assert_eq!(keeper.deliver(b"").unwrap(), malformed);
     assert_eq!(malformed.to_string(), "malformed Short");
-    assert_eq!(keeper.next_number(), Ok(2));
+    assert_eq!(keeper.next_number(), Ok(3));
+}
+
+#[test]
+fn a_request_puts_an_entry_first() {
+    let mut others = set::plan(SET).unwrap().normal;
+    let last = others.pop().unwrap();
+    let frames =
+        [frame::make(0, Request::AddFirst(&new_option())).unwrap(), frame::make(1, Request::First(last)).unwrap()];
+    let (after, lines) = bootkeep::run(SET, &frames.concat()).unwrap();
+    let number = set::lowest_free(SET).unwrap().unwrap();
+    assert_eq!(lines, format!("applied Done {number:04X} 1\napplied Done 2\n"));
+    assert_eq!(set::plan(&after).unwrap().normal, [vec![last, number], others].concat());
 }
 
 #[test]

@@ -14,7 +14,7 @@ use Rattle.uefi_vars.specs.Vars.{Variables, IsVariable}
 use Rattle.uefi_vars.specs.NameChanges.{with_data, after_each}
 use Rattle.uefi_vars.specs.BootChange.{same_name, is_entry_name, is_boot_name, changes_from}
 use Rattle.boot_requests.specs.declared.request.Request.{Request}
-use Rattle.boot_requests.specs.declared.request.Request.TheVariants.{Add, Replace, Remove, Order, Next, AddFree}
+use Rattle.boot_requests.specs.declared.request.Request.TheVariants.{Add, Replace, Remove, Order, Next, AddFree, AddFirst, First}
 use Rattle.boot_requests.specs.declared.outcome.Code.{Code}
 use Rattle.boot_requests.specs.declared.outcome.Code.TheVariants.{Done, Exists, Missing, OrderRepeats, OrderUnknown, NoFree}
 use Rattle.boot_requests.specs.declared.outcome.Outcome.{Outcome}
@@ -68,6 +68,9 @@ effects m (Order numbers) Done told = (refl, refl, λ n is. is)
 effects m (Next entry) Done told = (refl, refl, λ n is. inr refl)
 effects m (AddFree option) Done None = (refl, refl, λ n is. is)
 effects m (AddFree option) Done (Some entry) = (refl, refl, λ n is. is)
+effects m (AddFirst option) Done None = (refl, refl, λ n is. is)
+effects m (AddFirst option) Done (Some entry) = (refl, refl, λ n is. is)
+effects m (First entry) Done told = (refl, refl, λ n is. is)
 effects m r Exists told = (refl, refl, λ n is. is)
 effects m r Missing told = (refl, refl, λ n is. is)
 effects m r OrderRepeats told = (refl, refl, λ n is. is)
@@ -81,6 +84,8 @@ outcome_bare m (Remove entry) = refl
 outcome_bare m (Order numbers) = refl
 outcome_bare m (Next entry) = refl
 outcome_bare m (AddFree option) = refl
+outcome_bare m (AddFirst option) = refl
+outcome_bare m (First entry) = refl
 
 request_bare : (m : State) (r : Request) → bare (after_request (bare m) r) ≡ bare (after_request m r)
 request_bare m r =

@@ -1,12 +1,15 @@
 -- For private functions that edit variables: what an edit makes of the state that they stand for.
-use Rattle.std.specs.Prelude.{◌≡◌, ℕ, List, Option}
+use Rattle.std.specs.Prelude.{◌≡◌, ℕ, List, Option, Some, None}
 use Rattle.std.specs.FinMap.{insert, remove}
+use Rattle.uefi_option.specs.LoadOption.{OptionParts, option_bytes}
 use Rattle.uefi_vars.specs.Vars.{Variables}
 use Rattle.uefi_vars.specs.NameChanges.{NameChanges, with_changes}
 use Rattle.boot_requests.specs.declared.request.Request.{Request}
+use Rattle.boot_requests.specs.declared.outcome.Code.TheVariants.{NoFree}
 use Rattle.boot_requests.specs.declared.outcome.Outcome.{Outcome}
+use Rattle.boot_requests.specs.Outcome.{without_entry as telling_none, added_at}
 use Rattle.boot_requests.specs.State.{State, MarkParts}
-use Rattle.boot_requests.specs.Apply.{outcome_of, effect, without, order_with, next_without}
+use Rattle.boot_requests.specs.Apply.{free_outcome, outcome_of, effect, without, order_with, order_from, next_without}
 use Rattle.boot_requests.specs.Keeper.{IsStateOf}
 
 -- from the variables of a state to those of the state that is changed so
@@ -39,12 +42,23 @@ without_entry number m = record m { entries = remove m.entries number }
 abbrev pub with_mark : MarkParts → State → State
 with_mark mark m = record m { next_number = mark.next_number; kept = mark.kept }
 
--- the number after the order, or out of it, and out of BootNext
+-- the number after the order, in front of it, or out of it, and out of BootNext
 abbrev pub with_last : ℕ → State → State
 with_last number m = record m { order = order_with m.order number }
+
+abbrev pub with_first : ℕ → State → State
+with_first number m = record m { order = order_from m.order number }
 
 abbrev pub without_number : ℕ → State → State
 without_number number m = record m { order = without m.order number }
 
 abbrev pub without_next : ℕ → State → State
 without_next number m = record m { boot_next = next_without m.boot_next number }
+
+-- The option is stored under the least number that none has, if it is this number, and nothing is stored if it is none.
+abbrev pub StoresFree : Variables → Variables → OptionParts → Option ℕ → Type 0
+StoresFree old new option None =
+    (m : State) → IsStateOf m old → (free_outcome m ≡ telling_none NoFree) × IsStateOf m new
+StoresFree old new option (Some number) =
+    (m : State) → IsStateOf m old →
+    (free_outcome m ≡ added_at number) × IsStateOf (with_entry number (option_bytes option) m) new

@@ -4,7 +4,7 @@ use Rattle.std.specs.List.{AllByRecursion}
 use Rattle.std.specs.FinMap.{empty, insert, retain_keys}
 use Rattle.uefi_vars.specs.Plan.{PlanParts}
 use Rattle.boot_requests.specs.declared.request.Request.{Request}
-use Rattle.boot_requests.specs.declared.request.Request.TheVariants.{Add, Replace, Remove, Order, Next, AddFree}
+use Rattle.boot_requests.specs.declared.request.Request.TheVariants.{Add, Replace, Remove, Order, Next, AddFree, AddFirst, First}
 use Rattle.boot_requests.specs.declared.outcome.Code.{Code}
 use Rattle.boot_requests.specs.declared.outcome.Code.TheVariants.{Done, Exists, Missing, OrderRepeats, OrderUnknown, NoFree}
 use Rattle.boot_requests.specs.Limits.{width}
@@ -108,6 +108,8 @@ is_next (Replace number option) entry = false
 is_next (Remove number) entry = false
 is_next (Order numbers) entry = false
 is_next (AddFree option) entry = false
+is_next (AddFirst option) entry = false
+is_next (First number) entry = false
 
 -- how often changes set BootNext to the entry, from this state on
 abbrev pub sets_in : State → List Change → ℕ → ℕ

@@ -50,6 +50,8 @@ request_name (request.Remove entry) = codes "remove"
 request_name (request.Order numbers) = codes "order"
 request_name (request.Next entry) = codes "next"
 request_name (request.AddFree option) = codes "add-free"
+request_name (request.AddFirst option) = codes "add-first"
+request_name (request.First entry) = codes "first"
 
 -- the code's name
 abbrev pub code_words : Code → List ℕ

@@ -1,18 +1,18 @@
 //! Edits of the variables that stand for a state, gathered as changes.
 
-ghost use Rattle.std.specs.Prelude.{◌≡◌, ◌<◌, ◌≤◌, ◌==◌, length, Some, IfOk, OnOk};
+ghost use Rattle.std.specs.Prelude.{◌≡◌, ◌<◌, ◌≤◌, ◌==◌, [], ◌∷◌, ◌++◌, length, Some, IfOk, OnOk};
 ghost use Rattle.std.specs.Int.{w16, from_le_bytes};
 ghost use Rattle.std.specs.FinMap as map;
 ghost use Rattle.uefi_option.specs.LoadOption.{option_bytes};
 ghost use Rattle.uefi_vars.specs.Vars.{Variables};
 ghost use Rattle.uefi_vars.specs.NameChanges.{with_changes};
 ghost use Rattle.uefi_vars.specs.Order.{order_max};
-ghost use Rattle.boot_requests.specs.Apply.{is_in, without, is_there as holds, after_boot};
+ghost use Rattle.boot_requests.specs.Apply.{is_in, without, has_room, in_front, is_there as holds, after_boot};
 ghost use Rattle.uefi_vars.specs.Name.{keep_text};
 ghost use Rattle.boot_requests.specs.State.{State, mark_bytes};
 ghost use Rattle.boot_requests.specs.Keeper.{IsStateOf};
 ghost use Rattle.boot_requests.specs.Run.{is_next_entry};
-ghost use Rattle.boot_requests.specs.Edit.{ChangesBy, GathersBy, with_order, with_next, with_entry, without_entry, with_mark, with_last, without_number, without_next};
+ghost use Rattle.boot_requests.specs.Edit.{ChangesBy, GathersBy, with_order, with_next, with_entry, without_entry, with_mark, with_last, with_first, without_number, without_next};
 
 use crate::mark::Mark;
 use std::alloc::{AllocError, Global};
@@ -131,17 +131,35 @@ pub(crate) fn append_number(
     Ok(())
 }
 
+/// Appends to an order the numbers that aren't the one.
+fn append_others(order: &mut Vec<u16>, numbers: &[u16], number: u16) -> Result<(), AllocError>
+    ensures { OnOk result (order.new.items ≡ order.old.items ++ without numbers.now number) }
+{
+    for other in numbers {
+        if *other != number {
+            order.push(*other)?;
+        }
+    }
+    Ok(())
+}
+
 /// These numbers without the one.
 fn without(alloc: Global, numbers: &[u16], number: u16) -> Result<Vec<u16>, AllocError>
     ensures { IfOk result (λ others. others.items ≡ without numbers.now number) }
 {
     let mut others = Vec::with_capacity(alloc, numbers.len())?;
-    for other in numbers {
-        if *other != number {
-            others.push(*other)?;
-        }
-    }
+    append_others(&mut others, numbers, number)?;
     Ok(others)
+}
+
+/// The number, and behind it the others of these.
+fn in_front(alloc: Global, number: u16, numbers: &[u16]) -> Result<Vec<u16>, AllocError>
+    ensures { IfOk result (λ order. order.items ≡ in_front (number ∷ []) numbers.now) }
+{
+    let mut order = Vec::with_capacity(alloc, numbers.len() + 1)?;
+    order.push(number)?;
+    append_others(&mut order, numbers, number)?;
+    Ok(order)
 }
 
 /// Takes the number out of BootOrder, wherever it is.
@@ -160,6 +178,32 @@ pub(crate) fn remove_number(
     }
     let others = without(alloc, &order, number)?;
     store_order(alloc, changes, &others)?;
+    Ok(())
+}
+
+/// Whether the number can be in an order of these: they are fewer than an order has at most, or it is there.
+fn has_room(numbers: &[u16], number: u16) -> bool
+    ensures { result ≡ has_room numbers.now number }
+{
+    numbers.len() < ORDER_MAX || is_in(numbers, number)
+}
+
+/// Puts the number in front of BootOrder, unless it isn't there and BootOrder is full.
+pub(crate) fn put_first(
+    alloc: Global,
+    vars: &Vars,
+    changes: &mut Changes,
+    number: u16,
+) -> Result<(), AllocError>
+    ensures { OnOk result
+        (ChangesBy (with_changes vars.now changes.old) (with_changes vars.now changes.new) (with_first number)) }
+{
+    let order = read_order(alloc, vars, changes)?;
+    if !has_room(&order, number) {
+        return Ok(());
+    }
+    let new = in_front(alloc, number, &order)?;
+    store_order(alloc, changes, &new)?;
     Ok(())
 }
 

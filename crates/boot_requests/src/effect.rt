@@ -10,11 +10,11 @@ ghost use Rattle.boot_requests.specs.Request.{payload_of};
 ghost use Rattle.boot_requests.specs.State.{State};
 ghost use Rattle.boot_requests.specs.Apply.{repeats, is_there as holds};
 ghost use Rattle.boot_requests.specs.Keeper.{IsStateOf};
-ghost use Rattle.boot_requests.specs.Edit.{CarriesOut};
+ghost use Rattle.boot_requests.specs.Edit.{CarriesOut, StoresFree};
 
 use crate::edit::{
-    append_number, forget_next, is_there, remove_number, store_entry, store_next, store_order,
-    take_entry,
+    append_number, forget_next, is_there, put_first, remove_number, store_entry, store_next,
+    store_order, take_entry,
 };
 use crate::outcome::{Code, Outcome};
 use crate::request::Request;
@@ -49,6 +49,8 @@ pub(crate) fn carry_out(
         Request::Order(order) => set_order(alloc, vars, changes, order.numbers()),
         Request::Next(number) => set_next(vars, changes, *number),
         Request::AddFree(option) => add_free(alloc, vars, changes, option),
+        Request::AddFirst(option) => add_first(alloc, vars, changes, option),
+        Request::First(number) => set_first(alloc, vars, changes, *number),
     }
 }
 
@@ -81,15 +83,44 @@ fn add_free(
     ensures { IfOk result (CarriesOut (with_changes vars.now changes.old) (with_changes vars.now changes.new)
         (Request.AddFree option.now)) }
 {
-    let Some(number) = changes.lowest_free(vars) else {
+    let Some(number) = store_free(alloc, vars, changes, option)? else {
         return Ok(Outcome::of(Code::NoFree));
     };
-    store_entry(alloc, changes, number, option)?;
     append_number(alloc, vars, changes, number)?;
-    Ok(Outcome {
-        code: Code::Done,
-        entry: Some(number),
-    })
+    Ok(Outcome::added_at(number))
+}
+
+/// Stores an entry under the least number that none has, and puts that number in front of BootOrder.
+fn add_first(
+    alloc: Global,
+    vars: &Vars,
+    changes: &mut Changes,
+    option: &LoadOption,
+) -> Result<Outcome, AllocError>
+    ensures { IfOk result (CarriesOut (with_changes vars.now changes.old) (with_changes vars.now changes.new)
+        (Request.AddFirst option.now)) }
+{
+    let Some(number) = store_free(alloc, vars, changes, option)? else {
+        return Ok(Outcome::of(Code::NoFree));
+    };
+    put_first(alloc, vars, changes, number)?;
+    Ok(Outcome::added_at(number))
+}
+
+/// Stores an entry under the least number that none has. That number, if there is one.
+fn store_free(
+    alloc: Global,
+    vars: &Vars,
+    changes: &mut Changes,
+    option: &LoadOption,
+) -> Result<Option<u16>, AllocError>
+    ensures { IfOk result (StoresFree (with_changes vars.now changes.old) (with_changes vars.now changes.new) option.now) }
+{
+    let Some(number) = changes.lowest_free(vars) else {
+        return Ok(None);
+    };
+    store_entry(alloc, changes, number, option)?;
+    Ok(Some(number))
 }
 
 /// Stores an entry in the place of one that is there.
@@ -148,6 +179,23 @@ fn set_order(
         return Ok(Outcome::of(Code::OrderUnknown));
     }
     store_order(alloc, changes, numbers)?;
+    Ok(Outcome::of(Code::Done))
+}
+
+/// Puts an entry that is there in front of BootOrder.
+fn set_first(
+    alloc: Global,
+    vars: &Vars,
+    changes: &mut Changes,
+    number: u16,
+) -> Result<Outcome, AllocError>
+    ensures { IfOk result (CarriesOut (with_changes vars.now changes.old) (with_changes vars.now changes.new)
+        (Request.First number)) }
+{
+    if !is_there(vars, changes, number) {
+        return Ok(Outcome::of(Code::Missing));
+    }
+    put_first(alloc, vars, changes, number)?;
     Ok(Outcome::of(Code::Done))
 }
 

@@ -19,7 +19,7 @@ pub enum FrameFault {
     /// The bytes don't begin with 0x42 0x51.
     #[error("BadMagic")]
     BadMagic,
-    /// The version is neither 1 nor 2.
+    /// The version is none of 1 to 3.
     #[error("BadVersion")]
     BadVersion,
     /// The payload is to have more than [`PAYLOAD_MAX`](crate::PAYLOAD_MAX) bytes.
@@ -51,7 +51,7 @@ pub enum FeedFault {
     /// A header doesn't begin with 0x42 0x51.
     #[error("BadMagic")]
     BadMagic,
-    /// The version of a header is neither 1 nor 2.
+    /// The version of a header is none of 1 to 3.
     #[error("BadVersion")]
     BadVersion,
     /// A payload is to have more than [`PAYLOAD_MAX`](crate::PAYLOAD_MAX) bytes.

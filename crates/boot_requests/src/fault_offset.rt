@@ -8,7 +8,7 @@ ghost use Rattle.boot_requests.specs.FrameFault.{IsFirstFault};
 ghost use Rattle.boot_requests.specs.FaultOffset.{IsFaultOffset};
 
 use crate::fault::FrameFault;
-use crate::frame::{ENTRY_LEN, HEADER_LEN, Kind};
+use crate::frame::{HEADER_LEN, Kind};
 use crate::reader::split_header;
 
 impl FrameFault {
@@ -40,9 +40,8 @@ fn option_offset(bytes: &[u8]) -> usize
     let Some(raw) = split_header(bytes) else {
         return HEADER_LEN;
     };
-    if raw.kind == Kind::AddFree.byte() {
-        HEADER_LEN
-    } else {
-        HEADER_LEN + ENTRY_LEN
-    }
+    let Some(kind) = Kind::from_bytes(raw.version, raw.kind) else {
+        return HEADER_LEN;
+    };
+    HEADER_LEN + kind.option_place()
 }

@@ -1,7 +1,7 @@
 //! What is before a payload.
 
 ghost use Rattle.std.specs.Prelude.{◌≡◌, ◌↔◌, IfSome, IfNone, IsTrue};
-ghost use Rattle.boot_requests.specs.Kind.{version_of, byte_of, IsVersion, IsKind};
+ghost use Rattle.boot_requests.specs.Kind.{version_of, byte_of, layout_of, option_place, IsVersion, IsKind};
 
 /// The most bytes of a payload.
 pub const PAYLOAD_MAX: usize = 131_072;
@@ -33,17 +33,23 @@ pub(crate) enum Kind {
     Next,
     /// To store an entry under the least number that none has.
     AddFree,
+    /// To do that, and to put the number in front of BootOrder.
+    AddFirst,
+    /// To put an entry in front of BootOrder.
+    First,
 }
 
 impl Kind {
     /// All kinds.
-    const ALL: [Kind; 6] = [
+    const ALL: [Kind; 8] = [
         Kind::Add,
         Kind::Replace,
         Kind::Remove,
         Kind::Order,
         Kind::Next,
         Kind::AddFree,
+        Kind::AddFirst,
+        Kind::First,
     ];
 
     /// The kind that the version of a frame and the byte stand for, if they stand for one.
@@ -72,6 +78,7 @@ impl Kind {
         match self {
             Kind::Add | Kind::Replace | Kind::Remove | Kind::Order | Kind::Next => 1,
             Kind::AddFree => 2,
+            Kind::AddFirst | Kind::First => 3,
         }
     }
 
@@ -86,6 +93,23 @@ impl Kind {
             Kind::Order => 4,
             Kind::Next => 5,
             Kind::AddFree => 6,
+            Kind::AddFirst => 7,
+            Kind::First => 8,
+        }
+    }
+
+    /// How many bytes of the kind's payload are before its load option, if it has one.
+    pub(crate) fn option_place(self) -> usize
+        ensures { result ≡ option_place (layout_of self) }
+    {
+        match self {
+            Kind::Add | Kind::Replace => ENTRY_LEN,
+            Kind::Remove
+            | Kind::Order
+            | Kind::Next
+            | Kind::AddFree
+            | Kind::AddFirst
+            | Kind::First => 0,
         }
     }
 }

@@ -58,7 +58,7 @@ impl Inbox {
     /// # Errors
     ///
     /// The first of these faults of the first header that has one: [`FeedFault::BadMagic`] if it doesn't begin with
-    /// 0x42 0x51; [`FeedFault::BadVersion`] if its version is neither 1 nor 2; [`FeedFault::TooLong`] if it states more
+    /// 0x42 0x51; [`FeedFault::BadVersion`] if its version is none of 1 to 3; [`FeedFault::TooLong`] if it states more
     /// than [`PAYLOAD_MAX`](crate::PAYLOAD_MAX) bytes. The deliveries before it are appended.
     /// [`FeedFault::OutOfMemory`] if memory was refused: the inbox and the frames are then as they were.
     pub fn feed(&mut self, bytes: &[u8], frames: &mut Vec<Bytes>) -> Result<(), FeedFault>

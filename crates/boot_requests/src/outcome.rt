@@ -93,13 +93,23 @@ pub struct Outcome {
 
 impl Outcome {
     ghost use Rattle.boot_requests.specs.declared.outcome.Outcome.{Outcome};
-    ghost use Rattle.boot_requests.specs.Outcome.{IsOutcome, outcome_bytes, without_entry};
+    ghost use Rattle.boot_requests.specs.Outcome.{IsOutcome, outcome_bytes, without_entry, added_at};
 
     /// The outcome of this code that tells no entry.
     pub(crate) fn of(code: Code) -> Outcome
         ensures { result ≡ without_entry code }
     {
         Outcome { code, entry: None }
+    }
+
+    /// The outcome of a request that left the number of its entry open, and stored it under this one.
+    pub(crate) fn added_at(entry: u16) -> Outcome
+        ensures { result ≡ added_at entry }
+    {
+        Outcome {
+            code: Code::Done,
+            entry: Some(entry),
+        }
     }
 
     /// The bytes in which the outcome is kept: that of its code, 1 if it tells an entry and 0 if not, and the number of

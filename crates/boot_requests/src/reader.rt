@@ -26,7 +26,7 @@ use uefi_path::{PathFault, laws as path_laws, read_units};
 #[derive(Clone, Copy)]
 pub(crate) struct RawFrame<'a> {
     magic: [u8; 2],
-    version: u8,
+    pub(crate) version: u8,
     pub(crate) kind: u8,
     number: u32,
     len: u32,
@@ -214,6 +214,8 @@ fn read_payload(alloc: Global, kind: Kind, payload: &[u8]) -> Result<Request, Fr
         Kind::Order => Request::Order(read_order(alloc, payload)?),
         Kind::Next => Request::Next(read_entry(payload)?),
         Kind::AddFree => Request::AddFree(read_option_alone(alloc, payload)?),
+        Kind::AddFirst => Request::AddFirst(read_option_alone(alloc, payload)?),
+        Kind::First => Request::First(read_entry(payload)?),
     })
 }
 
@@ -233,12 +235,13 @@ fn read_parts(alloc: Global, bytes: &[u8]) -> Result<(u32, Request), FrameFault>
 /// payload in four, both little-endian. In version 1 the payload of [`Request::Add`] (kind 1) and [`Request::Replace`]
 /// (2) is the number of the entry in two bytes and the load option (UEFI 2.10, 3.1.3), that of [`Request::Remove`] (3)
 /// and [`Request::Next`] (5) is the number of the entry, and that of [`Request::Order`] (4) is the numbers, two bytes
-/// each. In version 2 that of [`Request::AddFree`] (6) is the load option. No version has a kind of the other.
+/// each. In version 2 that of [`Request::AddFree`] (6) is the load option. In version 3 that of [`Request::AddFirst`] (7)
+/// is the load option, and that of [`Request::First`] (8) is the number of the entry. No version has a kind of another.
 ///
 /// # Errors
 ///
 /// The first of these faults: [`FrameFault::Short`] if there are fewer than twelve bytes; [`FrameFault::BadMagic`] if
-/// the first two are others; [`FrameFault::BadVersion`] if the version is neither 1 nor 2; [`FrameFault::TooLong`] if
+/// the first two are others; [`FrameFault::BadVersion`] if the version is none of 1 to 3; [`FrameFault::TooLong`] if
 /// the payload is to have more than [`PAYLOAD_MAX`] bytes; [`FrameFault::BadSize`] if fewer or more follow the twelve;
 /// [`FrameFault::BadKind`] if no request has the kind in that version; [`FrameFault::BadNumber`] if the number is
 /// 4,294,967,295; [`FrameFault::BadPayload`] if the number of an entry isn't whole, or bytes follow it that the kind

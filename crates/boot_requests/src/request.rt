@@ -100,6 +100,10 @@ pub enum Request {
     /// Stores an entry under the least number that none has when the request is applied, and appends that number to
     /// BootOrder. The outcome tells it.
     AddFree(LoadOption),
+    /// Stores an entry under such a number, and puts that number in front of BootOrder. The outcome tells it.
+    AddFirst(LoadOption),
+    /// Puts an entry that is there in front of BootOrder, and leaves the other numbers there as they are.
+    First(u16),
 }
 
 impl Request {
@@ -115,10 +119,12 @@ impl Request {
             Request::Order(order) => Request::Order(order.copy(alloc)?),
             Request::Next(entry) => Request::Next(*entry),
             Request::AddFree(option) => Request::AddFree(option.copy(alloc)?),
+            Request::AddFirst(option) => Request::AddFirst(option.copy(alloc)?),
+            Request::First(entry) => Request::First(*entry),
         })
     }
 
-    /// What the request is called: `add`, `replace`, `remove`, `order`, `next` or `add-free`.
+    /// What the request is called: `add`, `replace`, `remove`, `order`, `next`, `add-free`, `add-first` or `first`.
     pub fn name(&self) -> &'static str
         ensures { result.now ≡ request_name self.now }
     {
@@ -129,6 +135,8 @@ impl Request {
             Request::Order(_) => "order",
             Request::Next(_) => "next",
             Request::AddFree(_) => "add-free",
+            Request::AddFirst(_) => "add-first",
+            Request::First(_) => "first",
         }
     }
 
@@ -140,8 +148,9 @@ impl Request {
             Request::Add(entry, _)
             | Request::Replace(entry, _)
             | Request::Remove(entry)
+            | Request::First(entry)
             | Request::Next(entry) => Some(*entry),
-            Request::Order(_) | Request::AddFree(_) => None,
+            Request::Order(_) | Request::AddFree(_) | Request::AddFirst(_) => None,
         }
     }
 
@@ -156,6 +165,8 @@ impl Request {
             Request::Order(_) => Kind::Order,
             Request::Next(_) => Kind::Next,
             Request::AddFree(_) => Kind::AddFree,
+            Request::AddFirst(_) => Kind::AddFirst,
+            Request::First(_) => Kind::First,
         }
     }
 }

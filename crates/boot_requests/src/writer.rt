@@ -27,9 +27,9 @@ fn payload_len(request: &Request) -> Option<usize>
         Request::Add(_, option) | Request::Replace(_, option) => {
             option_len(option)?.checked_add(ENTRY_LEN)
         }
-        Request::Remove(_) | Request::Next(_) => Some(ENTRY_LEN),
+        Request::Remove(_) | Request::Next(_) | Request::First(_) => Some(ENTRY_LEN),
         Request::Order(order) => order.numbers().len().checked_mul(ENTRY_LEN),
-        Request::AddFree(option) => option_len(option),
+        Request::AddFree(option) | Request::AddFirst(option) => option_len(option),
     }
 }
 
@@ -73,11 +73,11 @@ fn append_payload(request: &Request, out: &mut Vec<u8>) -> Result<(), AllocError
             out.extend_from_slice(&entry.to_le_bytes())?;
             append_option(option, out)
         }
-        Request::Remove(entry) | Request::Next(entry) => {
+        Request::Remove(entry) | Request::Next(entry) | Request::First(entry) => {
             out.extend_from_slice(&entry.to_le_bytes())
         }
         Request::Order(order) => append_numbers(order.numbers(), out),
-        Request::AddFree(option) => append_option(option, out),
+        Request::AddFree(option) | Request::AddFirst(option) => append_option(option, out),
     }
 }
 

@@ -14,6 +14,9 @@ AsksFor (words.Replace entry bytes) asked =
     (option : OptionParts) × SpellsOption bytes.now option × (asked ≡ request.Replace entry option)
 AsksFor (words.AddFree bytes) asked =
     (option : OptionParts) × SpellsOption bytes.now option × (asked ≡ request.AddFree option)
+AsksFor (words.AddFirst bytes) asked =
+    (option : OptionParts) × SpellsOption bytes.now option × (asked ≡ request.AddFirst option)
 AsksFor (words.Remove entry) asked = asked ≡ request.Remove entry
 AsksFor (words.Order entries) asked = asked ≡ request.Order entries.now
 AsksFor (words.Next entry) asked = asked ≡ request.Next entry
+AsksFor (words.First entry) asked = asked ≡ request.First entry

@@ -26,7 +26,7 @@ struct ShownDiff<'a> {
 
 impl JsonObject for ShownDiff<'_> {
     fn append_members<S: Serializer>(&self, out: &mut S) -> Result<(), S::Error> {
-        append_leaf("equal", Leaf::Flag(self.equal), out)?;
+        append_leaf("equal", Leaf::Flag(Some(self.equal)), out)?;
         append_objects("changes", &self.changes, out)?;
         append_leaves(
             &[

@@ -281,8 +281,10 @@ impl ShownRequest {
                 _ => None,
             },
             option: match request {
-                Request::Add(_, option) | Request::Replace(_, option) | Request::AddFree(option) =>
-                    Some(shown_option(alloc, option)?),
+                Request::Add(_, option)
+                | Request::Replace(_, option)
+                | Request::AddFree(option)
+                | Request::AddFirst(option) => Some(shown_option(alloc, option)?),
                 _ => None,
             },
         })

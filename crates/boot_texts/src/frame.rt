@@ -22,12 +22,16 @@ pub enum FrameWords<'a> {
     Replace(u16, &'a [u8]),
     /// To store an entry under the least number that none has.
     AddFree(&'a [u8]),
+    /// To do that, and to put the number in front of BootOrder.
+    AddFirst(&'a [u8]),
     /// To take out the entry of this number.
     Remove(u16),
     /// To set BootOrder to these numbers.
     Order(&'a [u16]),
     /// To set BootNext to this number.
     Next(u16),
+    /// To put this number in front of BootOrder.
+    First(u16),
 }
 
 /// Why no frame is made of words.
@@ -108,9 +112,11 @@ fn request_of(alloc: Global, words: FrameWords<'_>) -> Result<Request, FrameWord
         FrameWords::Add(entry, bytes) => Request::Add(entry, option_of(alloc, bytes)?),
         FrameWords::Replace(entry, bytes) => Request::Replace(entry, option_of(alloc, bytes)?),
         FrameWords::AddFree(bytes) => Request::AddFree(option_of(alloc, bytes)?),
+        FrameWords::AddFirst(bytes) => Request::AddFirst(option_of(alloc, bytes)?),
         FrameWords::Remove(entry) => Request::Remove(entry),
         FrameWords::Order(entries) => Request::Order(order_of(alloc, entries)?),
         FrameWords::Next(entry) => Request::Next(entry),
+        FrameWords::First(entry) => Request::First(entry),
     })
 }
 

@@ -15,7 +15,7 @@ pub(crate) trait JsonObject {
 /// What a member is that isn't an object. `None` is `null`.
 #[derive(Clone, Copy)]
 pub(crate) enum Leaf<'a> {
-    Flag(bool),
+    Flag(Option<bool>),
     Number(Option<u32>),
     Count(Option<usize>),
     Word(Option<&'static str>),
@@ -30,7 +30,7 @@ impl Leaf<'_> {
     /// Appends it.
     fn append<S: Serializer>(self, out: &mut S) -> Result<(), S::Error> {
         match self {
-            Leaf::Flag(flag) => out.bool(flag),
+            Leaf::Flag(flag) => flag.serialize(out),
             Leaf::Number(number) => number.serialize(out),
             Leaf::Count(count) => count.serialize(out),
             Leaf::Word(word) => word.serialize(out),

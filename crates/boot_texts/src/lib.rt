@@ -3,9 +3,10 @@
 //!
 //! [`vars_report`] shows variables, [`diff_report`] what differs between two sets, [`change_report`] one change, and
 //! [`explain_report`] what the frames of a script or a stream ask for, each as lines for a person. [`vars_json`],
-//! [`diff_json`] and [`explain_json`] have the same as JSON, [`reply_json`] shows the answer to an event, and
-//! docs/formats.md has each line and each field. [`naming_change`] tells which entries a change leaves in no order, of
-//! which the [`Risk`] is that a start of firmware writes over them.
+//! [`diff_json`] and [`explain_json`] have the same as JSON, [`reply_json`] shows the answer to an event, [`look_json`]
+//! a machine with the replies to an update of it, and [`refusal_json`] why an update wasn't made; docs/formats.md has
+//! each line and each field. [`naming_change`] tells which entries a change leaves in no order, of which the [`Risk`] is
+//! that a start of firmware writes over them.
 //!
 //! [`option_bytes`] makes a load option of words, and [`frame_bytes`] a frame, which [`frame_line`] puts into a line of
 //! a script. [`attribute_bits`], [`attributes_of_text`], [`optional_text`], [`entry_of_digits`] and
@@ -22,9 +23,11 @@ mod digits;
 mod explain;
 mod frame;
 mod json;
+mod look;
 mod option;
 mod place;
 mod reason;
+mod refusal;
 mod replies;
 mod script_reason;
 mod settings;
@@ -39,11 +42,13 @@ pub use description::DescriptionFault;
 pub use digits::{DigitsFault, attributes_of_text, entry_of_digits, number_of_digits};
 pub use explain::{Explained, explain_json, explain_report, refused_script};
 pub use frame::{FrameWords, FrameWordsFault, frame_bytes, frame_line};
+pub use look::{Look, look_json};
 pub use option::{
     Flags, OptionWords, OptionWordsFault, attribute_bits, option_bytes, optional_text,
     single_backslashes,
 };
 pub use place::Place;
 pub use reason::{FaultReason, Sizes, open_reason, option_reason};
-pub use replies::reply_json;
+pub use refusal::{Refusal, Remedy, refusal_json};
+pub use replies::{ToldReply, reply_json};
 pub use shown_vars::{vars_json, vars_report};

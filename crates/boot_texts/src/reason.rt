@@ -150,7 +150,7 @@ pub(crate) fn frame_words(fault: &FrameFault) -> &'static str {
     match fault {
         FrameFault::Short => "it has fewer bytes than the twelve of a header",
         FrameFault::BadMagic => "a frame begins with the bytes 42 51",
-        FrameFault::BadVersion => "its version is neither 1 nor 2",
+        FrameFault::BadVersion => "its version is none of 1 to 3",
         FrameFault::TooLong => "its payload has more than 131072 bytes",
         FrameFault::BadSize => "its payload hasn't as many bytes as it states",
         FrameFault::BadKind => "no request of its version has its kind",

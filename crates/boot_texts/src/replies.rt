@@ -12,9 +12,26 @@ use serde::Serializer;
 use std::alloc::{AllocError, Global};
 use uefi_vars::BootPlan;
 
+/// An answer to an event, and what is told besides.
+#[derive(Clone, Copy, Debug)]
+pub struct ToldReply<'a> {
+    /// Where the event is.
+    pub place: Place,
+    /// The answer.
+    pub answer: &'a Answer,
+    /// Of a repeat, whether the frame is the one that was applied under its number, if that is known.
+    pub same: Option<bool>,
+    /// The next number after the event, which the answer may tell too.
+    pub next: u32,
+    /// The entries that the update left in no order, if this is its last reply.
+    pub unnamed: Option<&'a [u16]>,
+    /// The identity of the journal, if it has one.
+    pub journal: Option<&'a str>,
+}
+
 /// A reply as it is shown.
 #[derive(Drop)]
-struct ShownReply {
+pub(crate) struct ShownReply<'a> {
     /// Where the event is.
     place: Place,
     /// The number of the request, if the event is one.
@@ -23,10 +40,12 @@ struct ShownReply {
     reply: &'static str,
     /// What came of the request, if it is told.
     outcome: Option<&'static str>,
-    /// The entry under which an AddFree stored its option, if it is told.
+    /// Whether the frame is the one that was applied under the number, if that is known.
+    same: Option<bool>,
+    /// The entry under which an AddFree or an AddFirst stored its option, if it is told.
     entry: Option<EntryDigits>,
-    /// The next number, if it is told.
-    next: Option<u32>,
+    /// The next number.
+    next: u32,
     /// What had waited and was applied right after the request, in the order of the numbers.
     followers: Vec<Follower>,
     /// Why what was delivered is no frame.
@@ -39,6 +58,8 @@ struct ShownReply {
     plan: Option<ShownPlan>,
     /// The entries that the update left in no order, if this is its last reply.
     unnamed: Option<Vec<EntryDigits>>,
+    /// The identity of the journal, if it has one.
+    journal: Option<&'a str>,
 }
 
 /// A request that had waited and was applied right after another one.
@@ -48,11 +69,11 @@ struct Follower {
     request: u32,
     /// What came of it.
     outcome: &'static str,
-    /// The entry under which an AddFree stored its option.
+    /// The entry under which an AddFree or an AddFirst stored its option.
     entry: Option<EntryDigits>,
 }
 
-impl JsonObject for ShownReply {
+impl JsonObject for ShownReply<'_> {
     fn append_members<S: Serializer>(&self, out: &mut S) -> Result<(), S::Error> {
         self.place.append_members(out)?;
         self.append_reply(out)?;
@@ -66,7 +87,13 @@ impl JsonObject for ShownReply {
             out,
         )?;
         append_object("plan", self.plan.as_ref(), out)?;
-        append_leaf("unnamed", Leaf::Entries(self.unnamed.as_deref()), out)
+        append_leaves(
+            &[
+                ("unnamed", Leaf::Entries(self.unnamed.as_deref())),
+                ("journal", Leaf::Text(self.journal)),
+            ],
+            out,
+        )
     }
 }
 
@@ -83,60 +110,48 @@ impl JsonObject for Follower {
     }
 }
 
-/// Shows the answer to the event at this place as JSON, an object on one line that ends with a line feed. Its followers
-/// are the outcomes of the requests that had waited and were applied right after the event's own, of which the last is the
-/// one below the next number. The last reply of an update also has the entries that the update left in no order
-/// ([`naming_change`](crate::naming_change)), and for others `unnamed` is `None`. docs/formats.md has each member.
+/// Shows an answer as JSON, an object on one line that ends with a line feed. Its followers are the outcomes of the requests
+/// that had waited and were applied right after the event's own, of which the last is the one below the next number. The
+/// last reply of an update also has the entries that the update left in no order ([`naming_change`](crate::naming_change)).
+/// docs/formats.md has each member.
 ///
 /// # Errors
 ///
 /// [`AllocError`] if memory was refused.
-pub fn reply_json(
-    alloc: Global,
-    place: Place,
-    answer: &Answer,
-    unnamed: Option<&[u16]>,
-) -> Result<String, AllocError> {
-    let mut shown = ShownReply::new(alloc, place, answer)?;
-    if let Some(unnamed) = unnamed {
-        shown.unnamed = Some(digits_of(alloc, unnamed)?);
-    }
-    json_line(alloc, &shown)
+pub fn reply_json(alloc: Global, told: &ToldReply<'_>) -> Result<String, AllocError> {
+    json_line(alloc, &ShownReply::new(alloc, told)?)
 }
 
-impl ShownReply {
+impl<'a> ShownReply<'a> {
     /// What is shown of the answer.
-    fn new(alloc: Global, place: Place, answer: &Answer) -> Result<ShownReply, AllocError> {
+    pub(crate) fn new(alloc: Global, told: &ToldReply<'a>) -> Result<ShownReply<'a>, AllocError> {
+        let ToldReply {
+            place,
+            answer,
+            same,
+            next,
+            unnamed,
+            journal,
+        } = *told;
         let reply = &answer.reply;
-        let next = next_of(reply);
         Ok(ShownReply {
             place,
             request: answer.request,
             reply: name_of(reply),
             outcome: outcome_of(reply).map(|outcome| outcome.code.name()),
+            same,
             entry: outcome_of(reply).and_then(entry_of),
             next,
-            followers: match next {
-                Some(next) => shown_followers(alloc, next, &answer.followers)?,
-                None => Vec::new(alloc),
+            followers: shown_followers(alloc, next, &answer.followers)?,
+            fault: fault_of(alloc, reply)?,
+            reason: reason_of(reply),
+            options: options_of(reply),
+            plan: plan_of(alloc, reply)?,
+            unnamed: match unnamed {
+                Some(entries) => Some(digits_of(alloc, entries)?),
+                None => None,
             },
-            fault: match reply {
-                Reply::Malformed(fault) => Some(fault.words(alloc)?),
-                _ => None,
-            },
-            reason: match reply {
-                Reply::Malformed(fault) => Some(frame_words(fault)),
-                _ => None,
-            },
-            options: match reply {
-                Reply::Prepared(count) => Some(*count),
-                _ => None,
-            },
-            plan: match reply {
-                Reply::Plan(plan) => Some(shown_plan(alloc, plan)?),
-                _ => None,
-            },
-            unnamed: None,
+            journal,
         })
     }
 
@@ -147,8 +162,9 @@ impl ShownReply {
                 ("request", Leaf::Number(self.request)),
                 ("reply", Leaf::Word(Some(self.reply))),
                 ("outcome", Leaf::Word(self.outcome)),
+                ("same", Leaf::Flag(self.same)),
                 ("entry", Leaf::Entry(self.entry)),
-                ("next", Leaf::Number(self.next)),
+                ("next", Leaf::Number(Some(self.next))),
             ],
             out,
         )
@@ -186,14 +202,35 @@ fn entry_of(outcome: Outcome) -> Option<EntryDigits> {
     outcome.entry.map(EntryDigits)
 }
 
-/// The next number that the reply tells.
-fn next_of(reply: &Reply) -> Option<u32> {
+/// Why what was delivered is no frame.
+fn fault_of(alloc: Global, reply: &Reply) -> Result<Option<String>, AllocError> {
     match reply {
-        Reply::Ahead(next)
-        | Reply::Waiting(next)
-        | Reply::Applied(_, next)
-        | Reply::Restarted(next) => Some(*next),
+        Reply::Malformed(fault) => Ok(Some(fault.words(alloc)?)),
+        _ => Ok(None),
+    }
+}
+
+/// The same in plain words.
+fn reason_of(reply: &Reply) -> Option<&'static str> {
+    match reply {
+        Reply::Malformed(fault) => Some(frame_words(fault)),
         _ => None,
+    }
+}
+
+/// How many options the plan has that is prepared.
+fn options_of(reply: &Reply) -> Option<usize> {
+    match reply {
+        Reply::Prepared(count) => Some(*count),
+        _ => None,
+    }
+}
+
+/// What is shown of the plan that is handed out.
+fn plan_of(alloc: Global, reply: &Reply) -> Result<Option<ShownPlan>, AllocError> {
+    match reply {
+        Reply::Plan(plan) => Ok(Some(shown_plan(alloc, plan)?)),
+        _ => Ok(None),
     }
 }
 

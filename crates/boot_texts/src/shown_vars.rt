@@ -17,7 +17,7 @@ use uefi_vars::{AtRisk, BOOT_NEXT, BOOT_ORDER, VarFault, Vars, entry_number, pla
 
 /// Variables as they are shown.
 #[derive(Drop)]
-struct ShownVars<'a> {
+pub(crate) struct ShownVars<'a> {
     /// How many there are.
     variables: usize,
     /// The entries, by rising number.
@@ -129,7 +129,7 @@ impl JsonObject for OtherVariable<'_> {
 
 impl<'a> ShownVars<'a> {
     /// What is shown of the variables.
-    fn new(alloc: Global, vars: &'a Vars) -> Result<ShownVars<'a>, AllocError> {
+    pub(crate) fn new(alloc: Global, vars: &'a Vars) -> Result<ShownVars<'a>, AllocError> {
         let mut shown = ShownVars::empty(alloc, vars)?;
         let at_risk = known_risks(alloc, vars)?;
         for (name, data) in vars.iter() {

@@ -1,1 +1,3 @@
 mod Below
+mod NextTold
+mod OpenRefusals

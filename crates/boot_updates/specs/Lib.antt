@@ -1,2 +1,4 @@
 pub mod KeptFault
+pub mod NextNumber
 pub mod Replies
+pub mod Told

@@ -1,9 +1,12 @@
 //! A place and a journal, as what a machine's updates are made in.
 
+use crate::notes::KeptNotes;
 use crate::variable_file::{is_in_file, set_in_file};
 use boot_journal::{CallError, Change, Device, Journal, MachineName, write_journal};
+use boot_notes::{Notes, with_notes};
 use std::alloc::{AllocError, Global};
 use std::io::{self, ErrorKind};
+use std::rc::Rc;
 use std::rt::Files;
 use var_places::{Failure, Folder, has_value, set_variable};
 use whole_files::{FileLock, LIMIT, OutputFile, read_file, replace_file};
@@ -38,6 +41,8 @@ pub struct PlaceDevice<'a, R: Files> {
     pub(crate) machine: MachineName,
     /// The path of the journal.
     pub(crate) journal: String,
+    /// What is kept beside the journal.
+    pub(crate) notes: Rc<KeptNotes>,
 }
 
 impl<R: Files<File: OutputFile> + Input + Print + AllocGlobal> Device for PlaceDevice<'_, R> {
@@ -70,7 +75,7 @@ impl<R: Files<File: OutputFile> + AllocGlobal> PlaceDevice<'_, R> {
     pub(crate) fn replace(&self, journal: &Journal) -> Result<(), Failure> {
         let alloc = self.rt.alloc();
         let path = self.journal.as_str();
-        let bytes = write_journal(alloc, &self.machine, journal)?;
+        let bytes = self.file_of(journal)?;
         if bytes.len() > LIMIT {
             return Err(too_long(alloc, path, bytes.len()));
         }
@@ -80,10 +85,45 @@ impl<R: Files<File: OutputFile> + AllocGlobal> PlaceDevice<'_, R> {
         }
     }
 
+    /// Whether notes are kept beside the journal.
+    pub(crate) fn has_notes(&self) -> bool {
+        match self.notes.try_borrow() {
+            Ok(notes) => notes.is_some(),
+            Err(_) => true,
+        }
+    }
+
+    /// Replaces the journal's file by that of this journal, with these notes beside it.
+    ///
+    /// # Errors
+    ///
+    /// As of [`PlaceDevice::replace`]: nothing is kept beside the journal then.
+    pub(crate) fn replace_with(&self, notes: Notes, journal: &Journal) -> Result<(), Failure> {
+        let _ = self.notes.try_replace(Some(notes));
+        let replaced = self.replace(journal);
+        if replaced.is_err() {
+            let _ = self.notes.try_replace(None);
+        }
+        replaced
+    }
+
+    /// The bytes of the journal's file, with what is kept beside the journal. This fails only when out of memory.
+    fn file_of(&self, journal: &Journal) -> Result<Vec<u8>, AllocError> {
+        let alloc = self.rt.alloc();
+        let file = write_journal(alloc, &self.machine, journal)?;
+        let Ok(notes) = self.notes.try_borrow() else {
+            return Err(AllocError);
+        };
+        match &*notes {
+            Some(notes) => with_notes(alloc, notes, &file),
+            None => Ok(file),
+        }
+    }
+
     /// Whether the journal's file is that of this journal, or that can't be told: then it may be so, and is to be taken
     /// back.
     fn may_have(&self, journal: &Journal) -> bool {
-        let Ok(bytes) = write_journal(self.rt.alloc(), &self.machine, journal) else {
+        let Ok(bytes) = self.file_of(journal) else {
             return true;
         };
         match read_file(self.rt, self.journal.as_str(), LIMIT) {

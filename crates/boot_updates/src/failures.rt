@@ -2,7 +2,9 @@
 
 use crate::kept_run::KeptFault;
 use crate::machine_words::MachineWords;
+use crate::not_made::{NotMade, Refused};
 use boot_journal::{CallError, CommandError, RunFault, UpdateError};
+use boot_requests::OpenFault;
 use boot_texts::open_reason;
 use std::alloc::{AllocError, Global};
 use std::fmt::{self, Display};
@@ -26,13 +28,13 @@ pub(crate) fn of_command(
     alloc: Global,
     words: &MachineWords<'_>,
     error: CommandError<Failure, KeptFault<RunFault>>,
-) -> Failure {
+) -> NotMade {
     match error {
-        CommandError::OutOfMemory => Failure::Memory,
+        CommandError::OutOfMemory => NotMade::from(Failure::Memory),
         CommandError::Run(KeptFault::Run(fault)) => of_run(alloc, words, fault),
-        CommandError::Run(KeptFault::History(failure)) => failure,
-        CommandError::Settling(error) => of_settling(alloc, words, error),
-        CommandError::Updating(error) => of_updating(alloc, words, error),
+        CommandError::Run(KeptFault::History(failure)) => NotMade::from(failure),
+        CommandError::Settling(error) => NotMade::from(of_settling(alloc, words, error)),
+        CommandError::Updating(error) => NotMade::from(of_updating(alloc, words, error)),
     }
 }
 
@@ -51,24 +53,27 @@ pub fn of_updating(
 }
 
 /// What it is to the program that the variables of the place, or those that the requests lead to, are refused.
-pub(crate) fn of_run(alloc: Global, words: &MachineWords<'_>, fault: RunFault) -> Failure {
+pub(crate) fn of_run(alloc: Global, words: &MachineWords<'_>, fault: RunFault) -> NotMade {
     match fault {
-        RunFault::Open(open) => match format!(in alloc; "{open}: {}", open_reason(&open)) {
-            Ok(text) => Failure::of_run(alloc, words.place, text.as_str()),
-            Err(AllocError) => Failure::Memory,
-        },
-        RunFault::NoData => {
-            Failure::of_fault(
-                alloc,
-                words.place,
-                "a boot variable has no value after its attributes",
-            )
-        }
-        RunFault::TooLong => Failure::of_fault(
+        RunFault::Open(open) => NotMade::refused(Refused::Open(open), of_open(alloc, words, &open)),
+        RunFault::NoData => NotMade::from(Failure::of_fault(
+            alloc,
+            words.place,
+            "a boot variable has no value after its attributes",
+        )),
+        RunFault::TooLong => NotMade::from(Failure::of_fault(
             alloc,
             words.place,
             "a boot variable would have more than 1048576 bytes, with its four of attributes",
-        ),
+        )),
+    }
+}
+
+/// What it is to the program that the variables of the place can't be kept.
+fn of_open(alloc: Global, words: &MachineWords<'_>, fault: &OpenFault) -> Failure {
+    match format!(in alloc; "{fault}: {}", open_reason(fault)) {
+        Ok(text) => Failure::of_run(alloc, words.place, text.as_str()),
+        Err(AllocError) => Failure::Memory,
     }
 }
 

@@ -1,7 +1,11 @@
 //! What was there before a change, kept so that the change can be undone.
 
+ghost use Rattle.std.specs.Prelude.{◌≡◌, ◌≢◌, ◌↔◌, [], IsTrue, IfOk, IfErr};
+ghost use Rattle.uefi_vars.specs.BootChange.{changes_from};
+ghost use Rattle.boot_journal.specs.Cause.{IfRefused};
+
 use boot_history::{Record, Standing, newest, push, remove, standing_of, time_now};
-use boot_journal::MachineName;
+use boot_journal::{CallError, MachineName};
 use std::alloc::{AllocError, Global};
 use std::rt::{Clock, Files};
 use uefi_vars::{Vars, boot_changes};
@@ -25,18 +29,34 @@ impl History<'_> {
     ///
     /// # Errors
     ///
-    /// [`Failure::Read`] and [`Failure::Write`] with the system's reason, [`Failure::Refused`] if it would be too long, and
-    /// [`Failure::Memory`] if memory was refused.
+    /// [`CallError::Refused`] if there is a change: with [`Failure::Read`] and [`Failure::Write`] with the system's reason, and
+    /// with [`Failure::Refused`] if it would be too long. [`CallError::OutOfMemory`] if memory was refused.
     pub fn keep<R: Files<File: OutputFile> + Clock + AllocGlobal>(
+        &self,
+        rt: &R,
+        from: &Vars,
+        to: &Vars,
+    ) -> Result<(), CallError<Failure>>
+        ensures { IfErr result (λ error. IfRefused error (λ _. changes_from from.now to.now ≢ [])) }
+    {
+        if !changes_some(rt.alloc(), from, to)? {
+            return Ok(());
+        }
+        match self.keep_change(rt, from, to) {
+            Ok(()) => Ok(()),
+            Err(Failure::Memory) => Err(CallError::OutOfMemory),
+            Err(failure) => Err(CallError::Refused(failure)),
+        }
+    }
+
+    /// Keeps what the machine keeps before and after a change.
+    fn keep_change<R: Files<File: OutputFile> + Clock + AllocGlobal>(
         &self,
         rt: &R,
         from: &Vars,
         to: &Vars,
     ) -> Result<(), Failure> {
         let alloc = rt.alloc();
-        if boot_changes(alloc, from, to)?.is_empty() {
-            return Ok(());
-        }
         let record = Record::new(
             alloc,
             same_name(alloc, self.machine)?,
@@ -68,6 +88,14 @@ impl History<'_> {
             Standing::Unchanged | Standing::Changed => Ok(()),
         }
     }
+}
+
+/// Whether a change from the one set to the other changes some of the boot manager's variables. This fails only when out of
+/// memory.
+fn changes_some(alloc: Global, from: &Vars, to: &Vars) -> Result<bool, AllocError>
+    ensures { IfOk result (λ some. IsTrue some ↔ (changes_from from.now to.now ≢ [])) }
+{
+    Ok(!boot_changes(alloc, from, to)?.is_empty())
 }
 
 /// The same texts. This fails only when out of memory.

@@ -24,12 +24,12 @@ pub(crate) struct KeptRun<'a, R, Q> {
 pub enum KeptFault<F> {
     /// The run itself does.
     Run(F),
-    /// What is there can't be kept.
+    /// The run leads to a change, and what is there can't be kept.
     History(Failure),
 }
 
 impl<R: Files<File: OutputFile> + Clock + AllocGlobal, Q: Run> Run for KeptRun<'_, R, Q> {
-    ghost use Rattle.boot_updates.specs.KeptFault.{IsKeptFault};
+    ghost use Rattle.boot_updates.specs.KeptFault.{IsKeptFault, LeadsToChange};
 
     type Answer = Q::Answer;
 
@@ -37,7 +37,7 @@ impl<R: Files<File: OutputFile> + Clock + AllocGlobal, Q: Run> Run for KeptRun<'
 
     ghost leads = { λ kept from to answer. Q.leads kept.run.now from to answer };
 
-    ghost refuses = { λ kept from fault. IsKeptFault fault (Q.refuses kept.run.now from) };
+    ghost refuses = { λ kept from fault. IsKeptFault fault (Q.refuses kept.run.now from) (LeadsToChange (Q.leads kept.run.now) from) };
 
     fn run(
         &self,
@@ -47,7 +47,10 @@ impl<R: Files<File: OutputFile> + Clock + AllocGlobal, Q: Run> Run for KeptRun<'
         match self.run.run(alloc, vars) {
             Ok((to, answer)) => match self.history.keep(self.rt, vars, &to) {
                 Ok(()) => Ok((to, answer)),
-                Err(failure) => Err(CallError::Refused(KeptFault::History(failure))),
+                Err(CallError::OutOfMemory) => Err(CallError::OutOfMemory),
+                Err(CallError::Refused(failure)) => {
+                    Err(CallError::Refused(KeptFault::History(failure)))
+                }
             },
             Err(CallError::OutOfMemory) => Err(CallError::OutOfMemory),
             Err(CallError::Refused(fault)) => Err(CallError::Refused(KeptFault::Run(fault))),

@@ -74,7 +74,7 @@ fn long_names(alloc: Global, vars: &Vars) -> Result<Vec<String>, AllocError> {
 }
 
 /// Takes the variables of these names out.
-fn leave_out(vars: &mut Vars, names: &[String]) {
+pub(crate) fn leave_out(vars: &mut Vars, names: &[String]) {
     for name in names {
         vars.remove(name.as_str());
     }

@@ -1,5 +1,6 @@
 //! Variables of a machine that no set can hold, and that requests so can't change.
 
+use crate::not_made::{NotMade, Refused};
 use crate::script::Script;
 use boot_requests::{Event, FrameFault, Request, read_frame};
 use boot_texts::Place;
@@ -17,7 +18,7 @@ pub(crate) fn check_requests(
     alloc: Global,
     script: &Script<'_>,
     left_out: &[String],
-) -> Result<(), Failure> {
+) -> Result<(), NotMade> {
     if left_out.is_empty() {
         return Ok(());
     }
@@ -27,7 +28,10 @@ pub(crate) fn check_requests(
             let fault = format!(in alloc;
                 "{place} would change {variable}, which has no value or too long a one, and stays as it is"
             )?;
-            return Err(Failure::of_run(alloc, script.name, fault.as_str()));
+            return Err(NotMade::refused(
+                Refused::LeftOut,
+                Failure::of_run(alloc, script.name, fault.as_str()),
+            ));
         }
     }
     Ok(())
@@ -52,10 +56,15 @@ fn changed_by<'a>(
 /// The variable of these that the request would change. A request that makes an entry passes their numbers over.
 fn changed_by_request<'a>(request: &Request, left_out: &'a [String]) -> Option<&'a str> {
     match request {
-        Request::Add(..) | Request::AddFree(_) => left_out_name(left_out, BOOT_ORDER),
+        Request::Add(..) | Request::AddFree(_) | Request::AddFirst(_) => {
+            left_out_name(left_out, BOOT_ORDER)
+        }
         Request::Replace(entry, _) | Request::Remove(entry) => left_out_entry(left_out, *entry),
         Request::Next(entry) => {
             left_out_entry(left_out, *entry).or_else(|| left_out_name(left_out, BOOT_NEXT))
+        }
+        Request::First(entry) => {
+            left_out_entry(left_out, *entry).or_else(|| left_out_name(left_out, BOOT_ORDER))
         }
         Request::Order(order) => order
             .numbers()

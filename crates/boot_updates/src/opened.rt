@@ -6,10 +6,12 @@ use crate::history::copies;
 use crate::kept_vars::{KeptVars, kept_of};
 use crate::machine_words::MachineWords;
 use crate::owner::{name_of_machine, own_journal};
-use crate::state_folder::stored_journal;
+use crate::state_folder::{StoredJournal, stored_with_notes};
 use crate::told::tell_of_settling;
 use boot_journal::{BootId, Journal, Recorded};
 use std::alloc::{AllocError, Global};
+use std::cell::RefCell;
+use std::rc::Rc;
 use std::rt::Files;
 use uefi_vars::Vars;
 use var_places::{
@@ -109,6 +111,7 @@ fn device_of<'a, R: Files<File: OutputFile> + AllocGlobal>(
 ) -> Result<OpenedDevice<'a, R>, Failure> {
     let machine = name_of_machine(rt, words, opened.kept.is_folder)?;
     let journal = String::from_str(rt.alloc(), journal_path)?;
+    let notes = Rc::new(rt.alloc(), RefCell::new(None))?;
     let OpenedPlace { place, kept } = opened;
     Ok(OpenedDevice {
         device: PlaceDevice {
@@ -116,6 +119,7 @@ fn device_of<'a, R: Files<File: OutputFile> + AllocGlobal>(
             place,
             machine,
             journal,
+            notes,
         },
         vars: kept.vars,
     })
@@ -140,7 +144,14 @@ fn journal_for<R: Files<File: OutputFile> + Input + Print + Eprint + AllocGlobal
     boot: &BootId,
 ) -> Result<Journal, Failure> {
     let OpenedDevice { device, vars } = opened;
-    let stored = stored_journal(device.rt, device.journal.as_str())?;
+    let stored = match stored_with_notes(device.rt, device.journal.as_str())? {
+        Some(StoredJournal { notes, file }) => {
+            // Nothing else holds them as yet.
+            let _ = device.notes.try_replace(notes);
+            Some(file)
+        }
+        None => None,
+    };
     let journal = own_journal(words, device, stored, vars)?;
     tell_of_settling(device.rt, words.place, vars, &journal, boot)?;
     Ok(journal)

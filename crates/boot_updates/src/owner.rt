@@ -67,6 +67,8 @@ pub(crate) fn own_journal<R: Files<File: OutputFile> + Input + Print + AllocGlob
         is_unnamed,
     } = owner.take(device.rt.alloc(), stored, there)?;
     if is_unnamed {
+        // The identity was that of another journal.
+        let _ = device.notes.try_replace(None);
         device.replace(&journal)?;
     }
     Ok(journal)

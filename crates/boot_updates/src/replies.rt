@@ -1,16 +1,23 @@
 //! What is printed of replies, and whether all was done.
 
-ghost use Rattle.std.specs.Prelude.{◌≡◌, ◌↔◌, IsTrue};
-ghost use Rattle.std.specs.List.{AllByRecursion};
+ghost use Rattle.std.specs.Prelude.{◌≡◌, ◌↔◌, List, [], IsTrue};
+ghost use Rattle.std.specs.List.{AllByRecursion, fold};
 ghost use Rattle.boot_requests.specs.declared.event.Event.{Event};
+ghost use Rattle.boot_requests.specs.Answering.{replies_of};
 ghost use Rattle.boot_requests.specs.Followers.{request_of};
+ghost use Rattle.boot_requests.specs.Reply.{AreAnswers};
+ghost use Rattle.boot_requests.specs.Run.{gap_at, run_followed_by};
 ghost use Rattle.boot_requests.specs.Seen.{Seen, IsSeen};
+ghost use Rattle.boot_requests.specs.State.{State};
+ghost use Rattle.boot_updates.specs.NextNumber.{next_after};
 ghost use Rattle.boot_updates.specs.Replies.{IsBelow, IsCarriedOut, IsDone};
+ghost use Rattle.boot_updates.specs.Told.{IsNoOther};
+ghost use Rattle.boot_updates.specs.declared.replies.Ended.TheVariants as ended;
 
 use crate::requests_run::Answered;
 use crate::script::Script;
-use boot_requests::{Answer, Code, Outcome, Reply, append_reply_line};
-use boot_texts::{Place, reply_json};
+use boot_requests::{Answer, Code, Outcome, Reply, reply_line};
+use boot_texts::{Place, ToldReply, reply_json};
 use std::alloc::{AllocError, Global};
 
 /// How an update ended that was made.
@@ -18,12 +25,33 @@ use std::alloc::{AllocError, Global};
 pub enum Ended {
     /// Each request was applied or had been before, and was carried out.
     AllDone,
-    /// Something that was delivered is no frame, or its number is too far ahead, or another request of its number waits, or
-    /// a request still waits for one before it, or it couldn't be carried out.
+    /// Something that was delivered is no frame, or its number is too far ahead, or another request of its number waits or
+    /// was applied, or a request still waits for one before it, or it couldn't be carried out.
     NotAll,
 }
 
-/// The answers to the events of the script as they are printed: as lines, or as JSON.
+/// A job that was done: what is to be printed of it, and how it ended.
+#[derive(Drop)]
+pub(crate) struct Finished {
+    /// What is to be printed.
+    pub(crate) text: String,
+    /// How it ended.
+    pub(crate) ended: Ended,
+}
+
+/// How replies are printed.
+#[derive(Clone, Copy, Debug, PartialEq, Eq)]
+pub enum ReplyForm {
+    /// As lines, as `bootkeep run` prints them.
+    Lines,
+    /// As JSON, an object on a line each.
+    Json,
+    /// As JSON, one object with what there is afterwards.
+    Look,
+}
+
+/// The answers to the events of the script as lines or as JSON, an object on a line each. The identity is the journal's, if it
+/// has one.
 ///
 /// # Errors
 ///
@@ -32,68 +60,141 @@ pub(crate) fn answers_text(
     alloc: Global,
     script: &Script<'_>,
     answered: &Answered,
+    journal: Option<&str>,
     json: bool,
 ) -> Result<String, AllocError> {
     if json {
-        answers_json(alloc, script, answered)
+        answers_json(alloc, &told_replies(alloc, script, answered, journal)?)
     } else {
-        answer_lines(alloc, &answered.answers)
+        answer_lines(alloc, answered)
     }
 }
 
-/// The answers as lines, as `bootkeep run` prints replies.
+/// What is said of a repeat of another frame than the one that was applied, behind its line.
+const ANOTHER: &str = " (another request)";
+
+/// The answers as lines, as `bootkeep run` prints replies, with a remark behind a repeat of another request.
 ///
 /// # Errors
 ///
 /// [`AllocError`] if memory was refused.
-fn answer_lines(alloc: Global, answers: &[Answer]) -> Result<String, AllocError> {
+fn answer_lines(alloc: Global, answered: &Answered) -> Result<String, AllocError> {
     let mut text = String::new(alloc);
-    for answer in answers {
-        append_reply_line(alloc, &answer.reply, &mut text)?;
+    for (answer, same) in answered.answers.iter().zip(&answered.noted.same) {
+        text.push_str(&reply_line(alloc, &answer.reply)?)?;
+        if *same == Some(false) {
+            text.push_str(ANOTHER)?;
+        }
+        text.push('\n')?;
     }
     Ok(text)
 }
 
-/// The answers to the events of the script as JSON, an object on a line each, of which the last has the entries that
-/// are left in no order.
+/// The answers as JSON, an object on a line each.
 ///
 /// # Errors
 ///
 /// [`AllocError`] if memory was refused.
-fn answers_json(
+fn answers_json(alloc: Global, replies: &[ToldReply<'_>]) -> Result<String, AllocError> {
+    let mut text = String::new(alloc);
+    for told in replies {
+        text.push_str(&reply_json(alloc, told)?)?;
+    }
+    Ok(text)
+}
+
+/// The answers to the events of the script, each with the next number after its event, and the last with the entries that are
+/// left in no order.
+///
+/// # Errors
+///
+/// [`AllocError`] if memory was refused.
+pub(crate) fn told_replies<'a>(
     alloc: Global,
     script: &Script<'_>,
-    answered: &Answered,
-) -> Result<String, AllocError> {
-    let mut text = String::new(alloc);
-    let last = answered.answers.len().checked_sub(1);
-    for (index, (at, answer)) in script.places.iter().zip(&answered.answers).enumerate() {
-        let unnamed = (Some(index) == last).then_some(answered.unnamed.as_slice());
-        text.push_str(&reply_json(alloc, Place::new(script.format, *at), answer, unnamed)?)?;
+    answered: &'a Answered,
+    journal: Option<&'a str>,
+) -> Result<Vec<ToldReply<'a>>, AllocError> {
+    let mut told = Vec::with_capacity(alloc, answered.answers.len())?;
+    let mut next = answered.first;
+    let answers = answered.answers.iter().zip(&answered.noted.same);
+    for (at, (answer, same)) in script.places.iter().zip(answers) {
+        next = next_after(next, answer);
+        told.push(ToldReply {
+            place: Place::new(script.format, *at),
+            answer,
+            same: *same,
+            next,
+            unnamed: None,
+            journal,
+        })?;
     }
-    Ok(text)
+    if let Some(last) = told.last_mut() {
+        last.unnamed = Some(answered.unnamed.as_slice());
+    }
+    Ok(told)
 }
 
-/// Whether the answers say that all was done.
-pub(crate) fn ending(answers: &[Answer]) -> Ended {
-    let next = last_next(answers);
-    if answers.iter().all(|answer| is_done(answer, next)) {
+/// The next number after an event with this answer, if it was this before.
+fn next_after(before: u32, answer: &Answer) -> u32
+    ensures { result ≡ next_after before answer.now }
+{
+    match &answer.reply {
+        Reply::Applied(_, next) => *next,
+        _ => before,
+    }
+}
+
+/// The next number after all events.
+#[tactic(auto, using(crate::proofs::NextTold::next_is_gap))]
+pub(crate) fn next_in(answered: &Answered) -> u32
+    ensures { (start : State) (seen : List Seen) → answered.now.first ≡ start.next_number →
+        AreAnswers start [] seen (replies_of answered.now.answers.items) →
+        result ≡ gap_at start.next_number (run_followed_by [] seen) }
+{
+    next_after_all(answered.first, &answered.answers)
+}
+
+/// The next number after events with these answers, if it was this before.
+fn next_after_all(before: u32, answers: &[Answer]) -> u32
+    ensures { result ≡ fold next_after before answers.now }
+{
+    let mut next = before;
+    for answer in answers {
+        next = next_after(next, answer);
+    }
+    next
+}
+
+/// Whether the answers say that all was done, and no repeat is known to be of another request.
+pub(crate) fn ending(answered: &Answered) -> Ended
+    ensures { result ≡ ended.AllDone → AllByRecursion IsNoOther answered.now.noted.same.items }
+{
+    let next = next_in(answered);
+    if are_no_others(&answered.noted.same)
+        && answered.answers.iter().all(|answer| is_done(answer, next))
+    {
         Ended::AllDone
     } else {
         Ended::NotAll
     }
 }
 
-/// The next number that the last answer tells that tells one: 0 if none does.
-pub(crate) fn last_next(answers: &[Answer]) -> u32 {
-    let told = answers.iter().rev().find_map(|answer| match &answer.reply {
-        Reply::Ahead(next)
-        | Reply::Waiting(next)
-        | Reply::Applied(_, next)
-        | Reply::Restarted(next) => Some(*next),
-        _ => None,
-    });
-    told.unwrap_or(0)
+/// Whether none of these is known to be another request than the one that was applied.
+fn are_no_others(same: &[Option<bool>]) -> bool
+    ensures { IsTrue result ↔ AllByRecursion IsNoOther same.now }
+{
+    same.iter().all(is_no_other)
+}
+
+/// Whether it isn't known to be another one.
+fn is_no_other(same: &Option<bool>) -> bool
+    ensures { IsTrue result ↔ IsNoOther same.now }
+{
+    match same {
+        Some(is_same) => *is_same,
+        None => true,
+    }
 }
 
 /// Whether what the event with this answer asks for was done, if this is the next number after all events.

@@ -1,8 +1,9 @@
 //! Scripts and streams of requests.
 
+use crate::not_made::{NotMade, Refused};
 use boot_requests::{Event, EventList, InputFormat};
 use boot_texts::refused_script;
-use std::alloc::{AllocError, Global};
+use std::alloc::Global;
 use std::rt::Files;
 use var_places::{Failure, name_of, read};
 
@@ -29,13 +30,6 @@ impl Script<'_> {
             places: Vec::new(alloc),
         }
     }
-
-    /// A restart alone, of no file. This fails only when out of memory.
-    pub(crate) fn restart(alloc: Global) -> Result<Script<'static>, AllocError> {
-        let mut script = Script::empty(alloc);
-        script.events.push(Event::Restart)?;
-        Ok(script)
-    }
 }
 
 /// The events of the script at this path, or of the stream, read to its end.
@@ -48,19 +42,28 @@ pub(crate) fn read_events<'a, R: Files + Input + AllocGlobal>(
     rt: &R,
     path: &'a str,
     format: InputFormat,
-) -> Result<Script<'a>, Failure> {
+) -> Result<Script<'a>, NotMade> {
     let alloc = rt.alloc();
     let bytes = read(rt, path)?;
     let name = name_of(path);
     let list = format.events(alloc, &bytes)?;
-    if let Some(fault) = refused_script(alloc, format, &bytes, &list)? {
-        return Err(Failure::of_run(alloc, name, fault.as_str()));
-    }
-    let EventList { events, places, .. } = list;
-    Ok(Script {
-        name,
-        format,
+    let words = refused_script(alloc, format, &bytes, &list)?;
+    let EventList {
         events,
         places,
-    })
+        fault,
+        ..
+    } = list;
+    match (fault, words) {
+        (Some(fault), Some(words)) => Err(NotMade::refused(
+            Refused::Script(fault),
+            Failure::of_run(alloc, name, words.as_str()),
+        )),
+        _ => Ok(Script {
+            name,
+            format,
+            events,
+            places,
+        }),
+    }
 }

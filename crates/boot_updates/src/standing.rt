@@ -8,9 +8,10 @@ use crate::boot_identity::boot_id;
 use crate::kept_vars::KeptVars;
 use crate::machine_words::MachineWords;
 use crate::owner::{OwnJournal, Owner, name_of_machine};
-use crate::state_folder::{journal_path, stored_journal};
+use crate::state_folder::{StoredJournal, journal_path, stored_with_notes};
 use crate::values::set_value;
 use boot_journal::{BootId, Change, Journal, JournalFile, MachineName};
+use boot_notes::Notes;
 use std::alloc::{AllocError, Global};
 use std::io::ErrorKind;
 use std::rt::Files;
@@ -26,6 +27,15 @@ pub struct SettledVars {
     pub is_due: bool,
 }
 
+/// What a machine stands for, with what is kept beside its journal.
+#[derive(Drop)]
+pub(crate) struct SettledMachine {
+    /// What it stands for.
+    pub(crate) settled: SettledVars,
+    /// What is kept beside its journal: `None` if nothing is, or if the journal was another machine's.
+    pub(crate) notes: Option<Notes>,
+}
+
 /// What the machine of the words stands for, if it keeps this now. Nothing is changed.
 ///
 /// # Errors
@@ -38,26 +48,59 @@ pub fn stands_for<R: Files + Eprint + AllocGlobal>(
     words: &MachineWords<'_>,
     kept: &KeptVars,
 ) -> Result<SettledVars, Failure> {
+    Ok(stands_with_notes(rt, words, kept)?.settled)
+}
+
+/// The same as of [`stands_for`], with what is kept beside the journal.
+///
+/// # Errors
+///
+/// As of [`stands_for`].
+pub(crate) fn stands_with_notes<R: Files + Eprint + AllocGlobal>(
+    rt: &R,
+    words: &MachineWords<'_>,
+    kept: &KeptVars,
+) -> Result<SettledMachine, Failure> {
     let alloc = rt.alloc();
     let path = journal_path(alloc, words.state)?;
     let path = path.as_path().as_str();
-    let stored = readable_journal(rt, path)?;
+    let (file, notes) = match readable_journal(rt, path)? {
+        Some(StoredJournal { notes, file }) => (Some(file), notes),
+        None => (None, None),
+    };
     let machine = name_of_machine(rt, words, kept.is_folder)?;
     let owner = Owner {
         words,
         machine: &machine,
         path,
     };
-    let OwnJournal { journal, .. } = owner.take(alloc, stored, &kept.vars)?;
+    let OwnJournal {
+        journal,
+        is_unnamed,
+    } = owner.take(alloc, file, &kept.vars)?;
+    Ok(SettledMachine {
+        settled: settled_vars(rt, words, kept, &journal)?,
+        notes: if is_unnamed { None } else { notes },
+    })
+}
+
+/// What the machine of the words stands for, if it keeps this now, and its journal is this.
+fn settled_vars<R: Files + Eprint + AllocGlobal>(
+    rt: &R,
+    words: &MachineWords<'_>,
+    kept: &KeptVars,
+    journal: &Journal,
+) -> Result<SettledVars, Failure> {
+    let alloc = rt.alloc();
     match journal.began_under() {
         None => Ok(SettledVars {
-            vars: with_state(alloc, &kept.vars, &journal)?,
+            vars: with_state(alloc, &kept.vars, journal)?,
             is_due: false,
         }),
         Some(_) => {
             let boot = boot_id(rt, words, kept.is_folder)?;
             Ok(SettledVars {
-                vars: after_due(alloc, &kept.vars, &journal, &boot)?,
+                vars: after_due(alloc, &kept.vars, journal, &boot)?,
                 is_due: true,
             })
         }
@@ -68,8 +111,8 @@ pub fn stands_for<R: Files + Eprint + AllocGlobal>(
 fn readable_journal<R: Files + Eprint + AllocGlobal>(
     rt: &R,
     path: &str,
-) -> Result<Option<JournalFile>, Failure> {
-    let stored = stored_journal(rt, path);
+) -> Result<Option<StoredJournal>, Failure> {
+    let stored = stored_with_notes(rt, path);
     if may_be_read(&stored) {
         return stored;
     }
@@ -82,7 +125,7 @@ fn readable_journal<R: Files + Eprint + AllocGlobal>(
 }
 
 /// Whether the user may read the journal, of which this was read.
-fn may_be_read(stored: &Result<Option<JournalFile>, Failure>) -> bool {
+fn may_be_read(stored: &Result<Option<StoredJournal>, Failure>) -> bool {
     match stored {
         Err(Failure::Read { error, .. }) => error.kind() != ErrorKind::PermissionDenied,
         _ => true,

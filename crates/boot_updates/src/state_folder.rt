@@ -1,6 +1,7 @@
 //! The folder that has the journal of a machine.
 
 use boot_journal::{JournalFault, JournalFile, read_journal};
+use boot_notes::{Notes, NotesFault, SplitNotes, split_notes};
 use std::alloc::{AllocError, Global};
 use std::fs::{File, OpenFile};
 use std::io::{self, ErrorKind};
@@ -70,6 +71,15 @@ pub(crate) fn journal_path(alloc: Global, folder: &str) -> Result<PathBuf, Alloc
     Path::new(folder).join(alloc, JOURNAL)
 }
 
+/// A journal that is stored, with what is kept beside it.
+#[derive(Drop)]
+pub(crate) struct StoredJournal {
+    /// What is kept beside it: `None` if nothing is.
+    pub(crate) notes: Option<Notes>,
+    /// The journal, and whose it is.
+    pub(crate) file: JournalFile,
+}
+
 /// The journal that is stored at this path, if there is one.
 ///
 /// # Errors
@@ -80,6 +90,21 @@ pub fn stored_journal<R: Files + AllocGlobal>(
     rt: &R,
     path: &str,
 ) -> Result<Option<JournalFile>, Failure> {
+    match stored_with_notes(rt, path)? {
+        Some(StoredJournal { file, .. }) => Ok(Some(file)),
+        None => Ok(None),
+    }
+}
+
+/// The same, with what is kept beside it.
+///
+/// # Errors
+///
+/// As of [`stored_journal`].
+pub(crate) fn stored_with_notes<R: Files + AllocGlobal>(
+    rt: &R,
+    path: &str,
+) -> Result<Option<StoredJournal>, Failure> {
     let alloc = rt.alloc();
     match read_file(rt, path, LIMIT) {
         Ok(Some(bytes)) => Ok(Some(journal_of(alloc, path, &bytes)?)),
@@ -90,11 +115,31 @@ pub fn stored_journal<R: Files + AllocGlobal>(
 }
 
 /// The journal of these bytes of the file at this path.
-fn journal_of(alloc: Global, path: &str, bytes: &[u8]) -> Result<JournalFile, Failure> {
+fn journal_of(alloc: Global, path: &str, bytes: &[u8]) -> Result<StoredJournal, Failure> {
+    match split_notes(alloc, bytes) {
+        Ok(Some(SplitNotes { notes, file })) => Ok(StoredJournal {
+            file: file_of(alloc, path, bytes.len().saturating_sub(file.len()), file)?,
+            notes: Some(notes),
+        }),
+        Ok(None) => Ok(StoredJournal {
+            notes: None,
+            file: file_of(alloc, path, 0, bytes)?,
+        }),
+        Err(NotesFault::OutOfMemory) => Err(Failure::Memory),
+        Err(fault) => {
+            let text = format!(in alloc; "{fault}: {}", notes_reason(&fault))?;
+            Err(Failure::refused(alloc, path, Reason::DamagedJournal(text)))
+        }
+    }
+}
+
+/// The journal of these bytes, which come after as many others in the file at this path.
+fn file_of(alloc: Global, path: &str, before: usize, bytes: &[u8]) -> Result<JournalFile, Failure> {
     match read_journal(alloc, bytes) {
         Ok(journal) => Ok(journal),
         Err(JournalFault::OutOfMemory) => Err(Failure::Memory),
         Err(fault) => {
+            let fault = behind(fault, before);
             let words = fault.words(alloc)?;
             let text = format!(in alloc; "{words}: {}", journal_reason(&fault))?;
             Err(Failure::refused(alloc, path, Reason::DamagedJournal(text)))
@@ -102,10 +147,34 @@ fn journal_of(alloc: Global, path: &str, bytes: &[u8]) -> Result<JournalFile, Fa
     }
 }
 
+/// The fault of bytes that come after as many others, with its place among all of them.
+fn behind(fault: JournalFault, before: usize) -> JournalFault {
+    let at = |place: usize| place.saturating_add(before);
+    match fault {
+        JournalFault::BadMachine(place) => JournalFault::BadMachine(at(place)),
+        JournalFault::Truncated(place) => JournalFault::Truncated(at(place)),
+        JournalFault::ValueTooLong(place) => JournalFault::ValueTooLong(at(place)),
+        JournalFault::BadCourse(place) => JournalFault::BadCourse(at(place)),
+        JournalFault::BadIdentity(place) => JournalFault::BadIdentity(at(place)),
+        JournalFault::BadName(place) => JournalFault::BadName(at(place)),
+        JournalFault::BadMagic => JournalFault::BadMagic,
+        JournalFault::OutOfMemory => JournalFault::OutOfMemory,
+    }
+}
+
+/// Why bytes are no notes, after the words of the fault.
+fn notes_reason(fault: &NotesFault) -> &'static str {
+    match fault {
+        NotesFault::Truncated(_) => "it is cut, and ends in what is kept beside the journal",
+        NotesFault::TooMany(_) => "more than 128 digests are to be kept beside the journal",
+        NotesFault::OutOfMemory => "out of memory",
+    }
+}
+
 /// Why bytes are no journal, after the words of the fault, which have its place.
 fn journal_reason(fault: &JournalFault) -> &'static str {
     match fault {
-        JournalFault::BadMagic => "it begins neither with BKJ1 nor with BKJ2",
+        JournalFault::BadMagic => "it begins with none of BKJ1, BKJ2 and BKJ3",
         JournalFault::BadMachine(_) => "the name of its machine has no byte, or more than 4096",
         JournalFault::Truncated(_) => "it is cut, and ends in the field at that byte",
         JournalFault::ValueTooLong(_) =>

@@ -1,19 +1,17 @@
 //! The command `update`.
 
-use crate::failures::{of_command, of_settling};
-use crate::history::History;
-use crate::kept_run::kept_command;
-use crate::left_out::check_requests;
+use crate::failures::of_settling;
 use crate::machine_words::MachineWords;
-use crate::opened::{OpenedPlace, open_machine, open_place};
-use crate::owner::name_of_machine;
+use crate::not_made::NotMade;
+use crate::opened::{open_machine, open_place};
 use crate::plan::plan_script;
-use crate::replies::{Ended, answers_text, ending, last_next};
-use crate::requests_run::{Answered, RequestsRun};
+use crate::refusals::print_refusal;
+use crate::replies::{Ended, Finished, ReplyForm};
 use crate::script::{Script, read_events};
 use crate::state_folder::lock_folder;
 use crate::told::tell_of_unnamed;
-use boot_journal::{MachineName, Requests, settle};
+use crate::updated::run_events;
+use boot_journal::settle;
 use boot_requests::InputFormat;
 use std::rt::{Clock, Files};
 use var_places::{Failure, print};
@@ -39,22 +37,25 @@ pub enum Job<'a> {
         script: &'a str,
         /// Whether it is a stream.
         is_stream: bool,
-        /// Whether the replies are printed as JSON.
-        json: bool,
+        /// How the replies are printed.
+        form: ReplyForm,
         /// Whether nothing is changed, and what would be is printed.
         dry_run: bool,
     },
     /// To tell the next number.
     Next,
+    /// To tell, as JSON, the next number and what there is.
+    Look,
     /// Nothing else.
     Settle,
 }
 
 /// Makes or takes back what earlier updates of a place have left to do, and then does its job: runs a script over the
 /// place's variables and makes what it leads to, prints the replies, and tells on standard error which entries it left in no
-/// order; or prints the next number. Whatever is cut off when, the next update goes on with what is left. Before a change of
-/// Boot####, BootOrder or BootNext the folder of the journal keeps what was there, as of any other change of the place. The
-/// folder is locked meanwhile.
+/// order; or prints the next number; or a look at the place. Whatever is cut off when, the next update goes on with what is
+/// left. Before a change of Boot####, BootOrder or BootNext the folder of the journal keeps what was there, as of any other
+/// change of the place. The folder is locked meanwhile. If JSON is to be printed and nothing is done, why is printed as JSON
+/// too.
 ///
 /// # Errors
 ///
@@ -70,11 +71,41 @@ pub fn update<R: Files<File: OutputFile> + Clock + Input + Print + Eprint + Allo
     rt: &R,
     words: &UpdateWords<'_>,
 ) -> Result<Ended, Failure> {
+    match do_job(rt, words) {
+        Ok(Finished { text, ended }) => {
+            print(rt, text.as_bytes())?;
+            Ok(ended)
+        }
+        Err(not_made) => {
+            if words.job.is_told_as_json() {
+                print_refusal(rt, &words.machine, &not_made);
+            }
+            Err(not_made.failure)
+        }
+    }
+}
+
+impl Job<'_> {
+    /// Whether what comes of it is printed as JSON.
+    fn is_told_as_json(&self) -> bool {
+        match self {
+            Job::Run { form, .. } => *form != ReplyForm::Lines,
+            Job::Look => true,
+            Job::Next | Job::Settle => false,
+        }
+    }
+}
+
+/// Does the job, as of [`update`], and prints nothing.
+fn do_job<R: Files<File: OutputFile> + Clock + Input + Print + Eprint + AllocGlobal>(
+    rt: &R,
+    words: &UpdateWords<'_>,
+) -> Result<Finished, NotMade> {
     match words.job {
         Job::Run {
             script,
             is_stream,
-            json,
+            form,
             dry_run,
         } => {
             let format = if is_stream {
@@ -84,102 +115,57 @@ pub fn update<R: Files<File: OutputFile> + Clock + Input + Print + Eprint + Allo
             };
             let script = read_events(rt, script, format)?;
             if dry_run {
-                plan_script(rt, &words.machine, &script, json)
+                plan_script(rt, &words.machine, &script, form != ReplyForm::Lines)
             } else {
-                run_script(rt, words, &script, json)
+                run_script(rt, words, &script, form)
             }
         }
         Job::Next => tell_next(rt, words),
+        Job::Look => run_script(rt, words, &Script::empty(rt.alloc()), ReplyForm::Look),
         Job::Settle => settle_place(rt, &words.machine),
     }
 }
 
-/// Runs the script over the place, and prints the replies.
+/// Runs the script over the place.
 fn run_script<R: Files<File: OutputFile> + Clock + Input + Print + Eprint + AllocGlobal>(
     rt: &R,
     words: &UpdateWords<'_>,
     script: &Script<'_>,
-    json: bool,
-) -> Result<Ended, Failure> {
-    let answered = run_events(rt, words, script)?;
-    tell_of_unnamed(rt, words.machine.place, &answered.unnamed);
-    print(
-        rt,
-        answers_text(rt.alloc(), script, &answered, json)?.as_bytes(),
-    )?;
-    Ok(ending(&answered.answers))
-}
-
-/// Prints the next number.
-fn tell_next<R: Files<File: OutputFile> + Clock + Input + Print + Eprint + AllocGlobal>(
-    rt: &R,
-    words: &UpdateWords<'_>,
-) -> Result<Ended, Failure> {
-    let next = next_number(rt, words)?;
-    let text = format!(in rt.alloc(); "{next}\n")?;
-    print(rt, text.as_bytes())?;
-    Ok(Ended::AllDone)
+    form: ReplyForm,
+) -> Result<Finished, NotMade> {
+    let updated = run_events(rt, words, script)?;
+    tell_of_unnamed(rt, words.machine.place, &updated.answered.unnamed);
+    Ok(Finished {
+        text: updated.text(rt.alloc(), script, form)?,
+        ended: updated.ending(),
+    })
 }
 
 /// The next number, after what is left of earlier updates was done.
-fn next_number<R: Files<File: OutputFile> + Clock + Input + Print + Eprint + AllocGlobal>(
+fn tell_next<R: Files<File: OutputFile> + Clock + Input + Print + Eprint + AllocGlobal>(
     rt: &R,
     words: &UpdateWords<'_>,
-) -> Result<u32, Failure> {
-    let answered = run_events(rt, words, &Script::restart(rt.alloc())?)?;
-    Ok(last_next(&answered.answers))
-}
-
-/// Does what is left of earlier updates, and runs the events of the script, unless one of them would change what no set can
-/// hold.
-fn run_events<R: Files<File: OutputFile> + Clock + Input + Print + Eprint + AllocGlobal>(
-    rt: &R,
-    words: &UpdateWords<'_>,
-    script: &Script<'_>,
-) -> Result<Answered, Failure> {
-    let machine = &words.machine;
-    let folder = lock_folder(rt, machine.state)?;
-    let opened = open_place(rt, machine)?;
-    check_requests(rt.alloc(), script, opened.left_out())?;
-    let name = name_of_machine(rt, machine, opened.is_folder())?;
-    run_opened(rt, words, (opened, &name), folder.journal(), script)
-}
-
-/// Does what is left of earlier updates of a place that was opened, whose machine has this name, and runs the events. The
-/// folder with the journal at this path is locked.
-fn run_opened<R: Files<File: OutputFile> + Clock + Input + Print + Eprint + AllocGlobal>(
-    rt: &R,
-    words: &UpdateWords<'_>,
-    (opened, name): (OpenedPlace<R::File>, &MachineName),
-    journal_path: &str,
-    script: &Script<'_>,
-) -> Result<Answered, Failure> {
-    let (mut machine, boot) = open_machine(rt, &words.machine, opened, journal_path)?;
-    let history = History {
-        state: words.machine.state,
-        machine: name,
-        command: words.command,
-    };
-    let run = RequestsRun {
-        requests: Requests {
-            events: &script.events,
-        },
-    };
-    kept_command(rt, &mut machine, &run, history, &boot).map_err(|error| of_command(
-        rt.alloc(),
-        &words.machine,
-        error,
-    ))
+) -> Result<Finished, NotMade> {
+    let alloc = rt.alloc();
+    let updated = run_events(rt, words, &Script::empty(alloc))?;
+    let next = updated.next();
+    Ok(Finished {
+        text: format!(in alloc; "{next}\n")?,
+        ended: Ended::AllDone,
+    })
 }
 
 /// Does what is left of earlier updates.
 fn settle_place<R: Files<File: OutputFile> + Input + Print + Eprint + AllocGlobal>(
     rt: &R,
     words: &MachineWords<'_>,
-) -> Result<Ended, Failure> {
+) -> Result<Finished, NotMade> {
     let folder = lock_folder(rt, words.state)?;
     settle_locked(rt, words, folder.journal())?;
-    Ok(Ended::AllDone)
+    Ok(Finished {
+        text: String::new(rt.alloc()),
+        ended: Ended::AllDone,
+    })
 }
 
 /// Does what is left of earlier updates. The folder with the journal at this path is locked.

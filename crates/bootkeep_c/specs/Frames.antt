@@ -23,6 +23,8 @@ asked_number asked.Remove = 3
 asked_number asked.Order = 4
 asked_number asked.Next = 5
 asked_number asked.AddFree = 6
+asked_number asked.AddFirst = 7
+asked_number asked.First = 8
 
 -- the request of this kind with this entry, the option of these bytes, or this order: it has what its kind takes
 abbrev pub AsksFor : Asked → ℕ → List ℕ → List ℕ → Request → Type 0
@@ -33,6 +35,8 @@ AsksFor asked.Remove entry bytes order made = made ≡ request.Remove entry
 AsksFor asked.Order entry bytes order made = made ≡ request.Order order
 AsksFor asked.Next entry bytes order made = made ≡ request.Next entry
 AsksFor asked.AddFree entry bytes order made = (option : OptionParts) × SpellsOption bytes option × (made ≡ request.AddFree option)
+AsksFor asked.AddFirst entry bytes order made = (option : OptionParts) × SpellsOption bytes option × (made ≡ request.AddFirst option)
+AsksFor asked.First entry bytes order made = made ≡ request.First entry
 
 -- the kind takes an option, and the bytes have this first fault of one
 abbrev pub HasBadOption : Asked → List ℕ → OptionFault → Type 0
@@ -42,6 +46,8 @@ HasBadOption asked.Remove bytes option_fault = ⊥
 HasBadOption asked.Order bytes option_fault = ⊥
 HasBadOption asked.Next bytes option_fault = ⊥
 HasBadOption asked.AddFree bytes option_fault = IsFirstFault bytes option_fault
+HasBadOption asked.AddFirst bytes option_fault = IsFirstFault bytes option_fault
+HasBadOption asked.First bytes option_fault = ⊥
 
 -- the bytes are the frame of what is asked for
 pub record IsFrameOf (number kind entry : ℕ) (option order bytes : List ℕ) : Type 0 where

@@ -33,6 +33,12 @@ pub const REQUEST_NEXT: u32 = 5;
 /// To store an entry under the least number that none has.
 pub const REQUEST_ADD_FREE: u32 = 6;
 
+/// To store an entry under such a number, and to put that in front of BootOrder.
+pub const REQUEST_ADD_FIRST: u32 = 7;
+
+/// To put an entry in front of BootOrder.
+pub const REQUEST_FIRST: u32 = 8;
+
 /// What a frame is to ask for.
 #[derive(Clone, Copy, Debug)]
 pub enum Asked {
@@ -48,6 +54,10 @@ pub enum Asked {
     Next,
     /// To store an entry under the least number that none has.
     AddFree,
+    /// To do that, and to put the number in front of BootOrder.
+    AddFirst,
+    /// To put an entry in front of BootOrder.
+    First,
 }
 
 impl Asked {
@@ -63,6 +73,8 @@ impl Asked {
             REQUEST_ORDER => Some(Asked::Order),
             REQUEST_NEXT => Some(Asked::Next),
             REQUEST_ADD_FREE => Some(Asked::AddFree),
+            REQUEST_ADD_FIRST => Some(Asked::AddFirst),
+            REQUEST_FIRST => Some(Asked::First),
             _ => None,
         }
     }
@@ -129,5 +141,7 @@ fn request_of(
         Asked::Order => Request::Order(OrderList::new(Vec::from_slice(alloc, order)?)),
         Asked::Next => Request::Next(entry),
         Asked::AddFree => Request::AddFree(read_option(alloc, option)?),
+        Asked::AddFirst => Request::AddFirst(read_option(alloc, option)?),
+        Asked::First => Request::First(entry),
     })
 }

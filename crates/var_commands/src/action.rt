@@ -249,6 +249,11 @@ pub enum RequestWords<'a> {
         /// The path of the file with the load option.
         file: &'a str,
     },
+    /// To store a load option so, and to put it in front of the order.
+    AddFirst {
+        /// The path of the file with the load option.
+        file: &'a str,
+    },
     /// To take an entry out.
     Remove {
         /// The entry, as it is written.
@@ -261,6 +266,11 @@ pub enum RequestWords<'a> {
     },
     /// To set the entry that the next boot tries first.
     Next {
+        /// The entry, as it is written.
+        entry: &'a str,
+    },
+    /// To put an entry in front of the order.
+    First {
         /// The entry, as it is written.
         entry: &'a str,
     },

@@ -8,7 +8,7 @@ use crate::commands::program;
 use boot_edits::Position;
 use boot_history::DEFAULT_STATE;
 use boot_texts::Flags;
-use boot_updates::{Job, MachineWords};
+use boot_updates::{Job, MachineWords, ReplyForm};
 use clap::{ArgMatches, Error};
 use place_checks::CheckWords;
 use place_edits::UndoWords;
@@ -184,12 +184,28 @@ fn job_of<'a>(matches: &'a ArgMatches<'_>) -> Option<Job<'a>> {
     } else if matches.get_flag("settle") {
         Some(Job::Settle)
     } else {
-        Some(Job::Run {
-            script: matches.get_str("SCRIPT")?,
+        run_of(matches)
+    }
+}
+
+/// The run of a script, or a look without one.
+fn run_of<'a>(matches: &'a ArgMatches<'_>) -> Option<Job<'a>> {
+    let form = if matches.get_flag("look") {
+        ReplyForm::Look
+    } else if matches.get_flag("json") {
+        ReplyForm::Json
+    } else {
+        ReplyForm::Lines
+    };
+    match matches.get_str("SCRIPT") {
+        Some(script) => Some(Job::Run {
+            script,
             is_stream: matches.get_flag("stream"),
-            json: matches.get_flag("json"),
+            form,
             dry_run: matches.get_flag("dry-run"),
-        })
+        }),
+        None if form == ReplyForm::Look => Some(Job::Look),
+        None => None,
     }
 }
 
@@ -269,11 +285,13 @@ fn request_of<'a>(kind: &str, matches: &'a ArgMatches<'_>) -> Option<RequestWord
         ("add", Some(entry), Some(file)) => Some(RequestWords::Add { entry, file }),
         ("replace", Some(entry), Some(file)) => Some(RequestWords::Replace { entry, file }),
         ("add-free", _, Some(file)) => Some(RequestWords::AddFree { file }),
+        ("add-first", _, Some(file)) => Some(RequestWords::AddFirst { file }),
         ("remove", Some(entry), _) => Some(RequestWords::Remove { entry }),
         ("order", _, _) => Some(RequestWords::Order {
             entries: matches.get_strs("ENTRY").unwrap_or(&[]),
         }),
         ("next", Some(entry), _) => Some(RequestWords::Next { entry }),
+        ("first", Some(entry), _) => Some(RequestWords::First { entry }),
         _ => None,
     }
 }

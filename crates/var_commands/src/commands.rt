@@ -435,7 +435,7 @@ static UPDATE_COMMANDS: [CommandRow; 1] = [CommandRow {
             name: "SCRIPT",
             help: "The script of requests",
             is_required: false,
-            required_without: &INSTEAD_OF_SCRIPT,
+            required_without: &["next", "settle", "look"],
             excludes: &INSTEAD_OF_SCRIPT,
             ..ArgRow::VALUE
         },
@@ -458,6 +458,12 @@ static UPDATE_COMMANDS: [CommandRow; 1] = [CommandRow {
             name: "json",
             help: "Prints JSON",
             ..SCRIPT_FLAG
+        },
+        ArgRow {
+            name: "look",
+            help: "Prints the replies, the next number and what there is then, as one object of JSON",
+            excludes: &["next", "settle", "dry-run", "json"],
+            ..ArgRow::FLAG
         },
         ArgRow {
             name: "next",
@@ -530,7 +536,7 @@ static FRAME: CommandRow = CommandRow {
 };
 
 /// The requests that `frame` makes frames of.
-static REQUESTS: [CommandRow; 6] = [
+static REQUESTS: [CommandRow; 8] = [
     CommandRow {
         name: "add",
         about: "Stores a load option as a new entry",
@@ -549,6 +555,13 @@ static REQUESTS: [CommandRow; 6] = [
         name: "add-free",
         about: "Stores a load option as a new entry under the lowest free number",
         after_help: "Example:\n  bootvars frame 5 add-free option",
+        args: &[FILE],
+        ..CommandRow::EMPTY
+    },
+    CommandRow {
+        name: "add-first",
+        about: "Stores a load option as a new entry, and puts it first in the order",
+        after_help: "Example:\n  bootvars frame 5 add-first option",
         args: &[FILE],
         ..CommandRow::EMPTY
     },
@@ -588,6 +601,13 @@ static REQUESTS: [CommandRow; 6] = [
         name: "next",
         about: "Sets the entry that the next boot tries first, once",
         after_help: "Example:\n  bootvars frame 5 next 0003",
+        args: &[ENTRY],
+        ..CommandRow::EMPTY
+    },
+    CommandRow {
+        name: "first",
+        about: "Puts an entry first in the order",
+        after_help: "Example:\n  bootvars frame 5 first 0003",
         args: &[ENTRY],
         ..CommandRow::EMPTY
     },

@@ -240,6 +240,10 @@ fn frame<R: Files + Input + AllocGlobal>(
             let option = read(rt, file)?;
             frame_of_option(alloc, number, file, &option, FrameWords::AddFree(&option))
         }
+        RequestWords::AddFirst { file } => {
+            let option = read(rt, file)?;
+            frame_of_option(alloc, number, file, &option, FrameWords::AddFirst(&option))
+        }
         RequestWords::Remove { entry } => {
             frame_of_words(alloc, number, FrameWords::Remove(entry_of(alloc, entry)?))
         }
@@ -249,6 +253,9 @@ fn frame<R: Files + Input + AllocGlobal>(
         }
         RequestWords::Next { entry } => {
             frame_of_words(alloc, number, FrameWords::Next(entry_of(alloc, entry)?))
+        }
+        RequestWords::First { entry } => {
+            frame_of_words(alloc, number, FrameWords::First(entry_of(alloc, entry)?))
         }
     }
 }

@@ -1,12 +1,12 @@
 -- Where the load option of a frame begins: behind the header, and behind the number of an entry if the kind has one.
-use Rattle.std.proofs.Common.{◌≡◌, ◌≢◌, ℕ, List, [], ◌∷◌, ◌++◌, length, drop, sym, ap, subst, ◌∙◌, refl, arith}
+use Rattle.std.proofs.Common.{◌≡◌, ◌+◌, ℕ, List, [], ◌∷◌, ◌++◌, length, drop, sym, ap, subst, ◌∙◌, refl, arith}
 use Rattle.uefi_option.specs.declared.fault.OptionFault.{OptionFault}
 use Rattle.uefi_option.specs.Fault.{IsFirstFault as IsFirstOptionFault}
 use Rattle.boot_requests.specs.declared.fault.FrameFault.TheVariants as fault
 use Rattle.boot_requests.specs.declared.frame.Kind.{Kind}
-use Rattle.boot_requests.specs.declared.frame.Kind.TheVariants as kinds
-use Rattle.boot_requests.specs.Kind.{byte_of, layout_of}
+use Rattle.boot_requests.specs.Kind.{byte_of, layout_of, option_place, IsKind, Layout, EntryAndOption, Entry, Numbers, OptionAlone}
 use Rattle.boot_requests.specs.FrameFault.{Raw, IsRaw, IsBadOption, HasBadOption, IsFirstFault}
+use Rattle.boot_requests.proofs.Frames.KindBytes.{one_kind}
 use Rattle.boot_requests.proofs.Frames.Raws.{same_raw, regroup, behind_magic}
 
 behind_12 : (a x : List ℕ) → length a ≡ 2 → drop 12 (a ++ x) ≡ drop 10 x
@@ -32,29 +32,18 @@ module _ (bytes : List ℕ) (c : Raw) (is : IsRaw bytes c) (bad : OptionFault) w
   its_own : IsFirstFault bytes (fault.Option bad) → HasBadOption c bad
   its_own h = subst (λ (d : Raw). HasBadOption d bad) (same_raw bytes h.raw c h.is is) h.here.1
 
-  alone : (k : Kind) → byte_of k ≡ 6 → IsBadOption (layout_of k) c.payload bad → IsFirstOptionFault c.payload bad
-  alone kinds.AddFree six h = h
-  alone kinds.Add six h = absurd (grind arith)
-  alone kinds.Replace six h = absurd (grind arith)
-  alone kinds.Remove six h = absurd h
-  alone kinds.Order six h = absurd h
-  alone kinds.Next six h = absurd h
+  -- behind what such a payload has before it
+  behind : (layout : Layout) → IsBadOption layout c.payload bad → IsFirstOptionFault (drop (12 + option_place layout) bytes) bad
+  behind EntryAndOption h = subst (λ (l : List ℕ). IsFirstOptionFault l bad) (sym rest_behind) h.1
+  behind Entry h = absurd h
+  behind Numbers h = absurd h
+  behind OptionAlone h = subst (λ (l : List ℕ). IsFirstOptionFault l bad) (sym payload_behind) h
 
-  behind_entry : (k : Kind) → byte_of k ≢ 6 → IsBadOption (layout_of k) c.payload bad → IsFirstOptionFault (drop 2 c.payload) bad
-  behind_entry kinds.AddFree other h = absurd (other refl)
-  behind_entry kinds.Add other h = h.1
-  behind_entry kinds.Replace other h = h.1
-  behind_entry kinds.Remove other h = absurd h
-  behind_entry kinds.Order other h = absurd h
-  behind_entry kinds.Next other h = absurd h
-
-  pub option_alone : c.kind ≡ 6 → IsFirstFault bytes (fault.Option bad) → IsFirstOptionFault (drop 12 bytes) bad
-  option_alone six h =
+  pub option_behind : (k : Kind) → byte_of k ≡ c.kind → IsFirstFault bytes (fault.Option bad) →
+      IsFirstOptionFault (drop (12 + option_place (layout_of k)) bytes) bad
+  option_behind k is_byte h =
       let of_kind = its_own h in
-      subst (λ (l : List ℕ). IsFirstOptionFault l bad) (sym payload_behind) (alone of_kind.kind (of_kind.is ∙ six) of_kind.here)
+      behind (layout_of k) (subst (λ (l : Kind). IsBadOption (layout_of l) c.payload bad) (one_kind of_kind.kind k (of_kind.is ∙ sym is_byte)) of_kind.here)
 
-  pub option_behind_entry : c.kind ≢ 6 → IsFirstFault bytes (fault.Option bad) → IsFirstOptionFault (drop 14 bytes) bad
-  option_behind_entry other h =
-      let of_kind = its_own h in
-      subst (λ (l : List ℕ). IsFirstOptionFault l bad) (sym rest_behind)
-      (behind_entry of_kind.kind (λ six. other (sym of_kind.is ∙ six)) of_kind.here)
+  pub option_of_a_kind : ¬ IsKind c.version c.kind → IsFirstFault bytes (fault.Option bad) → ⊥
+  option_of_a_kind none h = let of_kind = its_own h in none (of_kind.kind, of_kind.version_is, of_kind.is)

@@ -18,7 +18,7 @@ use Rattle.boot_requests.specs.declared.frame.Kind.TheVariants as kinds
 use Rattle.boot_requests.specs.declared.fault.FrameFault.{FrameFault}
 use Rattle.boot_requests.specs.declared.fault.FrameFault.TheVariants as fault
 use Rattle.boot_requests.specs.declared.request.Request.{Request}
-use Rattle.boot_requests.specs.declared.request.Request.TheVariants.{Add, Replace, Remove, Order, Next, AddFree}
+use Rattle.boot_requests.specs.declared.request.Request.TheVariants.{Add, Replace, Remove, Order, Next, AddFree, AddFirst, First}
 use Rattle.boot_requests.specs.Limits.{payload_max, no_number}
 use Rattle.boot_requests.specs.Kind.{version_of, byte_of, Layout, EntryAndOption, Entry, Numbers, OptionAlone, layout_of}
 use Rattle.boot_requests.specs.Request.{kind_of}
@@ -130,6 +130,8 @@ with_parts kinds.Remove payload p = (Remove p.0, record { valid = p.1; same_kind
 with_parts kinds.Order payload p = (Order p.0, record { valid = p.1; same_kind = refl; is = p.2 })
 with_parts kinds.Next payload p = (Next p.0, record { valid = p.1; same_kind = refl; is = p.2 })
 with_parts kinds.AddFree payload p = (AddFree p.0, record { valid = p.1.0; same_kind = refl; is = p.1.1 })
+with_parts kinds.AddFirst payload p = (AddFirst p.0, record { valid = p.1.0; same_kind = refl; is = p.1.1 })
+with_parts kinds.First payload p = (First p.0, record { valid = p.1; same_kind = refl; is = p.2 })
 
 -- the payload is that of a request of the kind, or has a fault
 abbrev PayloadEnds : Kind → List ℕ → Type 0

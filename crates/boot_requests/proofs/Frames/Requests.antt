@@ -11,7 +11,7 @@ use Rattle.uefi_vars.proofs.Numbers.{AreReadAgain, HaveTwoBytes}
 use Rattle.uefi_path.proofs.Numbers.{wide_32}
 use Rattle.boot_requests.specs.declared.fault.FrameFault.{FrameFault}
 use Rattle.boot_requests.specs.declared.request.Request.{Request}
-use Rattle.boot_requests.specs.declared.request.Request.TheVariants.{Add, Replace, Remove, Order, Next, AddFree}
+use Rattle.boot_requests.specs.declared.request.Request.TheVariants.{Add, Replace, Remove, Order, Next, AddFree, AddFirst, First}
 use Rattle.boot_requests.specs.declared.frame.Kind.{Kind}
 use Rattle.boot_requests.specs.Kind.{version_of, byte_of, layout_of}
 use Rattle.boot_requests.specs.Request.{IsRequest, kind_of, payload_of}
@@ -58,6 +58,8 @@ same_payload again one (Remove m) (Remove n) first second kinds e = ap (λ (k : 
 same_payload again one (Order ms) (Order ns) first second kinds e = ap (λ (t : List ℕ). Order t) (same_numbers again ms ns first second e)
 same_payload again one (Next m) (Next n) first second kinds e = ap (λ (k : ℕ). Next k) (same_number m n [] [] first second e).0
 same_payload again one (AddFree o) (AddFree p) first second kinds e = ap (λ (t : OptionParts). AddFree t) (one (option_bytes o) o p (first, refl) (second, e))
+same_payload again one (AddFirst o) (AddFirst p) first second kinds e = ap (λ (t : OptionParts). AddFirst t) (one (option_bytes o) o p (first, refl) (second, e))
+same_payload again one (First m) (First n) first second kinds e = ap (λ (k : ℕ). First k) (same_number m n [] [] first second e).0
 same_payload again one q r first second kinds e = absurd cc
 
 pub same_request : AreReadAgain → OneOption → (bytes : List ℕ) (m n : ℕ) (q r : Request) → SpellsFrame bytes m q → SpellsFrame bytes n r → (m ≡ n) × (q ≡ r)
@@ -84,6 +86,8 @@ payload_is_bytes two each (Remove entry) is = (omega arith, (omega arith, tt))
 payload_is_bytes two each (Order numbers) is = (two numbers).0
 payload_is_bytes two each (Next entry) is = (omega arith, (omega arith, tt))
 payload_is_bytes two each (AddFree option) is = option_is_bytes each option is
+payload_is_bytes two each (AddFirst option) is = option_is_bytes each option is
+payload_is_bytes two each (First entry) is = (omega arith, (omega arith, tt))
 
 header_is_bytes : (kind : Kind) (number len : ℕ) → AllByRecursion IsByte (header_bytes kind number len)
 header_is_bytes kind number len =
@@ -104,6 +108,8 @@ good_payload two (Remove entry) bad = bad refl
 good_payload two (Order numbers) bad = bad (omega (arith, (two numbers).1))
 good_payload two (Next entry) bad = bad refl
 good_payload two (AddFree option) bad = bad
+good_payload two (AddFirst option) bad = bad
+good_payload two (First entry) bad = bad refl
 good_payload two _ bad = omega (arith, bad)
 
 abbrev pub NoOptionFault : Type 0
@@ -113,6 +119,7 @@ good_option : NoOptionFault → (request : Request) (f : OptionFault) → IsRequ
 good_option none (Add entry option) f is bad = none (option_bytes option) f option bad.1 (is.1, refl)
 good_option none (Replace entry option) f is bad = none (option_bytes option) f option bad.1 (is.1, refl)
 good_option none (AddFree option) f is bad = none (option_bytes option) f option bad (is, refl)
+good_option none (AddFirst option) f is bad = none (option_bytes option) f option bad (is, refl)
 good_option none _ f is bad = bad
 
 passes : HaveTwoBytes → (bytes : List ℕ) (number : ℕ) (request : Request) → SpellsFrame bytes number request → Passes (raw_for number request)

@@ -3,19 +3,17 @@ use Rattle.std.proofs.Common.{◌≡◌, ℕ, ◌≤◌, true, false, inl, inr, 
 use Rattle.std.specs.Option.{is_some}
 use Rattle.std.specs.FinMap.{get}
 use Rattle.std.proofs.lemmas.Bool.{cases_lt, cond-true, cond-false, lt-ltb, le-ltb}
-use Rattle.uefi_option.specs.LoadOption.{OptionParts}
 use Rattle.uefi_vars.specs.Vars.{Variables, entry_of}
 use Rattle.uefi_vars.specs.Free.{IsLowestFree, IsLowestFreeIfAny}
-use Rattle.boot_requests.specs.declared.request.Request.TheVariants.{AddFree}
 use Rattle.boot_requests.specs.declared.outcome.Code.TheVariants.{NoFree}
 use Rattle.boot_requests.specs.Limits.{number_count}
 use Rattle.boot_requests.specs.Outcome.{without_entry, added_at}
 use Rattle.boot_requests.specs.State.{State}
-use Rattle.boot_requests.specs.Apply.{free_number, outcome_of}
+use Rattle.boot_requests.specs.Apply.{free_number, free_outcome}
 use Rattle.boot_requests.specs.Keeper.{IsStateOf}
 use Rattle.boot_requests.proofs.WholeRuns.Gaps.{IsGap, gap_is, gap_one}
 
-module _ (m : State) (vars : Variables) (stands : IsStateOf m vars) (option : OptionParts) where
+module _ (m : State) (vars : Variables) (stands : IsStateOf m vars) where
   at_free : IsGap 0 m.entries (free_number m)
   at_free = gap_is 0 m.entries
 
@@ -27,13 +25,13 @@ module _ (m : State) (vars : Variables) (stands : IsStateOf m vars) (option : Op
   })
 
   -- an entry is added under the number
-  pub told_free : (number : ℕ) → IsLowestFree (entry_of vars) number → outcome_of m (AddFree option) ≡ added_at number
+  pub told_free : (number : ℕ) → IsLowestFree (entry_of vars) number → free_outcome m ≡ added_at number
   told_free number lowest =
       let is = free_is number lowest in
       cond-true _ _ _ (lt-ltb (free_number m) number_count (omega (arith, is, lowest.is))) ∙ ap added_at is
 
   -- if all numbers are taken, none is told
-  pub told_none : IsLowestFreeIfAny (entry_of vars) None → outcome_of m (AddFree option) ≡ without_entry NoFree
+  pub told_none : IsLowestFreeIfAny (entry_of vars) None → free_outcome m ≡ without_entry NoFree
   told_none taken = cond-false _ _ _ (le-ltb (free_number m) number_count (past (free_number m) at_free.free))
     where
       past : (number : ℕ) → get m.entries number ≡ None → number_count ≤ number

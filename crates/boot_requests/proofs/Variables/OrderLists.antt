@@ -1,11 +1,12 @@
 -- Lists of numbers, one number after the other: whether one is there, and whether one is there twice.
-use Rattle.std.proofs.Common.{◌≡◌, ◌≢◌, ℕ, ◌+◌, ◌<◌, ◌≤◌, ◌==◌, not, suc, Bool, true, false, cond, List, [], ◌∷◌, ◌++◌, length, take, drop, get_or, refl, sym}
+use Rattle.std.proofs.Common.{◌≡◌, ◌≢◌, ℕ, ltb, ◌+◌, ◌<◌, ◌≤◌, ◌==◌, not, suc, Bool, true, false, cond, List, [], ◌∷◌, ◌++◌, length, take, drop, get_or, refl, sym}
 use Rattle.std.proofs.Common.{ap, subst, ◌∙◌, ⊎_elim, arith, inl, inr}
 use Rattle.std.proofs.Math.ListN.{set}
 use Rattle.std.proofs.Math.Seq.{drop-cons}
 use Rattle.std.proofs.lemmas.List.{take_more, take-append-drop, get_or-set_same, get_or-set_other, get_or_default}
 use Rattle.std.proofs.lemmas.Bool.{cases_eq, cond-true, cond-false, lt-ltb, le-ltb, false≢true, eqb-true, eqb-false, eq-eqb, ne_eqb, or_cases, or_parts}
 use Rattle.std.proofs.lemmas.Bool.{or_from, or_left, or_right}
+use Rattle.std.proofs.lemmas.Bool.Decides.{nat_tests}
 use Rattle.uefi_vars.specs.Order.{order_max}
 use Rattle.uefi_path.specs.Units.{units_bytes}
 use Rattle.uefi_vars.proofs.Numbers.{HaveTwoBytes}
@@ -13,7 +14,7 @@ use Rattle.boot_requests.specs.declared.request.Request.{Request}
 use Rattle.boot_requests.specs.declared.request.Request.TheVariants.{Order}
 use Rattle.boot_requests.specs.Limits.{payload_max}
 use Rattle.boot_requests.specs.Request.{payload_of}
-use Rattle.boot_requests.specs.Apply.{is_in, repeats, order_with, without}
+use Rattle.boot_requests.specs.Apply.{is_in, repeats, order_with, order_from, without_all, without, has_room, in_front}
 
 pub stands_there : (before : List ℕ) (number : ℕ) (rest : List ℕ) → is_in (before ++ number ∷ rest) number ≡ true
 stands_there [] number rest = or_left _ _ (eq-eqb number number refl)
@@ -51,19 +52,36 @@ repeats_none (first ∷ before) number none new =
     let apart = or_parts (first == number) (is_in before number) new in
     or_from _ _ (not_there before number first old.0 (λ e. eqb-false first number apart.0 (sym e))) (repeats_none before number old.1 apart.1)
 
-pub no_longer : (numbers : List ℕ) (number : ℕ) → length (without numbers number) ≤ length numbers
-no_longer [] number = omega arith
-no_longer (first ∷ numbers) number =
-    elim (first == number) as (λ b. length (cond (not b) (first ∷ without numbers number) (without numbers number)) ≤ suc (length numbers)) [
-      | true ↦ omega (arith, no_longer numbers number)
-      | false ↦ omega (arith, no_longer numbers number)
+-- an order without some numbers isn't longer
+pub left_fits : (numbers order : List ℕ) → length (without_all numbers order) ≤ length order
+left_fits numbers [] = omega arith
+left_fits numbers (number ∷ order) =
+    elim (is_in numbers number) as (λ b. length (cond (not b) (number ∷ without_all numbers order) (without_all numbers order)) ≤ length (number ∷ order)) [
+      | true ↦ omega (arith, left_fits numbers order)
+      | false ↦ omega (arith, left_fits numbers order)
     ]
+
+-- and is shorter if one of them was there
+pub left_shorter : (order : List ℕ) (number : ℕ) → is_in order number ≡ true → length (without order number) < length order
+left_shorter [] number there = absurd (false≢true there)
+left_shorter (first ∷ order) number there =
+    elim (is_in (number ∷ []) first) as (λ b.
+    is_in (number ∷ []) first ≡ b → length (cond (not b) (first ∷ without order number) (without order number)) < length (first ∷ order)) [
+      | true ↦ λ e. omega (arith, left_fits (number ∷ []) order)
+      | false ↦ λ e. omega (arith, left_shorter order number (behind e))
+    ] refl
+  where
+    behind : is_in (number ∷ []) first ≡ false → is_in order number ≡ true
+    behind e =
+        ⊎_elim (λ here. absurd (eqb-false number first (or_parts (number == first) false e).0 (sym (eqb-true first number here)))) (λ later. later)
+        (or_cases (first == number) (is_in order number) there)
 
 pub without_absent : (numbers : List ℕ) (number : ℕ) → is_in numbers number ≡ false → without numbers number ≡ numbers
 without_absent [] number none = refl
 without_absent (first ∷ numbers) number none =
     let parts = or_parts (first == number) (is_in numbers number) none in
-    cond-true _ _ _ (ap not parts.0) ∙ ap (λ (others : List ℕ). first ∷ others) (without_absent numbers number parts.1)
+    let apart : is_in (number ∷ []) first ≡ false = or_from _ _ (ne_eqb number first (λ e. eqb-false first number parts.0 (sym e))) refl in
+    cond-true _ _ _ (ap not apart) ∙ ap (λ (others : List ℕ). first ∷ others) (without_absent numbers number parts.1)
 
 pub order_with_there : (order : List ℕ) (number : ℕ) → is_in order number ≡ true → order_with order number ≡ order
 order_with_there order number h = cond-true _ _ _ h
@@ -73,6 +91,19 @@ order_with_full order number h full = cond-false _ _ _ h ∙ cond-false _ _ _ (l
 
 pub order_with_last : (order : List ℕ) (number : ℕ) → is_in order number ≡ false → length order < order_max → order_with order number ≡ order ++ number ∷ []
 order_with_last order number h room = cond-false _ _ _ h ∙ cond-true _ _ _ (lt-ltb (length order) order_max room)
+
+pub order_from_room : (order : List ℕ) (number : ℕ) → has_room order number ≡ true → order_from order number ≡ in_front (number ∷ []) order
+order_from_room order number room = cond-true _ _ _ room
+
+pub order_from_full : (order : List ℕ) (number : ℕ) → has_room order number ≡ false → order_from order number ≡ order
+order_from_full order number full = cond-false _ _ _ full
+
+-- what was put in front is an order if there is room for it
+pub front_fits : (order : List ℕ) (number : ℕ) → has_room order number ≡ true → length order ≤ order_max →
+    length (in_front (number ∷ []) order) ≤ order_max
+front_fits order number room most =
+    ⊎_elim (λ fewer. let less : length order < order_max = grind (arith, nat_tests, fewer) in omega (arith, left_fits (number ∷ []) order))
+    (λ there. omega (arith, left_shorter order number there)) (or_cases (ltb (length order) order_max) (is_in order number) room)
 
 -- ---- numbers that are marked one after the other
 

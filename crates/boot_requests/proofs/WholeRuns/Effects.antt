@@ -7,7 +7,7 @@ use Rattle.std.specs.FinMap.{get, get-remove}
 use Rattle.std.proofs.lemmas.Bool.Decides.{nat_tests}
 use Rattle.uefi_option.specs.LoadOption.{OptionParts, IsOption, option_bytes}
 use Rattle.boot_requests.specs.declared.request.Request.{Request}
-use Rattle.boot_requests.specs.declared.request.Request.TheVariants.{Add, Replace, Remove, AddFree, Order, Next}
+use Rattle.boot_requests.specs.declared.request.Request.TheVariants.{Add, Replace, Remove, Order, Next, AddFree, AddFirst, First}
 use Rattle.boot_requests.specs.declared.outcome.Code.{Code}
 use Rattle.boot_requests.specs.declared.outcome.Code.TheVariants.{Done, NoFree}
 use Rattle.boot_requests.specs.declared.outcome.Outcome.{Outcome}
@@ -29,6 +29,7 @@ free_valid number =
 
 pub outcome_valid : (m : State) (request : Request) → IsOutcome (outcome_of m request)
 outcome_valid m (AddFree option) = free_valid (free_number m)
+outcome_valid m (AddFirst option) = free_valid (free_number m)
 outcome_valid m _ = tt
 
 -- what is under an entry's number once this was stored, if that was there before
@@ -46,6 +47,9 @@ entry_by m (Order numbers) Done told entry = refl
 entry_by m (Next number) Done told entry = refl
 entry_by m (AddFree option) Done None entry = refl
 entry_by m (AddFree option) Done (Some number) entry = get_inserted m.entries number (option_bytes option) entry
+entry_by m (AddFirst option) Done None entry = refl
+entry_by m (AddFirst option) Done (Some number) entry = get_inserted m.entries number (option_bytes option) entry
+entry_by m (First number) Done told entry = refl
 entry_by m request code told entry = refl
 
 pub entry_after : (m : State) (request : Request) (outcome : Outcome) (entry : ℕ) →
@@ -61,6 +65,7 @@ valid_as (Add entry option) Done told valid = valid.1
 valid_as (Replace entry option) Done told valid = valid.1
 valid_as (Remove entry) Done told valid = tt
 valid_as (AddFree option) Done (Some entry) valid = valid
+valid_as (AddFirst option) Done (Some entry) valid = valid
 valid_as request code told valid = tt
 
 pub stored_valid : (request : Request) (outcome : Outcome) → IsRequest request → IsValid (stored_by request outcome)

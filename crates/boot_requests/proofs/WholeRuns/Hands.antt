@@ -1,11 +1,11 @@
 -- A plan is handed out with an entry as BootNext's at most as often as BootNext was set to the entry.
-use Rattle.std.proofs.Common.{◌≡◌, ℕ, ◌+◌, ◌-◌, ◌≤◌, Bool, true, false, eqb, List, [], ◌∷◌, ◌++◌, Option, Some, None, refl, sym, ap, subst, ◌∙◌, arith}
+use Rattle.std.proofs.Common.{◌≡◌, ℕ, ◌+◌, ◌≤◌, Bool, true, false, eqb, List, [], ◌∷◌, ◌++◌, Option, Some, None, refl, sym, ap, subst, ◌∙◌, arith}
 use Rattle.std.specs.Prelude.{◌&&◌, if◌then◌else◌}
 use Rattle.std.specs.FinMap.{get}
 use Rattle.uefi_vars.specs.declared.boot_plan.Choice.{Choice}
 use Rattle.uefi_vars.specs.Plan.{PlanParts, plan_parts, IsNextChoice}
 use Rattle.boot_requests.specs.declared.request.Request.{Request}
-use Rattle.boot_requests.specs.declared.request.Request.TheVariants.{Remove, Next, AddFree}
+use Rattle.boot_requests.specs.declared.request.Request.TheVariants.{Remove, Next, AddFree, AddFirst}
 use Rattle.boot_requests.specs.declared.outcome.Code.{Code}
 use Rattle.boot_requests.specs.declared.outcome.Code.TheVariants.{Done}
 use Rattle.boot_requests.specs.declared.outcome.Outcome.{Outcome}
@@ -45,6 +45,7 @@ module _ (entry : ℕ) where
       held (effect_if_done m request told) ≤ held m + (if is_next request entry && true then 1 else 0)
   done_held m (Remove number) told = let less = without_held m.boot_next number in omega arith
   done_held m (AddFree option) None = omega arith
+  done_held m (AddFirst option) None = omega arith
   done_held m (Next next) told =
       elim (eqb next entry) as (λ b. (if b then 1 else 0) ≤ held m + (if b && true then 1 else 0)) [ true ↦ omega arith | false ↦ omega arith ]
   done_held m _ _ = omega arith

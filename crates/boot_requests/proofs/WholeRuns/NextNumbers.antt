@@ -8,7 +8,7 @@ use Rattle.std.proofs.lemmas.Bool.Decides.{nat_tests}
 use Rattle.std.proofs.lemmas.List.{append-nil}
 use Rattle.std.proofs.lemmas.Bool.{false≢true, cases_Bool}
 use Rattle.boot_requests.specs.declared.request.Request.{Request}
-use Rattle.boot_requests.specs.declared.request.Request.TheVariants.{AddFree}
+use Rattle.boot_requests.specs.declared.request.Request.TheVariants.{AddFree, AddFirst}
 use Rattle.boot_requests.specs.declared.outcome.Code.{Code}
 use Rattle.boot_requests.specs.declared.outcome.Code.TheVariants.{Done}
 use Rattle.boot_requests.specs.declared.outcome.Outcome.{Outcome}
@@ -39,6 +39,7 @@ keeps_number_here m = record { next_number = refl; kept = refl }
 
 effect_keeps_number : (m : State) (request : Request) (told : Option ℕ) → IsCountedAs m (effect_if_done m request told)
 effect_keeps_number m (AddFree option) None = keeps_number_here m
+effect_keeps_number m (AddFirst option) None = keeps_number_here m
 effect_keeps_number m _ _ = record { next_number = refl; kept = refl }
 
 effect_by_keeps_number : (m : State) (request : Request) (code : Code) (told : Option ℕ) → IsCountedAs m (effect_by m request code told)

@@ -9,7 +9,6 @@ use Rattle.std.specs.FinMap.{get, insert, remove, get-remove}
 use Rattle.std.proofs.lemmas.Bool.Decides.{nat_tests}
 use Rattle.std.proofs.lemmas.List.{length-append, length-drop}
 use Rattle.std.proofs.lemmas.List.Elements.{recursion_from_All, All-from_recursion, All-drop, All-filter}
-use Rattle.std.proofs.lemmas.List.Sums.{length-filter, count_by-le-length}
 use Rattle.uefi_path.specs.Row.{IsByte}
 use Rattle.uefi_option.specs.LoadOption.{OptionParts, IsOption, SpellsOption, option_bytes}
 use Rattle.uefi_vars.specs.Vars.{IsData}
@@ -17,7 +16,7 @@ use Rattle.uefi_vars.specs.Order.{order_max, IsEntryNumber, IsOrder}
 use Rattle.uefi_vars.proofs.Bytes.{AllByRecursion-append}
 use Rattle.uefi_path.proofs.TwoBytes.{units_length}
 use Rattle.boot_requests.specs.declared.request.Request.{Request}
-use Rattle.boot_requests.specs.declared.request.Request.TheVariants.{Add, Replace, Remove, Order, Next, AddFree}
+use Rattle.boot_requests.specs.declared.request.Request.TheVariants.{Add, Replace, Remove, Order, Next, AddFree, AddFirst, First}
 use Rattle.boot_requests.specs.declared.outcome.Code.{Code}
 use Rattle.boot_requests.specs.declared.outcome.Code.TheVariants.{Done}
 use Rattle.boot_requests.specs.declared.outcome.Outcome.{Outcome}
@@ -26,7 +25,7 @@ use Rattle.boot_requests.specs.Outcome.{IsOutcome}
 use Rattle.boot_requests.specs.Request.{IsRequest, payload_of}
 use Rattle.boot_requests.specs.Frame.{IsSent}
 use Rattle.boot_requests.specs.State.{State, IsMark, IsState}
-use Rattle.boot_requests.specs.Apply.{is_in, order_with, next_without, outcome_of, with_new_entry, effect_if_done, effect_by, effect, kept_with, with_outcome}
+use Rattle.boot_requests.specs.Apply.{is_in, order_with, has_room, in_front, order_from, without, next_without, outcome_of, with_new_entry, effect_if_done, effect_by, effect, kept_with, with_outcome}
 use Rattle.boot_requests.specs.Apply.{after_request, after_boot}
 use Rattle.boot_requests.specs.Seen.{Seen}
 use Rattle.boot_requests.specs.Changes.{Change, Applies, Boots, after_changes, numbers_in, numbers_from}
@@ -37,6 +36,7 @@ use Rattle.boot_requests.proofs.WholeRuns.Effects.{outcome_valid}
 use Rattle.boot_requests.proofs.WholeRuns.NextNumbers.{effect_number, after_request_number}
 use Rattle.boot_requests.proofs.WholeRuns.Histories.{AreSent, history_sent, history_numbers}
 use Rattle.boot_requests.proofs.Variables.Stored.{IsEntryAt}
+use Rattle.boot_requests.proofs.Variables.OrderLists.{left_fits, front_fits}
 use Rattle.boot_requests.proofs.Variables.OutcomeBytes.{entry_of_outcome}
 
 order_with_valid : (order : List ℕ) (entry : ℕ) → IsOrder order → IsEntryNumber entry → IsOrder (order_with order entry)
@@ -50,6 +50,18 @@ order_with_valid order entry h number =
         | false ↦ λ t. h
       ] refl
     ]
+
+without_valid : (order : List ℕ) (entry : ℕ) → IsOrder order → AllByRecursion IsEntryNumber (without order entry)
+without_valid order entry h =
+    let others : ℕ → Bool = λ other. not (is_in (entry ∷ []) other) in
+    recursion_from_All IsEntryNumber (filter others order) (All-filter others IsEntryNumber order (All-from_recursion IsEntryNumber order h.numbers))
+
+order_from_valid : (order : List ℕ) (entry : ℕ) → IsOrder order → IsEntryNumber entry → IsOrder (order_from order entry)
+order_from_valid order entry h number =
+    elim (has_room order entry) as (λ b. has_room order entry ≡ b → IsOrder (if b then in_front (entry ∷ []) order else order)) [
+      | true ↦ λ room. record { numbers = (number, without_valid order entry h); len = front_fits order entry room h.len }
+      | false ↦ λ full. h
+    ] refl
 
 next_valid : (next : Option ℕ) (entry : ℕ) → IfSome next IsEntryNumber → IfSome (next_without next entry) IsEntryNumber
 next_valid None entry h = tt
@@ -98,27 +110,41 @@ module _ (spelled : (option : OptionParts) → IsOption option → (bytes : List
   after_number : (entry : ℕ) (bytes : List ℕ) → length (to_le_bytes w16 entry ++ bytes) ≤ payload_max → length bytes ≤ payload_max
   after_number entry bytes len = omega (arith, length-append (to_le_bytes w16 entry) bytes)
 
-  with_new_entry_valid : (m : State) (entry : ℕ) (option : OptionParts) → IsState m → IsEntryNumber entry → IsOption option →
-      length (option_bytes option) ≤ payload_max → IsState (with_new_entry m entry option)
-  with_new_entry_valid m entry option h number valid len =
+  with_new_entry_valid : (m : State) (entry : ℕ) (option : OptionParts) (order : List ℕ) → IsState m → IsEntryNumber entry → IsOption option →
+      length (option_bytes option) ≤ payload_max → IsOrder order → IsState (with_new_entry m entry option order)
+  with_new_entry_valid m entry option order h number valid len fits =
       let entries = stored_valid m entry (option_bytes option) h number (data_of option valid len) in
-      record { entries = entries; order = order_with_valid m.order entry h.order number; next = h.next; mark = h.mark; others = h.others }
+      record { entries = entries; order = fits; next = h.next; mark = h.mark; others = h.others }
+
+  -- the same of an order to which the number was appended, and of one in whose front it was put
+  appended_valid : (m : State) (entry : ℕ) (option : OptionParts) → IsState m → IsEntryNumber entry → IsOption option →
+      length (option_bytes option) ≤ payload_max → IsState (with_new_entry m entry option (order_with m.order entry))
+  appended_valid m entry option h number valid len =
+      with_new_entry_valid m entry option (order_with m.order entry) h number valid len (order_with_valid m.order entry h.order number)
+
+  in_front_valid : (m : State) (entry : ℕ) (option : OptionParts) → IsState m → IsEntryNumber entry → IsOption option →
+      length (option_bytes option) ≤ payload_max → IsState (with_new_entry m entry option (order_from m.order entry))
+  in_front_valid m entry option h number valid len =
+      with_new_entry_valid m entry option (order_from m.order entry) h number valid len (order_from_valid m.order entry h.order number)
 
   effect_if_done_valid : (m : State) (request : Request) (told : Option ℕ) → IsState m → IsRequest request → length (payload_of request) ≤ payload_max →
       IfSome told IsEntryNumber → IsState (effect_if_done m request told)
   effect_if_done_valid m (Add entry option) told h valid len is =
-      with_new_entry_valid m entry option h valid.0 valid.1 (after_number entry (option_bytes option) len)
+      appended_valid m entry option h valid.0 valid.1 (after_number entry (option_bytes option) len)
   effect_if_done_valid m (AddFree option) None h valid len is = h
-  effect_if_done_valid m (AddFree option) (Some entry) h valid len is = with_new_entry_valid m entry option h is valid len
+  effect_if_done_valid m (AddFree option) (Some entry) h valid len is = appended_valid m entry option h is valid len
+  effect_if_done_valid m (AddFirst option) None h valid len is = h
+  effect_if_done_valid m (AddFirst option) (Some entry) h valid len is = in_front_valid m entry option h is valid len
+  effect_if_done_valid m (First entry) told h valid len is =
+      record { entries = h.entries; order = order_from_valid m.order entry h.order valid; next = h.next; mark = h.mark; others = h.others }
   effect_if_done_valid m (Replace entry option) told h valid len is =
       let entries = stored_valid m entry (option_bytes option) h valid.0 (data_of option valid.1 (after_number entry (option_bytes option) len)) in
       record { entries = entries; order = h.order; next = h.next; mark = h.mark; others = h.others }
-  effect_if_done_valid m (Remove entry) told h valid len is = let differs : ℕ → Bool = λ other. not (eqb other entry) in record {
+  effect_if_done_valid m (Remove entry) told h valid len is = record {
     entries = removed_valid m entry h;
     order = record {
-      numbers = recursion_from_All IsEntryNumber (filter differs m.order)
-          (All-filter differs IsEntryNumber m.order (All-from_recursion IsEntryNumber m.order h.order.numbers));
-      len = let most = h.order.len in omega (arith, length-filter differs m.order, count_by-le-length differs m.order);
+      numbers = without_valid m.order entry h.order;
+      len = let most = h.order.len in omega (arith, left_fits (entry ∷ []) m.order);
     };
     next = next_valid m.boot_next entry h.next;
     mark = h.mark;

@@ -1,5 +1,5 @@
 -- BootOrder has the number as its last one, unless it has it already or is full.
-use Rattle.std.proofs.Common.{◌≡◌, ◌≤◌, ◌<◌, ℕ, List, [], ◌∷◌, ◌++◌, length, false, sym, ap, ◌∙◌, arith}
+use Rattle.std.proofs.Common.{◌≡◌, ◌≤◌, ◌<◌, ℕ, List, [], ◌∷◌, ◌++◌, length, sym, ap, ◌∙◌, arith}
 use Rattle.uefi_vars.specs.Order.{order_max}
 use Rattle.boot_requests.specs.Apply.{is_in}
 use Rattle.boot_requests.proofs.Variables.Edits.{order_kept}

@@ -1,15 +1,15 @@
 -- BootOrder is without the number, or stays as it is if it has none.
-use Rattle.std.proofs.Common.{◌≡◌, ℕ, List, length, sym, ap, ◌∙◌, arith}
+use Rattle.std.proofs.Common.{◌≡◌, ℕ, List, [], ◌∷◌, length, sym, ap, ◌∙◌, arith}
 use Rattle.boot_requests.specs.Apply.{is_in, without}
 use Rattle.boot_requests.proofs.Variables.Edits.{order_kept}
-use Rattle.boot_requests.proofs.Variables.OrderLists.{no_longer, without_absent}
+use Rattle.boot_requests.proofs.Variables.OrderLists.{left_fits, without_absent}
 use Rattle.boot_requests.proofs.edit.remove_number.Goals as goal
 
 pub store_order-requires : goal.store_order-requires
 store_order-requires c =
     let others = c.deref-3.ensures.value ∙ c.in_ok-others.ensures ∙ ap (λ (o : List ℕ). without o c.args.number) c.deref-2.ensures.value in
     let len : length c.deref-3.result.now ≡ length (without c.in_ok-order.order.items c.args.number) = ap length others in
-    omega (arith, len, no_longer c.in_ok-order.order.items c.args.number, c.in_ok-order.ensures.len)
+    omega (arith, len, left_fits (c.args.number ∷ []) c.in_ok-order.order.items, c.in_ok-order.ensures.len)
 
 pub returns-then-not-is_in : goal.returns-then-not-is_in
 returns-then-not-is_in c = λ m h.

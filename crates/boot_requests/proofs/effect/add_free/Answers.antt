@@ -1,12 +1,16 @@
-use Rattle.std.proofs.Common.{sym}
-use Rattle.boot_requests.proofs.Variables.FreeNumbers.{told_free, told_none}
+use Rattle.std.proofs.Common.{Some, None, sym}
+use Rattle.uefi_vars.specs.NameChanges.{with_changes}
+use Rattle.boot_requests.specs.Edit.{StoresFree}
 use Rattle.boot_requests.proofs.effect.add_free.Goals as goal
 
 pub returns-in_default : goal.returns-in_default
-returns-in_default c = rw c.of.ensures (λ m h. (sym (told_none m _ h c.args.option.now c.in_default.ensures), h))
+returns-in_default c =
+    let stored : StoresFree (with_changes c.args.vars.now c.args.changes.now) (with_changes c.args.vars.now c.store_free.new.changes) c.args.option.now None =
+    rw c.in_default.is at c.in_ok-number.ensures in
+    rw c.of.ensures (λ m h. (sym (stored m h).0, (stored m h).1))
 
 pub returns : goal.returns
-returns c = λ m h. (
-  sym (told_free m _ h c.args.option.now c.in-Some.number c.in-Some.ensures),
-  c.in_ok-append_number.ensures _ (c.in_ok-store_entry.ensures c.args.vars.now m h),
-)
+returns c =
+    let stored : StoresFree (with_changes c.args.vars.now c.args.changes.now) (with_changes c.args.vars.now c.store_free.new.changes) c.args.option.now
+    (Some c.in-Some.number) = rw c.in-Some.is at c.in_ok-number.ensures in
+    rw c.added_at.ensures (λ m h. (sym (stored m h).0, c.in_ok-append_number.ensures _ (stored m h).1))

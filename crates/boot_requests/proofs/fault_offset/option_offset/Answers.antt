@@ -1,16 +1,18 @@
-use Rattle.std.proofs.Common.{◌∙◌, sym}
+use Rattle.std.proofs.Common.{ℕ, ◌+◌, drop, sym, subst}
+use Rattle.uefi_option.specs.Fault.{IsFirstFault as IsFirstOptionFault}
 use Rattle.boot_requests.specs.Reader.{raw_of}
-use Rattle.boot_requests.proofs.Frames.OptionPlaces.{option_alone, option_behind_entry}
+use Rattle.boot_requests.proofs.Frames.OptionPlaces.{option_behind, option_of_a_kind}
 use Rattle.boot_requests.proofs.fault_offset.option_offset.Goals as goal
 
-pub returns-then-raw-byte : goal.returns-then-raw-byte
-returns-then-raw-byte c = λ fault first.
+pub returns-in_default-from_bytes : goal.returns-in_default-from_bytes
+returns-in_default-from_bytes c = λ fault first.
     let raw = c.in-Some.raw in
-    option_alone c.args.bytes.now (raw_of raw.magic raw.version raw.kind raw.number raw.len raw.payload.now) c.in-Some.ensures.found fault
-    (c.if-raw-byte.true ∙ c.byte.ensures) first
+    absurd (option_of_a_kind c.args.bytes.now (raw_of raw.magic raw.version raw.kind raw.number raw.len raw.payload.now) c.in-Some.ensures.found fault
+    c.in_default-from_bytes.ensures.none first)
 
-pub returns-else-raw-byte : goal.returns-else-raw-byte
-returns-else-raw-byte c = λ fault first.
+pub returns : goal.returns
+returns c = λ fault first.
     let raw = c.in-Some.raw in
-    option_behind_entry c.args.bytes.now (raw_of raw.magic raw.version raw.kind raw.number raw.len raw.payload.now) c.in-Some.ensures.found fault
-    (λ six. c.if-raw-byte.false (six ∙ sym c.byte.ensures)) first
+    subst (λ (n : ℕ). IsFirstOptionFault (drop (12 + n) c.args.bytes.now) fault) (sym c.option_place.ensures)
+    (option_behind c.args.bytes.now (raw_of raw.magic raw.version raw.kind raw.number raw.len raw.payload.now) c.in-Some.ensures.found fault
+    c.in-Some-from_bytes.kind c.in-Some-from_bytes.ensures.found.1 first)

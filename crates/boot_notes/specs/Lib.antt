@@ -1,0 +1,7 @@
+pub mod Digest
+pub mod Notes
+pub mod Bytes
+pub mod Fault
+pub mod Applied
+pub mod Same
+pub mod Noted

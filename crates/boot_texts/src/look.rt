@@ -1,0 +1,65 @@
+//! A look at a machine as JSON, as `bootvars update --look` prints it.
+
+use crate::json::{JsonObject, Leaf, append_leaves, append_object, append_objects, json_line};
+use crate::replies::{ShownReply, ToldReply};
+use crate::shown_vars::ShownVars;
+use serde::Serializer;
+use std::alloc::{AllocError, Global};
+use uefi_vars::Vars;
+
+/// What a look at a machine tells, all of one moment.
+#[derive(Clone, Copy, Debug)]
+pub struct Look<'a> {
+    /// The next number.
+    pub next: u32,
+    /// The identity of the journal, if it has one.
+    pub journal: Option<&'a str>,
+    /// The replies to the events that were run, in their order.
+    pub replies: &'a [ToldReply<'a>],
+    /// The variables after them.
+    pub vars: &'a Vars,
+}
+
+/// The same as it is shown.
+#[derive(Drop)]
+struct ShownLook<'a> {
+    next: u32,
+    journal: Option<&'a str>,
+    replies: Vec<ShownReply<'a>>,
+    shown: ShownVars<'a>,
+}
+
+impl JsonObject for ShownLook<'_> {
+    fn append_members<S: Serializer>(&self, out: &mut S) -> Result<(), S::Error> {
+        append_leaves(
+            &[
+                ("next", Leaf::Number(Some(self.next))),
+                ("journal", Leaf::Text(self.journal)),
+            ],
+            out,
+        )?;
+        append_objects("replies", &self.replies, out)?;
+        append_object("show", Some(&self.shown), out)
+    }
+}
+
+/// Shows a look at a machine as JSON, an object on one line that ends with a line feed: the next number, the identity of the
+/// journal, the replies as [`reply_json`](crate::reply_json) has them, and what [`vars_json`](crate::vars_json) has.
+/// docs/formats.md has each member.
+///
+/// # Errors
+///
+/// [`AllocError`] if memory was refused.
+pub fn look_json(alloc: Global, look: &Look<'_>) -> Result<String, AllocError> {
+    let mut replies = Vec::with_capacity(alloc, look.replies.len())?;
+    for told in look.replies {
+        replies.push(ShownReply::new(alloc, told)?)?;
+    }
+    let shown = ShownLook {
+        next: look.next,
+        journal: look.journal,
+        replies,
+        shown: ShownVars::new(alloc, look.vars)?,
+    };
+    json_line(alloc, &shown)
+}

@@ -1,0 +1,21 @@
+-- The next number, as answers tell it, and of what a machine keeps.
+use Rattle.std.specs.Prelude.{◌≡◌, ℕ}
+use Rattle.uefi_vars.specs.Vars.{Variables}
+use Rattle.boot_requests.specs.declared.answer.Answer.{Answer}
+use Rattle.boot_requests.specs.declared.reply.Reply.{Reply}
+use Rattle.boot_requests.specs.declared.reply.Reply.TheVariants as reply
+use Rattle.boot_requests.specs.State.{State}
+use Rattle.boot_journal.specs.Requests.{KeepsState}
+
+-- the number is the next one over these variables, as a machine keeps them
+abbrev pub IsNextOf : Variables → ℕ → Type 0
+IsNextOf vars number = (m : State) → KeepsState vars m → number ≡ m.next_number
+
+-- the next number after an event that was answered so, if it was this before
+abbrev pub next_told : ℕ → Reply → ℕ
+next_told before (reply.Applied outcome next) = next
+next_told before _ = before
+
+-- the same of the answer
+abbrev pub next_after : ℕ → Answer → ℕ
+next_after before answer = next_told before answer.reply

@@ -1,0 +1,109 @@
+//! Why updates aren't made, for those who sent them.
+
+use boot_requests::{OpenFault, ScriptFault};
+use boot_texts::Remedy;
+use std::alloc::{AllocError, AllocFailed, Global};
+use var_places::Failure;
+
+/// Why an update wasn't made.
+#[derive(Debug, Drop)]
+pub(crate) struct NotMade {
+    /// What it is to the program.
+    pub(crate) failure: Failure,
+    /// What is refused, if the script or the variables are.
+    refused: Option<Refused>,
+}
+
+/// What an update is refused for, of its script or the variables.
+#[derive(Clone, Copy, Debug)]
+pub(crate) enum Refused {
+    /// The script or the stream has this fault.
+    Script(ScriptFault),
+    /// A request in it would change a variable that no set can hold.
+    LeftOut,
+    /// The variables have this fault.
+    Open(OpenFault),
+}
+
+impl NotMade {
+    /// An update is refused for this, which is this failure to the program, unless memory was refused.
+    pub(crate) fn refused(refused: Refused, failure: Failure) -> NotMade {
+        match failure {
+            Failure::Memory => NotMade::from(Failure::Memory),
+            failure => NotMade {
+                failure,
+                refused: Some(refused),
+            },
+        }
+    }
+
+    /// What kept the update from being made: the words of a fault, without its number, or a word. This fails only when out of
+    /// memory.
+    pub(crate) fn kind(&self, alloc: Global) -> Result<String, AllocError> {
+        match &self.refused {
+            Some(Refused::Script(ScriptFault::BadLine(_))) => String::from_str(alloc, "BadLine"),
+            Some(Refused::Script(ScriptFault::Rest(_))) => String::from_str(alloc, "Rest"),
+            Some(Refused::Script(fault)) => fault.words(alloc),
+            Some(Refused::LeftOut) => String::from_str(alloc, "LeftOut"),
+            Some(Refused::Open(fault)) => format!(in alloc; "Open {fault}"),
+            None => String::from_str(alloc, word_of(&self.failure)),
+        }
+    }
+
+    /// The line or how many bytes, if the fault tells that.
+    pub(crate) fn count(&self) -> Option<u32> {
+        match &self.refused {
+            Some(Refused::Script(ScriptFault::BadLine(count) | ScriptFault::Rest(count))) => {
+                u32::try_from(*count).ok()
+            }
+            _ => None,
+        }
+    }
+
+    /// What is to be done about it.
+    pub(crate) fn remedy(&self) -> Remedy {
+        match (&self.refused, &self.failure) {
+            (Some(Refused::Script(_)), _) => Remedy::SendAgain,
+            (Some(Refused::LeftOut | Refused::Open(_)), _) => Remedy::MendMachine,
+            (None, Failure::TakenBack(_) | Failure::Memory) => Remedy::SendAgain,
+            (None, Failure::Busy(_)) => Remedy::Wait,
+            (None, _) => Remedy::MendMachine,
+        }
+    }
+}
+
+/// The failure in a word.
+fn word_of(failure: &Failure) -> &'static str {
+    match failure {
+        Failure::Words(_) => "Words",
+        Failure::Read { .. } => "Read",
+        Failure::Write { .. } | Failure::Change { .. } => "Write",
+        Failure::TakenBack(_) => "TakenBack",
+        Failure::Unsettled(_) => "Unsettled",
+        Failure::Busy(_) => "Busy",
+        Failure::Memory => "OutOfMemory",
+        Failure::Closed => "Closed",
+        Failure::Run { .. } | Failure::Refused { .. } => "Refused",
+    }
+}
+
+impl From<Failure> for NotMade {
+    fn from(failure: Failure) -> NotMade {
+        NotMade {
+            failure,
+            refused: None,
+        }
+    }
+}
+
+impl From<AllocError> for NotMade {
+    fn from(refusal: AllocError) -> NotMade {
+        NotMade::from(Failure::from(refusal))
+    }
+}
+
+impl<T: Drop> From<AllocFailed<T>> for NotMade {
+    fn from(_refusal: AllocFailed<T>) -> NotMade {
+        NotMade::from(Failure::Memory)
+    }
+}
