@@ -134,7 +134,7 @@ __all__ = [
 ]
 
 #: The version of this package.
-__version__ = "0.1.0"
+__version__ = "0.2.0"
 
 # The names of before, for one version.
 plan, entries_at_risk, check_path = set_plan, set_at_risk, path_check

@@ -5,7 +5,7 @@ use clap::{ArgAction, Command};
 use std::alloc::{AllocError, Global};
 
 /// The version that `--version` tells.
-const VERSION: &str = "0.1.0";
+const VERSION: &str = "0.2.0";
 
 /// What the help of the program says of places.
 const PLACES: &str = "\
