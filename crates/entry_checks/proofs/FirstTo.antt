@@ -1,5 +1,6 @@
 -- The first entry that leads to a place, among entries and one more.
-use Rattle.std.proofs.Common.{◌≡◌, ℕ, ◌+◌, ◌<◌, Bool, true, false, cond, List, [], ◌∷◌, ◌++◌, length, take, drop, get_or, Option, Some, None, refl, sym, ap, append_assoc, ◌∙◌}
+use Rattle.std.proofs.Common.{◌≡◌, ℕ, ◌+◌, ◌<◌, Bool, true, false, cond, List, [], ◌∷◌, ◌++◌, length, take, drop,
+    get_or, Option, Some, None, refl, sym, ap, append_assoc, ◌∙◌}
 use Rattle.std.specs.Borrow.{Bor}
 use Rattle.std.specs.Global.{Vec}
 use Rattle.std.specs.Option.{option_copied}
@@ -48,7 +49,8 @@ module _ (place : List ℕ) (entry : Known) where
       go false again e = again e
 
   -- which is the first that leads there
-  pub more_first : (before : List Known) → first_to place before ≡ None → is_there place entry.destination ≡ true → first_to place (before ++ entry ∷ []) ≡ Some entry.number
+  pub more_first : (before : List Known) → first_to place before ≡ None → is_there place entry.destination ≡ true →
+          first_to place (before ++ entry ∷ []) ≡ Some entry.number
   more_first [] none there = ap (λ b. cond b (Some entry.number) None) there
   more_first (head ∷ before) none there = go (is_there place head.destination) (λ e. more_first before e there) none
     where
@@ -67,7 +69,8 @@ looked_up met before slice own got finds value is =
     sym (value ∙ ap (λ (p : List ℕ). get_by (λ k. slice_cmp nat_cmp p k.items) met) is ∙ finds own)
 
 -- an entry that leads to no file
-pub finds_none : (met : BTreeMap (Vec ℕ) ℕ) (before : List Known) (entry : Known) → entry.destination ≡ None → Finds met before → Finds met (before ++ entry ∷ [])
+pub finds_none : (met : BTreeMap (Vec ℕ) ℕ) (before : List Known) (entry : Known) → entry.destination ≡ None → Finds met before →
+        Finds met (before ++ entry ∷ [])
 finds_none met before entry none finds place = finds place ∙ sym (more_elsewhere place entry before (ap (is_there place) none))
 
 module _ (before : List Known) (entry : Known) (own : Vec ℕ) (leads : entry.destination ≡ Some own) where
@@ -85,7 +88,8 @@ module _ (before : List Known) (entry : Known) (own : Vec ℕ) (leads : entry.de
   module _ (old new : BTreeMap (Vec ℕ) ℕ) (k : Vec ℕ)
       (updates : UpdatesBy (λ x y. slice_cmp nat_cmp x.items y.items) (λ x. slice_cmp nat_cmp k.items x.items) old new (Some entry.number))
       (same_key : k.items ≡ own.items) where
-    others_stay : (place : List ℕ) → is_same_place place own.items ≡ false → get_by (λ x. slice_cmp nat_cmp place x.items) new ≡ get_by (λ x. slice_cmp nat_cmp place x.items) old
+    others_stay : (place : List ℕ) → is_same_place place own.items ≡ false →
+            get_by (λ x. slice_cmp nat_cmp place x.items) new ≡ get_by (λ x. slice_cmp nat_cmp place x.items) old
     unfolding KeepsOthers
     others_stay place other = updates.3 (λ x. is_same_place place x.items) (λ x y. (eq_by_cmp_equiv nat_list_cmp_total).congr place x.items y.items) apart
       where

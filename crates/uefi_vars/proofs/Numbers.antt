@@ -1,5 +1,6 @@
 -- The numbers of BootOrder as bytes, two for each.
-use Rattle.std.proofs.Common.{◌≡◌, ◌≢◌, ◌⊎◌, ℕ, ◌*◌, ◌/◌, ◌%◌, ◌<◌, ◌≤◌, List, [], ◌∷◌, length, Option, Some, None, IfSome, ◌↔◌, inl, inr, refl, sym, ap, ◌∙◌, ⊎_elim, arith}
+use Rattle.std.proofs.Common.{◌≡◌, ◌≢◌, ◌⊎◌, ℕ, ◌*◌, ◌/◌, ◌%◌, ◌<◌, ◌≤◌, List, [], ◌∷◌, length, Option, Some, None,
+    IfSome, ◌↔◌, inl, inr, refl, sym, ap, ◌∙◌, ⊎_elim, arith}
 use Rattle.std.specs.List.{AllByRecursion}
 use Rattle.std.specs.Option.{IsSomeAnd}
 use Rattle.std.specs.FinMap.{get}
@@ -68,7 +69,8 @@ module _ (again : AreWrittenAgain) (two : AreTwoBytes) where
   stored_again (low ∷ []) valid even = absurd (omega arith)
   stored_again (low ∷ high ∷ rest) valid even = ap (λ (t : List ℕ). Some t) (again (low ∷ high ∷ rest) valid.bytes even)
 
-  pub order_found : (vars : Variables) (bytes : List ℕ) → get vars order_text ≡ Some bytes → IsData bytes → length bytes % 2 ≡ 0 → length bytes ≤ 2 * order_max → HasOrder vars (units_of bytes)
+  pub order_found : (vars : Variables) (bytes : List ℕ) → get vars order_text ≡ Some bytes → IsData bytes →
+          length bytes % 2 ≡ 0 → length bytes ≤ 2 * order_max → HasOrder vars (units_of bytes)
   order_found vars bytes e valid even len =
       let numbers = two bytes valid.bytes in
       record { is = record { numbers = numbers.0; len = omega (arith, numbers.1, len) }; stored = e ∙ sym (stored_again bytes valid even) }
@@ -78,7 +80,8 @@ module _ (again : AreWrittenAgain) (two : AreTwoBytes) where
       ⊎_elim (λ even. ⊎_elim (λ long. inr (inr long)) (λ short. inl (even, short)) (cases_lt (2 * order_max) (length bytes)))
       (λ odd. inr (inl odd)) (cases_eq (length bytes % 2) 0)
 
-  stored_or_bad : (vars : Variables) (stored : Option (List ℕ)) → get vars order_text ≡ stored → IfSome stored (λ value. IsVariable (order_text, value)) → ((order : List ℕ) × HasOrder vars order) ⊎ IsSomeAnd stored AreBad
+  stored_or_bad : (vars : Variables) (stored : Option (List ℕ)) → get vars order_text ≡ stored →
+          IfSome stored (λ value. IsVariable (order_text, value)) → ((order : List ℕ) × HasOrder vars order) ⊎ IsSomeAnd stored AreBad
   stored_or_bad vars None is valid = inl ([], no_order vars is)
   stored_or_bad vars (Some bytes) is valid =
       ⊎_elim (λ good. inl (units_of bytes, order_found vars bytes is valid.1 good.0 good.1)) (λ bad. inr bad) (good_or_bad bytes)
