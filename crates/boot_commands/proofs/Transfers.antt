@@ -1,6 +1,29 @@
 -- What reads and writes do to known bytes, one after the other.
-use Rattle.std.proofs.Common.{◌≡◌, ℕ, ◌+◌, ◌≤◌, List, ◌++◌, length, take, drop, Option, Some, None, Result, Ok, Err,
-    sym, ap, ◌∙◌, arith, append_assoc, append-nil, length-append, take-append-drop}
+use Rattle.std.proofs.Common.{
+  ◌≡◌,
+  ℕ,
+  ◌+◌,
+  ◌≤◌,
+  List,
+  ◌++◌,
+  length,
+  take,
+  drop,
+  Option,
+  Some,
+  None,
+  Result,
+  Ok,
+  Err,
+  sym,
+  ap,
+  ◌∙◌,
+  arith,
+  append_assoc,
+  append-nil,
+  length-append,
+  take-append-drop,
+}
 use Rattle.std.specs.Prelude.{IfSome, OnErr}
 use Rattle.std.specs.Io.KnownBytes.{Appends, Consumes}
 use Rattle.boot_commands.specs.Source.{ReadsAll, TakesAtMost}
@@ -24,7 +47,7 @@ all_of (Some text) None bytes p = absurd p.0
 all_of (Some text) (Some left) bytes p = p.0 ∙ ap (λ (l : List ℕ). bytes ++ l) p.1 ∙ append-nil bytes
 
 pub takes_more : (a b c : Option (List ℕ)) (xs : List ℕ) (count most : ℕ) → Consumes a b xs → TakesAtMost b c count →
-        length xs + count ≤ most → TakesAtMost a c most
+    length xs + count ≤ most → TakesAtMost a c most
 takes_more a b c xs count most p q len =
     let all = length-append xs q.0 in
     (xs ++ q.0, consumes_more a b c xs q.0 p q.1, omega (arith, all, q.2, len))
@@ -34,7 +57,7 @@ pub takes_all : (a b : Option (List ℕ)) (bytes : List ℕ) (most : ℕ) → Re
 takes_all a b bytes most p len = (bytes, p.0, omega (arith, len))
 
 pub takes_all_on_err : {T E : Type 0} (r : Result T E) (a b : Option (List ℕ)) (bytes : List ℕ) (most : ℕ) → ReadsAll a b bytes →
-        length bytes ≤ most → OnErr r (TakesAtMost a b (most + 1))
+    length bytes ≤ most → OnErr r (TakesAtMost a b (most + 1))
 takes_all_on_err (Ok _) a b bytes most p len = tt
 takes_all_on_err (Err _) a b bytes most p len = takes_all a b bytes most p len
 

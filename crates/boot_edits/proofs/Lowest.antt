@@ -40,7 +40,7 @@ not_found : (option : OptionParts) (number : ℕ) (bytes : List ℕ) → IsEntry
 not_found option number bytes fits same [] others found = cc found
 not_found option number bytes fits same (p ∷ pairs) others found =
     elim (name_cmp (entry_text number) p.0) as (λ (r : Ordering). name_cmp (entry_text number) p.0 ≡ r →
-            cond (is_eq r) (Some p.1) (find name_cmp (entry_text number) pairs) ≡ Some bytes → ⊥) [
+    cond (is_eq r) (Some p.1) (find name_cmp (entry_text number) pairs) ≡ Some bytes → ⊥) [
       | Less ↦ λ t is. not_found option number bytes fits same pairs others.1 is
       | Equal ↦ λ t is.
           let held : p.1 ≡ bytes = cc is in
@@ -50,17 +50,17 @@ not_found option number bytes fits same (p ∷ pairs) others found =
 
 -- what is below those behind is found in front
 found_in_front : (name : List ℕ) (before after : List Pair) → AllByRecursion (λ q. name_cmp name q.0 ≡ Less) after →
-        find name_cmp name (before ++ after) ≡ find name_cmp name before
+    find name_cmp name (before ++ after) ≡ find name_cmp name before
 found_in_front name [] after below = find_below name_cmp name after below
 found_in_front name (p ∷ before) after below = ap (λ (rest : Option (List ℕ)). cond (is_eq (name_cmp name p.0)) (Some p.1) rest)
-        (found_in_front name before after below)
+    (found_in_front name before after below)
 
 sorted_behind : (before after : List Pair) → T (is_sorted name_cmp (before ++ after)) → T (is_sorted name_cmp after)
 sorted_behind [] after rising = rising
 sorted_behind (p ∷ before) after rising = sorted_behind before after (sorted_parts name_cmp p (before ++ after) rising).1
 
 all_below : (name other : List ℕ) → name_cmp name other ≡ Less → (pairs : List Pair) →
-        AllByRecursion (λ q. name_cmp other q.0 ≡ Less) pairs → AllByRecursion (λ q. name_cmp name q.0 ≡ Less) pairs
+    AllByRecursion (λ q. name_cmp other q.0 ≡ Less) pairs → AllByRecursion (λ q. name_cmp name q.0 ≡ Less) pairs
 all_below name other less [] above = tt
 all_below name other less (q ∷ pairs) above = (nat_list_cmp_total.trans name other q.0 less above.0, all_below name other less pairs above.1)
 
@@ -69,7 +69,7 @@ module _ (option : OptionParts) (vars : Variables) where
   pub none_same : (before : List Pair) → entries vars ≡ before → AreOthers option before → (number : ℕ) → IsSame vars option number → ⊥
   none_same before all others number s =
       not_found option number s.bytes s.is s.same before others
-              (ap (find name_cmp (entry_text number)) (sym all) ∙ sym (get-entries vars (entry_text number)) ∙ s.stored)
+      (ap (find name_cmp (entry_text number)) (sym all) ∙ sym (get-entries vars (entry_text number)) ∙ s.stored)
 
   module _ (before : List Pair) (p : Pair) (rest : List Pair) (all : entries vars ≡ before ++ p ∷ rest) (others : AreOthers option before) where
     -- the first one that is the same has the lowest number
@@ -79,7 +79,7 @@ module _ (option : OptionParts) (vars : Variables) where
         is = fits;
         bytes = p.1;
         stored = ap (get vars) (sym named) ∙ get_contained vars p
-                (subst (λ (es : List Pair). Contains es p) (sym all) (Contains-append_right before (p ∷ rest) p (0, omega arith, refl)));
+            (subst (λ (es : List Pair). Contains es p) (sym all) (Contains-append_right before (p ∷ rest) p (0, omega arith, refl)));
         same = same;
       };
       first = λ lower below s.

@@ -1,6 +1,31 @@
 -- Orders that are made of one another number by number, and what is in them.
-use Rattle.std.proofs.Common.{◌≡◌, ℕ, ◌+◌, ◌<◌, ◌==◌, ◌&&◌, ◌||◌, not, Bool, true, false, cond, List, [], ◌∷◌, ◌++◌,
-    length, take, get_or, refl, sym, ap, ◌∙◌, inl, inr}
+use Rattle.std.proofs.Common.{
+  ◌≡◌,
+  ℕ,
+  ◌+◌,
+  ◌<◌,
+  ◌==◌,
+  ◌&&◌,
+  ◌||◌,
+  not,
+  Bool,
+  true,
+  false,
+  cond,
+  List,
+  [],
+  ◌∷◌,
+  ◌++◌,
+  length,
+  take,
+  get_or,
+  refl,
+  sym,
+  ap,
+  ◌∙◌,
+  inl,
+  inr,
+}
 use Rattle.std.proofs.lemmas.Bool.{cases_eq, cases_Bool, cond-true, cond-false, eqb-true}
 use Rattle.std.proofs.lemmas.List.{append-nil}
 use Rattle.std.proofs.lemmas.List.Elements.{filter_more}
@@ -41,11 +66,11 @@ not_behind numbers order number there = is_left numbers order number ∙ ap (λ 
 -- one more number is left, or isn't
 module _ (numbers order : List ℕ) (i : ℕ) (within : i < length order) where
   more_left : without_all numbers (take (i + 1) order) ≡ without_all numbers (take i order)
-          ++ cond (not (is_in numbers (get_or order i 0))) (get_or order i 0 ∷ []) []
+      ++ cond (not (is_in numbers (get_or order i 0))) (get_or order i 0 ∷ []) []
   more_left = filter_more (λ number. not (is_in numbers number)) order i 0 within
 
   pub left_more : is_in numbers (get_or order i 0) ≡ false →
-          without_all numbers (take (i + 1) order) ≡ without_all numbers (take i order) ++ get_or order i 0 ∷ []
+      without_all numbers (take (i + 1) order) ≡ without_all numbers (take i order) ++ get_or order i 0 ∷ []
   left_more out = more_left ∙ ap (λ b. without_all numbers (take i order) ++ cond (not b) (get_or order i 0 ∷ []) []) out
 
   pub left_same : is_in numbers (get_or order i 0) ≡ true → without_all numbers (take (i + 1) order) ≡ without_all numbers (take i order)
@@ -77,7 +102,7 @@ with_last_once numbers number once = elim (cases_Bool (is_in numbers number)) [
 
 module _ (test : ℕ → Bool) where
   pub extended_has : (numbers order : List ℕ) (number : ℕ) →
-          is_in (extended test numbers order) number ≡ (is_in numbers number || (test number && is_in order number))
+      is_in (extended test numbers order) number ≡ (is_in numbers number || (test number && is_in order number))
   extended_has numbers [] number = sym (none (is_in numbers number) (test number))
     where
       none : (a b : Bool) → (a || (b && false)) ≡ a

@@ -20,11 +20,37 @@ use Rattle.boot_edits.specs.declared.edit.Edit.{Edit}
 use Rattle.boot_edits.specs.declared.edit.Edit.TheVariants.{Add, Remove, First as FirstOf, Order, Next, Activate, Deactivate}
 use Rattle.boot_edits.specs.declared.fault.EditFault.{EditFault}
 use Rattle.boot_edits.specs.declared.fault.EditFault.TheVariants.{BadOption}
-use Rattle.boot_edits.specs.Addition.{placed, IsSame, IsLowestSame, IsPresent, IsWanted, IsNewNumber, StoresPlaced,
-    IsPlaced, IsEntryAdded, IsAdded, IsAdditionDone, IsNumberFault, IsOrderFault, IsPlaceFault, IsRoomFaultAt,
-    IsAdditionFault}
-use Rattle.boot_edits.specs.Edit.{IsRemoved, IsRemoveFault, IsFrontOrder, IsNewOrder, IsOrderOf, IsReordered,
-    IsReorderFault, IsNextSet, IsNextFault, IsEdited, IsEditFault}
+use Rattle.boot_edits.specs.Addition.{
+  placed,
+  IsSame,
+  IsLowestSame,
+  IsPresent,
+  IsWanted,
+  IsNewNumber,
+  StoresPlaced,
+  IsPlaced,
+  IsEntryAdded,
+  IsAdded,
+  IsAdditionDone,
+  IsNumberFault,
+  IsOrderFault,
+  IsPlaceFault,
+  IsRoomFaultAt,
+  IsAdditionFault,
+}
+use Rattle.boot_edits.specs.Edit.{
+  IsRemoved,
+  IsRemoveFault,
+  IsFrontOrder,
+  IsNewOrder,
+  IsOrderOf,
+  IsReordered,
+  IsReorderFault,
+  IsNextSet,
+  IsNextFault,
+  IsEdited,
+  IsEditFault,
+}
 use Rattle.boot_edits.specs.Lists.{IsMissing, IsStale, IsNoOption}
 use Rattle.boot_edits.specs.Orders.{extended, next_without_all}
 use Rattle.boot_edits.specs.Parts.{BootParts, parts_of, Becomes, IsOtherName, entries_with, entries_changed, is_stored, IsOldOrder}
@@ -97,11 +123,17 @@ module _ (one : HasOneReading) (vars : Variables) where
       let next = one.next vars p.next q.next p.has_next q.has_next in
       one_becomes vars _ a b
       (subst (λ (o : List ℕ). Becomes vars
-              (record { entries = entries_changed numbers (λ bytes. None) (entry_of vars);
-              order = stored_order (without_all numbers o); next = stored_next (next_without_all numbers q.next) }) a) order
+      (record {
+        entries = entries_changed numbers (λ bytes. None) (entry_of vars);
+        order = stored_order (without_all numbers o);
+        next = stored_next (next_without_all numbers q.next);
+      }) a) order
       (subst (λ (n : Option ℕ). Becomes vars
-              (record { entries = entries_changed numbers (λ bytes. None) (entry_of vars);
-              order = stored_order (without_all numbers p.order); next = stored_next (next_without_all numbers n) }) a) next
+      (record {
+        entries = entries_changed numbers (λ bytes. None) (entry_of vars);
+        order = stored_order (without_all numbers p.order);
+        next = stored_next (next_without_all numbers n);
+      }) a) next
       p.becomes))
       q.becomes
 
@@ -166,7 +198,7 @@ module _ (one : HasOneReading) (vars : Variables) where
     present_once : (m n : ℕ) → IsPresent vars addition m → IsPresent vars addition n → m ≡ n
     present_once m n p q =
         same_number q.option m n (subst (λ (o : OptionParts). IsLowestSame vars o m)
-                (one.option addition.option.now p.option q.option p.spelled q.spelled) p.there) q.there
+        (one.option addition.option.now p.option q.option p.spelled q.spelled) p.there) q.there
 
     wanted_or_present : (n : ℕ) → IsWanted vars addition → IsPresent vars addition n → ⊥
     wanted_or_present n w p = elim w.new [
@@ -221,7 +253,7 @@ module _ (one : HasOneReading) (vars : Variables) where
     number_or_not None n f p q = q.1 n p.is p.free
 
     order_or_not : (position : Position) (n : ℕ) (stored : Option (List ℕ)) (f : EditFault) →
-            StoresPlaced vars position n stored → IsOrderFault vars position n f → ⊥
+        StoresPlaced vars position n stored → IsOrderFault vars position n f → ⊥
     order_or_not position n stored f p (inl bad) = one.bad_order vars p.1.order bad.1 p.1.old
     order_or_not position n stored f p (inr (is, (order, old, long))) =
         let same = ap (λ (o : List ℕ). length (placed position n o)) (one.order vars order p.1.order old p.1.old) in
@@ -229,7 +261,7 @@ module _ (one : HasOneReading) (vars : Variables) where
         omega (arith, same, len, long, p.1.fits)
 
     place_or_not : (position : Position) (n : ℕ) (stored : Option (List ℕ)) (f : EditFault) → IsPlaced vars position n stored →
-            IsPlaceFault vars position n f → ⊥
+        IsPlaceFault vars position n f → ⊥
     place_or_not First n stored f p q = order_or_not First n stored f p q
     place_or_not Last n stored f p q = order_or_not Last n stored f p q
     place_or_not NoOrder n stored f p q = q
@@ -283,11 +315,16 @@ module _ (one : HasOneReading) (vars : Variables) where
   pub edited_once : (edit : Edit) (a b : Variables) (x y : EditAnswer) → IsEdited vars edit a x → IsEdited vars edit b y → (a ≡ b) × (x ≡ y)
   edited_once (Add addition) a b x y p q = addition_once addition a b x y p q
   edited_once (Remove numbers) a b x y p q = (removed_once numbers.now a b p.1 q.1, p.0 ∙ sym q.0)
-  edited_once (FirstOf numbers) a b x y p q = (reordered_once (IsMissing vars) numbers.now (IsFrontOrder vars numbers.now)
-          (one_front numbers.now) a b p.1 q.1, p.0 ∙ sym q.0)
-  edited_once (Order new) a b x y p q =
-      (reordered_once (IsStale new.stale vars) new.entries.now (IsNewOrder vars new.only new.entries.now)
-              (one_new new.only new.entries.now) a b p.1 q.1, p.0 ∙ sym q.0)
+  edited_once (FirstOf numbers) a b x y p q = (
+    reordered_once (IsMissing vars) numbers.now (IsFrontOrder vars numbers.now)
+        (one_front numbers.now) a b p.1 q.1,
+    p.0 ∙ sym q.0,
+  )
+  edited_once (Order new) a b x y p q = (
+    reordered_once (IsStale new.stale vars) new.entries.now (IsNewOrder vars new.only new.entries.now)
+        (one_new new.only new.entries.now) a b p.1 q.1,
+    p.0 ∙ sym q.0,
+  )
   edited_once (Next next) a b x y p q = (next_once next a b p.1 q.1, p.0 ∙ sym q.0)
   edited_once (Activate numbers) a b x y p q = (one_becomes vars _ a b p.1.becomes q.1.becomes, p.0 ∙ sym q.0)
   edited_once (Deactivate numbers) a b x y p q = (one_becomes vars _ a b p.1.becomes q.1.becomes, p.0 ∙ sym q.0)
@@ -309,7 +346,7 @@ module _ (one : HasOneReading) (vars : Variables) where
       one_reorder_fault (IsMissing vars) numbers.now (IsFrontOrder vars numbers.now) (one_front numbers.now) one_missing f g p q
   one_edit_fault (Order new) f g p q =
       one_reorder_fault (IsStale new.stale vars) new.entries.now (IsNewOrder vars new.only new.entries.now)
-              (one_new new.only new.entries.now) (one_stale new.stale) f g p q
+      (one_new new.only new.entries.now) (one_stale new.stale) f g p q
   one_edit_fault (Next next) f g p q = one_next_fault next f g p q
   one_edit_fault (Activate numbers) f g p q = one_first (IsNoOption vars) numbers.now one_no_option f g p q
   one_edit_fault (Deactivate numbers) f g p q = one_first (IsNoOption vars) numbers.now one_no_option f g p q
@@ -317,7 +354,7 @@ module _ (one : HasOneReading) (vars : Variables) where
 -- ---- variables of other names
 
 pub others_kept : (vars : Variables) (edit : Edit) (to : Variables) (x : EditAnswer) → IsEdited vars edit to x →
-        (name : List ℕ) → IsOtherName name → get to name ≡ get vars name
+    (name : List ℕ) → IsOtherName name → get to name ≡ get vars name
 others_kept vars (Add addition) to Done p name other = absurd p
 others_kept vars (Add addition) to (Added n) p name other = p.added.becomes.others name other
 others_kept vars (Add addition) to (Present n) p name other = ap (λ (m : Variables). get m name) p.1

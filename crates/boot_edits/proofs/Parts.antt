@@ -1,6 +1,33 @@
 -- What single changes make of variables, part by part.
-use Rattle.std.proofs.Common.{◌≡◌, ◌≢◌, ◌⊎◌, ℕ, ◌<◌, ◌*◌, ◌%◌, length, true, false, cond, List, Option, Some, None,
-    refl, sym, ap, subst, ◌∙◌, inl, inr, ◌||◌, Bool, [], ◌∷◌, ◌++◌}
+use Rattle.std.proofs.Common.{
+  ◌≡◌,
+  ◌≢◌,
+  ◌⊎◌,
+  ℕ,
+  ◌<◌,
+  ◌*◌,
+  ◌%◌,
+  length,
+  true,
+  false,
+  cond,
+  List,
+  Option,
+  Some,
+  None,
+  refl,
+  sym,
+  ap,
+  subst,
+  ◌∙◌,
+  inl,
+  inr,
+  ◌||◌,
+  Bool,
+  [],
+  ◌∷◌,
+  ◌++◌,
+}
 use Rattle.std.specs.FinMap.{get, insert, remove}
 use Rattle.std.specs.Option.{option_map}
 use Rattle.std.proofs.lemmas.Bool.{cases_eq, cases_Bool, cond-true, cond-false, eq-eqb, ne_eqb, false≢true, or_right}
@@ -61,7 +88,7 @@ module _ (from mid : Variables) (parts : BootParts) (b : Becomes from parts mid)
 module _ (from to : Variables) (parts : BootParts) (b : Becomes from parts to) where
   -- the same parts in other words
   pub retell_entries : (entries : ℕ → Option (List ℕ)) → ((number : ℕ) → parts.entries number ≡ entries number) →
-          Becomes from (record parts { entries = entries }) to
+      Becomes from (record parts { entries = entries }) to
   retell_entries entries same = record { entries = λ n p. b.entries n p ∙ same n; order = b.order; next = b.next; others = b.others }
 
   pub retell_order : (order : Option (List ℕ)) → parts.order ≡ order → Becomes from (record parts { order = order }) to
@@ -108,11 +135,11 @@ changed_more change numbers number from mid bytes fits there b =
       | inl same ↦
           cond-true _ _ _ (eq-eqb number n same)
           ∙ sym (cond-true _ _ _ (is_in-push numbers number n ∙ or_right _ _ (eq-eqb number n same))
-                  ∙ ap (λ k. option_map change (entry_of from k)) (sym same) ∙ ap (option_map change) there)
+          ∙ ap (λ k. option_map change (entry_of from k)) (sym same) ∙ ap (option_map change) there)
       | inr differ ↦
           cond-false _ _ _ (ne_eqb number n differ)
           ∙ ap (λ t. cond t (option_map change (entry_of from n)) (entry_of from n))
-                  (sym (is_in-push numbers number n ∙ ap (λ t. is_in numbers n || t) (ne_eqb number n differ) ∙ or_none (is_in numbers n)))
+          (sym (is_in-push numbers number n ∙ ap (λ t. is_in numbers n || t) (ne_eqb number n differ) ∙ or_none (is_in numbers n)))
     ])
   where
     or_none : (t : Bool) → (t || false) ≡ t
@@ -127,19 +154,29 @@ module _ (vars mid : Variables) (same : get mid order_text ≡ get vars order_te
 
   pub placed_becomes : (parts : BootParts) (to : Variables) (position : Position) (number : ℕ) → Becomes vars parts mid → IsPlacedIn mid position number to
       → (order : Option (List ℕ)) × IsPlaced vars position number order × Becomes vars (record parts { order = order }) to
-  placed_becomes parts to First number b p =
-      (stored_order p.0, (p.0, has_placed First number p.0 p.1, refl),
-              subst (Becomes vars (record parts { order = stored_order p.0 })) (sym p.2) (then_order vars mid parts b (stored_order p.0)))
-  placed_becomes parts to Last number b p =
-      (stored_order p.0, (p.0, has_placed Last number p.0 p.1, refl),
-              subst (Becomes vars (record parts { order = stored_order p.0 })) (sym p.2) (then_order vars mid parts b (stored_order p.0)))
-  placed_becomes parts to NoOrder number b p =
-      (get vars order_text, refl, subst (Becomes vars (record parts { order = get vars order_text })) (sym p)
-              (retell_order vars mid parts b (get vars order_text) (sym b.order ∙ same)))
+  placed_becomes parts to First number b p = (
+    stored_order p.0,
+    (p.0, has_placed First number p.0 p.1, refl),
+    subst (Becomes vars (record parts { order = stored_order p.0 })) (sym p.2) (then_order vars mid parts b (stored_order p.0)),
+  )
+  placed_becomes parts to Last number b p = (
+    stored_order p.0,
+    (p.0, has_placed Last number p.0 p.1, refl),
+    subst (Becomes vars (record parts { order = stored_order p.0 })) (sym p.2) (then_order vars mid parts b (stored_order p.0)),
+  )
+  placed_becomes parts to NoOrder number b p = (
+    get vars order_text,
+    refl,
+    subst (Becomes vars (record parts { order = get vars order_text })) (sym p)
+        (retell_order vars mid parts b (get vars order_text) (sym b.order ∙ same)),
+  )
 
   order_fault : (position : Position) (number : ℕ) (f : EditFault) → IsOrderFault mid position number f → IsOrderFault vars position number f
-  order_fault position number f (inl bad) = inl (bad.0, subst
-          (λ (x : Option (List ℕ)). IsSomeAnd x (λ bytes. (length bytes % 2 ≢ 0) ⊎ (2 * order_max < length bytes))) same bad.1)
+  order_fault position number f (inl bad) = inl (
+    bad.0,
+    subst
+        (λ (x : Option (List ℕ)). IsSomeAnd x (λ bytes. (length bytes % 2 ≢ 0) ⊎ (2 * order_max < length bytes))) same bad.1,
+  )
   order_fault position number f (inr long) = inr (long.0, (long.1.0, (HasOrder-along mid vars same long.1.0).0 long.1.1, long.1.2))
 
   pub place_fault : (position : Position) (number : ℕ) (f : EditFault) → IsPlaceFault mid position number f → IsPlaceFault vars position number f

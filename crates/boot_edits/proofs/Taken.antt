@@ -31,10 +31,10 @@ over_all (p ∷ pairs) rising name before =
     let found = find name_cmp name pairs in
     over_all pairs parts.1 name (cond (eq_by_cmp name_cmp name p.0) (Some p.1) before)
     ∙ elim (name_cmp name p.0) as (λ (r : Ordering). name_cmp name p.0 ≡ r →
-            or_else found (cond (is_eq r) (Some p.1) before) ≡ or_else (cond (is_eq r) (Some p.1) found) before) [
+    or_else found (cond (is_eq r) (Some p.1) before) ≡ or_else (cond (is_eq r) (Some p.1) found) before) [
       | Less ↦ λ t. refl
       | Equal ↦ λ t. ap (λ f. or_else f (Some p.1)) (ap (λ n. find name_cmp n pairs) (name_cmp-IsAntisymmetric name p.0 t)
-              ∙ find_below name_cmp p.0 pairs parts.0)
+          ∙ find_below name_cmp p.0 pairs parts.0)
       | Greater ↦ λ t. refl
     ] refl
 

@@ -1,4 +1,4 @@
--- The record of a machine over a device, to which each call adds some moves. What is there is what all moves lead to, what was
+-- The record of a machine over storage, to which each call adds some moves. What is there is what all moves lead to, what was
 -- there is what each of them left, and so many were refused as the record has refusals. A call that did some moves is a
 -- `Goes`; what the contract of `make` and of `replace_journal` says follows from this and from the moves alone.
 use Rattle.std.proofs.Common.{◌≡◌, ◌+◌, Ok, Err, Option, Some, None, List, [], ◌∷◌, ◌++◌, refl, sym, ap, ◌∙◌, append_assoc, arith}
@@ -91,7 +91,7 @@ pub one_refusal : {E : Type 0} {first now first' now' : Store} {items items' mor
 one_refusal error goes one =
     record { later = omega (arith, refusals_go goes, one); refused = λ refusal is. omega (arith, refusals_go goes, one) }
 
--- ---- what a device was asked
+-- ---- what storage was asked
 
 then_again : (asked : Option (List Ask)) (xs ys : List Ask) → and_then (and_then asked xs) ys ≡ and_then asked (xs ++ ys)
 then_again None xs ys = refl

@@ -35,14 +35,14 @@ err_then (Ok a) Q P is then = tt
 err_then (Err e) Q P is then = then e is
 
 pub refused_then : (error : CallError RunFault) (fault : OpenFault) (vars set : Variables) → set ≡ data_of vars →
-        IfRefused error (λ reason. (reason ≡ refusal.Open fault) × (fault ≢ opening.OutOfMemory)) →
+    IfRefused error (λ reason. (reason ≡ refusal.Open fault) × (fault ≢ opening.OutOfMemory)) →
     (fault ≢ opening.OutOfMemory → IsOpenFault set fault) → IfRefused error (IsOpenRefusal vars)
 refused_then OutOfMemory fault vars set same is then = tt
 refused_then (Refused reason) fault vars set same is then =
-        subst (IsOpenRefusal vars) (sym is.0) (subst (λ (v : Variables). IsOpenFault v fault) same (then is.1))
+    subst (IsOpenRefusal vars) (sym is.0) (subst (λ (v : Variables). IsOpenFault v fault) same (then is.1))
 
 pub refused_without : (error : CallError RunFault) (fault : AttributesFault) (vars : Variables) → error ≡ error_of fault →
-        IsFaultWithout vars fault → IfRefused error (IsOpenRefusal vars)
+    IsFaultWithout vars fault → IfRefused error (IsOpenRefusal vars)
 refused_without error fault vars is why = subst (λ (e : CallError RunFault). IfRefused e (IsOpenRefusal vars)) (sym is) (by fault why)
   where
     by : (fault : AttributesFault) → IsFaultWithout vars fault → IfRefused (error_of fault) (IsOpenRefusal vars)
@@ -51,7 +51,7 @@ refused_without error fault vars is why = subst (λ (e : CallError RunFault). If
     by attributes.OutOfMemory why = tt
 
 pub refused_with : (error : CallError RunFault) (fault : AttributesFault) (events : List Event) (vars set : Variables) →
-        error ≡ error_of fault → IsFaultWith set fault →
+    error ≡ error_of fault → IsFaultWith set fault →
     (HasLongData set → LeadsTooFar events vars) → IfRefused error (IsRunFault events vars)
 refused_with error fault events vars set is why far = subst (λ (e : CallError RunFault). IfRefused e (IsRunFault events vars)) (sym is) (by fault why)
   where

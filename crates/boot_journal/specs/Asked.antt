@@ -1,10 +1,10 @@
--- What a device was asked, and what it answered.
+-- What storage was asked, and what it answered.
 use Rattle.std.specs.Prelude.{◌++◌, Bool, List, Option}
 use Rattle.std.specs.Option.{option_map}
 use Rattle.uefi_vars.specs.BootChange.{ChangeParts}
 use Rattle.boot_journal.specs.Journal.{JournalParts}
 
--- a call of a device, and whether it answered that it did that, or has it
+-- a call of storage, and whether it answered that it did that, or has it
 pub data Ask : Type 0 where
   -- to make a change
   ToMake : ChangeParts → Bool → Ask

@@ -30,9 +30,9 @@ refusals_in (Made change ∷ moves) = refusals_in moves
 refusals_in (Replaced journal ∷ moves) = refusals_in moves
 refusals_in (Refused ∷ moves) = 1 + refusals_in moves
 
--- ---- what a device was asked for
+-- ---- what storage was asked for
 
--- A device does what it is asked to, or it refuses to and, when it is asked, tells whether it has done it nevertheless.
+-- Storage does what it is asked to, or it refuses to and, when it is asked, tells whether it has done it nevertheless.
 pub data Attempt : Type 0 where
   Makes : ChangeParts → Attempt
   RefusesToMake : ChangeParts → Bool → Attempt
@@ -55,12 +55,12 @@ moves_of (Replaces journal) = Replaced journal ∷ []
 moves_of (RefusesToReplace journal true) = Replaced journal ∷ Refused ∷ []
 moves_of (RefusesToReplace journal false) = Refused ∷ []
 
--- the device was asked for this, and no more, and the record tells what was done by its answers
+-- the storage was asked for this, and no more, and the record tells what was done by its answers
 pub record Tells (attempt : Attempt) (asked asked' : Option (List Ask)) (moves moves' : List Move) : Type 0 where
   pub asks : asked' ≡ and_then asked (asks_of attempt)
   pub told : moves' ≡ moves ++ moves_of attempt
 
--- the device was asked for nothing, and the record tells of nothing
+-- the storage was asked for nothing, and the record tells of nothing
 pub record TellsNothing (asked asked' : Option (List Ask)) (moves moves' : List Move) : Type 0 where
   pub asks : asked' ≡ asked
   pub told : moves' ≡ moves

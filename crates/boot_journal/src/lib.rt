@@ -4,7 +4,7 @@
 //! Firmware stores one variable at a time, and power may fail between two of them. So a [`Machine`] has a [`Journal`] beside
 //! its variables: [`update`] first writes there what it is about to change, and [`settle`] does what a journal is left with,
 //! or takes it back if the machine refuses a move. [`command`] settles, runs something over the variables, such as
-//! [`Requests`], and updates. [`Recorded`] makes a machine of a [`Device`]. [`read_journal`] reads a journal, and the
+//! [`Requests`], and updates. [`Recorded`] makes a machine of a [`Storage`]. [`read_journal`] reads a journal, and the
 //! [`MachineName`] of the machine that it is of, from the bytes of a file, all of them, and [`write_journal`] writes them.
 //!
 //! What a machine keeps under the name of a variable of the boot manager, Boot####, BootOrder or BootNext, is the
@@ -41,7 +41,7 @@ pub use journal_file::JournalFile;
 pub use machine::{CallError, CommandError, Machine, UpdateError};
 pub use machine_name::{MACHINE_NAME_MAX, MachineName};
 pub use reader::read_journal;
-pub use recorded::{Device, Recorded};
+pub use recorded::{Recorded, Storage};
 pub use requests::{Requests, RunFault};
 pub use updating::{settle, update};
 pub use writer::write_journal;

@@ -1,4 +1,4 @@
-//! Machines over devices, with a record of what was done.
+//! Machines over storage, with a record of what was done.
 
 ghost use Rattle.std.specs.Prelude.{◌≡◌, ◌⊎◌, Bool, List, [], Option, None, IfOk, OnOk, OnErr, is_ok, ◌∷◌, ◌++◌, ◌+◌, ◌<◌, ◌≤◌};
 ghost use Rattle.std.specs.Coded.{codes};
@@ -22,7 +22,7 @@ use uefi_vars::{KEEP_STATE, Vars};
 /// What a machine's variables and its journal are kept in, such as a folder of the system. What it does isn't proved. It is
 /// trusted that each call does the whole of what it is asked to, or nothing, and tells which; that a call for what is there
 /// already succeeds; and that nobody else changes the boot manager's variables meanwhile.
-pub trait Device: Drop {
+pub trait Storage: Drop {
     /// Why it refuses something.
     type Refusal: Drop;
 
@@ -67,11 +67,11 @@ pub(crate) struct Kept {
     pub(crate) journal: Journal,
 }
 
-/// A machine over a device. It keeps what the device has, and a record of what was done to it: what the device was asked for
+/// A machine over storage. It keeps what the storage has, and a record of what was done to it: what the storage was asked for
 /// and answered that it did.
 #[derive(Drop)]
-pub struct Recorded<D: Device> {
-    device: D,
+pub struct Recorded<D: Storage> {
+    storage: D,
     alloc: Global,
     first: Kept,
     moves: Vec<Move>,
@@ -81,25 +81,25 @@ pub struct Recorded<D: Device> {
     ghost journal_is: { now.journal ≡ (done_to (store_of first) moves.items).journal },
 }
 
-impl<D: Device> Recorded<D> {
-    /// The machine over this device, which has these variables and this journal. Those of the boot manager are given
+impl<D: Storage> Recorded<D> {
+    /// The machine over this storage, which has these variables and this journal. Those of the boot manager are given
     /// with their attributes, as [`with_attributes`](crate::with_attributes) makes them of a set. A BootKeepState among
     /// the variables doesn't count: the journal has it. This fails only if memory is refused.
     pub fn new(
         alloc: Global,
-        device: D,
+        storage: D,
         vars: Vars,
         journal: Journal,
     ) -> Result<Recorded<D>, AllocError>
         ensures { IfOk result (λ machine. (store_of machine.now ≡ record { variables = vars; journal = journal }) × (machine.moves.items ≡ [])
-            × (machine.device ≡ device)) }
+            × (machine.storage ≡ storage)) }
     {
         let first = Kept {
             vars: vars.copy(alloc)?,
             journal: journal.copy(alloc)?,
         };
         Ok(Recorded {
-            device,
+            storage,
             alloc,
             first,
             moves: Vec::new(alloc),
@@ -107,11 +107,11 @@ impl<D: Device> Recorded<D> {
         })
     }
 
-    /// The device.
-    pub fn device(&self) -> &D
-        ensures { result.now ≡ self.entry.now.device }
+    /// The storage.
+    pub fn storage(&self) -> &D
+        ensures { result.now ≡ self.entry.now.storage }
     {
-        &self.device
+        &self.storage
     }
 
     /// Keeps that the change was made, which leads to these variables.
@@ -123,7 +123,7 @@ impl<D: Device> Recorded<D> {
         ensures moves { self.new.moves.items ≡ self.old.moves.items ++ Move.Made change ∷ [] }
         ensures len { vec_len self.new.moves ≡ vec_len self.old.moves + 1 }
         ensures capacity { vec_capacity self.new.moves ≡ vec_capacity self.old.moves }
-        ensures device { self.new.device ≡ self.old.device }
+        ensures storage { self.new.storage ≡ self.old.storage }
     {
         self.now.vars = vars;
         self.moves.push_reserved(Move::Made(change));
@@ -138,7 +138,7 @@ impl<D: Device> Recorded<D> {
         ensures moves { self.new.moves.items ≡ self.old.moves.items ++ Move.Replaced journal ∷ [] }
         ensures len { vec_len self.new.moves ≡ vec_len self.old.moves + 1 }
         ensures capacity { vec_capacity self.new.moves ≡ vec_capacity self.old.moves }
-        ensures device { self.new.device ≡ self.old.device }
+        ensures storage { self.new.storage ≡ self.old.storage }
     {
         self.now.journal = journal;
         self.moves.push_reserved(Move::Replaced(kept));
@@ -150,26 +150,26 @@ impl<D: Device> Recorded<D> {
         ensures store { store_of self.new.now ≡ store_of self.old.now }
         ensures first { self.new.first ≡ self.old.first }
         ensures moves { self.new.moves.items ≡ self.old.moves.items ++ Move.Refused ∷ [] }
-        ensures device { self.new.device ≡ self.old.device }
+        ensures storage { self.new.storage ≡ self.old.storage }
     {
         self.moves.push_reserved(Move::Refused);
     }
 }
 
-impl<D: Device> Recorded<D> {
+impl<D: Storage> Recorded<D> {
     /// Makes room in the record for what a call may do. This fails only if memory is refused.
     fn reserve(&mut self) -> Result<(), AllocError>
         ensures room { OnOk result (vec_len self.new.moves + 2 ≤ vec_capacity self.new.moves) }
         ensures now { store_of self.new.now ≡ store_of self.old.now }
         ensures first { self.new.first ≡ self.old.first }
         ensures moves { self.new.moves.items ≡ self.old.moves.items }
-        ensures device { self.new.device ≡ self.old.device }
+        ensures storage { self.new.storage ≡ self.old.storage }
     {
         self.moves.reserve(2)
     }
 }
 
-impl<D: Device> Machine for Recorded<D> {
+impl<D: Storage> Machine for Recorded<D> {
     ghost use Rattle.boot_journal.specs.Cause.{HasCause};
     ghost use Rattle.boot_journal.specs.Moments.{Leaves, IsRecorded};
     ghost use Rattle.boot_journal.specs.Recorded.{past, refusals_in, Makes, RefusesToMake, Replaces, RefusesToReplace, Tells, TellsNothing};
@@ -204,23 +204,23 @@ impl<D: Device> Machine for Recorded<D> {
         ensures whole { IsEither (store_of self.old.now) (with_made (change.now ∷ []) (store_of self.old.now)) (store_of self.new.now) }
         ensures moments { Leaves (IsEither (store_of self.old.now) (with_made (change.now ∷ []) (store_of self.old.now)))
             (past (store_of self.old.first) self.old.moves.items) (past (store_of self.new.first) self.new.moves.items) }
-        // What it tells of moves is what its device was asked for, and answered.
+        // What it tells of moves is what its storage was asked for, and answered.
         ensures asked { OnOk result (Tells (Makes change.now)
-            (D.asked self.old.device) (D.asked self.new.device) self.old.moves.items self.new.moves.items) }
-        ensures refused { OnErr result (TellsNothing (D.asked self.old.device) (D.asked self.new.device) self.old.moves.items self.new.moves.items
+            (D.asked self.old.storage) (D.asked self.new.storage) self.old.moves.items self.new.moves.items) }
+        ensures refused { OnErr result (TellsNothing (D.asked self.old.storage) (D.asked self.new.storage) self.old.moves.items self.new.moves.items
             ⊎ ((has : Bool) × Tells (RefusesToMake change.now has)
-            (D.asked self.old.device) (D.asked self.new.device) self.old.moves.items self.new.moves.items)) }
+            (D.asked self.old.storage) (D.asked self.new.storage) self.old.moves.items self.new.moves.items)) }
     {
         let vars = changed(self.alloc, &self.now.vars, change)?;
         let copy = change.copy(self.alloc)?;
         self.reserve()?;
-        match self.device.make(change) {
+        match self.storage.make(change) {
             Ok(()) => {
                 self.keep_change(copy, vars);
                 Ok(())
             }
             Err(error) => {
-                if self.device.has_made(change) {
+                if self.storage.has_made(change) {
                     self.keep_change(copy, vars);
                     self.keep_refusal();
                     Err(error)
@@ -240,23 +240,23 @@ impl<D: Device> Machine for Recorded<D> {
         ensures whole { IsEither (store_of self.old.now) (with_journal journal.now (store_of self.old.now)) (store_of self.new.now) }
         ensures moments { Leaves (IsEither (store_of self.old.now) (with_journal journal.now (store_of self.old.now)))
             (past (store_of self.old.first) self.old.moves.items) (past (store_of self.new.first) self.new.moves.items) }
-        // What it tells of moves is what its device was asked for, and answered.
+        // What it tells of moves is what its storage was asked for, and answered.
         ensures asked { OnOk result (Tells (Replaces journal.now)
-            (D.asked self.old.device) (D.asked self.new.device) self.old.moves.items self.new.moves.items) }
-        ensures refused { OnErr result (TellsNothing (D.asked self.old.device) (D.asked self.new.device) self.old.moves.items self.new.moves.items
+            (D.asked self.old.storage) (D.asked self.new.storage) self.old.moves.items self.new.moves.items) }
+        ensures refused { OnErr result (TellsNothing (D.asked self.old.storage) (D.asked self.new.storage) self.old.moves.items self.new.moves.items
             ⊎ ((has : Bool) × Tells (RefusesToReplace journal.now has)
-            (D.asked self.old.device) (D.asked self.new.device) self.old.moves.items self.new.moves.items)) }
+            (D.asked self.old.storage) (D.asked self.new.storage) self.old.moves.items self.new.moves.items)) }
     {
         let kept = journal.copy(self.alloc)?;
         let copy = journal.copy(self.alloc)?;
         self.reserve()?;
-        match self.device.replace_journal(journal) {
+        match self.storage.replace_journal(journal) {
             Ok(()) => {
                 self.keep_journal(kept, copy);
                 Ok(())
             }
             Err(error) => {
-                if self.device.has_replaced(journal) {
+                if self.storage.has_replaced(journal) {
                     self.keep_journal(kept, copy);
                     self.keep_refusal();
                     Err(error)

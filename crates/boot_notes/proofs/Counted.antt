@@ -36,8 +36,18 @@ use Rattle.boot_requests.proofs.WholeRuns.Numbers.{get_inserted, get_retained}
 use Rattle.boot_requests.proofs.WholeRuns.Told.{IsToldNear, IsToldNew}
 use Rattle.boot_notes.specs.declared.digest.FrameDigest.{FrameDigest}
 use Rattle.boot_notes.specs.Digest.{digest_under, frame_digest}
-use Rattle.boot_notes.specs.Applied.{SentFrames, sent_of, with_waiting, found_under, followers_of, still_waiting,
-    with_frame, with_delivery, with_answer, after_answers}
+use Rattle.boot_notes.specs.Applied.{
+  SentFrames,
+  sent_of,
+  with_waiting,
+  found_under,
+  followers_of,
+  still_waiting,
+  with_frame,
+  with_delivery,
+  with_answer,
+  after_answers,
+}
 use Rattle.boot_notes.specs.Noted.{IsOfAccepted}
 use Rattle.boot_notes.proofs.Noted.{Fit, under_waiting, came_extends, came_open, opens, applies, below_after, fit_next}
 
@@ -49,7 +59,7 @@ is_under digests q = is_some (digest_under digests q)
 under_first : (kept : FrameDigest) (digests : List FrameDigest) (q : ℕ) → is_under (kept ∷ digests) q ≡ cond (eqb kept.number q) true (is_under digests q)
 under_first kept digests q =
     elim (eqb kept.number q) as (λ b. is_some (option_map (λ (other : FrameDigest). other.digest)
-            (cond b (Some kept) (first_of digests))) ≡ cond b true (is_under digests q))
+    (cond b (Some kept) (first_of digests))) ≡ cond b true (is_under digests q))
     [ true ↦ refl | false ↦ refl ]
   where
     first_of : List FrameDigest → Option FrameDigest
@@ -122,7 +132,7 @@ followers_numbers waiting (suc count) first held =
 -- if the first number has none, and the others have
 followers_after : (waiting : List FrameDigest) (first next : ℕ) → first < next → digest_under waiting first ≡ None →
     ((q : ℕ) → first < q → q < next → is_under waiting q ≡ true) →
-            numbers_of (followers_of waiting first (next - first)) ≡ numbers_from (suc first) (next - suc first)
+    numbers_of (followers_of waiting first (next - first)) ≡ numbers_from (suc first) (next - suc first)
 followers_after waiting first next below none held =
     let count : next - first ≡ suc (next - suc first) = omega arith in
     ap (λ n. numbers_of (followers_of waiting first n)) count
@@ -167,7 +177,7 @@ module _ (start : State) (run : List Seen) (number : ℕ) (request : Request) wh
       let near : leb width (number - gap) ≡ false = grind (arith, nat_tests, around.1) in
       let late = subst (λ b. MatchBool b (Again answer) (IsToldNew (state_at start run) gap after number request (get old number) answer)) low told in
       let here = subst (λ b. MatchBool b (answer ≡ reply.Ahead gap)
-              (IsToldNear (state_at start run) gap after number request (get old number) answer)) near late in
+      (IsToldNear (state_at start run) gap after number request (get old number) answer)) near late in
       subst (λ (o : Option Request). IsToldNear (state_at start run) gap after number request o answer) none here
     where
       free : (b : Bool) → not b ≡ true → b ≡ false
@@ -241,7 +251,7 @@ module _ (start : State) where
   counts_to gap applied = numbers_of applied ≡ numbers_from begin (gap - begin)
 
   quiet_kept : (run : List Seen) (number : ℕ) (request : Request) (sent : SentFrames) →
-          is_open (accepted_requests begin run) (gap_at begin run) number ≡ false →
+      is_open (accepted_requests begin run) (gap_at begin run) number ≡ false →
       Counted start run sent → Counted start (Came number request ∷ run) sent
   quiet_kept run number request sent closed h =
       let same = accepted_closed begin run number request closed in

@@ -32,16 +32,16 @@ module _ (events : List Event) (answers : List Answer) (n : ℕ) where
     next_answer = drop-cons answers n answer at.in_answers ∙ ap (λ (a : Answer). a ∷ drop (suc n) answers) (sym at.answer_is)
 
     pub one_sent : (sent after : SentFrames) → after ≡ with_answer sent happened answer →
-            rest_sent after events answers (suc n) ≡ rest_sent sent events answers n
+        rest_sent after events answers (suc n) ≡ rest_sent sent events answers n
     one_sent sent after is =
         ap (λ (s : SentFrames). rest_sent s events answers (suc n)) is
         ∙ sym (ap (λ (es : List Event). after_answers sent es (drop n answers)) next_event
         ∙ ap (λ (as_said : List Answer). after_answers sent (happened ∷ drop (suc n) events) as_said) next_answer)
 
     pub one_told : (before : List FrameDigest) (sent after : SentFrames) (same : Option Bool) (told : List (Option Bool)) →
-            after ≡ with_answer sent happened answer →
+        after ≡ with_answer sent happened answer →
         IsTold (known_by before sent) happened answer same → RestTold before after events answers (suc n) told →
-                RestTold before sent events answers n (same ∷ told)
+        RestTold before sent events answers n (same ∷ told)
     one_told before sent after same told is here rest =
         subst (λ (es : List Event). AreTold before sent es (drop n answers) (same ∷ told)) (sym next_event)
         (subst (λ (as_said : List Answer). AreTold before sent (happened ∷ drop (suc n) events) as_said (same ∷ told)) (sym next_answer)

@@ -207,7 +207,7 @@ pub digest_read : (bytes number behind digest rest : List ℕ) (n : ℕ) → IsB
     digest ≡ take 8 behind → rest ≡ drop 8 behind → n ≡ from_le_bytes w32 number → bytes ≡ to_le_bytes w32 n ++ (digest ++ rest)
 digest_read bytes number behind digest rest n fits enough front back first last is =
     let whole : behind ≡ digest ++ rest = sym (take-append-drop 8 behind) ∙ ap (λ (t : List ℕ). t ++ drop 8 behind) (sym first)
-            ∙ ap (λ (t : List ℕ). digest ++ t) (sym last) in
+    ∙ ap (λ (t : List ℕ). digest ++ t) (sym last) in
     number_read bytes number behind n fits enough front back is ∙ ap (λ (t : List ℕ). to_le_bytes w32 n ++ t) whole
 
 -- an identity, and a count behind it

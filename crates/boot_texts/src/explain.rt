@@ -1,10 +1,10 @@
 //! What the frames of a script or a stream ask for, by `bootvars explain`.
 
 use crate::content::{EntryDigits, NumberList, Summary, digits_of, option_place};
+use crate::event_position::EventPosition;
 use crate::json::{
     JsonObject, Leaf, append_leaf, append_leaves, append_object, append_objects, json_line,
 };
-use crate::place::Place;
 use crate::reason::{FaultReason, frame_reason, option_reason};
 use crate::script_reason::script_reason;
 use crate::shown_option::{AttributeWords, ShownOption};
@@ -33,14 +33,14 @@ struct Explanation {
     /// The fault of the script or the stream itself, for which nothing of it is run.
     fault: Option<FormatFault>,
     /// Where the first fault is, of a frame or of the whole.
-    first_fault: Option<Place>,
+    first_fault: Option<EventPosition>,
 }
 
 /// One event of a script, or one frame of a stream.
 #[derive(Drop)]
 struct Step {
     /// Where it is.
-    place: Place,
+    place: EventPosition,
     /// What it asks for.
     asks: Asks,
 }
@@ -88,7 +88,7 @@ struct Malformed {
 #[derive(Drop)]
 struct FormatFault {
     /// Where it is.
-    place: Place,
+    place: EventPosition,
     /// The words of the fault.
     fault: String,
     /// The fault in plain words.
@@ -204,7 +204,7 @@ fn steps_of(alloc: Global, format: InputFormat, list: &EventList) -> Result<Vec<
     let mut steps = Vec::with_capacity(alloc, list.events.len())?;
     for (event, at) in list.events.iter().zip(&list.places) {
         steps.push(Step {
-            place: Place::new(format, *at),
+            place: EventPosition::new(format, *at),
             asks: Asks::of_event(alloc, event)?,
         })?;
     }
@@ -220,7 +220,7 @@ fn fault_of(
 ) -> Result<Option<FormatFault>, AllocError> {
     match &list.fault {
         Some(fault) => Ok(Some(FormatFault {
-            place: Place::new(format, list.end),
+            place: EventPosition::new(format, list.end),
             fault: fault.words(alloc)?,
             reason: script_reason(bytes, fault),
         })),
@@ -229,7 +229,7 @@ fn fault_of(
 }
 
 /// Where the first fault is: every step comes before the fault of the whole.
-fn first_fault(steps: &[Step], fault: Option<&FormatFault>) -> Option<Place> {
+fn first_fault(steps: &[Step], fault: Option<&FormatFault>) -> Option<EventPosition> {
     let malformed = steps
         .iter()
         .find(|step| matches!(step.asks, Asks::Malformed(_)));

@@ -20,12 +20,12 @@ mod changes;
 mod content;
 mod description;
 mod digits;
+mod event_position;
 mod explain;
 mod frame;
 mod json;
 mod look;
 mod option;
-mod place;
 mod reason;
 mod refusal;
 mod replies;
@@ -40,6 +40,7 @@ pub use at_risk::{EntryName, NamingChange, Risk, naming_change};
 pub use changes::{change_report, diff_json, diff_report};
 pub use description::DescriptionFault;
 pub use digits::{DigitsFault, attributes_of_text, entry_of_digits, number_of_digits};
+pub use event_position::EventPosition;
 pub use explain::{Explained, explain_json, explain_report, refused_script};
 pub use frame::{FrameWords, FrameWordsFault, frame_bytes, frame_line};
 pub use look::{Look, look_json};
@@ -47,7 +48,6 @@ pub use option::{
     Flags, OptionWords, OptionWordsFault, attribute_bits, option_bytes, optional_text,
     single_backslashes,
 };
-pub use place::Place;
 pub use reason::{FaultReason, Sizes, open_reason, option_reason};
 pub use refusal::{Refusal, Remedy, refusal_json};
 pub use replies::{ToldReply, reply_json};

@@ -1,10 +1,10 @@
 //! Replies to requests, as `bootvars update` prints them in JSON.
 
 use crate::content::{EntryDigits, digits_of};
+use crate::event_position::EventPosition;
 use crate::json::{
     JsonObject, Leaf, append_leaf, append_leaves, append_object, append_objects, json_line,
 };
-use crate::place::Place;
 use crate::reason::frame_words;
 use crate::shown_vars::ShownPlan;
 use boot_requests::{Answer, Outcome, Reply};
@@ -16,7 +16,7 @@ use uefi_vars::BootPlan;
 #[derive(Clone, Copy, Debug)]
 pub struct ToldReply<'a> {
     /// Where the event is.
-    pub place: Place,
+    pub place: EventPosition,
     /// The answer.
     pub answer: &'a Answer,
     /// Of a repeat, whether the frame is the one that was applied under its number, if that is known.
@@ -33,7 +33,7 @@ pub struct ToldReply<'a> {
 #[derive(Drop)]
 pub(crate) struct ShownReply<'a> {
     /// Where the event is.
-    place: Place,
+    place: EventPosition,
     /// The number of the request, if the event is one.
     request: Option<u32>,
     /// What the reply is.

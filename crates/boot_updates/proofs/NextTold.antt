@@ -102,7 +102,7 @@ module _ (start : State) (run : List Seen) (number : ℕ) (request : Request) wh
 
 prepared_keeps : (start : State) (run : List Seen) (answer : Reply) (before : ℕ) (armed : Bool) →
     MatchBool armed (answer ≡ reply.AlreadyPrepared) ((plan : PlanParts) × HasPlanOf (state_at start run) plan
-            × (answer ≡ reply.Prepared (choice_count plan))) →
+    × (answer ≡ reply.Prepared (choice_count plan))) →
     next_told before answer ≡ before
 prepared_keeps start run answer before true told = ap (next_told before) told
 prepared_keeps start run answer before false told = ap (next_told before) told.2

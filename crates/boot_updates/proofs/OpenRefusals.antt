@@ -15,6 +15,6 @@ run_refuses events from refusal.NoData why = why
 run_refuses events from refusal.TooLong why = absurd why
 
 pub refused_so : (events : List Event) (from : Variables) (error : CallError RunFault) → IfRefused error (IsOpenRefusal from) →
-        IfRefused error (IsRunFault events from)
+    IfRefused error (IsRunFault events from)
 refused_so events from OutOfMemory why = tt
 refused_so events from (Refused reason) why = run_refuses events from reason why

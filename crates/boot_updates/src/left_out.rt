@@ -3,7 +3,7 @@
 use crate::not_made::{NotMade, Refused};
 use crate::script::Script;
 use boot_requests::{Event, FrameFault, Request, read_frame};
-use boot_texts::Place;
+use boot_texts::EventPosition;
 use std::alloc::{AllocError, Global};
 use uefi_vars::{BOOT_NEXT, BOOT_ORDER, entry_number};
 use var_places::Failure;
@@ -24,7 +24,7 @@ pub(crate) fn check_requests(
     }
     for (event, at) in script.events.iter().zip(&script.places) {
         if let Some(variable) = changed_by(alloc, event, left_out)? {
-            let place = Place::new(script.format, *at);
+            let place = EventPosition::new(script.format, *at);
             let fault = format!(in alloc;
                 "{place} would change {variable}, which has no value or too long a one, and stays as it is"
             )?;

@@ -3,7 +3,7 @@
 //!
 //! [`update`] runs numbered requests over the variables of a place, and makes what they lead to as a whole, whatever is cut
 //! off when: a folder of its own has the journal by which that is so. It is `boot_journal`'s
-//! [`command`](boot_journal::command) over a device that is the place and that folder.
+//! [`command`](boot_journal::command) over storage that is the place and that folder.
 //!
 //! Other changes of a place are made over the same [`Machine`]: [`lock_folder`] keeps others from its journal, [`open_place`]
 //! reads the variables, [`open_machine`] makes the machine of the two, and [`kept_command`] makes a change of it, before which
@@ -12,7 +12,6 @@
 #![tactic(auto)]
 
 mod boot_identity;
-mod device;
 mod failures;
 mod history;
 mod kept_run;
@@ -31,13 +30,13 @@ mod requests_run;
 mod script;
 mod standing;
 mod state_folder;
+mod storage;
 mod told;
 mod updated;
 mod updates;
 mod values;
 mod variable_file;
 
-pub use device::PlaceDevice;
 pub use failures::{of_settling, of_updating};
 pub use history::History;
 pub use kept_run::{KeptFault, kept_command};
@@ -49,5 +48,6 @@ pub use owner::name_of_machine;
 pub use replies::{Ended, ReplyForm};
 pub use standing::{SettledVars, is_left_to, stands_for};
 pub use state_folder::{StateFolder, lock_folder, stored_journal};
+pub use storage::PlaceStorage;
 pub use told::{changes_text, set_of, tell_of_coming, tell_of_due, tell_of_unnamed};
 pub use updates::{Job, UpdateWords, update};

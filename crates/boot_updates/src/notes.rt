@@ -14,7 +14,7 @@ use std::rt::Files;
 /// What draws identities.
 const RANDOM: &str = "/dev/urandom";
 
-/// The notes beside a journal, which a run adds to, and which the device writes with the journal: `None` if there are none.
+/// The notes beside a journal, which a run adds to, and which the storage writes with the journal: `None` if there are none.
 pub(crate) type KeptNotes = RefCell<Option<Notes>>;
 
 /// Notes with a new identity, if the system draws one.

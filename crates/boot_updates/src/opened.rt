@@ -1,12 +1,12 @@
 //! The machine in a place, with its journal.
 
 use crate::boot_identity::boot_id;
-use crate::device::{Place, PlaceDevice};
 use crate::history::copies;
 use crate::kept_vars::{KeptVars, kept_of};
 use crate::machine_words::MachineWords;
 use crate::owner::{name_of_machine, own_journal};
 use crate::state_folder::{StoredJournal, stored_with_notes};
+use crate::storage::{Place, PlaceStorage};
 use crate::told::tell_of_settling;
 use boot_journal::{BootId, Journal, Recorded};
 use std::alloc::{AllocError, Global};
@@ -21,7 +21,7 @@ use var_places::{
 use whole_files::{OutputFile, lock_file};
 
 /// A machine in a place, with its journal.
-pub type Machine<'a, R> = Recorded<PlaceDevice<'a, R>>;
+pub type Machine<'a, R> = Recorded<PlaceStorage<'a, R>>;
 
 /// A place that was read, and what its machine keeps. A variable file is locked until this is dropped.
 #[derive(Drop)]
@@ -98,23 +98,23 @@ pub fn open_machine<'a, R: Files<File: OutputFile> + Input + Print + Eprint + Al
     journal_path: &str,
 ) -> Result<(Machine<'a, R>, BootId), Failure> {
     let boot = boot_id(rt, words, opened.kept.is_folder)?;
-    let device = device_of(rt, words, opened, journal_path)?;
-    Ok((machine_over(words, device, &boot)?, boot))
+    let storage = storage_of(rt, words, opened, journal_path)?;
+    Ok((machine_over(words, storage, &boot)?, boot))
 }
 
 /// A place that was opened, with the journal at this path.
-fn device_of<'a, R: Files<File: OutputFile> + AllocGlobal>(
+fn storage_of<'a, R: Files<File: OutputFile> + AllocGlobal>(
     rt: &'a R,
     words: &MachineWords<'_>,
     opened: OpenedPlace<R::File>,
     journal_path: &str,
-) -> Result<OpenedDevice<'a, R>, Failure> {
+) -> Result<OpenedStorage<'a, R>, Failure> {
     let machine = name_of_machine(rt, words, opened.kept.is_folder)?;
     let journal = String::from_str(rt.alloc(), journal_path)?;
     let notes = Rc::new(rt.alloc(), RefCell::new(None))?;
     let OpenedPlace { place, kept } = opened;
-    Ok(OpenedDevice {
-        device: PlaceDevice {
+    Ok(OpenedStorage {
+        storage: PlaceStorage {
             rt,
             place,
             machine,
@@ -125,42 +125,42 @@ fn device_of<'a, R: Files<File: OutputFile> + AllocGlobal>(
     })
 }
 
-/// The machine over a device, with the journal that is stored there.
+/// The machine over storage, with the journal that is stored there.
 fn machine_over<'a, R: Files<File: OutputFile> + Input + Print + Eprint + AllocGlobal>(
     words: &MachineWords<'_>,
-    opened: OpenedDevice<'a, R>,
+    opened: OpenedStorage<'a, R>,
     boot: &BootId,
 ) -> Result<Machine<'a, R>, Failure> {
     let journal = journal_for(words, &opened, boot)?;
-    let OpenedDevice { device, vars } = opened;
-    Ok(Recorded::new(device.rt.alloc(), device, vars, journal)?)
+    let OpenedStorage { storage, vars } = opened;
+    Ok(Recorded::new(storage.rt.alloc(), storage, vars, journal)?)
 }
 
-/// The journal that is stored for a device, as its machine's own. Tells what finishing an earlier update will do that wasn't
+/// The journal that is stored there, as its machine's own. Tells what finishing an earlier update will do that wasn't
 /// meant.
 fn journal_for<R: Files<File: OutputFile> + Input + Print + Eprint + AllocGlobal>(
     words: &MachineWords<'_>,
-    opened: &OpenedDevice<'_, R>,
+    opened: &OpenedStorage<'_, R>,
     boot: &BootId,
 ) -> Result<Journal, Failure> {
-    let OpenedDevice { device, vars } = opened;
-    let stored = match stored_with_notes(device.rt, device.journal.as_str())? {
+    let OpenedStorage { storage, vars } = opened;
+    let stored = match stored_with_notes(storage.rt, storage.journal.as_str())? {
         Some(StoredJournal { notes, file }) => {
             // Nothing else holds them as yet.
-            let _ = device.notes.try_replace(notes);
+            let _ = storage.notes.try_replace(notes);
             Some(file)
         }
         None => None,
     };
-    let journal = own_journal(words, device, stored, vars)?;
-    tell_of_settling(device.rt, words.place, vars, &journal, boot)?;
+    let journal = own_journal(words, storage, stored, vars)?;
+    tell_of_settling(storage.rt, words.place, vars, &journal, boot)?;
     Ok(journal)
 }
 
-/// A device, and what its machine keeps of the variables.
+/// Storage, and what its machine keeps of the variables.
 #[derive(Drop)]
-struct OpenedDevice<'a, R: Files> {
-    device: PlaceDevice<'a, R>,
+struct OpenedStorage<'a, R: Files> {
+    storage: PlaceStorage<'a, R>,
     vars: Vars,
 }
 

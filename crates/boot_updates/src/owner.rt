@@ -1,7 +1,7 @@
 //! Whose a journal is.
 
-use crate::device::PlaceDevice;
 use crate::machine_words::MachineWords;
+use crate::storage::PlaceStorage;
 use boot_journal::{AttributesFault, Journal, JournalFile, MachineName};
 use std::alloc::Global;
 use std::rt::Files;
@@ -42,7 +42,7 @@ pub(crate) struct OwnJournal {
     pub(crate) is_unnamed: bool,
 }
 
-/// The journal of the device's machine, of what was stored: a new one if nothing was. A journal that names no machine is
+/// The journal of the storage's machine, of what was stored: a new one if nothing was. A journal that names no machine is
 /// taken, and so is another machine's by `--adopt` if nothing is left to do: both are replaced by one that names this
 /// machine. What `there` has under the name of a variable begins with its attributes.
 ///
@@ -52,24 +52,24 @@ pub(crate) struct OwnJournal {
 /// replaced. Nothing was changed then. [`Failure::Memory`] if memory was refused.
 pub(crate) fn own_journal<R: Files<File: OutputFile> + Input + Print + AllocGlobal>(
     words: &MachineWords<'_>,
-    device: &PlaceDevice<'_, R>,
+    storage: &PlaceStorage<'_, R>,
     stored: Option<JournalFile>,
     there: &Vars,
 ) -> Result<Journal, Failure> {
-    let path = device.journal.as_str();
+    let path = storage.journal.as_str();
     let owner = Owner {
         words,
-        machine: &device.machine,
+        machine: &storage.machine,
         path,
     };
     let OwnJournal {
         journal,
         is_unnamed,
-    } = owner.take(device.rt.alloc(), stored, there)?;
+    } = owner.take(storage.rt.alloc(), stored, there)?;
     if is_unnamed {
         // The identity was that of another journal.
-        let _ = device.notes.try_replace(None);
-        device.replace(&journal)?;
+        let _ = storage.notes.try_replace(None);
+        storage.replace(&journal)?;
     }
     Ok(journal)
 }

@@ -17,7 +17,7 @@ ghost use Rattle.boot_updates.specs.declared.replies.Ended.TheVariants as ended;
 use crate::requests_run::Answered;
 use crate::script::Script;
 use boot_requests::{Answer, Code, Outcome, Reply, reply_line};
-use boot_texts::{Place, ToldReply, reply_json};
+use boot_texts::{EventPosition, ToldReply, reply_json};
 use std::alloc::{AllocError, Global};
 
 /// How an update ended that was made.
@@ -121,7 +121,7 @@ pub(crate) fn told_replies<'a>(
     for (at, (answer, same)) in script.places.iter().zip(answers) {
         next = next_after(next, answer);
         told.push(ToldReply {
-            place: Place::new(script.format, *at),
+            place: EventPosition::new(script.format, *at),
             answer,
             same: *same,
             next,

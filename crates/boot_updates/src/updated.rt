@@ -129,7 +129,7 @@ fn run_over<R: Files<File: OutputFile> + Clock + Input + Print + AllocGlobal>(
     history: History<'_>,
     script: &Script<'_>,
 ) -> Result<Answered, NotMade> {
-    let notes = Rc::clone(&machine.device().notes)?;
+    let notes = Rc::clone(&machine.storage().notes)?;
     let run = RequestsRun {
         requests: Requests {
             events: &script.events,
@@ -156,7 +156,7 @@ fn updated_machine<R: Files<File: OutputFile> + Input + Print + AllocGlobal>(
     leave_out(&mut vars, left_out);
     Ok(Updated {
         answered,
-        identity: identity_digits(alloc, &machine.device().notes)?,
+        identity: identity_digits(alloc, &machine.storage().notes)?,
         vars: set_of(alloc, place, &vars)?,
     })
 }
@@ -166,12 +166,12 @@ fn begin_notes<R: Files<File: OutputFile> + Input + Print + AllocGlobal>(
     rt: &R,
     machine: &PlaceMachine<'_, R>,
 ) -> Result<(), Failure> {
-    let device = machine.device();
-    if device.has_notes() {
+    let storage = machine.storage();
+    if storage.has_notes() {
         return Ok(());
     }
     match new_notes(rt) {
-        Some(notes) => device.replace_with(notes, &machine.read_journal(rt.alloc())?),
+        Some(notes) => storage.replace_with(notes, &machine.read_journal(rt.alloc())?),
         None => Ok(()),
     }
 }

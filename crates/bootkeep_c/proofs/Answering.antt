@@ -10,14 +10,14 @@ use Rattle.bootkeep_c.specs.Answers.{Answers}
 use Rattle.bootkeep_c.specs.Entries.{TellsNumber}
 
 pub answers : {A V : Type 0} (items : V → List A) (Is : List A → Type 0) (Fails : Failure → Type 0) (made : Result V Failure)
-        (status : ℕ) (old new : List A) (old_len len : ℕ)
+    (status : ℕ) (old new : List A) (old_len len : ℕ)
     (old_why why : Refusal) → IfOk made (λ v. Is (items v)) → IfErr made (λ failed. failed ≢ failure.Memory → Fails failed)
     → IfOk made (λ v. Gives status (items v) old new len × (why ≡ old_why)) →
-            IfErr made (λ failed. Tells failed status old_why why × IsKept old new old_len len)
+    IfErr made (λ failed. Tells failed status old_why why × IsKept old new old_len len)
     → Answers Is Fails status old new old_len len old_why why
 answers items Is Fails (Ok v) status old new old_len len old_why why is fails given told = inl (items v, is, given.0, given.1)
 answers items Is Fails (Err (failure.Refused r)) status old new old_len len old_why why is fails given told =
-        inr (inl (failure.Refused r, fails (λ e. cc), told.0, told.1))
+    inr (inl (failure.Refused r, fails (λ e. cc), told.0, told.1))
 answers items Is Fails (Err failure.Memory) status old new old_len len old_why why is fails given told = inr (inr (told.0.0, told.1, told.0.1))
 
 pub tells_number : (Is : ℕ → Type 0) (Fails : Failure → Type 0) (found : Result ℕ Failure) (status old new : ℕ) (old_why why : Refusal) → IfOk found Is

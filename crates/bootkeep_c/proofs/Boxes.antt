@@ -13,8 +13,11 @@ use Rattle.bootkeep_c.specs.contracts.handle.parts.Parts as Parts
 use Rattle.bootkeep_c.specs.contracts.handle.Seal as Seal
 
 abbrev pub E : Bx
-E = record { row = Keeper.the_row; laws = keeper.the_row_laws;
-        al = record { row = Heap.the_row; laws = heap.the_row_laws; g = ghosts; d = dict; drops = impl [] tnil dnil } }
+E = record {
+  row = Keeper.the_row;
+  laws = keeper.the_row_laws;
+  al = record { row = Heap.the_row; laws = heap.the_row_laws; g = ghosts; d = dict; drops = impl [] tnil dnil };
+}
 
 abbrev pub FromParts : Slot 0
 FromParts = plain (λ _. Parts.the_row Keeper.the_row Heap.the_row ghosts)

@@ -45,12 +45,12 @@ same_vars_fault vars var.BadOrder var.OutOfMemory p q = absurd q
 same_vars_fault vars var.BadNext var.OutOfMemory p q = absurd q
 
 pub plan_failure_is_of_set : (set : List ℕ) (fault : SetFault) (failed : Failure) → IsFirstFault set fault →
-        IsPlanFailure set failed → failed ≡ set_failure fault
+    IsPlanFailure set failed → failed ≡ set_failure fault
 plan_failure_is_of_set set fault failed first (inl why) = set_failure_is set fault failed first why
 plan_failure_is_of_set set fault failed first (inr why) = absurd (fault_leaves_none set fault why.0 first why.2)
 
 pub plan_failure_is : (set : List ℕ) (vars : Variables) (fault : VarFault) (failed : Failure) → SpellsSet set vars →
-        IsVarsFault vars fault → IsPlanFailure set failed
+    IsVarsFault vars fault → IsPlanFailure set failed
     → failed ≡ vars_failure fault
 plan_failure_is set vars fault failed spelled is (inl why) = absurd (no_set_failure set vars failed spelled why)
 plan_failure_is set vars fault failed spelled is (inr why) =
@@ -70,7 +70,7 @@ no_vars_fault vars var.OutOfMemory order next is = is
 
 -- variables with a good BootOrder and a good BootNext aren't at fault
 pub no_vars_failure : (set : List ℕ) (vars : Variables) (failed : Failure) → SpellsSet set vars → ¬ HasBadOrder vars →
-        ¬ HasBadNext vars → IsPlanFailure set failed → ⊥
+    ¬ HasBadNext vars → IsPlanFailure set failed → ⊥
 no_vars_failure set vars failed spelled order next (inl why) = no_set_failure set vars failed spelled why
 no_vars_failure set vars failed spelled order next (inr why) =
     no_vars_fault vars why.1 order next (subst (λ (v : Variables). IsVarsFault v why.1) (same_set set why.0 vars why.2 spelled) why.3)
@@ -78,12 +78,12 @@ no_vars_failure set vars failed spelled order next (inr why) =
 module _ (no_order : (vars : Variables) (order : List ℕ) → HasBadOrder vars → HasOrder vars order → ⊥)
     (no_next : (vars : Variables) (next : Option ℕ) → HasBadNext vars → HasNext vars next → ⊥) where
   pub no_plan_failure : (set : List ℕ) (vars : Variables) (plan : PlanParts) (failed : Failure) → SpellsSet set vars →
-          HasPlan vars plan → IsPlanFailure set failed → ⊥
+      HasPlan vars plan → IsPlanFailure set failed → ⊥
   no_plan_failure set vars plan failed spelled has =
       no_vars_failure set vars failed spelled (λ bad. no_order vars has.order bad has.has_order) (λ bad. no_next vars has.next bad has.has_next)
 
 next_of_choice : (next : Option Choice) (plan : PlanParts) → plan.next ≡ next →
-        number_or_none (option_map (λ (choice : Choice). choice.number) next) ≡ next_number plan
+    number_or_none (option_map (λ (choice : Choice). choice.number) next) ≡ next_number plan
 next_of_choice None plan is = rw (is) refl
 next_of_choice (Some choice) plan is = rw (is) refl
 
@@ -93,19 +93,19 @@ next_is plan = next_of_choice plan.next plan refl
 module _ (one_plan : (vars : Variables) (p q : PlanParts) → HasPlan vars p → HasPlan vars q → p ≡ q) where
   -- the plan of the numbers is that of the variables
   same_plan : (set : List ℕ) (next : Option ℕ) (normal : List ℕ) (vars : Variables) (plan : PlanParts)
-          (has : HasPlanNumbers set next normal) → SpellsSet set vars → HasPlan vars plan
+      (has : HasPlanNumbers set next normal) → SpellsSet set vars → HasPlan vars plan
       → has.plan ≡ plan
   same_plan set next normal vars plan has spelled is =
       let same = same_set set has.vars vars has.spelled spelled in
       one_plan vars has.plan plan (subst (λ (v : Variables). HasPlan v has.plan) same has.has) is
 
   pub normal_of : (set : List ℕ) (next : Option ℕ) (normal : List ℕ) (vars : Variables) (plan : PlanParts) →
-          HasPlanNumbers set next normal → SpellsSet set vars → HasPlan vars plan
+      HasPlanNumbers set next normal → SpellsSet set vars → HasPlan vars plan
       → normal ≡ normal_numbers plan
   normal_of set next normal vars plan has spelled is = has.numbers.others ∙ ap normal_numbers (same_plan set next normal vars plan has spelled is)
 
   pub next_of : (set : List ℕ) (next : Option ℕ) (normal : List ℕ) (vars : Variables) (plan : PlanParts) →
-          HasPlanNumbers set next normal → SpellsSet set vars → HasPlan vars plan
+      HasPlanNumbers set next normal → SpellsSet set vars → HasPlan vars plan
       → number_or_none next ≡ next_number plan
   next_of set next normal vars plan has spelled is =
       ap number_or_none has.numbers.first ∙ next_is has.plan ∙ ap next_number (same_plan set next normal vars plan has spelled is)
@@ -114,7 +114,7 @@ module _ (one_plan : (vars : Variables) (p q : PlanParts) → HasPlan vars p →
 
 -- the numbers that are found are those of the variables
 pub risk_of : (set numbers : List ℕ) (count : ℕ) (vars : Variables) (unnamed undecodable : List ℕ) →
-        HasAtRisk set numbers count → SpellsSet set vars → AreAtRisk vars unnamed undecodable
+    HasAtRisk set numbers count → SpellsSet set vars → AreAtRisk vars unnamed undecodable
     → (numbers ≡ unnamed ++ undecodable) × (count ≡ length unnamed)
 risk_of set numbers count vars unnamed undecodable has spelled are =
     let mine = subst (λ (v : Variables). AreAtRisk v has.unnamed has.undecodable) (same_set set has.vars vars has.spelled spelled) has.are in
@@ -156,7 +156,7 @@ put_failure_is set name value vars fault failed spelled is (inl why) = absurd (n
 put_failure_is set name value vars fault failed spelled is (inr why) = why.4 ∙ ap put_failure (same_put_fault name value why.1 fault why.3 is)
 
 pub no_put_failure : (set name value : List ℕ) (vars : Variables) (failed : Failure) → SpellsSet set vars → IsPut name value →
-        IsPutFailure set name value failed → ⊥
+    IsPutFailure set name value failed → ⊥
 no_put_failure set name value vars failed spelled is (inl why) = no_set_failure set vars failed spelled why
 no_put_failure set name value vars failed spelled is (inr why) = no_put_fault name value why.1 is why.3
 
@@ -164,14 +164,14 @@ no_put_failure set name value vars failed spelled is (inr why) = no_put_fault na
 
 -- the fault of a stream isn't that of a line
 pub not_a_line : (stream : List ℕ) (fault : ScriptFault) → (fault ≢ script.OutOfMemory → IsStreamFault stream fault) →
-        (number : ℕ) → fault ≢ script.BadLine number
+    (number : ℕ) → fault ≢ script.BadLine number
 not_a_line stream (script.BadLine n) own number is = own (λ e. cc)
 not_a_line stream (script.Stream f) own number is = cc
 not_a_line stream (script.Rest n) own number is = cc
 not_a_line stream script.OutOfMemory own number is = cc
 
 pub stream_failed : (stream : List ℕ) (fault : ScriptFault) (failed : Failure) →
-        (fault ≢ script.OutOfMemory → IsStreamFault stream fault) → failed ≡ stream_failure fault
+    (fault ≢ script.OutOfMemory → IsStreamFault stream fault) → failed ≡ stream_failure fault
     → failed ≢ failure.Memory → IsStreamFailure stream failed
 stream_failed stream script.OutOfMemory failed own is other = absurd (other is)
 stream_failed stream (script.BadLine n) failed own is other = absurd (own (λ e. cc))

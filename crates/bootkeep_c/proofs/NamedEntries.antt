@@ -1,6 +1,32 @@
 -- What is told of the numbers that BootNext and BootOrder name, and what is kept of their entries.
-use Rattle.std.proofs.Common.{◌≡◌, ℕ, ◌+◌, ◌<◌, ◌≤◌, List, [], ◌∷◌, ◌++◌, length, map, set, take, replicate, get_or,
-    Option, Some, None, inl, inr, refl, sym, ap, subst, ◌∙◌, append_assoc}
+use Rattle.std.proofs.Common.{
+  ◌≡◌,
+  ℕ,
+  ◌+◌,
+  ◌<◌,
+  ◌≤◌,
+  List,
+  [],
+  ◌∷◌,
+  ◌++◌,
+  length,
+  map,
+  set,
+  take,
+  replicate,
+  get_or,
+  Option,
+  Some,
+  None,
+  inl,
+  inr,
+  refl,
+  sym,
+  ap,
+  subst,
+  ◌∙◌,
+  append_assoc,
+}
 use Rattle.std.proofs.lemmas.Bool.{cases_eq, cases_lt}
 use Rattle.std.proofs.lemmas.List.{map_more, get_or-set_other, get_or-replicate, get_or_past, length-replicate}
 use Rattle.std.proofs.lemmas.Grind.{get_or-set_at}
@@ -17,7 +43,7 @@ each_after {X} {Y} {Z} f R front xs ys all i d y within each more is =
     let made = map f (take i xs) in
     let one = f (get_or xs i d) ∷ [] in
     let same : (front ++ made) ++ one ≡ front ++ map f (take (i + 1) xs) =
-            append_assoc front made one ∙ ap (λ (zs : List Z). front ++ zs) (sym (map_more f xs i d within)) in
+    append_assoc front made one ∙ ap (λ (zs : List Z). front ++ zs) (sym (map_more f xs i d within)) in
     rw (is) (subst (λ (zs : List Z). Each R zs (ys ++ y ∷ [])) same (each_more R (front ++ made) ys (f (get_or xs i d)) y each more))
 
 -- ---- what is kept
@@ -34,16 +60,16 @@ nothing count number is told =
 -- of nothing that is kept, nothing is said
 pub none_known : (entries : ℕ → Option (List ℕ)) (known : List (Option EntryState)) (count : ℕ) → known ≡ replicate count None → AreKnown entries known
 none_known entries known count is = λ number state told. absurd
-        (nothing count number state (subst (λ (all : List (Option EntryState)). get_or all number None ≡ Some state) is told))
+    (nothing count number state (subst (λ (all : List (Option EntryState)). get_or all number None ≡ Some state) is told))
 
 -- what is no clone of an entry's state is one of nothing
 pub only_none : (IsClone : Option EntryState → Type 0) → ((state : EntryState) → IsClone (Some state) → ⊥) →
-        (kept : Option EntryState) → IsClone kept → kept ≡ None
+    (kept : Option EntryState) → IsClone kept → kept ≡ None
 only_none IsClone no_state None is = refl
 only_none IsClone no_state (Some state) is = absurd (no_state state is)
 
 module _ (entries : ℕ → Option (List ℕ)) (known : List (Option EntryState)) (number : ℕ) (is : EntryState)
-        (within : number < length known) (each : AreKnown entries known)
+    (within : number < length known) (each : AreKnown entries known)
     (so : IsEntryState entries number is) where
   -- what is newly kept is what its entry is, so all still are
   pub still_known : AreKnown entries (set known number (Some is))

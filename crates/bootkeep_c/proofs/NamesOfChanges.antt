@@ -1,6 +1,34 @@
 -- The variables of changes, and what is told of them one after the other.
-use Rattle.std.proofs.Common.{◌≡◌, ◌⊎◌, ◌↔◌, ℕ, ◌+◌, ◌^◌, ◌<◌, Bool, true, false, List, [], ◌∷◌, ◌++◌, ◌||◌, length,
-    map, take, get_or, Option, Some, None, inl, inr, sym, refl, subst, ◌∙◌}
+use Rattle.std.proofs.Common.{
+  ◌≡◌,
+  ◌⊎◌,
+  ◌↔◌,
+  ℕ,
+  ◌+◌,
+  ◌^◌,
+  ◌<◌,
+  Bool,
+  true,
+  false,
+  List,
+  [],
+  ◌∷◌,
+  ◌++◌,
+  ◌||◌,
+  length,
+  map,
+  take,
+  get_or,
+  Option,
+  Some,
+  None,
+  inl,
+  inr,
+  sym,
+  refl,
+  subst,
+  ◌∙◌,
+}
 use Rattle.std.specs.List.{AllByRecursion}
 use Rattle.std.proofs.lemmas.Bool.{or_cases, false≢true}
 use Rattle.std.proofs.lemmas.List.{map_more}
@@ -15,7 +43,7 @@ use Rattle.bootkeep_c.specs.Changes.{StandsForName, variable_of, TellsChange, Te
 
 -- the name of a variable of the boot manager that is no entry is that of BootOrder or of BootNext
 order_or_next : (name : List ℕ) → is_boot_name name ≡ true → ((number : ℕ) → number < 2 ^ 16 → name ≡ entry_text number → ⊥) →
-        (name ≡ order_text) ⊎ (name ≡ next_text)
+    (name ≡ order_text) ⊎ (name ≡ next_text)
 order_or_next name boot none = elim (or_cases (is_entry_name name) (same_name name order_text || same_name name next_text) boot) [
   | inl e ↦ let own = entry_of_name name e in absurd (none own.0 own.1 own.2)
   | inr e ↦ elim (or_cases (same_name name order_text) (same_name name next_text) e) [
@@ -29,12 +57,12 @@ next_of name (inl o) other = absurd (false≢true (other ∙ same_name-of name o
 next_of name (inr n) other = n
 
 no_entry : (name : List ℕ) → ((number : ℕ) → (◌≡◌ {A = Option ℕ} None (Some number))
-        ↔ ((number < 2 ^ 16) × (name ≡ entry_text number))) → (number : ℕ) → number < 2 ^ 16 → name ≡ entry_text number → ⊥
+    ↔ ((number < 2 ^ 16) × (name ≡ entry_text number))) → (number : ℕ) → number < 2 ^ 16 → name ≡ entry_text number → ⊥
 no_entry name reads number below is = let some = (reads number).1 (below, is) in cc
 
 -- what stands for a variable of the boot manager
 pub stands : (name : List ℕ) (entry : Option ℕ) (is_order : Bool) → is_boot_name name ≡ true →
-        ((number : ℕ) → (entry ≡ Some number) ↔ ((number < 2 ^ 16) × (name ≡ entry_text number)))
+    ((number : ℕ) → (entry ≡ Some number) ↔ ((number < 2 ^ 16) × (name ≡ entry_text number)))
     → is_order ≡ same_name name order_text → StandsForName (variable_of entry is_order) name
 stands name (Some number) is_order boot reads same = inl ((reads number).0 refl)
 stands name None true boot reads same = inr (inl (refl, same_name-is name order_text (sym same)))
@@ -51,20 +79,20 @@ each_more R (p ∷ xs) (q ∷ ys) x y h g = (h.0, each_more R xs ys x y h.1 g)
 
 -- one more of what is made of a list, member by member
 pub each_step : {X Y Z : Type 0} (f : X → Z) (R : Z → Y → Type 0) (xs : List X) (ys all : List Y) (i : ℕ) (d : X) (y : Y) →
-        i < length xs → Each R (map f (take i xs)) ys → R (f (get_or xs i d)) y
+    i < length xs → Each R (map f (take i xs)) ys → R (f (get_or xs i d)) y
     → all ≡ ys ++ y ∷ [] → Each R (map f (take (i + 1) xs)) all
 each_step f R xs ys all i d y within each more is =
     rw (is, map_more f xs i d within) (each_more R (map f (take i xs)) ys (f (get_or xs i d)) y each more)
 
 -- what is told of changes that are needed tells them
 told_each : (from to : Variables) (changes : List ChangeParts) (told : List ChangeNumbers) →
-        AllByRecursion (IsNeeded from to) changes → Each TellsIfBoot changes told → Each TellsChange changes told
+    AllByRecursion (IsNeeded from to) changes → Each TellsIfBoot changes told → Each TellsChange changes told
 told_each from to [] [] are each = tt
 told_each from to [] (_ ∷ _) are each = absurd each
 told_each from to (_ ∷ _) [] are each = absurd each
 told_each from to (change ∷ changes) (one ∷ told) are each = (each.0 are.0.boot, told_each from to changes told are.1 each.1)
 
 pub all_told : (from to : Variables) (changes : List ChangeParts) (told : List ChangeNumbers) → changes ≡ changes_from from to →
-        Each TellsIfBoot changes told → Each TellsChange (changes_from from to) told
+    Each TellsIfBoot changes told → Each TellsChange (changes_from from to) told
 all_told from to changes told same each =
     told_each from to (changes_from from to) told (each_needed from to) (subst (λ (all : List ChangeParts). Each TellsIfBoot all told) same each)

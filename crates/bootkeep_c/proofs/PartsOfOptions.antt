@@ -19,13 +19,13 @@ pub more_units : (units : List ℕ) (characters : List ℕ) (n character : ℕ) 
 more_units units characters n character h =
     let left = flat_map encode_utf16 (drop (n + 1) characters) in
     let next : flat_map encode_utf16 (drop n characters) ≡ encode_utf16 (get_or characters n character) ++ left =
-            at_drop_more (flat_map encode_utf16) characters n character h.0 in
+    at_drop_more (flat_map encode_utf16) characters n character h.0 in
     append_assoc units (encode_utf16 character) left
     ∙ ap (λ (t : List ℕ). units ++ t) (ap (λ (c : ℕ). encode_utf16 c ++ left) h.1 ∙ sym next)
 
 -- whole paths, and a rest in which no path begins, for this
 pub bad_path : (list : List ℕ) (paths : List Path) (rest : List ℕ) (fault : PathFault) (place : ℕ) (failed : Failure) →
-        HasPaths list paths rest → 0 < length rest → place ≡ length list - length rest
+    HasPaths list paths rest → 0 < length rest → place ≡ length list - length rest
     → (fault ≢ path.OutOfMemory → IsFirstFault rest fault) → failed ≡ list_failure place (path_failure fault) → failed ≢ failure.Memory
     → (at : ℕ) × (why : PathFault) × HasBadPath list at why × (failed ≡ list_failure at (path_failure why))
 bad_path list paths rest fault place failed has some at first is other =

@@ -10,7 +10,7 @@ use Rattle.bootkeep_c.specs.Variables.{places_at, places_from}
 -- the places of one variable more
 pub more_places : (places all : List VariablePlaces) (at next : ℕ) (variable : List ℕ × List ℕ) (left : List (List ℕ × List ℕ)) (one : VariablePlaces)
     → places ++ places_from at (variable ∷ left) ≡ all → one ≡ places_at at variable →
-            next ≡ at + length (record_bytes variable) → (places ++ one ∷ []) ++ places_from next left ≡ all
+    next ≡ at + length (record_bytes variable) → (places ++ one ∷ []) ++ places_from next left ≡ all
 more_places places all at next variable left one so_far is end =
     append_assoc places (one ∷ []) (places_from next left)
     ∙ ap (λ (p : VariablePlaces). places ++ (p ∷ places_from next left)) is
@@ -18,7 +18,7 @@ more_places places all at next variable left one so_far is end =
 
 -- what is left of the set after its record
 pub more_rest : (at next len : ℕ) (variable : List ℕ × List ℕ) (left : List (List ℕ × List ℕ)) →
-        at + length (records_bytes (variable ∷ left)) ≡ len → next ≡ at + length (record_bytes variable)
+    at + length (records_bytes (variable ∷ left)) ≡ len → next ≡ at + length (record_bytes variable)
     → next + length (records_bytes left) ≡ len
 more_rest at next len variable left rest end = omega (arith, rest, end, length-append (record_bytes variable) (records_bytes left))
 

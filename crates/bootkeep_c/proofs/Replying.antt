@@ -17,7 +17,7 @@ stays_unanswered event kept from buffer len told is =
 
 -- the numbers of the reply are given, and the keeper is the next one if it is done
 pub replies : (event : Event) (status : ℕ) (from to after : Plain) (reply : Reply) (numbers old new : List ℕ) (old_len len : ℕ)
-        (was_told is_told : ReplyNumbers) → StepsTo from event to reply
+    (was_told is_told : ReplyNumbers) → StepsTo from event to reply
     → numbers ≡ planned_numbers reply → Gives status numbers old new len → (status ≡ done → after ≡ to) → (status ≢ done → after ≡ from)
     → (status ≡ done → is_told ≡ reply_numbers was_told.size reply) → (status ≢ done → is_told ≡ was_told)
     → RepliesOf event status (Some from) (Some after) old new old_len len was_told is_told

@@ -16,14 +16,14 @@ open_kept (Some from) is_open tells some = (from, refl)
 
 -- no memory, and nothing happened
 pub stays : (event : Event) (kept : Option Plain) (from : Plain) (buffer : List ℕ) (len : ℕ) → kept ≡ Some from →
-        ComesOf event no_memory kept kept buffer buffer len len
+    ComesOf event no_memory kept kept buffer buffer len len
 stays event kept from buffer len is = inr (inr (inl (refl, record { from = from; was = is; is = refl; kept = record { buffer = refl; told = refl } })))
 
 -- the line of the reply is given, and the keeper is the next one if it is done
 pub comes : (event : Event) (status : ℕ) (from to after : Plain) (reply : Reply) (line old new : List ℕ) (old_len len : ℕ) →
-        StepsTo from event to reply → line ≡ line_of reply
+    StepsTo from event to reply → line ≡ line_of reply
     → Gives status line old new len → (status ≡ done → after ≡ to) → (status ≢ done → after ≡ from) →
-            ComesOf event status (Some from) (Some after) old new old_len len
+    ComesOf event status (Some from) (Some after) old new old_len len
 comes event status from to after reply line old new old_len len steps is (inl given) if_done otherwise =
     inl (
       given.0,

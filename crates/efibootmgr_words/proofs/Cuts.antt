@@ -57,7 +57,7 @@ more_at mark text rest true is e =
     let under : position_or_len (λ x. eqb x mark) text < length text = ltb-true _ _ is in
     let same : rest ≡ after_first (λ x. eqb x mark) text = cc in
     let shorter : length (after_first (λ x. eqb x mark) text) ≡ length text - (position_or_len (λ x. eqb x mark) text + 1) =
-            length-drop (position_or_len (λ x. eqb x mark) text + 1) text in
+    length-drop (position_or_len (λ x. eqb x mark) text + 1) text in
     let long : length rest ≡ length (after_first (λ x. eqb x mark) text) = ap (λ (t : List ℕ). length t) same in (
       slice_split_first (λ x. eqb x mark) text 0 under ∙ ap (λ (t : List ℕ). before_mark mark text ∷ parts_at mark t) (sym same),
       omega (arith, under, shorter, long),

@@ -6,8 +6,20 @@ use Rattle.std.proofs.lemmas.Str.{chars_past_char, IsUtf8-past_char, chars-nil, 
 use Rattle.std.proofs.lemmas.List.{append-nil, map-append}
 use denote.Ref.{Bor}
 use Rattle.efibootmgr_words.specs.Parts.{OptionParts, option_parts, UnknownLetter}
-use Rattle.efibootmgr_words.specs.Words.{own_value, letters_parts, letter_parts, letter_by, row_of_letter, with_option,
-    nothing_before, value_parts, wrong, WordParts, IsAdded, Any}
+use Rattle.efibootmgr_words.specs.Words.{
+  own_value,
+  letters_parts,
+  letter_parts,
+  letter_by,
+  row_of_letter,
+  with_option,
+  nothing_before,
+  value_parts,
+  wrong,
+  WordParts,
+  IsAdded,
+  Any,
+}
 use Rattle.efibootmgr_words.specs.declared.given_words.Behind.{Behind}
 use Rattle.efibootmgr_words.specs.declared.given_words.Behind.TheVariants as behind
 use Rattle.efibootmgr_words.specs.declared.fault.WordFault.TheVariants as fault
@@ -37,7 +49,7 @@ own_none (byte ∷ text) none = absurd (omega (arith, none))
 pub record IsReadTo (table : List OptionRow) (letters rest : List ℕ) (old given : Given) : Type 0 where
   pub utf8 : IsUtf8 rest
   pub left : (new : Given) (next : Behind) → IsAdded (letters_parts table (chars rest)) given new next →
-          IsAdded (letters_parts table (chars letters)) old new next
+      IsAdded (letters_parts table (chars letters)) old new next
 
 pub read_none : (table : List OptionRow) (letters : List ℕ) (given : Given) → IsUtf8 letters → IsReadTo table letters letters given given
 read_none table letters given utf8 = record { utf8 = utf8; left = λ new next added. added }
@@ -67,8 +79,11 @@ pub read_end : (table : List OptionRow) (letters rest : List ℕ) (old given : G
     → IsAdded (letters_parts table (chars letters)) old given behind.Any
 read_end table letters [] old given read none =
     read.left given behind.Any (added_along (letters_parts table (chars [])) (nothing_before Any) given given behind.Any (ap (letters_parts table) chars-nil)
-    (record { options = sym (append-nil (map option_parts given.options.items));
-            others = sym (append-nil (map (λ other. other.now) given.others.items)); behind = refl }))
+    (record {
+      options = sym (append-nil (map option_parts given.options.items));
+      others = sym (append-nil (map (λ other. other.now) given.others.items));
+      behind = refl;
+    }))
 read_end table letters (byte ∷ rest) old given read none = absurd (omega (arith, none))
 
 -- a letter of no option
@@ -80,8 +95,11 @@ read_unknown table letters rest others old given letter read is none =
     read_last table letters rest others old given given (behind.Unread (fault.UnknownLetter letter)) letter read is
     (added_along (letter_parts (row_of_letter table letter) letter (chars others) more) (wrong (UnknownLetter letter)) given given
     (behind.Unread (fault.UnknownLetter letter)) (sym (ap (λ (o : Option OptionRow). letter_parts o letter (chars others) more) none))
-    (record { options = sym (append-nil (map option_parts given.options.items));
-            others = sym (append-nil (map (λ other. other.now) given.others.items)); behind = refl }))
+    (record {
+      options = sym (append-nil (map option_parts given.options.items));
+      others = sym (append-nil (map (λ other. other.now) given.others.items));
+      behind = refl;
+    }))
 
 abbrev plain : Choice → GivenOption
 plain choice = record { choice = choice; value = None }
@@ -110,14 +128,14 @@ read_plain table letters rest others old given new letter row read is found kind
     }
 
 valued_by : (kind : Takes) (row : OptionRow) (letters : List ℕ) (more : WordParts) → kind ≢ takes.Nothing →
-        letter_by kind row letters more ≡ value_parts row (own_value letters)
+    letter_by kind row letters more ≡ value_parts row (own_value letters)
 valued_by takes.Nothing row letters more other = absurd (other refl)
 valued_by takes.Value row letters more other = refl
 valued_by takes.Perhaps row letters more other = refl
 
 -- one of an option that has a value
 pub read_valued : (table : List OptionRow) (letters rest others : List ℕ) (old given new : Given) (letter : ℕ) (row : OptionRow)
-        (own : Option (List ℕ)) (next : Behind)
+    (own : Option (List ℕ)) (next : Behind)
     → IsReadTo table letters rest old given → rest ≡ encode_utf8 letter ++ others → Some row ≡ row_of_letter table letter → row.takes ≢ takes.Nothing
     → own ≡ own_value (chars others) → IsAdded (value_parts row own) given new next → IsAdded (letters_parts table (chars letters)) old new next
 read_valued table letters rest others old given new letter row own next read is found kind same added =

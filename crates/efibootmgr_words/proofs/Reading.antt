@@ -38,7 +38,7 @@ joined old new options others more first second =
 
 -- one word more
 pub read_more : {Z : Type 0} (table : List OptionRow) (words : List (String Z)) (at : ℕ) (item : String Z) (word : List ℕ)
-        (behind next : Behind) (old new : Given)
+    (behind next : Behind) (old new : Given)
     → at < length words → item ≡ get_or words at item → word ≡ string_bytes item → IsReadSo table words at behind old
     → IsAdded (word_parts table (behind_parts behind) word) old new next → IsReadSo table words (at + 1) next new
 read_more {Z} table words at item word behind next old new under is text read added =

@@ -26,7 +26,7 @@ plus_min value digit most = omega arith
 -- one more digit
 pub value_step : (base value digit : ℕ) (digits : List ℕ) (i : ℕ) → 0 < base → value ≡ min (digits_value base (take i digits)) 0xFFFFFFFF → i < length digits
     → digit ≡ digit_value (get_or digits i 0) → min (min (value * base) 0xFFFFFFFF + digit) 0xFFFFFFFF
-            ≡ min (digits_value base (take (i + 1) digits)) 0xFFFFFFFF
+    ≡ min (digits_value base (take (i + 1) digits)) 0xFFFFFFFF
 value_step base value digit digits i some so_far under is =
     let v : ℕ = digits_value base (take i digits) in
     ap (λ (n : ℕ). min (min (n * base) 0xFFFFFFFF + digit) 0xFFFFFFFF) so_far

@@ -1,6 +1,30 @@
 -- The first entry that leads to a place, among entries and one more.
-use Rattle.std.proofs.Common.{◌≡◌, ℕ, ◌+◌, ◌<◌, Bool, true, false, cond, List, [], ◌∷◌, ◌++◌, length, take, drop,
-    get_or, Option, Some, None, refl, sym, ap, append_assoc, ◌∙◌}
+use Rattle.std.proofs.Common.{
+  ◌≡◌,
+  ℕ,
+  ◌+◌,
+  ◌<◌,
+  Bool,
+  true,
+  false,
+  cond,
+  List,
+  [],
+  ◌∷◌,
+  ◌++◌,
+  length,
+  take,
+  drop,
+  get_or,
+  Option,
+  Some,
+  None,
+  refl,
+  sym,
+  ap,
+  append_assoc,
+  ◌∙◌,
+}
 use Rattle.std.specs.Borrow.{Bor}
 use Rattle.std.specs.Global.{Vec}
 use Rattle.std.specs.Option.{option_copied}
@@ -50,7 +74,7 @@ module _ (place : List ℕ) (entry : Known) where
 
   -- which is the first that leads there
   pub more_first : (before : List Known) → first_to place before ≡ None → is_there place entry.destination ≡ true →
-          first_to place (before ++ entry ∷ []) ≡ Some entry.number
+      first_to place (before ++ entry ∷ []) ≡ Some entry.number
   more_first [] none there = ap (λ b. cond b (Some entry.number) None) there
   more_first (head ∷ before) none there = go (is_there place head.destination) (λ e. more_first before e there) none
     where
@@ -70,7 +94,7 @@ looked_up met before slice own got finds value is =
 
 -- an entry that leads to no file
 pub finds_none : (met : BTreeMap (Vec ℕ) ℕ) (before : List Known) (entry : Known) → entry.destination ≡ None → Finds met before →
-        Finds met (before ++ entry ∷ [])
+    Finds met (before ++ entry ∷ [])
 finds_none met before entry none finds place = finds place ∙ sym (more_elsewhere place entry before (ap (is_there place) none))
 
 module _ (before : List Known) (entry : Known) (own : Vec ℕ) (leads : entry.destination ≡ Some own) where
@@ -89,7 +113,7 @@ module _ (before : List Known) (entry : Known) (own : Vec ℕ) (leads : entry.de
       (updates : UpdatesBy (λ x y. slice_cmp nat_cmp x.items y.items) (λ x. slice_cmp nat_cmp k.items x.items) old new (Some entry.number))
       (same_key : k.items ≡ own.items) where
     others_stay : (place : List ℕ) → is_same_place place own.items ≡ false →
-            get_by (λ x. slice_cmp nat_cmp place x.items) new ≡ get_by (λ x. slice_cmp nat_cmp place x.items) old
+        get_by (λ x. slice_cmp nat_cmp place x.items) new ≡ get_by (λ x. slice_cmp nat_cmp place x.items) old
     unfolding KeepsOthers
     others_stay place other = updates.3 (λ x. is_same_place place x.items) (λ x y. (eq_by_cmp_equiv nat_list_cmp_total).congr place x.items y.items) apart
       where

@@ -21,5 +21,5 @@ pub node_blocks : (p : Partition) (start size : ℕ) (id : PartitionId) → star
 node_blocks p start size (Gpt guid) first second = (first, second)
 node_blocks p start size (Mbr signature number) first second =
     elim (eqb number p.number) as (λ same. IfOk (if same then Ok
-            (node_with p start size (to_le_bytes w32 signature ++ replicate 12 0) 1) else Err fault.OtherNumber)
+    (node_with p start size (to_le_bytes w32 signature ++ replicate 12 0) 1) else Err fault.OtherNumber)
     (λ node. (node.start * p.block_size ≡ p.start * 512) × (node.size * p.block_size ≡ p.size * 512))) [ true ↦ (first, second) | false ↦ tt ]

@@ -32,4 +32,4 @@ pub with_front : (folder path rest : List ℕ) → pointwise eqb (take (length (
 with_front folder path rest same is =
     let front = same_from (take (length (stem_of folder)) path) (stem_of folder) same in
     sym (take-append-drop (length (stem_of folder)) path) ∙ ap (λ (xs : List ℕ). xs ++ drop (length (stem_of folder)) path) front
-            ∙ ap (λ (xs : List ℕ). stem_of folder ++ xs) (sym is)
+    ∙ ap (λ (xs : List ℕ). stem_of folder ++ xs) (sym is)

@@ -36,7 +36,7 @@ leading_stays mounts path leading mount is shorter = record {
 
 -- one more mount, to which the path leads, and none before it did
 pub leading_first : (mounts : List Mount) (path : List ℕ) (mount : Mount) → LeadsToNone mounts path → LeadsTo mount path →
-        IsLeading (mounts ++ mount ∷ []) path mount
+    IsLeading (mounts ++ mount ∷ []) path mount
 leading_first mounts path mount none leads = record {
   before = mounts;
   after = [];

@@ -38,7 +38,7 @@ pub reading_more : (text rest : List ℕ) (old new : List Mount) (number : ℕ) 
     → lines_of rest ≡ line ∷ lines_of others → length others < length rest → AddsMount line old new → IsReading text others new (number + 1)
 reading_more text rest old new number line others so_far cut shorter added = record {
   so_far = so_far.so_far ∙ ap (λ (lines : List (List ℕ)). behind (map mount_parts old) (mounts_from number lines)) cut
-          ∙ adds line (lines_of others) number old new added;
+      ∙ adds line (lines_of others) number old new added;
   count = omega (arith, so_far.count, shorter);
 }
 
@@ -54,8 +54,8 @@ fails [] lines number front refused h = absurd h
 fails (byte ∷ line) lines number front refused h = rw h.1 (ap (λ (f : MountsFault). Err f) (sym h.2))
 
 pub reading_fails : (text rest : List ℕ) (old : List Mount) (number : ℕ) (line : List ℕ) (lines : List (List ℕ))
-        (refused : MountsFault) → IsReading text rest old number
+    (refused : MountsFault) → IsReading text rest old number
     → lines_of rest ≡ line ∷ lines → IsLineFault line number refused → mounts_of text ≡ Err refused
 reading_fails text rest old number line lines refused so_far cut bad =
     so_far.so_far ∙ ap (λ (parts : List (List ℕ)). behind (map mount_parts old) (mounts_from number parts)) cut
-            ∙ fails line lines number (map mount_parts old) refused bad
+    ∙ fails line lines number (map mount_parts old) refused bad

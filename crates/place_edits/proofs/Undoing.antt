@@ -1,6 +1,28 @@
 -- Changes that an undoing goes over, one after the other, and entries that it keeps.
-use Rattle.std.proofs.Common.{◌≡◌, ◌⊎◌, ℕ, ◌+◌, ◌<◌, Bool, true, false, cond, List, length, get_or, Option, Some, inl,
-    inr, refl, sym, ap, subst, ◌∙◌, below_more}
+use Rattle.std.proofs.Common.{
+  ◌≡◌,
+  ◌⊎◌,
+  ℕ,
+  ◌+◌,
+  ◌<◌,
+  Bool,
+  true,
+  false,
+  cond,
+  List,
+  length,
+  get_or,
+  Option,
+  Some,
+  inl,
+  inr,
+  refl,
+  sym,
+  ap,
+  subst,
+  ◌∙◌,
+  below_more,
+}
 use Rattle.std.specs.FinMap.{get, get-insert, insert}
 use Rattle.std.specs.List.{slice_get}
 use Rattle.std.specs.Ordering.{eq_by_cmp}
@@ -48,7 +70,7 @@ pub put_kept : (now old new : Variables) (kept bytes : List ℕ) → new ≡ ins
 put_kept now old new kept bytes is there name =
     let test : Bool = eq_by_cmp name_cmp name kept in
     let found : get new name ≡ cond test (Some bytes) (get old name) =
-            ap (λ (m : Variables). get m name) is ∙ get-insert nat_list_cmp_total old kept bytes name in
+    ap (λ (m : Variables). get m name) is ∙ get-insert nat_list_cmp_total old kept bytes name in
     elim test as (λ (b : Bool). test ≡ b → (get new name ≡ get old name) ⊎ ((name ≡ kept) × (get new name ≡ get now name))) [
       | true ↦ λ ties.
           let same : name ≡ kept = tells_apart exact_bytes name kept ties in

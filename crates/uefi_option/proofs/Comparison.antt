@@ -26,19 +26,23 @@ SameParts o p = (o.attributes ≡ p.attributes) × ((o.description ≡ p.descrip
 parts_Decide : ComparesPaths → (o p : OptionParts) → Decides (option_eq o p) (SameParts o p)
 parts_Decide each o p =
     Decides-and _ _ (Decides-eqb o.attributes p.attributes) (Decides-and _ _
-            (lists_Decide Decides-eqb o.description p.description)
-            (Decides-and _ _ (lists_Decide each o.paths p.paths) (lists_Decide Decides-eqb o.optional p.optional)))
+    (lists_Decide Decides-eqb o.description p.description)
+    (Decides-and _ _ (lists_Decide each o.paths p.paths) (lists_Decide Decides-eqb o.optional p.optional)))
 
 same : (o p : OptionParts) → SameParts o p → o ≡ p
 same o p e =
     ap (λ (n : ℕ). option_parts n o.description o.paths o.optional) e.0 ∙ ap (λ (t : List ℕ). option_parts p.attributes t o.paths o.optional) e.1.0
     ∙ ap (λ (t : List (List (List Node))). option_parts p.attributes p.description t o.optional) e.1.1.0
-            ∙ ap (λ (t : List ℕ). option_parts p.attributes p.description p.paths t) e.1.1.1
+    ∙ ap (λ (t : List ℕ). option_parts p.attributes p.description p.paths t) e.1.1.1
 
 parts : (o p : OptionParts) → o ≡ p → SameParts o p
-parts o p e =
-    (ap (λ (q : OptionParts). q.attributes) e, (ap (λ (q : OptionParts). q.description) e,
-            (ap (λ (q : OptionParts). q.paths) e, ap (λ (q : OptionParts). q.optional) e)))
+parts o p e = (
+  ap (λ (q : OptionParts). q.attributes) e,
+  (
+    ap (λ (q : OptionParts). q.description) e,
+    (ap (λ (q : OptionParts). q.paths) e, ap (λ (q : OptionParts). q.optional) e),
+  ),
+)
 
 pub option_eq-Decides : ComparesPaths → (o p : OptionParts) (answer : Bool) → answer ≡ option_eq o p → Decides answer (o ≡ p)
 option_eq-Decides each o p answer is =

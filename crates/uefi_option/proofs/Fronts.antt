@@ -29,15 +29,15 @@ half_stops : (left : List ℕ) → length left < 2 → StopsUnits left
 half_stops left half n behind is e = let size : length left ≡ 2 + length behind = ap length e ∙ omega arith in omega arith
 
 same_units : (us vs : List ℕ) (x y : List ℕ) → AllByRecursion IsUnit us → AllByRecursion IsUnit vs → StopsUnits x →
-        StopsUnits y → units_bytes us ++ x ≡ units_bytes vs ++ y → (us ≡ vs) × (x ≡ y)
+    StopsUnits y → units_bytes us ++ x ≡ units_bytes vs ++ y → (us ≡ vs) × (x ≡ y)
 same_units [] [] x y are-u are-v stops-x stops-y e = (refl, e)
 same_units [] (v ∷ vs) x y are-u are-v stops-x stops-y e = absurd
-        (stops-x v (units_bytes vs ++ y) are-v.0 (e ∙ append_assoc (to_le_bytes w16 v) (units_bytes vs) y))
+    (stops-x v (units_bytes vs ++ y) are-v.0 (e ∙ append_assoc (to_le_bytes w16 v) (units_bytes vs) y))
 same_units (u ∷ us) [] x y are-u are-v stops-x stops-y e = absurd
-        (stops-y u (units_bytes us ++ x) are-u.0 (sym e ∙ append_assoc (to_le_bytes w16 u) (units_bytes us) x))
+    (stops-y u (units_bytes us ++ x) are-u.0 (sym e ∙ append_assoc (to_le_bytes w16 u) (units_bytes us) x))
 same_units (u ∷ us) (v ∷ vs) x y are-u are-v stops-x stops-y e =
     let regrouped : to_le_bytes w16 u ++ (units_bytes us ++ x) ≡ to_le_bytes w16 v ++ (units_bytes vs ++ y) =
-            sym (append_assoc (to_le_bytes w16 u) (units_bytes us) x) ∙ e ∙ append_assoc (to_le_bytes w16 v) (units_bytes vs) y in
+    sym (append_assoc (to_le_bytes w16 u) (units_bytes us) x) ∙ e ∙ append_assoc (to_le_bytes w16 v) (units_bytes vs) y in
     let here = same_unit u v (units_bytes us ++ x) (units_bytes vs ++ y) are-u.0.1 are-v.0.1 regrouped in
     let others = same_units us vs x y are-u.1 are-v.1 stops-x stops-y here.1 in
     (ap (λ (n : ℕ). n ∷ us) here.0 ∙ ap (λ (t : List ℕ). v ∷ t) others.0, others.1)
@@ -50,7 +50,7 @@ pub record SameHeader (a b l m : ℕ) (x y : List ℕ) : Type 0 where
   pub rest : x ≡ y
 
 pub same_header : (a b l m : ℕ) (x y : List ℕ) → a < 2 ^ 32 → b < 2 ^ 32 → l < 2 ^ 16 → m < 2 ^ 16 →
-        header_bytes a l ++ x ≡ header_bytes b m ++ y → SameHeader a b l m x y
+    header_bytes a l ++ x ≡ header_bytes b m ++ y → SameHeader a b l m x y
 same_header a b l m x y fits-a fits-b fits-l fits-m e =
     let first : from_le_bytes w32 (to_le_bytes w32 a) ≡ from_le_bytes w32 (to_le_bytes w32 b) = ap (λ (t : List ℕ). from_le_bytes w32 (take 4 t)) e in
     let second : from_le_bytes w16 (to_le_bytes w16 l) ≡ from_le_bytes w16 (to_le_bytes w16 m) = ap (λ (t : List ℕ). from_le_bytes w16 (take 2 (drop 4 t))) e in
@@ -79,22 +79,22 @@ regroup : (us x : List ℕ) → description_bytes us ++ x ≡ units_bytes us ++ 
 regroup us x = append_assoc (units_bytes us) (to_le_bytes w16 0) x
 
 pub same_front : (a b l m : ℕ) (us vs x y : List ℕ) → AreFront a l us → AreFront b m vs →
-        header_bytes a l ++ (description_bytes us ++ x) ≡ header_bytes b m ++ (description_bytes vs ++ y) → SameFront a b l m us vs x y
+    header_bytes a l ++ (description_bytes us ++ x) ≡ header_bytes b m ++ (description_bytes vs ++ y) → SameFront a b l m us vs x y
 same_front a b l m us vs x y first second e =
     let header = same_header a b l m (description_bytes us ++ x) (description_bytes vs ++ y) first.four_bytes second.four_bytes
-            first.two_bytes second.two_bytes e in
+    first.two_bytes second.two_bytes e in
     let units = same_units us vs (to_le_bytes w16 0 ++ x) (to_le_bytes w16 0 ++ y) first.nonzero second.nonzero (zero_stops x)
-            (zero_stops y) (sym (regroup us x) ∙ header.rest ∙ regroup vs y) in
+    (zero_stops y) (sym (regroup us x) ∙ header.rest ∙ regroup vs y) in
     record { attributes = header.attributes; len = header.len; units = units.0; rest = ap (drop 2) units.1 }
 
 -- what no zero unit closes has no description
 pub unclosed : (a b l m : ℕ) (us vs left y : List ℕ) → AreFront a l us → AreFront b m vs → length left < 2 →
-        header_bytes a l ++ (units_bytes us ++ left) ≡ header_bytes b m ++ (description_bytes vs ++ y) → ⊥
+    header_bytes a l ++ (units_bytes us ++ left) ≡ header_bytes b m ++ (description_bytes vs ++ y) → ⊥
 unclosed a b l m us vs left y first second half e =
     let header = same_header a b l m (units_bytes us ++ left) (description_bytes vs ++ y) first.four_bytes second.four_bytes
-            first.two_bytes second.two_bytes e in
+    first.two_bytes second.two_bytes e in
     let units = same_units us vs left (to_le_bytes w16 0 ++ y) first.nonzero second.nonzero (half_stops left half) (zero_stops y)
-            (header.rest ∙ regroup vs y) in
+    (header.rest ∙ regroup vs y) in
     let size : length left ≡ 2 + length y = ap length units.1 ∙ omega arith in
     omega arith
 
@@ -106,7 +106,7 @@ pub record HasHeader (bytes : List ℕ) (attributes len : ℕ) (rest : List ℕ)
   pub parts : bytes ≡ header_bytes attributes len ++ rest
 
 header_of : (a b c d l h : ℕ) (rest : List ℕ) → AllByRecursion IsByte (a ∷ b ∷ c ∷ d ∷ l ∷ h ∷ rest) →
-        HasHeader (a ∷ b ∷ c ∷ d ∷ l ∷ h ∷ rest) (from_le_bytes w32 (a ∷ b ∷ c ∷ d ∷ [])) (from_le_bytes w16 (l ∷ h ∷ [])) rest
+    HasHeader (a ∷ b ∷ c ∷ d ∷ l ∷ h ∷ rest) (from_le_bytes w32 (a ∷ b ∷ c ∷ d ∷ [])) (from_le_bytes w16 (l ∷ h ∷ [])) rest
 header_of a b c d l h rest fits =
     let at = bytes_from_recursion (a ∷ b ∷ c ∷ d ∷ l ∷ h ∷ rest) fits in
     let four = bytes_from_recursion (a ∷ b ∷ c ∷ d ∷ []) (fits.0, (fits.1.0, (fits.1.1.0, (fits.1.1.1.0, tt)))) in
@@ -115,8 +115,8 @@ header_of a b c d l h rest fits =
       four_bytes = omega (arith, four 0, four 1, four 2, four 3);
       two_bytes = omega (arith, two 0, two 1);
       parts = sym (ap (λ (t : List ℕ). (t ++ to_le_bytes w16 (from_le_bytes w16 (l ∷ h ∷ []))) ++ rest)
-              (le_bytes_4 (a ∷ b ∷ c ∷ d ∷ []) _ refl four refl) ∙ ap (λ (t : List ℕ). ((a ∷ b ∷ c ∷ d ∷ []) ++ t) ++ rest)
-              (le_bytes_2 (l ∷ h ∷ []) _ refl two refl));
+          (le_bytes_4 (a ∷ b ∷ c ∷ d ∷ []) _ refl four refl) ∙ ap (λ (t : List ℕ). ((a ∷ b ∷ c ∷ d ∷ []) ++ t) ++ rest)
+          (le_bytes_2 (l ∷ h ∷ []) _ refl two refl));
     }
 
 abbrev pub Heads : List ℕ → Type 0
@@ -147,8 +147,8 @@ one_more low high rest unit is spelled (inl none) = inl (record {
   nonzero = (is, none.nonzero);
   half = none.half;
   parts = ap (λ (t : List ℕ). low ∷ high ∷ t) none.parts ∙ sym
-          (append_assoc (low ∷ high ∷ []) (units_bytes none.units) none.left)
-          ∙ ap (λ (t : List ℕ). (t ++ units_bytes none.units) ++ none.left) (sym spelled);
+      (append_assoc (low ∷ high ∷ []) (units_bytes none.units) none.left)
+      ∙ ap (λ (t : List ℕ). (t ++ units_bytes none.units) ++ none.left) (sym spelled);
 })
 one_more low high rest unit is spelled (inr (units, behind, has)) =
     inr (

@@ -7,7 +7,7 @@ use Rattle.uefi_option.specs.LoadOption.{OptionParts, description_bytes, header_
 use Rattle.uefi_option.proofs.Units.{TwoBytesEach}
 
 pub length-option_bytes : TwoBytesEach → (o : OptionParts) →
-        length (option_bytes o) ≡ (length o.description + 1) * 2 + 6 + length (list_bytes o.paths) + length o.optional
+    length (option_bytes o) ≡ (length o.description + 1) * 2 + 6 + length (list_bytes o.paths) + length o.optional
 length-option_bytes two o =
     omega (
       arith,

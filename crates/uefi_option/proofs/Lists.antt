@@ -1,6 +1,31 @@
 -- The list of paths of a load option, whose paths are one after the other.
-use Rattle.std.proofs.Common.{◌≡◌, ◌≢◌, ◌⊎◌, ℕ, zero, suc, ◌+◌, ◌<◌, ◌≤◌, List, [], ◌∷◌, ◌++◌, length, take, drop,
-    refl, sym, ap, subst, ◌∙◌, inl, inr, arith, append_assoc}
+use Rattle.std.proofs.Common.{
+  ◌≡◌,
+  ◌≢◌,
+  ◌⊎◌,
+  ℕ,
+  zero,
+  suc,
+  ◌+◌,
+  ◌<◌,
+  ◌≤◌,
+  List,
+  [],
+  ◌∷◌,
+  ◌++◌,
+  length,
+  take,
+  drop,
+  refl,
+  sym,
+  ap,
+  subst,
+  ◌∙◌,
+  inl,
+  inr,
+  arith,
+  append_assoc,
+}
 use Rattle.std.specs.List.{AllByRecursion, flat_map}
 use Rattle.std.proofs.lemmas.Grind.{flat_map-append}
 use Rattle.std.proofs.lemmas.Bool.{cases_lt}
@@ -37,8 +62,11 @@ Begins =
 pub path_some : (p : Path) → IsPath p → 0 < length (path_bytes p)
 path_some [] is = absurd (is.some refl)
 path_some (nodes ∷ others) is =
-    omega (arith, length-append (flat_map node_bytes nodes) (row_bytes (end_before others) ++ path_bytes others),
-            length-append (row_bytes (end_before others)) (path_bytes others))
+    omega (
+      arith,
+      length-append (flat_map node_bytes nodes) (row_bytes (end_before others) ++ path_bytes others),
+      length-append (row_bytes (end_before others)) (path_bytes others),
+    )
 
 -- a path at the start of some bytes, and what comes after it
 pub front_parts : (bytes : List ℕ) (p : Path) (n : ℕ) → IsPathFront bytes p n → (bytes ≡ path_bytes p ++ drop n bytes) × (n ≡ length (path_bytes p))
@@ -63,7 +91,7 @@ cut (c ∷ a) (d ∷ b) x y e le =
     (h.0, ap (λ (t : List ℕ). d ∷ t) h.1 ∙ ap (λ (k : ℕ). k ∷ (a ++ h.0)) head, h.2)
 
 nested : OnePath → NoneBegins → (p q : Path) (x y : List ℕ) → IsPath p → IsPath q → path_bytes p ++ x ≡ path_bytes q ++ y →
-        length (path_bytes p) ≤ length (path_bytes q) → (p ≡ q) × (x ≡ y)
+    length (path_bytes p) ≤ length (path_bytes q) → (p ≡ q) × (x ≡ y)
 nested one none p q x y is-p is-q e le =
     let h = cut (path_bytes p) (path_bytes q) x y e le in
     let no_more : h.0 ≡ [] = none (path_bytes p) h.0 p q (is-p, refl) (is-q, sym h.1) in
@@ -93,7 +121,7 @@ pub fault_stops : NoFault → (rest : List ℕ) (fault : PathFault) → IsFirstP
 fault_stops none rest fault first path n front = none rest fault path n first front
 
 pub same_paths : OnePath → NoneBegins → (ps qs : List Path) (x y : List ℕ) → AllByRecursion IsPath ps →
-        AllByRecursion IsPath qs → Stops x → Stops y → list_bytes ps ++ x ≡ list_bytes qs ++ y → (ps ≡ qs) × (x ≡ y)
+    AllByRecursion IsPath qs → Stops x → Stops y → list_bytes ps ++ x ≡ list_bytes qs ++ y → (ps ≡ qs) × (x ≡ y)
 same_paths one none [] [] x y are-p are-q stops-x stops-y e = (refl, e)
 same_paths one none [] (q ∷ qs) x y are-p are-q stops-x stops-y e =
     absurd (stops-x q (length (path_bytes q)) (is_front x q (list_bytes qs ++ y) are-q.0 (e ∙ append_assoc (path_bytes q) (list_bytes qs) y)))
@@ -101,7 +129,7 @@ same_paths one none (p ∷ ps) [] x y are-p are-q stops-x stops-y e =
     absurd (stops-y p (length (path_bytes p)) (is_front y p (list_bytes ps ++ x) are-p.0 (sym e ∙ append_assoc (path_bytes p) (list_bytes ps) x)))
 same_paths one none (p ∷ ps) (q ∷ qs) x y are-p are-q stops-x stops-y e =
     let regrouped : path_bytes p ++ (list_bytes ps ++ x) ≡ path_bytes q ++ (list_bytes qs ++ y) =
-            sym (append_assoc (path_bytes p) (list_bytes ps) x) ∙ e ∙ append_assoc (path_bytes q) (list_bytes qs) y in
+    sym (append_assoc (path_bytes p) (list_bytes ps) x) ∙ e ∙ append_assoc (path_bytes q) (list_bytes qs) y in
     let here = same_front_path one none p q (list_bytes ps ++ x) (list_bytes qs ++ y) are-p.0 are-q.0 regrouped in
     let others = same_paths one none ps qs x y are-p.1 are-q.1 stops-x stops-y here.1 in
     (ap (λ (r : Path). r ∷ ps) here.0 ∙ ap (λ (t : List Path). q ∷ t) others.0, others.1)
@@ -118,15 +146,15 @@ pub record HasPaths (list : List ℕ) (paths : List Path) (rest : List ℕ) : Ty
   pub parts : list ≡ list_bytes paths ++ rest
 
 pub one_path : (list : List ℕ) (paths : List Path) (rest : List ℕ) (path : Path) (n : ℕ) → HasPaths list paths rest →
-        IsPathFront rest path n → HasPaths list (paths ++ path ∷ []) (drop n rest)
+    IsPathFront rest path n → HasPaths list (paths ++ path ∷ []) (drop n rest)
 one_path list paths rest path n has front =
     let split = front_parts rest path n front in
     let more : list_bytes (paths ++ path ∷ []) ≡ list_bytes paths ++ path_bytes path =
-            flat_map-append path_bytes paths (path ∷ []) ∙ ap (λ (t : List ℕ). list_bytes paths ++ t) (append-nil (path_bytes path)) in
+    flat_map-append path_bytes paths (path ∷ []) ∙ ap (λ (t : List ℕ). list_bytes paths ++ t) (append-nil (path_bytes path)) in
     record {
       whole = AllByRecursion-append IsPath paths (path ∷ []) has.whole (front.spelled.0, tt);
       parts = has.parts ∙ ap (λ (t : List ℕ). list_bytes paths ++ t) split.0
-              ∙ sym (append_assoc (list_bytes paths) (path_bytes path) (drop n rest)) ∙ ap (λ (t : List ℕ). t ++ drop n rest) (sym more);
+          ∙ sym (append_assoc (list_bytes paths) (path_bytes path) (drop n rest)) ∙ ap (λ (t : List ℕ). t ++ drop n rest) (sym more);
     }
 
 pub takes_some : (rest : List ℕ) (path : Path) (n : ℕ) → IsPathFront rest path n → 0 < n
@@ -144,7 +172,7 @@ abbrev pub Reads : List ℕ → Type 0
 Reads list = ((paths : List Path) × HasPaths list paths []) ⊎ ((paths : List Path) × (rest : List ℕ) × (fault : PathFault) × HasFault list paths rest fault)
 
 reads : Begins → (n : ℕ) (list : List ℕ) (paths : List Path) (rest : List ℕ) → length rest < n → AllByRecursion IsByte rest →
-        HasPaths list paths rest → Reads list
+    HasPaths list paths rest → Reads list
 reads begins zero list paths rest less fits has = absurd (omega (arith, less))
 reads begins (suc n) list paths [] less fits has = inl (paths, has)
 reads begins (suc n) list paths (b ∷ rest) less fits has =
@@ -153,9 +181,9 @@ reads begins (suc n) list paths (b ∷ rest) less fits has =
           let split = front_parts (b ∷ rest) front.0 front.1 front.2 in
           let some = path_some front.0 front.2.spelled.0 in
           let size : length (b ∷ rest) ≡ length (path_bytes front.0) + length (drop front.1 (b ∷ rest)) =
-                  ap length split.0 ∙ length-append (path_bytes front.0) (drop front.1 (b ∷ rest)) in
+          ap length split.0 ∙ length-append (path_bytes front.0) (drop front.1 (b ∷ rest)) in
           reads begins n list (paths ++ front.0 ∷ []) (drop front.1 (b ∷ rest)) (omega (arith, less, some, size))
-                  (AllByRecursion-behind IsByte (path_bytes front.0) (drop front.1 (b ∷ rest)) (subst (AllByRecursion IsByte) split.0 fits))
+          (AllByRecursion-behind IsByte (path_bytes front.0) (drop front.1 (b ∷ rest)) (subst (AllByRecursion IsByte) split.0 fits))
           (one_path list paths (b ∷ rest) front.0 front.1 has front.2)
       | inr stop ↦ inr (paths, b ∷ rest, stop.0, record { before = has; some = λ e. cc; first = stop.1 })
     ]

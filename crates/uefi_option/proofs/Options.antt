@@ -1,6 +1,29 @@
 -- One load option for each spelling, and one first fault if there is none.
-use Rattle.std.proofs.Common.{◌≡◌, ◌≢◌, ◌⊎◌, ℕ, ◌+◌, ◌<◌, ◌≤◌, List, [], ◌∷◌, ◌++◌, length, take, drop, refl, sym, ap,
-    subst, ◌∙◌, inl, inr, arith, append_assoc}
+use Rattle.std.proofs.Common.{
+  ◌≡◌,
+  ◌≢◌,
+  ◌⊎◌,
+  ℕ,
+  ◌+◌,
+  ◌<◌,
+  ◌≤◌,
+  List,
+  [],
+  ◌∷◌,
+  ◌++◌,
+  length,
+  take,
+  drop,
+  refl,
+  sym,
+  ap,
+  subst,
+  ◌∙◌,
+  inl,
+  inr,
+  arith,
+  append_assoc,
+}
 use Rattle.std.specs.Int.{w16, to_le_bytes}
 use Rattle.std.specs.List.{AllByRecursion}
 use Rattle.std.proofs.lemmas.List.{length-append, append-nil, take_at, drop_at, nil_from_length}
@@ -41,7 +64,7 @@ front_of input front len rest is parts = record {
 }
 
 option_front : (input : List ℕ) (o : OptionParts) → SpellsOption input o →
-        HasFront input o.attributes (length (list_bytes o.paths)) o.description (list_bytes o.paths ++ o.optional)
+    HasFront input o.attributes (length (list_bytes o.paths)) o.description (list_bytes o.paths ++ o.optional)
 option_front input o spelled = record {
   front = record { four_bytes = spelled.0.attributes; two_bytes = let len = spelled.0.len in omega (arith, len); nonzero = spelled.0.description };
   parts = spelled.1;
@@ -49,9 +72,10 @@ option_front input o spelled = record {
 
 -- lists of one length at the start are one list
 same_size : (a b x y : List ℕ) → length a ≡ length b → a ++ x ≡ b ++ y → (a ≡ b) × (x ≡ y)
-same_size a b x y size e =
-    (sym (take_at a x (length b) size) ∙ ap (take (length b)) e ∙ take_at b y (length b) refl,
-            sym (drop_at a x (length b) size) ∙ ap (drop (length b)) e ∙ drop_at b y (length b) refl)
+same_size a b x y size e = (
+  sym (take_at a x (length b) size) ∙ ap (take (length b)) e ∙ take_at b y (length b) refl,
+  sym (drop_at a x (length b) size) ∙ ap (drop (length b)) e ∙ drop_at b y (length b) refl,
+)
 
 -- ---- one option
 
@@ -61,9 +85,9 @@ same_option one none bytes o p first second =
     let lists = same_size (list_bytes o.paths) (list_bytes p.paths) o.optional p.optional same.len same.rest in
     let paths = same_paths one none o.paths p.paths [] [] first.0.paths second.0.paths end_stops end_stops (ap (λ (t : List ℕ). t ++ []) lists.0) in
     ap (λ (n : ℕ). option_parts n o.description o.paths o.optional) same.attributes
-            ∙ ap (λ (t : List ℕ). option_parts p.attributes t o.paths o.optional) same.units
+    ∙ ap (λ (t : List ℕ). option_parts p.attributes t o.paths o.optional) same.units
     ∙ ap (λ (t : List Path). option_parts p.attributes p.description t o.optional) paths.0
-            ∙ ap (λ (t : List ℕ). option_parts p.attributes p.description p.paths t) lists.1
+    ∙ ap (λ (t : List ℕ). option_parts p.attributes p.description p.paths t) lists.1
 
 -- ---- each option is spelled by bytes
 
@@ -80,10 +104,10 @@ pub option_is_bytes : EachSpelled → TwoBytesEach → (o : OptionParts) → IsO
 option_is_bytes each two o is =
     let zero : AllByRecursion IsByte (to_le_bytes w16 0) = (omega arith, (omega arith, tt)) in
     AllByRecursion-append IsByte (header_bytes o.attributes (length (list_bytes o.paths)))
-            (description_bytes o.description ++ (list_bytes o.paths ++ o.optional))
-            (header_is_bytes o.attributes (length (list_bytes o.paths)))
+    (description_bytes o.description ++ (list_bytes o.paths ++ o.optional))
+    (header_is_bytes o.attributes (length (list_bytes o.paths)))
     (AllByRecursion-append IsByte (description_bytes o.description) (list_bytes o.paths ++ o.optional)
-            (AllByRecursion-append IsByte (units_bytes o.description) (to_le_bytes w16 0) (two o.description).0 zero)
+    (AllByRecursion-append IsByte (units_bytes o.description) (to_le_bytes w16 0) (two o.description).0 zero)
     (AllByRecursion-append IsByte (list_bytes o.paths) o.optional (list_is_bytes each o.paths is.paths) is.optional))
 
 -- ---- the first fault
@@ -138,15 +162,37 @@ front_len front len is = ap length is.is ∙ omega (arith, length-append (units_
 kind_of : (input : List ℕ) (f : OptionFault) → IsFirstFault input f → Kinds input f
 kind_of input fault.Short h = inl (h, refl)
 kind_of input fault.NoTerminator h =
-    inr (inl (record { attributes = h.attributes; len = h.len; units = h.units; left = h.left;
-            front = record { four_bytes = h.four_bytes; two_bytes = h.two_bytes; nonzero = h.nonzero }; half = h.half; parts =
-            h.parts }, refl))
+    inr (inl (
+      record {
+        attributes = h.attributes;
+        len = h.len;
+        units = h.units;
+        left = h.left;
+        front = record { four_bytes = h.four_bytes; two_bytes = h.two_bytes; nonzero = h.nonzero };
+        half = h.half;
+        parts =
+            h.parts;
+      },
+      refl,
+    ))
 kind_of input fault.ListPastEnd h =
-    inr (inr (record { attributes = h.before.attributes; len = h.len; units = h.before.units; rest = h.rest;
-            front = front_of input h.front h.len h.rest h.before h.parts; behind = inl (refl, h.past) }))
+    inr (inr (record {
+      attributes = h.before.attributes;
+      len = h.len;
+      units = h.before.units;
+      rest = h.rest;
+      front = front_of input h.front h.len h.rest h.before h.parts;
+      behind = inl (refl, h.past);
+    }))
 kind_of input fault.EmptyList h =
-    inr (inr (record { attributes = h.before.attributes; len = 0; units = h.before.units; rest = h.rest;
-            front = front_of input h.front 0 h.rest h.before h.parts; behind = inr (inl (refl, refl)) }))
+    inr (inr (record {
+      attributes = h.before.attributes;
+      len = 0;
+      units = h.before.units;
+      rest = h.rest;
+      front = front_of input h.front 0 h.rest h.before h.parts;
+      behind = inr (inl (refl, refl));
+    }))
 kind_of input (fault.Path place path_fault) h =
     let list = list_bytes h.paths ++ h.rest in
     let start : length h.front ≡ start_of h.before.units = front_len h.front (length list) h.before in
@@ -176,16 +222,16 @@ kind_of input fault.OutOfMemory h = absurd h
 
 -- two faults after one prefix are one
 same_list_fault : OnePath → NoneBegins → NoFault → OneFault →
-        (list : List ℕ) (ps qs : List Path) (x y : List ℕ) (f g : PathFault) → HasFault list ps x f → HasFault list qs y g →
-        (ps ≡ qs) × (f ≡ g)
+    (list : List ℕ) (ps qs : List Path) (x y : List ℕ) (f g : PathFault) → HasFault list ps x f → HasFault list qs y g →
+    (ps ≡ qs) × (f ≡ g)
 same_list_fault one none no_fault one_fault list ps qs x y f g first second =
     let same = same_paths one none ps qs x y first.before.whole second.before.whole (fault_stops no_fault x f first.first)
-            (fault_stops no_fault y g second.first) (sym first.before.parts ∙ second.before.parts) in
+    (fault_stops no_fault y g second.first) (sym first.before.parts ∙ second.before.parts) in
     (same.0, one_fault y f g (subst (λ (t : List ℕ). IsFirstPathFault t f) same.1 first.first) second.first)
 
 rest_size : (start len : ℕ) (rest : List ℕ) (f : OptionFault) (h : HasPathFault start len rest f) → len ≤ length rest
 rest_size start len rest f h = let size : length rest ≡ length h.list + length h.optional =
-        ap length h.parts ∙ length-append h.list h.optional in omega (arith, h.size)
+    ap length h.parts ∙ length-append h.list h.optional in omega (arith, h.size)
 
 list_is_some : (start len : ℕ) (rest : List ℕ) (f : OptionFault) (h : HasPathFault start len rest f) → 0 < len
 list_is_some start len rest f h =
@@ -194,16 +240,16 @@ list_is_some start len rest f h =
     omega (arith, h.size)
 
 same_path_fault : OnePath → NoneBegins → NoFault → OneFault → (start len : ℕ) (rest : List ℕ) (f g : OptionFault) →
-        HasPathFault start len rest f → HasPathFault start len rest g → f ≡ g
+    HasPathFault start len rest f → HasPathFault start len rest g → f ≡ g
 same_path_fault one none no_fault one_fault start len rest f g x y =
     let lists = same_size x.list y.list x.optional y.optional (x.size ∙ sym y.size) (sym x.parts ∙ y.parts) in
     let faults = same_list_fault one none no_fault one_fault y.list x.paths y.paths x.left y.left x.path_fault y.path_fault
-            (subst (λ (t : List ℕ). HasFault t x.paths x.left x.path_fault) lists.0 x.has) y.has in
+    (subst (λ (t : List ℕ). HasFault t x.paths x.left x.path_fault) lists.0 x.has) y.has in
     let place : x.place ≡ y.place = x.at ∙ ap (λ (ps : List Path). start + length (list_bytes ps)) faults.0 ∙ sym y.at in
     x.is ∙ ap (λ (n : ℕ). fault.Path n x.path_fault) place ∙ ap (λ (h : PathFault). fault.Path y.place h) faults.1 ∙ sym y.is
 
 same_behind_fault : OnePath → NoneBegins → NoFault → OneFault → (start len : ℕ) (rest : List ℕ) (f g : OptionFault) →
-        Behind start len rest f → Behind start len rest g → f ≡ g
+    Behind start len rest f → Behind start len rest g → f ≡ g
 same_behind_fault one none no_fault one_fault start len rest f g (inl x) (inl y) = x.0 ∙ sym y.0
 same_behind_fault one none no_fault one_fault start len rest f g (inl x) (inr (inl y)) = absurd (omega (arith, x.1, y.1))
 same_behind_fault one none no_fault one_fault start len rest f g (inl x) (inr (inr y)) = absurd (omega (arith, x.1, rest_size start len rest g y))
@@ -213,7 +259,7 @@ same_behind_fault one none no_fault one_fault start len rest f g (inr (inl x)) (
 same_behind_fault one none no_fault one_fault start len rest f g (inr (inr x)) (inl y) = absurd (omega (arith, y.1, rest_size start len rest f x))
 same_behind_fault one none no_fault one_fault start len rest f g (inr (inr x)) (inr (inl y)) = absurd (omega (arith, y.1, list_is_some start len rest f x))
 same_behind_fault one none no_fault one_fault start len rest f g (inr (inr x)) (inr (inr y)) =
-        same_path_fault one none no_fault one_fault start len rest f g x y
+    same_path_fault one none no_fault one_fault start len rest f g x y
 
 front_size : (input : List ℕ) (a l : ℕ) (us x : List ℕ) → HasFront input a l us x → 6 ≤ length input
 front_size input a l us x h = let size : length input ≡ 6 + length (description_bytes us ++ x) = ap length h.parts ∙ omega arith in omega arith
@@ -242,13 +288,13 @@ same_kind one none no_fault one_fault input f g (inr (inr x)) (inr (inr y)) =
 
 pub same_first_fault : OnePath → NoneBegins → NoFault → OneFault → (input : List ℕ) (f g : OptionFault) → IsFirstFault input f → IsFirstFault input g → f ≡ g
 same_first_fault one none no_fault one_fault input f g first second =
-        same_kind one none no_fault one_fault input f g (kind_of input f first) (kind_of input g second)
+    same_kind one none no_fault one_fault input f g (kind_of input f first) (kind_of input g second)
 
 -- ---- what has a fault isn't an option
 
 behind_no_option : OnePath → NoneBegins → NoFault → (o : OptionParts) → IsOption o →
-        (start len : ℕ) (rest : List ℕ) (f : OptionFault) → Behind start len rest f → len ≡ length (list_bytes o.paths) →
-        rest ≡ list_bytes o.paths ++ o.optional → ⊥
+    (start len : ℕ) (rest : List ℕ) (f : OptionFault) → Behind start len rest f → len ≡ length (list_bytes o.paths) →
+    rest ≡ list_bytes o.paths ++ o.optional → ⊥
 behind_no_option one none no_fault o is start len rest f (inl x) size parts =
     let all : length rest ≡ length (list_bytes o.paths) + length o.optional = ap length parts ∙ length-append (list_bytes o.paths) o.optional in
     omega (arith, x.1)
@@ -256,8 +302,8 @@ behind_no_option one none no_fault o is start len rest f (inr (inl x)) size part
 behind_no_option one none no_fault o is start len rest f (inr (inr x)) size parts =
     let lists = same_size x.list (list_bytes o.paths) x.optional o.optional (x.size ∙ size) (sym x.parts ∙ parts) in
     let paths = same_paths one none x.paths o.paths x.left [] x.has.before.whole is.paths
-            (fault_stops no_fault x.left x.path_fault x.has.first) end_stops
-            (sym x.has.before.parts ∙ lists.0 ∙ sym (append-nil (list_bytes o.paths))) in
+    (fault_stops no_fault x.left x.path_fault x.has.first) end_stops
+    (sym x.has.before.parts ∙ lists.0 ∙ sym (append-nil (list_bytes o.paths))) in
     x.has.some paths.1
 
 no_kind : OnePath → NoneBegins → NoFault → (input : List ℕ) (f : OptionFault) (o : OptionParts) → Kinds input f → SpellsOption input o → ⊥

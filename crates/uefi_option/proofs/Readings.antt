@@ -1,6 +1,29 @@
 -- What the reader finds: the parts of an option, and every input's option or first fault.
-use Rattle.std.proofs.Common.{◌≡◌, ◌≢◌, ◌⊎◌, ℕ, ◌+◌, ◌-◌, ◌<◌, ◌^◌, List, [], ◌++◌, length, take, drop, refl, sym, ap,
-    subst, ◌∙◌, inl, inr, arith, append_assoc}
+use Rattle.std.proofs.Common.{
+  ◌≡◌,
+  ◌≢◌,
+  ◌⊎◌,
+  ℕ,
+  ◌+◌,
+  ◌-◌,
+  ◌<◌,
+  ◌^◌,
+  List,
+  [],
+  ◌++◌,
+  length,
+  take,
+  drop,
+  refl,
+  sym,
+  ap,
+  subst,
+  ◌∙◌,
+  inl,
+  inr,
+  arith,
+  append_assoc,
+}
 use Rattle.std.specs.Int.{w16, to_le_bytes}
 use Rattle.std.specs.List.{AllByRecursion}
 use Rattle.std.proofs.lemmas.Bool.{cases_lt, cases_eq}
@@ -26,7 +49,7 @@ pub record SplitsFront (input front : List ℕ) (len : ℕ) (rest : List ℕ) : 
   pub parts : input ≡ front ++ rest
 
 pub front_read : (bytes : List ℕ) (attributes len : ℕ) (rest description behind : List ℕ) →
-        (attributes < 2 ^ 32) × (len < 2 ^ 16) → bytes ≡ header_bytes attributes len ++ rest → SplitsUnits rest description behind
+    (attributes < 2 ^ 32) × (len < 2 ^ 16) → bytes ≡ header_bytes attributes len ++ rest → SplitsUnits rest description behind
     → SplitsFront bytes (header_bytes attributes len ++ (description ++ to_le_bytes w16 0)) len behind
 front_read bytes attributes len rest description behind bounds header split = record {
   before = record {
@@ -38,7 +61,7 @@ front_read bytes attributes len rest description behind bounds header split = re
     is = ap (λ (t : List ℕ). header_bytes attributes len ++ (t ++ to_le_bytes w16 0)) split.units.is;
   };
   parts = header ∙ ap (λ (t : List ℕ). header_bytes attributes len ++ t) split.parts
-          ∙ sym (append_assoc (header_bytes attributes len) (description ++ to_le_bytes w16 0) behind);
+      ∙ sym (append_assoc (header_bytes attributes len) (description ++ to_le_bytes w16 0) behind);
 }
 
 pub cut_list : (bytes front : List ℕ) (len : ℕ) (rest : List ℕ) → SplitsFront bytes front len rest → length rest < len → IsCutList bytes
@@ -50,23 +73,23 @@ empty_list bytes front len rest split zero = record { front = front; rest = rest
 -- ---- the list of an option that was split
 
 split_front : (bytes : List ℕ) (attributes : ℕ) (description list optional : List ℕ) →
-        SplitsOption bytes attributes description list optional →
-        SplitsFront bytes (header_bytes attributes (length list) ++ (description ++ to_le_bytes w16 0)) (length list) (list ++ optional)
+    SplitsOption bytes attributes description list optional →
+    SplitsFront bytes (header_bytes attributes (length list) ++ (description ++ to_le_bytes w16 0)) (length list) (list ++ optional)
 split_front bytes attributes description list optional split =
     front_read bytes attributes (length list) ((description ++ to_le_bytes w16 0) ++ (list ++ optional)) description
-            (list ++ optional) (split.four_bytes, let len = split.len in omega (arith, len)) split.parts
-            (record { units = split.units; parts = refl })
+    (list ++ optional) (split.four_bytes, let len = split.len in omega (arith, len)) split.parts
+    (record { units = split.units; parts = refl })
 
 pub list_fault_is : (bytes : List ℕ) (attributes : ℕ) (description list optional : List ℕ) (start : ℕ) (f : OptionFault) →
-        SplitsOption bytes attributes description list optional → start ≡ length bytes - length optional - length list →
-        IsListFault list start f
+    SplitsOption bytes attributes description list optional → start ≡ length bytes - length optional - length list →
+    IsListFault list start f
     → IsFirstFault bytes f
 list_fault_is bytes attributes description list optional start (fault.Path place path_fault) split at h =
     let front = header_bytes attributes (length list) ++ (description ++ to_le_bytes w16 0) in
     let whole = split_front bytes attributes description list optional split in
     let size : length bytes ≡ length front + (length list + length optional) =
-            ap length whole.parts ∙ length-append front (list ++ optional)
-            ∙ ap (λ (n : ℕ). length front + n) (length-append list optional) in
+    ap length whole.parts ∙ length-append front (list ++ optional)
+    ∙ ap (λ (n : ℕ). length front + n) (length-append list optional) in
     let begins : start ≡ length front = at ∙ omega arith in
     record {
       front = front;
@@ -95,8 +118,8 @@ some_path list paths parts some none =
     omega arith
 
 pub option_read : (bytes : List ℕ) (attributes : ℕ) (description list optional : List ℕ) (paths : List Path) →
-        AllByRecursion IsByte bytes → SplitsOption bytes attributes description list optional → AllByRecursion IsPath paths →
-        list ≡ list_bytes paths
+    AllByRecursion IsByte bytes → SplitsOption bytes attributes description list optional → AllByRecursion IsPath paths →
+    list ≡ list_bytes paths
     → SpellsOption bytes (option_parts attributes (units_of description) paths optional)
 option_read bytes attributes description list optional paths fits split are parts =
     let front = header_bytes attributes (length list) in
@@ -122,14 +145,14 @@ abbrev pub Ends : List ℕ → Type 0
 Ends bytes = ((option : OptionParts) × SpellsOption bytes option) ⊎ ((f : OptionFault) × IsFirstFault bytes f)
 
 list_ends : Begins → (bytes : List ℕ) (attributes : ℕ) (units list optional : List ℕ) → AllByRecursion IsByte bytes →
-        (attributes < 2 ^ 32) × (length list < 2 ^ 16) → AllByRecursion IsUnit units → 0 < length list
+    (attributes < 2 ^ 32) × (length list < 2 ^ 16) → AllByRecursion IsUnit units → 0 < length list
     → bytes ≡ header_bytes attributes (length list) ++ (description_bytes units ++ (list ++ optional)) → Ends bytes
 list_ends begins bytes attributes units list optional fits bounds nonzero some parts =
     let header = header_bytes attributes (length list) in
     let front = header ++ description_bytes units in
     let behind = AllByRecursion-behind IsByte (description_bytes units) (list ++ optional)
-            (AllByRecursion-behind IsByte header (description_bytes units ++ (list ++ optional))
-            (subst (AllByRecursion IsByte) parts fits)) in
+    (AllByRecursion-behind IsByte header (description_bytes units ++ (list ++ optional))
+    (subst (AllByRecursion IsByte) parts fits)) in
     elim (list_reads begins list (AllByRecursion-first IsByte list optional behind)) [
       | inl read ↦
           let whole : list ≡ list_bytes read.0 = read.1.parts ∙ append-nil (list_bytes read.0) in
@@ -153,8 +176,14 @@ list_ends begins bytes attributes units list optional fits bounds nonzero some p
           let paths = stop.0 in
           let rest = stop.1 in
           let h = stop.3 in
-          let before : IsFront front (length list) = record { attributes = attributes; units = units; four_bytes = bounds.0;
-                  two_bytes = bounds.1; nonzero = nonzero; is = refl } in
+          let before : IsFront front (length list) = record {
+            attributes = attributes;
+            units = units;
+            four_bytes = bounds.0;
+            two_bytes = bounds.1;
+            nonzero = nonzero;
+            is = refl;
+          } in
           inr (
             fault.Path (length (front ++ list_bytes paths)) stop.2,
             record {
@@ -166,7 +195,7 @@ list_ends begins bytes attributes units list optional fits bounds nonzero some p
               whole = h.before.whole;
               some = h.some;
               parts = parts ∙ sym (append_assoc header (description_bytes units) (list ++ optional))
-                      ∙ ap (λ (t : List ℕ). front ++ (t ++ optional)) h.before.parts;
+                  ∙ ap (λ (t : List ℕ). front ++ (t ++ optional)) h.before.parts;
               at = refl;
               first = h.first;
             },
@@ -174,8 +203,8 @@ list_ends begins bytes attributes units list optional fits bounds nonzero some p
     ]
 
 front_ends : Begins → (bytes : List ℕ) (attributes len : ℕ) (units behind : List ℕ) → AllByRecursion IsByte bytes →
-        (attributes < 2 ^ 32) × (len < 2 ^ 16) → AllByRecursion IsUnit units →
-        bytes ≡ header_bytes attributes len ++ (description_bytes units ++ behind) → Ends bytes
+    (attributes < 2 ^ 32) × (len < 2 ^ 16) → AllByRecursion IsUnit units →
+    bytes ≡ header_bytes attributes len ++ (description_bytes units ++ behind) → Ends bytes
 front_ends begins bytes attributes len units behind fits bounds nonzero parts =
     let front = header_bytes attributes len ++ description_bytes units in
     let split : SplitsFront bytes front len behind = record {
@@ -192,8 +221,8 @@ front_ends begins bytes attributes len units behind fits bounds nonzero parts =
             let room = bounds.1 in
             list_ends begins bytes attributes units list (drop len behind) fits (bounds.0, omega (arith, room, size)) nonzero (omega (arith, size))
             (parts ∙ ap (λ (t : List ℕ). header_bytes attributes len ++ (description_bytes units ++ t))
-                    (sym (take-append-drop len behind)) ∙ ap (λ (n : ℕ).
-                    header_bytes attributes n ++ (description_bytes units ++ (list ++ drop len behind))) (sym size))
+            (sym (take-append-drop len behind)) ∙ ap (λ (n : ℕ).
+            header_bytes attributes n ++ (description_bytes units ++ (list ++ drop len behind))) (sym size))
       ]
     ]
 
@@ -215,7 +244,7 @@ header_ends begins bytes attributes len rest fits header =
         },
       )
       | inr closed ↦ front_ends begins bytes attributes len closed.0 closed.1 fits (header.four_bytes, header.two_bytes)
-              closed.2.nonzero (header.parts ∙ ap (λ (t : List ℕ). header_bytes attributes len ++ t) closed.2.parts)
+          closed.2.nonzero (header.parts ∙ ap (λ (t : List ℕ). header_bytes attributes len ++ t) closed.2.parts)
     ]
 
 pub bytes_end : Begins → (bytes : List ℕ) → AllByRecursion IsByte bytes → Ends bytes

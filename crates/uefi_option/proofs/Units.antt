@@ -1,6 +1,30 @@
 -- Units as bytes, two for each.
-use Rattle.std.proofs.Common.{◌≡◌, ◌≢◌, ℕ, ◌+◌, ◌-◌, ◌*◌, ◌<◌, ◌≤◌, ◌^◌, List, [], ◌∷◌, ◌++◌, length, take, drop,
-    get_or, refl, sym, ap, subst, ◌∙◌, arith, append_assoc}
+use Rattle.std.proofs.Common.{
+  ◌≡◌,
+  ◌≢◌,
+  ℕ,
+  ◌+◌,
+  ◌-◌,
+  ◌*◌,
+  ◌<◌,
+  ◌≤◌,
+  ◌^◌,
+  List,
+  [],
+  ◌∷◌,
+  ◌++◌,
+  length,
+  take,
+  drop,
+  get_or,
+  refl,
+  sym,
+  ap,
+  subst,
+  ◌∙◌,
+  arith,
+  append_assoc,
+}
 use Rattle.std.specs.Int.{w16, from_le_bytes, to_le_bytes}
 use Rattle.std.specs.List.{AllByRecursion}
 use Rattle.std.proofs.lemmas.Grind.{flat_map-append}
@@ -28,7 +52,7 @@ pub record IsFirstUnit (rest : List ℕ) (unit : ℕ) : Type 0 where
   pub is : unit ≡ from_le_bytes w16 (get_or rest 0 0 ∷ get_or rest 1 0 ∷ [])
 
 first_unit : (low high : ℕ) (rest : List ℕ) (unit : ℕ) → IsBytes (low ∷ high ∷ rest) →
-        unit ≡ from_le_bytes w16 (low ∷ high ∷ []) → to_le_bytes w16 unit ≡ low ∷ high ∷ []
+    unit ≡ from_le_bytes w16 (low ∷ high ∷ []) → to_le_bytes w16 unit ≡ low ∷ high ∷ []
 first_unit low high rest unit fits is = le_bytes_2 (low ∷ high ∷ []) unit refl (bytes_from_recursion (low ∷ high ∷ []) (fits 0, (fits 1, tt))) is
 
 unit_fits : (low high : ℕ) (rest : List ℕ) (unit : ℕ) → IsBytes (low ∷ high ∷ rest) → unit ≡ from_le_bytes w16 (low ∷ high ∷ []) → unit < 2 ^ 16
@@ -61,7 +85,7 @@ behind_two : (low high : ℕ) (behind : List ℕ) → take (length (low ∷ high
 behind_two low high behind = take_all (length (low ∷ high ∷ behind) - 2) behind (omega arith)
 
 pub one_unit : (bytes rest : List ℕ) (unit : ℕ) → HasUnits bytes rest → IsBytes bytes → IsFirstUnit rest unit → unit ≢ 0 →
-        HasUnits bytes (take (length rest - 2) (drop 2 rest))
+    HasUnits bytes (take (length rest - 2) (drop 2 rest))
 one_unit bytes [] unit h fits first nonzero = absurd (omega (arith, first.enough))
 one_unit bytes (low ∷ []) unit h fits first nonzero = absurd (omega (arith, first.enough))
 one_unit bytes (low ∷ high ∷ behind) unit h fits first nonzero =
@@ -76,7 +100,7 @@ one_unit bytes (low ∷ high ∷ behind) unit h fits first nonzero =
     })
 
 pub zero_unit : ReadAgain → (bytes rest : List ℕ) (unit : ℕ) (description : List ℕ) → HasUnits bytes rest → IsBytes bytes →
-        IsFirstUnit rest unit → unit ≡ 0 → description ≡ take (length bytes - length rest) bytes
+    IsFirstUnit rest unit → unit ≡ 0 → description ≡ take (length bytes - length rest) bytes
     → SplitsUnits bytes description (take (length rest - 2) (drop 2 rest))
 zero_unit again bytes [] unit description h fits first zero is = absurd (omega (arith, first.enough))
 zero_unit again bytes (low ∷ []) unit description h fits first zero is = absurd (omega (arith, first.enough))
@@ -84,11 +108,11 @@ zero_unit again bytes (low ∷ high ∷ behind) unit description h fits first ze
     let here = rest_fits bytes (low ∷ high ∷ behind) h fits in
     let spelled : to_le_bytes w16 0 ≡ low ∷ high ∷ [] = ap (to_le_bytes w16) (sym zero) ∙ first_unit low high behind unit here first.is in
     let size : length bytes ≡ length (units_bytes h.units) + length (low ∷ high ∷ behind) =
-            ap length h.parts ∙ length-append (units_bytes h.units) (low ∷ high ∷ behind) in
+    ap length h.parts ∙ length-append (units_bytes h.units) (low ∷ high ∷ behind) in
     let front : description ≡ units_bytes h.units = is ∙ ap (take (length bytes - length (low ∷ high ∷ behind))) h.parts
-            ∙ take_at (units_bytes h.units) (low ∷ high ∷ behind) (length bytes - length (low ∷ high ∷ behind)) (omega arith) in
+    ∙ take_at (units_bytes h.units) (low ∷ high ∷ behind) (length bytes - length (low ∷ high ∷ behind)) (omega arith) in
     rw (behind_two low high behind, front) (record {
       units = are_units again h.units h.nonzero;
       parts = h.parts ∙ sym (append_assoc (units_bytes h.units) (low ∷ high ∷ []) behind)
-              ∙ ap (λ (t : List ℕ). (units_bytes h.units ++ t) ++ behind) (sym spelled);
+          ∙ ap (λ (t : List ℕ). (units_bytes h.units ++ t) ++ behind) (sym spelled);
     })

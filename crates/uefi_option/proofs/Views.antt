@@ -20,7 +20,7 @@ abbrev pub IsSplit : List ℕ → OptionView → Type 0
 IsSplit bytes view = SplitsOption bytes view.attributes view.description.now view.list.now view.optional.now
 
 pub view_shows : (bytes : List ℕ) (view : OptionView) → AllByRecursion IsByte bytes → IsSplit bytes view →
-        ArePaths view.list.now → (option : OptionParts) × SpellsOption bytes option × ShowsOption view option
+    ArePaths view.list.now → (option : OptionParts) × SpellsOption bytes option × ShowsOption view option
 view_shows bytes view fits split are = (
   option_parts view.attributes (units_of view.description.now) are.paths view.optional.now,
   option_read bytes view.attributes view.description.now view.list.now view.optional.now are.paths fits split are.whole are.parts,
@@ -30,7 +30,7 @@ view_shows bytes view fits split are = (
 slice_at : (input before slice behind : List ℕ) (at : ℕ) → input ≡ before ++ (slice ++ behind) → length before ≡ at → IsSliceAt input at slice
 slice_at input before slice behind at parts size =
     let all : length input ≡ length before + (length slice + length behind) =
-            ap length parts ∙ length-append before (slice ++ behind) ∙ ap (λ (n : ℕ). length before + n) (length-append slice behind) in
+    ap length parts ∙ length-append before (slice ++ behind) ∙ ap (λ (n : ℕ). length before + n) (length-append slice behind) in
     let rest : drop at input ≡ slice ++ behind = ap (drop at) parts ∙ drop_at before (slice ++ behind) at size in
     record { within = omega arith; is = sym (ap (take (length slice)) rest ∙ take_at slice behind (length slice) refl) }
 
@@ -43,23 +43,23 @@ view_is_cut bytes view split =
     let zero = to_le_bytes w16 0 in
     let front = header ++ (description ++ zero) in
     let front_size : length front ≡ 8 + length description = length-append header (description ++ zero)
-            ∙ ap (λ (n : ℕ). 6 + n) (length-append description zero) ∙ omega arith in
+    ∙ ap (λ (n : ℕ). 6 + n) (length-append description zero) ∙ omega arith in
     let whole : bytes ≡ front ++ (list ++ optional) = split.parts ∙ sym (append_assoc header (description ++ zero) (list ++ optional)) in
     let before : length (front ++ list) ≡ 8 + length description + length list = length-append front list ∙ ap (λ (n : ℕ). n + length list) front_size in
     record {
       description = slice_at bytes header description (zero ++ (list ++ optional)) 6
-              (split.parts ∙ ap (λ (t : List ℕ). header ++ t) (append_assoc description zero (list ++ optional))) refl;
+          (split.parts ∙ ap (λ (t : List ℕ). header ++ t) (append_assoc description zero (list ++ optional))) refl;
       list = slice_at bytes front list optional (8 + length description) whole front_size;
       optional = slice_at bytes (front ++ list) optional [] (8 + length description + length list)
-              (whole ∙ sym (append_assoc front list optional) ∙ ap (λ (t : List ℕ). (front ++ list) ++ t)
-              (sym (append-nil optional))) before;
+          (whole ∙ sym (append_assoc front list optional) ∙ ap (λ (t : List ℕ). (front ++ list) ++ t)
+          (sym (append-nil optional))) before;
       end = ap length (whole ∙ sym (append_assoc front list optional)) ∙ length-append (front ++ list) optional ∙ ap (λ (n : ℕ). n + length optional) before;
     }
 
 -- the parts that are read off a view are those of the option that it shows
 pub parts_read : ReadAgain → (bytes : List ℕ) (view : OptionView) (o : OptionParts) (description : List ℕ) (paths : List Path)
-        (optional : List ℕ) → SpellsOption bytes o → ShowsOption view o → description ≡ units_of view.description.now →
-        AllByRecursion IsPath paths → view.list.now ≡ list_bytes paths → optional ≡ view.optional.now
+    (optional : List ℕ) → SpellsOption bytes o → ShowsOption view o → description ≡ units_of view.description.now →
+    AllByRecursion IsPath paths → view.list.now ≡ list_bytes paths → optional ≡ view.optional.now
     → SpellsOption bytes (option_parts view.attributes description paths optional)
 parts_read again bytes view o description paths optional spelled shows units-is whole list-is optional-is =
     let is = spelled.0 in

@@ -9,7 +9,7 @@ use Rattle.uefi_vars.specs.BootChange.{same_name, change_under, new_data}
 use Rattle.uefi_vars.proofs.NameTests.{same_name-is}
 
 get_with_data : (vars : Variables) (name : List ℕ) (new : Option (List ℕ)) (q : List ℕ) →
-        get (with_data vars name new) q ≡ cond (same_name q name) new (get vars q)
+    get (with_data vars name new) q ≡ cond (same_name q name) new (get vars q)
 get_with_data vars name None q = get-remove nat_list_cmp_total vars name q
 get_with_data vars name (Some value) q = get-insert nat_list_cmp_total vars name value q
 

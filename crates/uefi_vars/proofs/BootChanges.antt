@@ -1,6 +1,32 @@
 -- The changes from one set to another.
-use Rattle.std.proofs.Common.{◌≡◌, ◌≢◌, ◌⊎◌, ◌↔◌, ℕ, ◌<◌, ◌^◌, true, false, cond, List, [], ◌∷◌, map, take, Option,
-    Some, None, Contains, inl, inr, refl, sym, ap, subst, ◌∙◌}
+use Rattle.std.proofs.Common.{
+  ◌≡◌,
+  ◌≢◌,
+  ◌⊎◌,
+  ◌↔◌,
+  ℕ,
+  ◌<◌,
+  ◌^◌,
+  true,
+  false,
+  cond,
+  List,
+  [],
+  ◌∷◌,
+  map,
+  take,
+  Option,
+  Some,
+  None,
+  Contains,
+  inl,
+  inr,
+  refl,
+  sym,
+  ap,
+  subst,
+  ◌∙◌,
+}
 use Rattle.std.specs.Option.{option_map}
 use Rattle.std.specs.List.{AllByRecursion, IsDistinct, list_any, slice_get}
 use Rattle.std.specs.FinMap.{get}
@@ -10,8 +36,19 @@ use Rattle.std.proofs.lemmas.Option.{slice_get-map}
 use Rattle.uefi_vars.specs.Name.{entry_text, order_text, next_text}
 use Rattle.uefi_vars.specs.Vars.{Variables}
 use Rattle.uefi_vars.specs.NameChanges.{after_each}
-use Rattle.uefi_vars.specs.BootChange.{ChangeParts, same_name, is_boot_name, changed_names, change_under, changes_from,
-    new_data, IsNeeded, order_in, DanglesInOrder, DanglesAsNext}
+use Rattle.uefi_vars.specs.BootChange.{
+  ChangeParts,
+  same_name,
+  is_boot_name,
+  changed_names,
+  change_under,
+  changes_from,
+  new_data,
+  IsNeeded,
+  order_in,
+  DanglesInOrder,
+  DanglesAsNext,
+}
 use Rattle.uefi_vars.proofs.NameTests.{same_name-refl}
 use Rattle.uefi_vars.proofs.Distinct.{before_apart}
 use Rattle.uefi_vars.proofs.Afterwards.{get_after}
@@ -24,7 +61,7 @@ names_of_changes from to (name ∷ names) = ap (λ (t : List (List ℕ)). name �
 
 -- what is under a name once the first of the changes are made
 after_some : (from to : Variables) (made : ℕ) (q : List ℕ) →
-        get (after_each from (new_data (take made (changes_from from to)))) q ≡ now_under from to (take made (changed_names from to)) q
+    get (after_each from (new_data (take made (changes_from from to)))) q ≡ now_under from to (take made (changed_names from to)) q
 after_some from to made q =
     ap (λ (changes : List ChangeParts). get (after_each from (new_data changes)) q) (take-map (change_under from to) made (changed_names from to))
     ∙ get_after from to (take made (changed_names from to)) from q
@@ -36,7 +73,7 @@ module _ (from to : Variables) where
   after_boot q boot =
       get_after from to (changed_names from to) from q
       ∙ elim (list_any (same_name q) (changed_names from to)) as
-              (λ b. list_any (same_name q) (changed_names from to) ≡ b → cond b (get to q) (get from q) ≡ get to q) [
+      (λ b. list_any (same_name q) (changed_names from to) ≡ b → cond b (get to q) (get from q) ≡ get to q) [
         | true ↦ λ e. refl
         | false ↦ λ e. left_alone from to q e boot
       ] refl
@@ -45,7 +82,7 @@ module _ (from to : Variables) where
   after_others q other =
       get_after from to (changed_names from to) from q
       ∙ elim (list_any (same_name q) (changed_names from to)) as
-              (λ b. list_any (same_name q) (changed_names from to) ≡ b → cond b (get to q) (get from q) ≡ get from q) [
+      (λ b. list_any (same_name q) (changed_names from to) ≡ b → cond b (get to q) (get from q) ≡ get from q) [
         | true ↦ λ e. absurd (true≢false (sym (changed_is_boot from to q e) ∙ other))
         | false ↦ λ e. refl
       ] refl
@@ -87,12 +124,12 @@ module _ (from to : Variables) (no_order : IsNoEntry order_text) (no_next : IsNo
   changes_distinct = subst (IsDistinct same_name) (sym (names_of_changes from to (changed_names from to))) (changed_distinct from to no_order no_next differ)
 
   found_name : (o : Option (List ℕ)) (change : ChangeParts) → option_map (change_under from to) o ≡ Some change →
-          (name : List ℕ) × (o ≡ Some name) × (change ≡ change_under from to name)
+      (name : List ℕ) × (o ≡ Some name) × (change ≡ change_under from to name)
   found_name None change e = cc
   found_name (Some name) change e = (name, refl, cc)
 
   pub replaces : (place : ℕ) (change : ChangeParts) → slice_get (changes_from from to) place ≡ Some change →
-          get (after_each from (new_data (take place (changes_from from to)))) change.name ≡ change.before
+      get (after_each from (new_data (take place (changes_from from to)))) change.name ≡ change.before
   replaces place change at =
       let found = found_name (slice_get (changed_names from to) place) change (sym (slice_get-map (change_under from to) (changed_names from to) place) ∙ at) in
       let name = found.0 in

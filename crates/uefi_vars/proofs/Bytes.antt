@@ -31,9 +31,10 @@ AllByRecursion-behind P (x ∷ xs) ys p = AllByRecursion-behind P xs ys p.1
 
 -- lists of one length at the start are one list
 pub same_size : (a b x y : List ℕ) → length a ≡ length b → a ++ x ≡ b ++ y → (a ≡ b) × (x ≡ y)
-same_size a b x y size e =
-    (sym (take_at a x (length b) size) ∙ ap (take (length b)) e ∙ take_at b y (length b) refl,
-            sym (drop_at a x (length b) size) ∙ ap (drop (length b)) e ∙ drop_at b y (length b) refl)
+same_size a b x y size e = (
+  sym (take_at a x (length b) size) ∙ ap (take (length b)) e ∙ take_at b y (length b) refl,
+  sym (drop_at a x (length b) size) ∙ ap (drop (length b)) e ∙ drop_at b y (length b) refl,
+)
 
 -- what each element has or hasn't, all have or not all
 pub all_or_not : {X : Type 0} (P : X → Type 0) → ((x : X) → P x ⊎ (¬ P x)) → (xs : List X) → AllByRecursion P xs ⊎ (¬ AllByRecursion P xs)
@@ -46,7 +47,7 @@ all_or_not P decide (x ∷ xs) =
 
 -- what all images have, that of an element has
 pub all_at : {X Y : Type 0} (P : Y → Type 0) (f : X → Y) (xs : List X) (i : ℕ) (x : X) → AllByRecursion P (map f xs) →
-        i < length xs → x ≡ get_or xs i x → P (f x)
+    i < length xs → x ≡ get_or xs i x → P (f x)
 all_at P f [] i x all within is = absurd (omega (arith, within))
 all_at {X} P f (y ∷ xs) zero x all within is = subst (λ (z : X). P (f z)) (sym is) all.0
 all_at P f (y ∷ xs) (suc i) x all within is = all_at P f xs i x all.1 (omega (arith, within)) is

@@ -48,7 +48,7 @@ filter_apart : (p : List ℕ → Bool) (name : List ℕ) (names : List (List ℕ
 filter_apart p name [] h = tt
 filter_apart p name (n ∷ names) h =
     elim (p n) as (λ b. IsApart name (cond b (n ∷ filter p names) (filter p names)))
-            [ true ↦ (h.0, filter_apart p name names h.1) | false ↦ filter_apart p name names h.1 ]
+    [ true ↦ (h.0, filter_apart p name names h.1) | false ↦ filter_apart p name names h.1 ]
 
 pub filter_distinct : (p : List ℕ → Bool) (names : List (List ℕ)) → IsDistinct same_name names → IsDistinct same_name (filter p names)
 unfolding IsDistinct
@@ -68,13 +68,14 @@ append_apart name [] ys h k = k
 append_apart name (x ∷ xs) ys h k = (h.0, append_apart name xs ys h.1 k)
 
 pub append_distinct : (xs ys : List (List ℕ)) → IsDistinct same_name xs → IsDistinct same_name ys →
-        ((name : List ℕ) → list_any (same_name name) xs ≡ true → list_any (same_name name) ys ≡ false) →
+    ((name : List ℕ) → list_any (same_name name) xs ≡ true → list_any (same_name name) ys ≡ false) →
     IsDistinct same_name (xs ++ ys)
 unfolding IsDistinct
 append_distinct [] ys h k other = k
-append_distinct (x ∷ xs) ys h k other =
-    (append_apart x xs ys h.0 (apart_of_none x ys (other x (or_left _ _ (same_name-refl x)))),
-            append_distinct xs ys h.1 k (λ name is. other name (or_right _ _ is)))
+append_distinct (x ∷ xs) ys h k other = (
+  append_apart x xs ys h.0 (apart_of_none x ys (other x (or_left _ _ (same_name-refl x)))),
+  append_distinct xs ys h.1 k (λ name is. other name (or_right _ _ is)),
+)
 
 -- ---- by place
 
@@ -85,7 +86,7 @@ apart_at name (n ∷ names) (suc k) other h e = apart_at name names k other h.1 
 
 -- a name isn't among those before it
 pub before_apart : (names : List (List ℕ)) (k : ℕ) (name : List ℕ) → IsDistinct same_name names → slice_get names k ≡ Some name →
-        list_any (same_name name) (take k names) ≡ false
+    list_any (same_name name) (take k names) ≡ false
 unfolding IsDistinct
 before_apart [] k name h e = cc
 before_apart (n ∷ names) zero name h e = refl

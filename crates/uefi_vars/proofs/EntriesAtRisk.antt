@@ -1,7 +1,38 @@
 -- Going over variables for the entries at risk: the numbers that are found are those of the definitions.
-use Rattle.std.proofs.Common.{◌≡◌, ℕ, ◌+◌, ◌<◌, ◌≤◌, ◌^◌, ◌↔◌, List, [], ◌∷◌, ◌++◌, length, take, get_or, slice_get,
-    Contains, All, Option, Some, None, IsSome, IsTrue, is_some, nat_cmp, BTreeSet, refl, sym, ap, subst, ◌∙◌, ⊎_elim,
-    arith}
+use Rattle.std.proofs.Common.{
+  ◌≡◌,
+  ℕ,
+  ◌+◌,
+  ◌<◌,
+  ◌≤◌,
+  ◌^◌,
+  ◌↔◌,
+  List,
+  [],
+  ◌∷◌,
+  ◌++◌,
+  length,
+  take,
+  get_or,
+  slice_get,
+  Contains,
+  All,
+  Option,
+  Some,
+  None,
+  IsSome,
+  IsTrue,
+  is_some,
+  nat_cmp,
+  BTreeSet,
+  refl,
+  sym,
+  ap,
+  subst,
+  ◌∙◌,
+  ⊎_elim,
+  arith,
+}
 use Rattle.std.specs.BTreeSet.{contains}
 use Rattle.std.specs.Cmp.{nat_cmp_is}
 use Rattle.std.specs.FinMap.{get, entries}
@@ -10,8 +41,16 @@ use Rattle.std.proofs.lemmas.Bool.{cases_lt, false≢true, false_from_ne_true}
 use Rattle.std.proofs.lemmas.Bool.Decides.{same_from_decides}
 use Rattle.std.proofs.lemmas.Cmp.{nat_cmp_total}
 use Rattle.std.proofs.lemmas.List.{length-map, take_all, take_more}
-use Rattle.std.proofs.lemmas.List.Elements.{All-nil, All-contains, All-from_recursion, recursion_from_All,
-    Contains-append_left, Contains-get_or, Contains-push, Contains-push_cases}
+use Rattle.std.proofs.lemmas.List.Elements.{
+  All-nil,
+  All-contains,
+  All-from_recursion,
+  recursion_from_All,
+  Contains-append_left,
+  Contains-get_or,
+  Contains-push,
+  Contains-push_cases,
+}
 use Rattle.std.proofs.lemmas.Map.Lookups.{btree_set_from_contains, exact_unsigned}
 use Rattle.std.proofs.lemmas.Map.Views.{btree_set_contains_iff}
 use Rattle.std.proofs.lemmas.Option.{slice_get_within, get_or_from_slice_get}
@@ -40,7 +79,7 @@ one_list Is a b f g =
     let in_t : (q : ℕ) → IsTrue (contains nat_cmp t q) ↔ Contains b q = btree_set_contains_iff nat_cmp_total exact_unsigned t in
     btree_set_from_contains nat_cmp_total s t f.rising g.rising
     (λ q. same_from_decides (contains nat_cmp s q) (contains nat_cmp t q) (in_s q)
-            (λ yes. (f.are q).1 ((g.are q).0 ((in_t q).0 yes)), λ c. (in_t q).1 ((g.are q).1 ((f.are q).0 c)))) exact_unsigned
+    (λ yes. (f.are q).1 ((g.are q).0 ((in_t q).0 yes)), λ c. (in_t q).1 ((g.are q).1 ((f.are q).0 c)))) exact_unsigned
 
 -- what is true of the same numbers has the same lists
 pub those_along : (P Q : ℕ → Type 0) (numbers : List ℕ) → ((number : ℕ) → P number ↔ Q number) → AreThose P numbers → AreThose Q numbers
@@ -58,7 +97,7 @@ numbers_rise m n fits less =
     ⊎_elim (λ low. low)
     (λ high. absurd (⊎_elim (λ lower. not_below_lower (entry_text n) (entry_text m) (names_rise n m lower fits) less)
     (λ back. let same : m ≡ n = omega arith in not_below_itself (entry_text n)
-            (ap (λ (k : ℕ). name_cmp (entry_text k) (entry_text n)) (sym same) ∙ less)) (cases_lt n m)))
+    (ap (λ (k : ℕ). name_cmp (entry_text k) (entry_text n)) (sym same) ∙ less)) (cases_lt n m)))
     (cases_lt m n)
 
 -- ---- one variable after the other
@@ -69,10 +108,10 @@ of_more Is pairs p n h = record { variable = h.variable; among = Contains-append
 
 -- it is of some of the first variables, or of the last one
 of_before : (Is : Pair → ℕ → Type 0) (pairs : List Pair) (p : Pair) (n : ℕ) (R : Type 0) → (IsOfSome Is pairs n → R) →
-        (Is p n → R) → IsOfSome Is (pairs ++ p ∷ []) n → R
+    (Is p n → R) → IsOfSome Is (pairs ++ p ∷ []) n → R
 of_before Is pairs p n R before last h =
     ⊎_elim (λ among. before (record { variable = h.variable; among = among; here = h.here }))
-            (λ e. last (subst (λ (q : Pair). Is q n) (sym e) h.here)) (Contains-push_cases pairs p h.variable h.among)
+    (λ e. last (subst (λ (q : Pair). Is q n) (sym e) h.here)) (Contains-push_cases pairs p h.variable h.among)
 
 module _ (Is : Pair → ℕ → Type 0) where
   pub none_those : AreThose (IsOfSome Is []) []
@@ -82,8 +121,10 @@ module _ (Is : Pair → ℕ → Type 0) where
     without_it : ((n : ℕ) → Is p n → ⊥) → AreThose (IsOfSome Is (pairs ++ p ∷ [])) numbers
     without_it none = record {
       rising = those.rising;
-      are = λ n. (λ c. of_more Is pairs p n ((those.are n).0 c),
-              λ h. of_before Is pairs p n (Contains numbers n) (those.are n).1 (λ here. absurd (none n here)) h);
+      are = λ n. (
+        λ c. of_more Is pairs p n ((those.are n).0 c),
+        λ h. of_before Is pairs p n (Contains numbers n) (those.are n).1 (λ here. absurd (none n here)) h,
+      );
     }
 
     module _ (entry : (q : Pair) (n : ℕ) → Is q n → IsEntry q n) (number : ℕ) (here : Is p number) where
@@ -103,11 +144,11 @@ module _ (Is : Pair → ℕ → Type 0) where
       with_it : All (λ (q : Pair). name_cmp q.0 (entry_text number) ≡ Less) pairs → AreThose (IsOfSome Is (pairs ++ p ∷ [])) (numbers ++ number ∷ [])
       with_it low = record {
         rising = one_above nat_cmp numbers number those.rising (recursion_from_All (λ (n : ℕ). nat_cmp n number ≡ Less) numbers
-                (λ k d within. lower low (get_or numbers k d) (Contains-get_or numbers k d within)));
+            (λ k d within. lower low (get_or numbers k d) (Contains-get_or numbers k d within)));
         are = λ n. (
           λ c. ⊎_elim (λ before. of_more Is pairs p n ((those.are n).0 before))
-                  (λ e. record { variable = p; among = Contains-push pairs p; here = subst (Is p) e here })
-                  (Contains-push_cases numbers number n c),
+              (λ e. record { variable = p; among = Contains-push pairs p; here = subst (Is p) e here })
+              (Contains-push_cases numbers number n c),
           λ h. of_before Is pairs p n (Contains (numbers ++ number ∷ []) n) (λ before. Contains-append_left numbers (number ∷ []) n ((those.are n).1 before))
               (λ other. subst (Contains (numbers ++ number ∷ [])) (one_number n other) (Contains-push numbers number)) h,
         );
@@ -122,11 +163,11 @@ abbrev pub AreOfFirst : (Pair → ℕ → Type 0) → Variables → ℕ → List
 AreOfFirst Is vars i numbers = AreThose (IsOfSome Is (take i (entries vars))) numbers
 
 module _ (Is : Pair → ℕ → Type 0) (vars : Variables) (i : ℕ) (p : Pair) (at : slice_get (entries vars) i ≡ Some p)
-        (numbers : List ℕ) (those : AreOfFirst Is vars i numbers) where
+    (numbers : List ℕ) (those : AreOfFirst Is vars i numbers) where
   one_more : take (i + 1) (entries vars) ≡ take i (entries vars) ++ p ∷ []
   one_more =
       take_more (entries vars) i p (slice_get_within (entries vars) i p at)
-              ∙ ap (λ (q : Pair). take i (entries vars) ++ q ∷ []) (get_or_from_slice_get (entries vars) i p p at)
+      ∙ ap (λ (q : Pair). take i (entries vars) ++ q ∷ []) (get_or_from_slice_get (entries vars) i p p at)
 
   -- the next variable is none of them
   pub pass_it : ((n : ℕ) → Is p n → ⊥) → AreOfFirst Is vars (i + 1) numbers
@@ -136,14 +177,14 @@ module _ (Is : Pair → ℕ → Type 0) (vars : Variables) (i : ℕ) (p : Pair) 
   pub add_it : ((q : Pair) (n : ℕ) → Is q n → IsEntry q n) → (number : ℕ) → Is p number → AreOfFirst Is vars (i + 1) (numbers ++ number ∷ [])
   add_it entry number here =
       let low = All-from_recursion (λ (q : Pair). name_cmp q.0 (entry_text number) ≡ Less) (take i (entries vars))
-              (below vars i p at number (entry p number here).name) in
+      (below vars i p at number (entry p number here).name) in
       subst (λ (ps : List Pair). AreThose (IsOfSome Is ps) (numbers ++ number ∷ [])) (sym one_more)
-              (with_it Is (take i (entries vars)) p numbers those entry number here low)
+      (with_it Is (take i (entries vars)) p numbers those entry number here low)
 
 -- all variables are gone over
 pub all_those : (Is : Pair → ℕ → Type 0) (vars : Variables) (variables : List (Named (List ℕ))) (i : ℕ) (numbers : List ℕ) →
-        pairs_of variables ≡ entries vars → length variables ≤ i → AreOfFirst Is vars i numbers →
-        AreThose (IsOfSome Is (entries vars)) numbers
+    pairs_of variables ≡ entries vars → length variables ≤ i → AreOfFirst Is vars i numbers →
+    AreThose (IsOfSome Is (entries vars)) numbers
 all_those Is vars variables i numbers pairs past those =
     let end : length (entries vars) ≤ i = omega (arith, ap length pairs, length-map variables pair_of) in
     subst (λ (ps : List Pair). AreThose (IsOfSome Is ps) numbers) (take_all i (entries vars) end) those
@@ -155,18 +196,18 @@ value_of None some = absurd (false≢true some)
 value_of (Some x) some = (x, refl)
 
 module _ (vars : Variables) (order : List ℕ) (has : HasOrder vars order) (one : (a : List ℕ) → HasOrder vars a → a ≡ order)
-        (named : BTreeSet ℕ) (tells : (n : ℕ) → IsTrue (contains nat_cmp named n) ↔ Contains order n) where
+    (named : BTreeSet ℕ) (tells : (n : ℕ) → IsTrue (contains nat_cmp named n) ↔ Contains order n) where
   stored_is : (p : Pair) (n : ℕ) → Contains (entries vars) p → IsEntry p n → entry_of vars n ≡ Some p.1
   stored_is p n among entry = ap (λ (name : List ℕ). get vars name) (sym entry.name) ∙ get_contained vars p among
 
   pub unnamed_is : (next : Option ℕ) → HasNext vars next → ((a : Option ℕ) → HasNext vars a → a ≡ next) → (n : ℕ) →
-          IsOfSome (IsUnnamedEntry named next) (entries vars) n ↔ IsUnnamed vars n
+      IsOfSome (IsUnnamedEntry named next) (entries vars) n ↔ IsUnnamed vars n
   unnamed_is next has_next one_next n = (
     λ h. record {
       is = h.here.entry.is;
       stored = ap is_some (stored_is h.variable n h.among h.here.entry);
       in_no_order = λ other has_other within. false≢true (sym h.here.not_named
-              ∙ (tells n).1 (subst (λ (a : List ℕ). Contains a n) (one other has_other) within));
+          ∙ (tells n).1 (subst (λ (a : List ℕ). Contains a n) (one other has_other) within));
       not_next = λ is_next. h.here.not_next (sym (one_next (Some n) is_next));
     },
     λ u.

@@ -1,6 +1,29 @@
 -- The fault of a record: there is one at most, and none if there is a record whose name rises.
-use Rattle.std.proofs.Common.{◌≡◌, ◌≢◌, ◌⊎◌, ℕ, ◌+◌, ◌<◌, ◌≤◌, List, [], ◌∷◌, ◌++◌, length, take, drop, refl, sym, ap,
-    subst, ◌∙◌, inl, inr, arith, append_assoc}
+use Rattle.std.proofs.Common.{
+  ◌≡◌,
+  ◌≢◌,
+  ◌⊎◌,
+  ℕ,
+  ◌+◌,
+  ◌<◌,
+  ◌≤◌,
+  List,
+  [],
+  ◌∷◌,
+  ◌++◌,
+  length,
+  take,
+  drop,
+  refl,
+  sym,
+  ap,
+  subst,
+  ◌∙◌,
+  inl,
+  inr,
+  arith,
+  append_assoc,
+}
 use Rattle.std.specs.Int.{w32, to_le_bytes, from_le_bytes}
 use Rattle.std.specs.List.{AllByRecursion}
 use Rattle.std.specs.declared.cmp.Ordering.{Ordering}
@@ -30,7 +53,7 @@ value_len value is = let some : length value ≢ 0 = λ none. is.some (nil_from_
 
 -- what is after the length of a name, and the length
 behind_len : (bytes : List ℕ) (len : ℕ) (behind name rest : List ℕ) → bytes ≡ len ∷ behind → bytes ≡ name_bytes name ++ rest →
-        (len ≡ length name) × (behind ≡ name ++ rest)
+    (len ≡ length name) × (behind ≡ name ++ rest)
 behind_len bytes len behind name rest e f = (cc, cc)
 
 no_cut_name : (bytes name rest : List ℕ) → SplitsName bytes name rest → HasCutName bytes → ⊥
@@ -86,7 +109,7 @@ no_bad_data bytes value rest split h =
 
 pub no_data_fault : (bytes value rest : List ℕ) (place : ℕ) (f : SetFault) → SplitsData bytes value rest → IsDataFault bytes place f → ⊥
 no_data_fault bytes value rest place f split (inl (e, inl short)) =
-        omega (arith, short, states_four bytes (length value) (value ++ rest) (data_states bytes value rest split))
+    omega (arith, short, states_four bytes (length value) (value ++ rest) (data_states bytes value rest split))
 no_data_fault bytes value rest place f split (inl (e, inr h)) = no_cut_data bytes value rest split h
 no_data_fault bytes value rest place f split (inr (e, h)) = no_bad_data bytes value rest split h
 
@@ -160,7 +183,7 @@ low_or_above : (names : List (List ℕ)) (rest behind : List ℕ) → HasLowName
 low_or_above names rest behind h g = h.low (subst (IsAbove names) (sym (same_name h.name g.name h.behind behind (sym h.parts ∙ g.parts)).0) g.above)
 
 pub same_record_fault : (names : List (List ℕ)) (rest : List ℕ) (place : ℕ) (f g : SetFault) → IsRecordFault names rest place f →
-        IsRecordFault names rest place g → f ≡ g
+    IsRecordFault names rest place g → f ≡ g
 same_record_fault names rest place f g (inl x) (inl y) = same_name_fault rest place f g x y
 same_record_fault names rest place f g (inl x) (inr (inl y)) = absurd (no_name_fault rest y.1.name y.1.behind place f (low_is_named names rest y.1) x)
 same_record_fault names rest place f g (inl x) (inr (inr y)) = absurd (no_name_fault rest y.1.name y.0 place f (is_named names rest y.0 y.1) x)
@@ -188,23 +211,42 @@ is_below before name =
 
 -- the name of this length, which isn't 0 nor too large, at the start of what is after it
 cut_name_ends : (len : ℕ) (rest : List ℕ) (place : ℕ) → (0 < len) × (len ≤ name_max) → len ≤ length rest →
-        ((name : List ℕ) × (behind : List ℕ) × SplitsName (len ∷ rest) name behind) ⊎ ((f : SetFault) × IsNameFault (len ∷ rest) place f)
+    ((name : List ℕ) × (behind : List ℕ) × SplitsName (len ∷ rest) name behind) ⊎ ((f : SetFault) × IsNameFault (len ∷ rest) place f)
 cut_name_ends len rest place good within =
     let name = take len rest in
     let size : length name ≡ len = length-take-le len rest within in
     let parts : len ∷ rest ≡ name_bytes name ++ drop len rest =
-            ap (λ (t : List ℕ). len ∷ t) (sym (take-append-drop len rest)) ∙ ap (λ (n : ℕ). n ∷ (name ++ drop len rest)) (sym size) in
+    ap (λ (t : List ℕ). len ∷ t) (sym (take-append-drop len rest)) ∙ ap (λ (n : ℕ). n ∷ (name ++ drop len rest)) (sym size) in
     elim (all_or_not IsNameByte is_name_byte name) [
-      | inl printing ↦ inl (name, drop len rest, record { is = record
-              { some = λ none. let empty : length name ≡ 0 = ap length none in omega (arith, good, size, empty);
-              len = omega (arith, good, size); printing = printing }; parts = parts })
-      | inr bad ↦ inr (fault.BadName place,
-              inr (refl, inr (record { name = name; behind = drop len rest;
-              good = (omega (arith, good, size), omega (arith, good, size)); bad = bad; parts = parts })))
+      | inl printing ↦ inl (
+        name,
+        drop len rest,
+        record {
+          is = record {
+            some = λ none. let empty : length name ≡ 0 = ap length none in omega (arith, good, size, empty);
+            len = omega (arith, good, size);
+            printing = printing;
+          };
+          parts = parts;
+        },
+      )
+      | inr bad ↦ inr (
+        fault.BadName place,
+        inr (
+          refl,
+          inr (record {
+            name = name;
+            behind = drop len rest;
+            good = (omega (arith, good, size), omega (arith, good, size));
+            bad = bad;
+            parts = parts;
+          }),
+        ),
+      )
     ]
 
 name_ends : (len : ℕ) (rest : List ℕ) (place : ℕ) → ((name : List ℕ) × (behind : List ℕ) × SplitsName (len ∷ rest) name behind)
-        ⊎ ((f : SetFault) × IsNameFault (len ∷ rest) place f)
+    ⊎ ((f : SetFault) × IsNameFault (len ∷ rest) place f)
 name_ends len rest place =
     elim (cases_eq len 0) [
       | inl zero ↦ inr (fault.BadName place, inr (refl, inl (record { len = len; behind = rest; bad = inl zero; parts = refl })))
@@ -219,7 +261,7 @@ name_ends len rest place =
 
 -- four bytes state a length
 pub four_state : (a b c d : ℕ) (rest : List ℕ) → AllByRecursion IsByte (a ∷ b ∷ c ∷ d ∷ rest) →
-        StatesLength (a ∷ b ∷ c ∷ d ∷ rest) (from_le_bytes w32 (a ∷ b ∷ c ∷ d ∷ [])) rest
+    StatesLength (a ∷ b ∷ c ∷ d ∷ rest) (from_le_bytes w32 (a ∷ b ∷ c ∷ d ∷ [])) rest
 four_state a b c d rest fits =
     let four = bytes_from_recursion (a ∷ b ∷ c ∷ d ∷ []) (fits.0, (fits.1.0, (fits.1.1.0, (fits.1.1.1.0, tt)))) in
     record {
@@ -229,7 +271,7 @@ four_state a b c d rest fits =
 
 -- data of a stated length that is good
 pub data_split : (bytes : List ℕ) (len : ℕ) (rest : List ℕ) → AllByRecursion IsByte bytes → StatesLength bytes len rest →
-        (0 < len) × (len ≤ data_max) → len ≤ length rest → SplitsData bytes (take len rest) (drop len rest)
+    (0 < len) × (len ≤ data_max) → len ≤ length rest → SplitsData bytes (take len rest) (drop len rest)
 data_split bytes len rest fits stated good within =
     let value = take len rest in
     let size : length value ≡ len = length-take-le len rest within in
@@ -241,7 +283,7 @@ data_split bytes len rest fits stated good within =
         bytes = AllByRecursion-first IsByte value (drop len rest) (subst (AllByRecursion IsByte) (sym (take-append-drop len rest)) behind);
       };
       parts = stated.parts ∙ ap (λ (t : List ℕ). to_le_bytes w32 len ++ t) (sym (take-append-drop len rest))
-              ∙ ap (λ (n : ℕ). to_le_bytes w32 n ++ (value ++ drop len rest)) (sym size)
+          ∙ ap (λ (n : ℕ). to_le_bytes w32 n ++ (value ++ drop len rest)) (sym size)
           ∙ sym (append_assoc (to_le_bytes w32 (length value)) value (drop len rest));
     }
 
@@ -255,8 +297,10 @@ stated_ends bytes len rest place fits stated =
       | inr some ↦ elim (cases_lt data_max len) [
         | inl long ↦ inr (fault.BadData place, inr (refl, record { len = len; rest = rest; stated = stated; bad = inr long }))
         | inr short ↦ elim (cases_lt (length rest) len) [
-          | inl cut ↦ inr (fault.Truncated place,
-                  inl (refl, inr (record { len = len; rest = rest; stated = stated; good = (omega (arith, some), short); cut = cut })))
+          | inl cut ↦ inr (
+            fault.Truncated place,
+            inl (refl, inr (record { len = len; rest = rest; stated = stated; good = (omega (arith, some), short); cut = cut })),
+          )
           | inr within ↦ inl (take len rest, drop len rest, data_split bytes len rest fits stated (omega (arith, some), short) within)
         ]
       ]
@@ -276,7 +320,7 @@ pub record Stands (names : List (List ℕ)) (rest : List ℕ) (v : Pair) (behind
   pub parts : rest ≡ record_bytes v ++ behind
 
 pub record_of : (names : List (List ℕ)) (rest name after value behind : List ℕ) → SplitsName rest name after →
-        IsAbove names name → SplitsData after value behind → Stands names rest (name, value) behind
+    IsAbove names name → SplitsData after value behind → Stands names rest (name, value) behind
 record_of names rest name after value behind named above split = record {
   is = (named.is, split.is);
   above = above;
@@ -287,7 +331,7 @@ abbrev RecordEnds : List (List ℕ) → List ℕ → ℕ → Type 0
 RecordEnds names rest place = ((v : Pair) × (behind : List ℕ) × Stands names rest v behind) ⊎ ((f : SetFault) × IsRecordFault names rest place f)
 
 named_ends : (names : List (List ℕ)) (rest name after : List ℕ) (place : ℕ) → AllByRecursion IsByte rest →
-        SplitsName rest name after → RecordEnds names rest place
+    SplitsName rest name after → RecordEnds names rest place
 named_ends names rest name after place fits named =
     elim (all_or_not (λ before. name_cmp before name ≡ Less) (λ before. is_below before name) names) [
       | inl above ↦ elim (data_ends after place (AllByRecursion-behind IsByte (name_bytes name) after (subst (AllByRecursion IsByte) named.parts fits))) [

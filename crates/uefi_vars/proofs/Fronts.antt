@@ -1,11 +1,58 @@
 -- The first of the names under which there is a change, and what is under a name once these are changed.
-use Rattle.std.proofs.Common.{◌≡◌, ◌≢◌, ◌⊎◌, ℕ, zero, suc, ◌<◌, ◌^◌, ◌+◌, ◌-◌, length, Bool, true, false, cond, not,
-    ◌&&◌, ◌||◌, List, [], ◌∷◌, ◌++◌, take, Option, Some, None, inl, inr, refl, sym, ap, subst, ◌∙◌, append_assoc, arith}
+use Rattle.std.proofs.Common.{
+  ◌≡◌,
+  ◌≢◌,
+  ◌⊎◌,
+  ℕ,
+  zero,
+  suc,
+  ◌<◌,
+  ◌^◌,
+  ◌+◌,
+  ◌-◌,
+  length,
+  Bool,
+  true,
+  false,
+  cond,
+  not,
+  ◌&&◌,
+  ◌||◌,
+  List,
+  [],
+  ◌∷◌,
+  ◌++◌,
+  take,
+  Option,
+  Some,
+  None,
+  inl,
+  inr,
+  refl,
+  sym,
+  ap,
+  subst,
+  ◌∙◌,
+  append_assoc,
+  arith,
+}
 use Rattle.std.specs.Option.{is_some}
 use Rattle.std.specs.List.{list_any, IsDistinct}
 use Rattle.std.specs.FinMap.{get, contains_key, keys}
-use Rattle.std.proofs.lemmas.Bool.{cases_lt, and_parts, and_from, or_from, or_left, or_right, or_cases,
-    false_from_ne_true, cond-true, cond-false, false≢true, true≢false}
+use Rattle.std.proofs.lemmas.Bool.{
+  cases_lt,
+  and_parts,
+  and_from,
+  or_from,
+  or_left,
+  or_right,
+  or_cases,
+  false_from_ne_true,
+  cond-true,
+  cond-false,
+  false≢true,
+  true≢false,
+}
 use Rattle.std.proofs.Math.Seq.{take-append-add}
 use Rattle.std.proofs.lemmas.List.{take-append-le}
 use Rattle.std.proofs.lemmas.List.Folds.{list_any-append}
@@ -54,7 +101,7 @@ taken_in (suc k) (n ∷ names) q e =
 abbrev AreAlike : Variables → Variables → List (List ℕ) → List ℕ → List ℕ → Type 0
 AreAlike from to front special entry =
     ((now_under from to front special ≡ get from special) × (get from entry ≡ None))
-            ⊎ ((now_under from to front special ≡ get to special) × (get to entry ≡ None))
+    ⊎ ((now_under from to front special ≡ get to special) × (get to entry ≡ None))
 
 -- Before the special name are names of entries that are there after all changes, among them each that is put.
 pub record IsBefore (from to : Variables) (names : List (List ℕ)) (special : List ℕ) : Type 0 where
@@ -63,15 +110,15 @@ pub record IsBefore (from to : Variables) (names : List (List ℕ)) (special : L
   pub apart : list_any (same_name special) names ≡ false
 
 module _ (from to : Variables) (names behind : List (List ℕ)) (special : List ℕ) (h : IsBefore from to names special)
-        (entry : List ℕ) (is : is_entry_name entry ≡ true) where
+    (entry : List ℕ) (is : is_entry_name entry ≡ true) where
   -- the front ends before the special name
   early : (k : ℕ) → now_under from to (take k names) entry ≡ None → AreAlike from to (take k names) special entry
   early k none =
       let special_waits : list_any (same_name special) (take k names) ≡ false =
-              false_from_ne_true _ (λ e. absurd (true≢false (sym (taken_in k names special e) ∙ h.apart))) in
+      false_from_ne_true _ (λ e. absurd (true≢false (sym (taken_in k names special e) ∙ h.apart))) in
       let entry_waits : list_any (same_name entry) (take k names) ≡ false =
       false_from_ne_true _ (λ e. some_there (get to entry) (h.stays entry is (taken_in k names entry e))
-              (sym (cond-true _ (get to entry) (get from entry) e) ∙ none)) in
+      (sym (cond-true _ (get to entry) (get from entry) e) ∙ none)) in
       inl (cond-false _ (get to special) (get from special) special_waits, sym (cond-false _ (get to entry) (get from entry) entry_waits) ∙ none)
 
   -- the front has all before the special name
@@ -84,8 +131,8 @@ module _ (from to : Variables) (names behind : List (List ℕ)) (special : List 
             absurd (elim (differs from to entry) as (λ b. differs from to entry ≡ b → ⊥) [
               | true ↦ λ d.
                   let in_front : list_any (same_name entry) (names ++ front) ≡ true =
-                          list_any-append (same_name entry) names front ∙ or_left _ (list_any (same_name entry) front)
-                          (h.puts entry is there d) in
+                  list_any-append (same_name entry) names front ∙ or_left _ (list_any (same_name entry) front)
+                  (h.puts entry is there d) in
                   some_there (get to entry) there (sym (cond-true _ (get to entry) (get from entry) in_front) ∙ none)
               | false ↦ λ d.
                   let same = same_there from to entry d in
@@ -94,12 +141,12 @@ module _ (from to : Variables) (names behind : List (List ℕ)) (special : List 
       ] refl
 
   late : (front : List (List ℕ)) → (differs from to special ≡ true → list_any (same_name special) front ≡ true) →
-          now_under from to (names ++ front) entry ≡ None → AreAlike from to (names ++ front) special entry
+      now_under from to (names ++ front) entry ≡ None → AreAlike from to (names ++ front) special entry
   late front has none =
       inr (
         elim (differs from to special) as (λ b. differs from to special ≡ b → now_under from to (names ++ front) special ≡ get to special) [
           | true ↦ λ d. cond-true _ (get to special) (get from special)
-                  (list_any-append (same_name special) names front ∙ or_right (list_any (same_name special) names) _ (has d))
+              (list_any-append (same_name special) names front ∙ or_right (list_any (same_name special) names) _ (has d))
           | false ↦ λ d. cond_same (list_any (same_name special) (names ++ front)) (get to special) (get from special) (same_there from to special d)
         ] refl,
         gone_after front none,
@@ -112,13 +159,13 @@ module _ (from to : Variables) (names behind : List (List ℕ)) (special : List 
         | inr few ↦
             let front : take k (names ++ (if_differs from to special ++ behind)) ≡ take k names = take-append-le k names _ few in
             subst (λ (t : List (List ℕ)). AreAlike from to t special entry) (sym front)
-                    (early k (subst (λ (t : List (List ℕ)). now_under from to t entry ≡ None) front none))
+            (early k (subst (λ (t : List (List ℕ)). now_under from to t entry ≡ None) front none))
         | inl many ↦
             let more = k - length names in
             let front : take k (names ++ (if_differs from to special ++ behind)) ≡ names ++ take more (if_differs from to special ++ behind) =
             ap (λ (n : ℕ). take n (names ++ (if_differs from to special ++ behind)))
-                    (let sum : k ≡ length names + more = omega (arith, many) in sum)
-                    ∙ take-append-add names (if_differs from to special ++ behind) more in
+            (let sum : k ≡ length names + more = omega (arith, many) in sum)
+            ∙ take-append-add names (if_differs from to special ++ behind) more in
             subst (λ (t : List (List ℕ)). AreAlike from to t special entry) (sym front)
             (late (take more (if_differs from to special ++ behind)) (λ d. first_taken more (differs from to special) d (omega (arith, many)))
             (subst (λ (t : List (List ℕ)). now_under from to t entry ≡ None) front none))
@@ -142,38 +189,38 @@ module _ (from to : Variables) (no_order : IsNoEntry order_text) (no_next : IsNo
   with_order : (q : List ℕ) → list_any (same_name q) (put_names from to ++ if_differs from to order_text)
       ≡ (list_any (same_name q) (put_names from to) || (same_name q order_text && differs from to order_text))
   with_order q = list_any-append (same_name q) (put_names from to) (if_differs from to order_text)
-          ∙ ap (λ (b : Bool). list_any (same_name q) (put_names from to) || b) (in_single from to q order_text)
+      ∙ ap (λ (b : Bool). list_any (same_name q) (put_names from to) || b) (in_single from to q order_text)
 
   puts_before_next : IsBefore from to (put_names from to ++ if_differs from to order_text) next_text
   puts_before_next = record {
     stays = λ q entry is. elim (or_cases (list_any (same_name q) (put_names from to))
-            (same_name q order_text && differs from to order_text) (sym (with_order q) ∙ is)) [
-      | inl put ↦ puts_before_order.stays q entry put
-      | inr order ↦ absurd (true≢false (sym (and_parts (same_name q order_text) (differs from to order_text) order).0 ∙ no_entry order_text q no_order entry))
-    ];
+        (same_name q order_text && differs from to order_text) (sym (with_order q) ∙ is)) [
+          | inl put ↦ puts_before_order.stays q entry put
+          | inr order ↦ absurd (true≢false (sym (and_parts (same_name q order_text) (differs from to order_text) order).0 ∙ no_entry order_text q no_order entry))
+        ];
     puts = λ q entry there d. with_order q ∙ or_left _ (same_name q order_text && differs from to order_text) (puts_before_order.puts q entry there d);
     apart = with_order next_text ∙ or_from _ _
         (in_puts from to next_text ∙ ap (λ (b : Bool). (b && differs from to next_text) && contains_key to next_text) (none_is_entry next_text no_next))
         (ap (λ (b : Bool). b && differs from to order_text) (false_from_ne_true (same_name next_text order_text)
-                (λ same. differ (sym (same_name-is next_text order_text same)))));
+        (λ same. differ (sym (same_name-is next_text order_text same)))));
   }
 
   module _ (k number : ℕ) (below : number < 2 ^ 16) where
     pub order_alike : now_under from to (take k (changed_names from to)) (entry_text number) ≡ None →
-            AreAlike from to (take k (changed_names from to)) order_text (entry_text number)
+        AreAlike from to (take k (changed_names from to)) order_text (entry_text number)
     order_alike = alike from to (put_names from to) (if_differs from to next_text ++ removed_names from to) order_text
-            puts_before_order (entry_text number) (name_of_entry number (entry_text number) below refl) k
+        puts_before_order (entry_text number) (name_of_entry number (entry_text number) below refl) k
 
     regrouped : (put_names from to ++ if_differs from to order_text) ++ (if_differs from to next_text ++ removed_names from to) ≡ changed_names from to
     regrouped = append_assoc (put_names from to) (if_differs from to order_text) (if_differs from to next_text ++ removed_names from to)
 
     pub next_alike : now_under from to (take k (changed_names from to)) (entry_text number) ≡ None →
-            AreAlike from to (take k (changed_names from to)) next_text (entry_text number)
+        AreAlike from to (take k (changed_names from to)) next_text (entry_text number)
     next_alike =
         subst (λ (names : List (List ℕ)). now_under from to (take k names) (entry_text number) ≡ None →
-                AreAlike from to (take k names) next_text (entry_text number)) regrouped
+        AreAlike from to (take k names) next_text (entry_text number)) regrouped
         (alike from to (put_names from to ++ if_differs from to order_text) (removed_names from to) next_text puts_before_next
-                (entry_text number) (name_of_entry number (entry_text number) below refl) k)
+        (entry_text number) (name_of_entry number (entry_text number) below refl) k)
 
   -- ---- no two of the names are the same
 
@@ -184,7 +231,7 @@ module _ (from to : Variables) (no_order : IsNoEntry order_text) (no_next : IsNo
 
   entry_of_put : (q : List ℕ) → list_any (same_name q) (put_names from to) ≡ true → (is_entry_name q ≡ true) × (contains_key to q ≡ true)
   entry_of_put q is = let parts = and_parts (is_entry_name q && differs from to q) (contains_key to q)
-          (sym (in_puts from to q) ∙ is) in ((and_parts (is_entry_name q) (differs from to q) parts.0).0, parts.1)
+      (sym (in_puts from to q) ∙ is) in ((and_parts (is_entry_name q) (differs from to q) parts.0).0, parts.1)
 
   not_single : (q name : List ℕ) → same_name q name ≡ false → list_any (same_name q) (if_differs from to name) ≡ false
   not_single q name other = in_single from to q name ∙ ap (λ (b : Bool). b && differs from to name) other
@@ -194,26 +241,26 @@ module _ (from to : Variables) (no_order : IsNoEntry order_text) (no_next : IsNo
 
   stays_there : (q : List ℕ) → contains_key to q ≡ true → list_any (same_name q) (removed_names from to) ≡ false
   stays_there q there = in_removed from to q ∙ ap (λ (b : Bool). (is_entry_name q && not b) && contains_key from q) there
-          ∙ gone (is_entry_name q) (contains_key from q)
+      ∙ gone (is_entry_name q) (contains_key from q)
     where
       gone : (e f : Bool) → ((e && false) && f) ≡ false
       gone true f = refl
       gone false f = refl
 
   behind_puts : (q : List ℕ) → list_any (same_name q) (put_names from to) ≡ true →
-          list_any (same_name q) (if_differs from to order_text ++ (if_differs from to next_text ++ removed_names from to)) ≡ false
+      list_any (same_name q) (if_differs from to order_text ++ (if_differs from to next_text ++ removed_names from to)) ≡ false
   behind_puts q put =
       let entry = entry_of_put q put in
       list_any-append (same_name q) (if_differs from to order_text) _
       ∙ or_from _ _ (not_single q order_text (no_entry order_text q no_order entry.0))
       (list_any-append (same_name q) (if_differs from to next_text) (removed_names from to)
-              ∙ or_from _ _ (not_single q next_text (no_entry next_text q no_next entry.0)) (stays_there q entry.1))
+      ∙ or_from _ _ (not_single q next_text (no_entry next_text q no_next entry.0)) (stays_there q entry.1))
 
   behind_order : (q : List ℕ) → list_any (same_name q) (if_differs from to order_text) ≡ true →
-          list_any (same_name q) (if_differs from to next_text ++ removed_names from to) ≡ false
+      list_any (same_name q) (if_differs from to next_text ++ removed_names from to) ≡ false
   behind_order q order =
       let is : q ≡ order_text = same_name-is q order_text (and_parts (same_name q order_text) (differs from to order_text)
-              (sym (in_single from to q order_text) ∙ order)).0 in
+      (sym (in_single from to q order_text) ∙ order)).0 in
       list_any-append (same_name q) (if_differs from to next_text) (removed_names from to)
       ∙ or_from _ _ (not_single q next_text (false_from_ne_true (same_name q next_text) (λ same. differ (sym is ∙ same_name-is q next_text same))))
       (not_removed q (ap is_entry_name is ∙ none_is_entry order_text no_order))
@@ -221,7 +268,7 @@ module _ (from to : Variables) (no_order : IsNoEntry order_text) (no_next : IsNo
   behind_next : (q : List ℕ) → list_any (same_name q) (if_differs from to next_text) ≡ true → list_any (same_name q) (removed_names from to) ≡ false
   behind_next q next =
       let is : q ≡ next_text = same_name-is q next_text (and_parts (same_name q next_text) (differs from to next_text)
-              (sym (in_single from to q next_text) ∙ next)).0 in
+      (sym (in_single from to q next_text) ∙ next)).0 in
       not_removed q (ap is_entry_name is ∙ none_is_entry next_text no_next)
 
   pub changed_distinct : IsDistinct same_name (changed_names from to)

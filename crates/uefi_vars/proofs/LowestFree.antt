@@ -1,6 +1,33 @@
 -- Going over variables for the least number that is free.
-use Rattle.std.proofs.Common.{◌≡◌, ◌≢◌, ℕ, ◌+◌, ◌<◌, ◌≤◌, ◌^◌, cond, List, [], ◌∷◌, length, get_or, take, slice_get,
-    Some, None, IsSome, is_some, option_map, refl, sym, ap, below_more, subst, ◌∙◌, arith}
+use Rattle.std.proofs.Common.{
+  ◌≡◌,
+  ◌≢◌,
+  ℕ,
+  ◌+◌,
+  ◌<◌,
+  ◌≤◌,
+  ◌^◌,
+  cond,
+  List,
+  [],
+  ◌∷◌,
+  length,
+  get_or,
+  take,
+  slice_get,
+  Some,
+  None,
+  IsSome,
+  is_some,
+  option_map,
+  refl,
+  sym,
+  ap,
+  below_more,
+  subst,
+  ◌∙◌,
+  arith,
+}
 use Rattle.std.specs.List.{All, AllByRecursion}
 use Rattle.std.specs.Ordering.{is_eq}
 use Rattle.std.specs.declared.cmp.Ordering.{Ordering}
@@ -45,26 +72,26 @@ find_none name (p ∷ pairs) none =
 
 -- if all are passed, nothing is stored
 pub none_stored : (vars : Variables) (variables : List (Named (List ℕ))) (i number : ℕ) → pairs_of variables ≡ entries vars →
-        length variables ≤ i → IsPassed vars i number → entry_of vars number ≡ None
+    length variables ≤ i → IsPassed vars i number → entry_of vars number ≡ None
 none_stored vars variables i number pairs past passed =
     let end : length (entries vars) ≤ i = omega (arith, ap length pairs, length-map variables pair_of) in
     get-entries vars (entry_text number) ∙ find_none (entry_text number) (entries vars)
-            (subst (All (HasOther (entry_text number))) (take_all i (entries vars) end) passed)
+    (subst (All (HasOther (entry_text number))) (take_all i (entries vars) end) passed)
 
 -- the variable at a place
 pub item_at : (vars : Variables) (variables : List (Named (List ℕ))) (i : ℕ) (variable : Named (List ℕ)) →
-        pairs_of variables ≡ entries vars → i < length variables → variable ≡ get_or variables i variable →
-        slice_get (entries vars) i ≡ Some (pair_of variable)
+    pairs_of variables ≡ entries vars → i < length variables → variable ≡ get_or variables i variable →
+    slice_get (entries vars) i ≡ Some (pair_of variable)
 item_at vars variables i variable pairs within is =
     ap (λ (ps : List Pair). slice_get ps i) (sym pairs) ∙ slice_get-map pair_of variables i
-            ∙ ap (option_map pair_of) (slice_get_read variables (length variables) i variable refl within is)
+    ∙ ap (option_map pair_of) (slice_get_read variables (length variables) i variable refl within is)
 
 module _ (vars : Variables) (i : ℕ) (p : Pair) (at : slice_get (entries vars) i ≡ Some p) where
   -- it is passed
   pub pass : (number : ℕ) → IsPassed vars i number → p.0 ≢ entry_text number → IsPassed vars (i + 1) number
   pass number before here =
       All-more (HasOther (entry_text number)) (entries vars) i p (slice_get_within (entries vars) i p at) before
-              (subst (HasOther (entry_text number)) (sym (get_or_from_slice_get (entries vars) i p p at)) here)
+      (subst (HasOther (entry_text number)) (sym (get_or_from_slice_get (entries vars) i p p at)) here)
 
   module _ (number : ℕ) (named : p.0 ≡ entry_text number) where
     abbrev IsLower : Pair → Type 0
@@ -90,6 +117,6 @@ module _ (vars : Variables) (i : ℕ) (p : Pair) (at : slice_get (entries vars) 
         let next = names_rise number (number + 1) (omega arith) fits in
         let lower : All IsLower (take i (entries vars)) = All-from_recursion IsLower _ below in
         pass (number + 1) (All-weaker IsLower (HasOther (entry_text (number + 1)))
-                (λ q less. below_differs q.0 _ (nat_list_cmp_total.trans q.0 (entry_text number) (entry_text (number + 1)) less
-                next)) _ lower)
+        (λ q less. below_differs q.0 _ (nat_list_cmp_total.trans q.0 (entry_text number) (entry_text (number + 1)) less
+        next)) _ lower)
         (below_differs p.0 _ (rw named next))

@@ -1,14 +1,56 @@
 -- Finite maps and lists of entries in the order of their keys: a fact of what is stored under each key is one of each entry.
-use Rattle.std.proofs.Common.{◌≡◌, ℕ, Bool, true, false, cond, not, ◌&&◌, T, List, [], ◌∷◌, length, Contains, Option,
-    Some, None, IfSome, refl, sym, ap, subst, ◌∙◌}
+use Rattle.std.proofs.Common.{
+  ◌≡◌,
+  ℕ,
+  Bool,
+  true,
+  false,
+  cond,
+  not,
+  ◌&&◌,
+  T,
+  List,
+  [],
+  ◌∷◌,
+  length,
+  Contains,
+  Option,
+  Some,
+  None,
+  IfSome,
+  refl,
+  sym,
+  ap,
+  subst,
+  ◌∙◌,
+}
 use Rattle.std.specs.List.{AllByRecursion, filter}
 use Rattle.std.specs.Ordering.{is_eq, is_lt, eq_by_cmp}
 use Rattle.std.specs.declared.cmp.Ordering.{Ordering}
 use Rattle.std.specs.declared.cmp.Ordering.TheVariants.{Less, Equal, Greater}
 use Rattle.std.specs.Cmp.{IsTotalOrder}
-use Rattle.std.specs.FinMap.{IsAntisymmetric, empty, entries, entries_sorted, entries-from_sorted, from_sorted, get,
-    get-entries, len, len-entries, empty_of_len, get-from_sorted, same_map, same_entries_map, insert, remove,
-    entries-insert, get-remove, nat_cmp-IsAntisymmetric, slice_cmp-IsAntisymmetric}
+use Rattle.std.specs.FinMap.{
+  IsAntisymmetric,
+  empty,
+  entries,
+  entries_sorted,
+  entries-from_sorted,
+  from_sorted,
+  get,
+  get-entries,
+  len,
+  len-entries,
+  empty_of_len,
+  get-from_sorted,
+  same_map,
+  same_entries_map,
+  insert,
+  remove,
+  entries-insert,
+  get-remove,
+  nat_cmp-IsAntisymmetric,
+  slice_cmp-IsAntisymmetric,
+}
 use Rattle.std.specs.FinMap.Entries.{find, put, by_order, is_sorted, below_all, is_sorted-put, is_sorted-where_key, find-where_key}
 use Rattle.std.proofs.lemmas.Cmp.{tied_itself, alike_right, eq_by_cmp_equiv, nat_list_cmp_total}
 use Rattle.std.proofs.lemmas.List.{length-map}
@@ -63,7 +105,7 @@ module _ {K X : Type 0} {R : K → K → Ordering} (same : IsAntisymmetric R) (P
       ] refl
 
   found_behind : (e : K × X) (es : List (K × X)) → AllByRecursion (λ f. R e.0 f.0 ≡ Less) es → (q : K) →
-          IsEach P q (find R q (e ∷ es)) → IsEach P q (find R q es)
+      IsEach P q (find R q (e ∷ es)) → IsEach P q (find R q es)
   found_behind e es above q h =
       elim (R q e.0) as (λ r. R q e.0 ≡ r → IsEach P q (cond (is_eq r) (Some e.1) (find R q es)) → IsEach P q (find R q es)) [
         | Less ↦ λ t g. g
@@ -74,9 +116,10 @@ module _ {K X : Type 0} {R : K → K → Ordering} (same : IsAntisymmetric R) (P
   each_found : IsTotalOrder R → (es : List (K × X)) → T (is_sorted R es) → ((q : K) → IsEach P q (find R q es)) → AllByRecursion P es
   each_found o [] rising h = tt
   each_found o (e ∷ es) rising h =
-      let parts = sorted_parts R e es rising in
-      (subst (λ r. IsEach P e.0 (cond (is_eq r) (Some e.1) (find R e.0 es))) (tied_itself o e.0) (h e.0),
-              each_found o es parts.1 (λ q. found_behind e es parts.0 q (h q)))
+      let parts = sorted_parts R e es rising in (
+        subst (λ r. IsEach P e.0 (cond (is_eq r) (Some e.1) (find R e.0 es))) (tied_itself o e.0) (h e.0),
+        each_found o es parts.1 (λ q. found_behind e es parts.0 q (h q)),
+      )
 
   -- a new entry with the property, put among some, leaves all with it
   pub put_each : (key : K) (value : X) (es : List (K × X)) → P (key, value) → AllByRecursion P es → AllByRecursion P (put R key value es)
@@ -96,7 +139,7 @@ filter_each : {E : Type 0} (P : E → Type 0) (test : E → Bool) (es : List E) 
 filter_each P test [] h = tt
 filter_each P test (e ∷ es) h =
     elim (test e) as (λ b. AllByRecursion P (cond b (e ∷ filter test es) (filter test es)))
-            [ true ↦ (h.0, filter_each P test es h.1) | false ↦ filter_each P test es h.1 ]
+    [ true ↦ (h.0, filter_each P test es h.1) | false ↦ filter_each P test es h.1 ]
 
 flipped : {A : Type 0} (b : Bool) (x y : A) → cond (not b) x y ≡ cond b y x
 flipped true x y = refl
@@ -106,14 +149,14 @@ flipped false x y = refl
 pub entries-AllByRecursion : (vars : Variables) → IsVars vars → AllByRecursion IsVariable (entries vars)
 entries-AllByRecursion vars h =
     each_found name_cmp-IsAntisymmetric IsVariable nat_list_cmp_total (entries vars) (entries_sorted vars)
-            (λ q. subst (IsEach IsVariable q) (get-entries vars q) (h q))
+    (λ q. subst (IsEach IsVariable q) (get-entries vars q) (h q))
 
 -- what an entry of a map holds is found under its name
 pub get_contained : (vars : Variables) (p : List ℕ × List ℕ) → Contains (entries vars) p → get vars p.0 ≡ Some p.1
 get_contained vars p among =
     let IsFound : List ℕ × List ℕ → Type 0 = λ q. get vars q.0 ≡ Some q.1 in
     let each = each_found name_cmp-IsAntisymmetric IsFound nat_list_cmp_total (entries vars) (entries_sorted vars)
-            (λ q. subst (IsEach IsFound q) (get-entries vars q) (some_itself (get vars q))) in
+    (λ q. subst (IsEach IsFound q) (get-entries vars q) (some_itself (get vars q))) in
     All-contains IsFound (entries vars) p (All-from_recursion IsFound (entries vars) each) among
 
 -- and what is found is an entry
@@ -121,13 +164,13 @@ pub contained : (vars : Variables) (name value : List ℕ) → get vars name ≡
 contained vars name value is =
     let Among : List ℕ × List ℕ → Type 0 = Contains (entries vars) in
     subst (IsEach Among name) (sym (get-entries vars name) ∙ is)
-            (found_each name_cmp-IsAntisymmetric Among (entries vars)
-            (recursion_from_All Among (entries vars) (All-contains_itself (entries vars))) name)
+    (found_each name_cmp-IsAntisymmetric Among (entries vars)
+    (recursion_from_All Among (entries vars) (All-contains_itself (entries vars))) name)
 
 -- sorted variables are a map of variables
 pub IsVars-from_sorted : (pairs : List (List ℕ × List ℕ)) → T (is_sorted name_cmp pairs) → AllByRecursion IsVariable pairs → IsVars (from_sorted pairs)
 IsVars-from_sorted pairs rising h q = subst (IsEach IsVariable q) (sym (get-from_sorted name_cmp pairs q rising))
-        (found_each name_cmp-IsAntisymmetric IsVariable pairs h q)
+    (found_each name_cmp-IsAntisymmetric IsVariable pairs h q)
 
 -- variables as they are held, and the map that they are
 module _ (variables : List (Named (List ℕ))) (held : AreVariables (pairs_of variables)) where
@@ -148,7 +191,7 @@ vars_of_none = empty_of_len (vars_of []) (len-vars_of [] (record { rising = tt; 
 
 -- a value put among pairs whose names rise is one put into the map
 pub from_sorted-put_any : {X : Type 0} (pairs : List (List ℕ × X)) → T (is_sorted name_cmp pairs) → (name : List ℕ) (value : X) →
-        from_sorted (put name_cmp name value pairs) ≡ insert (from_sorted {R = name_cmp} pairs) name value
+    from_sorted (put name_cmp name value pairs) ≡ insert (from_sorted {R = name_cmp} pairs) name value
 from_sorted-put_any pairs rising name value =
     same_entries_map _ _ (entries-from_sorted name_cmp _ (is_sorted-put name_cmp nat_list_cmp_total name value pairs rising)
     ∙ ap (put name_cmp name value) (sym (entries-from_sorted name_cmp pairs rising)) ∙ sym (entries-insert nat_list_cmp_total (from_sorted pairs) name value))
@@ -174,7 +217,7 @@ module _ (pairs : List (List ℕ × List ℕ)) (held : AreVariables pairs) (name
   from_sorted-without = same_map nat_list_cmp_total name_cmp-IsAntisymmetric _ _ (λ q.
       get-from_sorted name_cmp _ q AreVariables-without.rising
       ∙ find-where_key name_cmp (λ other. not (eq_by_cmp name_cmp name other)) q
-              (λ x t. ap (λ r. not (is_eq r)) (sym (alike_right nat_list_cmp_total q x name t))) pairs
+      (λ x t. ap (λ r. not (is_eq r)) (sym (alike_right nat_list_cmp_total q x name t))) pairs
       ∙ flipped (eq_by_cmp name_cmp name q) _ _
       ∙ ap (λ b. cond b None (find name_cmp q pairs)) ((eq_by_cmp_equiv nat_list_cmp_total).symm name q)
       ∙ ap (cond (eq_by_cmp name_cmp q name) None) (sym (get-from_sorted name_cmp pairs q held.rising))

@@ -99,24 +99,24 @@ module _ (from to : Variables) (q : List ℕ) where
       list_any-append (same_name q) (put_names from to) _
       ∙ ap (λ b. list_any (same_name q) (put_names from to) || b) (list_any-append (same_name q) (if_differs from to order_text) _
       ∙ ap (λ b. list_any (same_name q) (if_differs from to order_text) || b)
-              (list_any-append (same_name q) (if_differs from to next_text) (removed_names from to)))
+      (list_any-append (same_name q) (if_differs from to next_text) (removed_names from to)))
 
   parts : list_any (same_name q) (changed_names from to)
       ≡ is_part (is_entry_name q) (differs from to q) (contains_key to q) (contains_key from q) (same_name q order_text)
-              (differs from to order_text) (same_name q next_text) (differs from to next_text)
+      (differs from to order_text) (same_name q next_text) (differs from to next_text)
   parts =
       in_changed
       ∙ ap (λ (b : Bool). b || (list_any (same_name q) (if_differs from to order_text)
-              || (list_any (same_name q) (if_differs from to next_text) || list_any (same_name q) (removed_names from to)))) in_puts
+      || (list_any (same_name q) (if_differs from to next_text) || list_any (same_name q) (removed_names from to)))) in_puts
       ∙ ap (λ (b : Bool). ((is_entry_name q && differs from to q) && contains_key to q)
-              || (b || (list_any (same_name q) (if_differs from to next_text)
-              || list_any (same_name q) (removed_names from to)))) (in_single order_text)
+      || (b || (list_any (same_name q) (if_differs from to next_text)
+      || list_any (same_name q) (removed_names from to)))) (in_single order_text)
       ∙ ap (λ (b : Bool). ((is_entry_name q && differs from to q) && contains_key to q)
-              || ((same_name q order_text && differs from to order_text)
-              || (b || list_any (same_name q) (removed_names from to)))) (in_single next_text)
+      || ((same_name q order_text && differs from to order_text)
+      || (b || list_any (same_name q) (removed_names from to)))) (in_single next_text)
       ∙ ap (λ (b : Bool). ((is_entry_name q && differs from to q) && contains_key to q)
-              || ((same_name q order_text && differs from to order_text)
-              || ((same_name q next_text && differs from to next_text) || b))) in_removed
+      || ((same_name q order_text && differs from to order_text)
+      || ((same_name q next_text && differs from to next_text) || b))) in_removed
 
   pub same_there : differs from to q ≡ false → get from q ≡ get to q
   same_there e = same_data-is (get from q) (get to q) (not-false (same_data (get from q) (get to q)) e)
@@ -128,7 +128,7 @@ module _ (from to : Variables) (q : List ℕ) where
   pub left_alone : list_any (same_name q) (changed_names from to) ≡ false → is_boot_name q ≡ true → get from q ≡ get to q
   left_alone none boot =
       elim (no_part (is_entry_name q) (differs from to q) (contains_key to q) (contains_key from q) (same_name q order_text)
-              (differs from to order_text) (same_name q next_text) (differs from to next_text) (sym parts ∙ none) boot) [
+      (differs from to order_text) (same_name q next_text) (differs from to next_text) (sym parts ∙ none) boot) [
         | inl (inl same) ↦ same_there same
         | inl (inr gone) ↦ is_none (get from q) gone.1 ∙ sym (is_none (get to q) gone.0)
         | inr (inl order) ↦ same_single order_text order.0 order.1
@@ -138,7 +138,7 @@ module _ (from to : Variables) (q : List ℕ) where
   pub changed_is_boot : list_any (same_name q) (changed_names from to) ≡ true → is_boot_name q ≡ true
   changed_is_boot is =
       some_part (is_entry_name q) (differs from to q) (contains_key to q) (contains_key from q) (same_name q order_text)
-              (differs from to order_text) (same_name q next_text) (differs from to next_text) (sym parts ∙ is)
+      (differs from to order_text) (same_name q next_text) (differs from to next_text) (sym parts ∙ is)
 
   data_differ : differs from to q ≡ true → get from q ≢ get to q
   data_differ d same = absurd (true≢false (sym (same_data-of (get from q) (get to q) same) ∙ not-true (same_data (get from q) (get to q)) d))
@@ -152,7 +152,7 @@ module _ (from to : Variables) (q : List ℕ) where
   changed_differs is =
       elim (or_cases (list_any (same_name q) (put_names from to)) _ (sym in_changed ∙ is)) [
         | inl put ↦ data_differ (and_parts (is_entry_name q) (differs from to q)
-                (and_parts (is_entry_name q && differs from to q) (contains_key to q) (sym in_puts ∙ put)).0).1
+            (and_parts (is_entry_name q && differs from to q) (contains_key to q) (sym in_puts ∙ put)).0).1
         | inr more ↦ elim (or_cases (list_any (same_name q) (if_differs from to order_text)) _ more) [
           | inl order ↦ single_differs order_text (sym (in_single order_text) ∙ order)
           | inr last ↦ elim (or_cases (list_any (same_name q) (if_differs from to next_text)) (list_any (same_name q) (removed_names from to)) last) [

@@ -44,15 +44,15 @@ name_of_entry number name below e = below_entry (2 ^ 16) number name below e
 
 -- the call that reads the number of an entry off its name tells which names are those of entries
 pub tells_entry : (name : List ℕ) (found : Option ℕ) → ((number : ℕ) →
-        (found ≡ Some number → (number < 2 ^ 16) × (name ≡ entry_text number))
-        × ((number < 2 ^ 16) × (name ≡ entry_text number) → found ≡ Some number)) → is_some found ≡ is_entry_name name
+    (found ≡ Some number → (number < 2 ^ 16) × (name ≡ entry_text number))
+    × ((number < 2 ^ 16) × (name ≡ entry_text number) → found ≡ Some number)) → is_some found ≡ is_entry_name name
 tells_entry name None reads = sym (false_from_ne_true (is_entry_name name)
-        (λ e. let entry = entry_of_name name e in let some = (reads entry.0).1 (entry.1, entry.2) in cc))
+    (λ e. let entry = entry_of_name name e in let some = (reads entry.0).1 (entry.1, entry.2) in cc))
 tells_entry name (Some number) reads = let entry = (reads number).0 refl in sym (name_of_entry number name entry.0 entry.1)
 
 -- the names of the boot manager's variables are names, if those of entries and the other two are
 pub boot_is_name : ((number : ℕ) → number < 2 ^ 16 → IsName (entry_text number)) → IsName order_text → IsName next_text →
-        (name : List ℕ) → is_boot_name name ≡ true → IsName name
+    (name : List ℕ) → is_boot_name name ≡ true → IsName name
 boot_is_name entry order next name boot = elim (or_cases (is_entry_name name) (same_name name order_text || same_name name next_text) boot) [
   | inl e ↦ let own = entry_of_name name e in subst IsName (sym own.2) (entry own.0 own.1)
   | inr e ↦ elim (or_cases (same_name name order_text) (same_name name next_text) e) [

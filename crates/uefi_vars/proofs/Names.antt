@@ -52,7 +52,7 @@ abbrev pub of_digits : ℕ → ℕ → ℕ → ℕ → ℕ
 of_digits a b c d = a * 0x1000 + b * 0x100 + (c * 0x10 + d)
 
 pub four_digits-of_digits : (a b c d : ℕ) → a < 16 → b < 16 → c < 16 → d < 16 →
-        four_digits (of_digits a b c d) ≡ upper_digit a ∷ upper_digit b ∷ upper_digit c ∷ upper_digit d ∷ []
+    four_digits (of_digits a b c d) ≡ upper_digit a ∷ upper_digit b ∷ upper_digit c ∷ upper_digit d ∷ []
 four_digits-of_digits a b c d p q r s =
     let first : of_digits a b c d / 0x1000 ≡ a = omega arith in
     let second : of_digits a b c d / 0x100 % 0x10 ≡ b = omega arith in
@@ -62,7 +62,7 @@ four_digits-of_digits a b c d p q r s =
 
 -- the one number that has the name
 pub number_of_name : (name : List ℕ) (m : ℕ) → m < 2 ^ 16 → name ≡ entry_text m → (number : ℕ) →
-        (Some m ≡ Some number) ↔ ((number < 2 ^ 16) × (name ≡ entry_text number))
+    (Some m ≡ Some number) ↔ ((number < 2 ^ 16) × (name ≡ entry_text number))
 number_of_name name m fits is number =
     (λ e. let same : m ≡ number = cc in (omega arith, is ∙ ap entry_text same), λ h. ap (λ (n : ℕ). Some n) (names_apart m number fits h.0 (sym is ∙ h.1)))
 

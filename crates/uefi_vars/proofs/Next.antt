@@ -37,7 +37,7 @@ next_is_not_bad vars next h bad = not_bad next (rw h.stored at bad)
 
 -- two bytes are a number, and others are bad
 number_or_bad : AreWrittenAgain → (bytes : List ℕ) → AllByRecursion IsByte bytes →
-        ((number : ℕ) × IsEntryNumber number × (to_le_bytes w16 number ≡ bytes)) ⊎ (length bytes ≢ 2)
+    ((number : ℕ) × IsEntryNumber number × (to_le_bytes w16 number ≡ bytes)) ⊎ (length bytes ≢ 2)
 number_or_bad again [] valid = inr (λ e. omega arith)
 number_or_bad again (low ∷ []) valid = inr (λ e. omega arith)
 number_or_bad again (low ∷ high ∷ []) valid = inl (from_le_bytes w16 (low ∷ high ∷ []), omega (arith, valid.0, valid.1.0), again (low ∷ high ∷ []) valid refl)
@@ -45,7 +45,7 @@ number_or_bad again (low ∷ high ∷ other ∷ rest) valid = inr (λ e. omega a
 
 -- what is stored is of a number, or of none, or is bad
 stored_or_bad : AreWrittenAgain → (stored : Option (List ℕ)) → IfSome stored (λ value. IsVariable (next_text, value)) →
-        ((next : Option ℕ) × IfSome next IsEntryNumber × (stored ≡ stored_next next)) ⊎ IsSomeAnd stored (λ bytes. length bytes ≢ 2)
+    ((next : Option ℕ) × IfSome next IsEntryNumber × (stored ≡ stored_next next)) ⊎ IsSomeAnd stored (λ bytes. length bytes ≢ 2)
 stored_or_bad again None valid = inl (None, tt, refl)
 stored_or_bad again (Some bytes) valid =
     ⊎_elim (λ good. inl (Some good.0, good.1, ap (λ (t : List ℕ). Some t) (sym good.2))) (λ bad. inr bad) (number_or_bad again bytes valid.1.bytes)

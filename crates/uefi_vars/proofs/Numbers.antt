@@ -1,6 +1,32 @@
 -- The numbers of BootOrder as bytes, two for each.
-use Rattle.std.proofs.Common.{◌≡◌, ◌≢◌, ◌⊎◌, ℕ, ◌*◌, ◌/◌, ◌%◌, ◌<◌, ◌≤◌, List, [], ◌∷◌, length, Option, Some, None,
-    IfSome, ◌↔◌, inl, inr, refl, sym, ap, ◌∙◌, ⊎_elim, arith}
+use Rattle.std.proofs.Common.{
+  ◌≡◌,
+  ◌≢◌,
+  ◌⊎◌,
+  ℕ,
+  ◌*◌,
+  ◌/◌,
+  ◌%◌,
+  ◌<◌,
+  ◌≤◌,
+  List,
+  [],
+  ◌∷◌,
+  length,
+  Option,
+  Some,
+  None,
+  IfSome,
+  ◌↔◌,
+  inl,
+  inr,
+  refl,
+  sym,
+  ap,
+  ◌∙◌,
+  ⊎_elim,
+  arith,
+}
 use Rattle.std.specs.List.{AllByRecursion}
 use Rattle.std.specs.Option.{IsSomeAnd}
 use Rattle.std.specs.FinMap.{get}
@@ -70,7 +96,7 @@ module _ (again : AreWrittenAgain) (two : AreTwoBytes) where
   stored_again (low ∷ high ∷ rest) valid even = ap (λ (t : List ℕ). Some t) (again (low ∷ high ∷ rest) valid.bytes even)
 
   pub order_found : (vars : Variables) (bytes : List ℕ) → get vars order_text ≡ Some bytes → IsData bytes →
-          length bytes % 2 ≡ 0 → length bytes ≤ 2 * order_max → HasOrder vars (units_of bytes)
+      length bytes % 2 ≡ 0 → length bytes ≤ 2 * order_max → HasOrder vars (units_of bytes)
   order_found vars bytes e valid even len =
       let numbers = two bytes valid.bytes in
       record { is = record { numbers = numbers.0; len = omega (arith, numbers.1, len) }; stored = e ∙ sym (stored_again bytes valid even) }
@@ -81,7 +107,7 @@ module _ (again : AreWrittenAgain) (two : AreTwoBytes) where
       (λ odd. inr (inl odd)) (cases_eq (length bytes % 2) 0)
 
   stored_or_bad : (vars : Variables) (stored : Option (List ℕ)) → get vars order_text ≡ stored →
-          IfSome stored (λ value. IsVariable (order_text, value)) → ((order : List ℕ) × HasOrder vars order) ⊎ IsSomeAnd stored AreBad
+      IfSome stored (λ value. IsVariable (order_text, value)) → ((order : List ℕ) × HasOrder vars order) ⊎ IsSomeAnd stored AreBad
   stored_or_bad vars None is valid = inl ([], no_order vars is)
   stored_or_bad vars (Some bytes) is valid =
       ⊎_elim (λ good. inl (units_of bytes, order_found vars bytes is valid.1 good.0 good.1)) (λ bad. inr bad) (good_or_bad bytes)

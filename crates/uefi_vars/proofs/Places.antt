@@ -1,7 +1,42 @@
 -- A key's place among sorted entries: how a search finds it, and what is found, put and removed there.
-use Rattle.std.proofs.Common.{◌≡◌, ◌≢◌, ℕ, zero, suc, ◌<◌, true, cond, not, T, List, [], ◌∷◌, map, length, take, drop,
-    set, get_or, slice_get, Some, None, IsSomeAnd, is_some, option_map, Result, Ok, Err, IfOk, IfErr, refl, sym, ap,
-    subst, ◌∙◌, arith}
+use Rattle.std.proofs.Common.{
+  ◌≡◌,
+  ◌≢◌,
+  ℕ,
+  zero,
+  suc,
+  ◌<◌,
+  true,
+  cond,
+  not,
+  T,
+  List,
+  [],
+  ◌∷◌,
+  map,
+  length,
+  take,
+  drop,
+  set,
+  get_or,
+  slice_get,
+  Some,
+  None,
+  IsSomeAnd,
+  is_some,
+  option_map,
+  Result,
+  Ok,
+  Err,
+  IfOk,
+  IfErr,
+  refl,
+  sym,
+  ap,
+  subst,
+  ◌∙◌,
+  arith,
+}
 use Rattle.std.specs.List.{take-map, drop-map, AllByRecursion, AllWithin, HoldsAt, insert, remove}
 use Rattle.std.specs.List.Sorted.{IsSortedBy, IsSearchInRange, IsBinarySearchResult}
 use Rattle.std.specs.Ordering.{is_eq, is_lt, ordering_reverse, eq_by_cmp}
@@ -44,7 +79,7 @@ module _ {K X : Type 0} (R : K → K → Ordering) (o : IsTotalOrder R) (key : K
   without es = where_key R (λ x. not (eq_by_cmp R key x)) es
 
   put_first : (value : X) (e : K × X) (es : List (K × X)) (r : Ordering) → R key e.0 ≡ r →
-          put R key value (e ∷ es) ≡ by_order r ((key, value) ∷ e ∷ es) ((e.0, value) ∷ es) (e ∷ put R key value es)
+      put R key value (e ∷ es) ≡ by_order r ((key, value) ∷ e ∷ es) ((e.0, value) ∷ es) (e ∷ put R key value es)
   put_first value e es r h = ap (λ q. by_order q ((key, value) ∷ e ∷ es) ((e.0, value) ∷ es) (e ∷ put R key value es)) h
 
   find_first : (e : K × X) (es : List (K × X)) (r : Ordering) → R key e.0 ≡ r → find R key (e ∷ es) ≡ cond (is_eq r) (Some e.1) (find R key es)
@@ -64,7 +99,7 @@ module _ {K X : Type 0} (R : K → K → Ordering) (o : IsTotalOrder R) (key : K
   put_at value [] place below named = absurd named
   put_at value (e ∷ es) zero below named = put_first value e es Equal (tied R o key e.0 named) ∙ ap (λ k. (k, value) ∷ es) named
   put_at value (e ∷ es) (suc place) below named = put_first value e es Greater (after R o key e.0 below.0)
-          ∙ ap (λ l. e ∷ l) (put_at value es place below.1 named)
+      ∙ ap (λ l. e ∷ l) (put_at value es place below.1 named)
 
   without_above : (es : List (K × X)) → AllAbove es → without es ≡ es
   without_above [] h = refl
@@ -74,7 +109,7 @@ module _ {K X : Type 0} (R : K → K → Ordering) (o : IsTotalOrder R) (key : K
   without_at [] place below named above = absurd named
   without_at (e ∷ es) zero below named above = without_first e es Equal (tied R o key e.0 named) ∙ without_above es above
   without_at (e ∷ es) (suc place) below named above = without_first e es Greater (after R o key e.0 below.0)
-          ∙ ap (λ l. e ∷ l) (without_at es place below.1 named above)
+      ∙ ap (λ l. e ∷ l) (without_at es place below.1 named above)
 
   -- at the gap where it would go
 
@@ -84,12 +119,12 @@ module _ {K X : Type 0} (R : K → K → Ordering) (o : IsTotalOrder R) (key : K
   find_gap (e ∷ es) (suc place) below above = find_first e es Greater (after R o key e.0 below.0) ∙ find_gap es place below.1 above
 
   pub put_gap : (value : X) (es : List (K × X)) (place : ℕ) → AllBelow (take place es) → AllAbove (drop place es) →
-          put R key value es ≡ insert es place (key, value)
+      put R key value es ≡ insert es place (key, value)
   put_gap value [] zero below above = refl
   put_gap value [] (suc place) below above = refl
   put_gap value (e ∷ es) zero below above = put_first value e es Less above.0
   put_gap value (e ∷ es) (suc place) below above = put_first value e es Greater (after R o key e.0 below.0)
-          ∙ ap (λ l. e ∷ l) (put_gap value es place below.1 above)
+      ∙ ap (λ l. e ∷ l) (put_gap value es place below.1 above)
 
   pub without_gap : (es : List (K × X)) (place : ℕ) → AllBelow (take place es) → AllAbove (drop place es) → without es ≡ es
   without_gap es zero below above = without_above es above
@@ -138,13 +173,13 @@ module _ {X : Type 0} (name : List ℕ) (p : List ℕ × X) (pairs : List (List 
       find_first name_cmp nat_list_cmp_total name p pairs Equal (tied name_cmp nat_list_cmp_total name p.0 (name_cmp-IsAntisymmetric p.0 name equal))
 
   all_above : (low : List ℕ) → name_cmp low name ≡ Less → (es : List (List ℕ × X)) →
-          AllByRecursion (λ e. name_cmp name e.0 ≡ Less) es → AllByRecursion (λ e. name_cmp low e.0 ≡ Less) es
+      AllByRecursion (λ e. name_cmp name e.0 ≡ Less) es → AllByRecursion (λ e. name_cmp low e.0 ≡ Less) es
   all_above low less [] h = tt
   all_above low less (e ∷ es) h = (nat_list_cmp_total.trans low name e.0 less h.0, all_above low less es h.1)
 
 -- a greater pair at the start leaves none of the name
 pub find_none : {X : Type 0} (name : List ℕ) (p : List ℕ × X) (pairs : List (List ℕ × X)) → T (is_sorted name_cmp (p ∷ pairs)) →
-        name_cmp p.0 name ≡ Greater → find name_cmp name (p ∷ pairs) ≡ None
+    name_cmp p.0 name ≡ Greater → find name_cmp name (p ∷ pairs) ≡ None
 find_none name p pairs rising greater =
     let less : name_cmp name p.0 ≡ Less = nat_list_cmp_total.antisymm name p.0 ∙ ap ordering_reverse greater in
     find_below name_cmp name (p ∷ pairs) (less, all_above p.0 p pairs name less pairs (sorted_parts name_cmp p pairs rising).0)
@@ -190,13 +225,13 @@ module _ {A K X : Type 0} (R : K → K → Ordering) (o : IsTotalOrder R) (f : A
   in_order (x ∷ []) rising k d low high = absurd (omega arith)
   in_order (x ∷ y ∷ xs) rising zero d low high = ap is_lt (after R o (f y).0 (f x).0 (sorted_parts R (f x) (map f (y ∷ xs)) rising).0.0)
   in_order (x ∷ y ∷ xs) rising (suc k) d low high = simp unary_clauses
-          (simp unary_clauses at (in_order (y ∷ xs) (sorted_parts R (f x) (map f (y ∷ xs)) rising).1 k d (omega arith) (omega arith)))
+      (simp unary_clauses at (in_order (y ∷ xs) (sorted_parts R (f x) (map f (y ∷ xs)) rising).1 k d (omega arith) (omega arith)))
 
 module _ {A X : Type 0} (f : A → List ℕ × X) (xs : List A) (rising : T (is_sorted name_cmp (map f xs))) (name : List ℕ) where
   named_at : (place : ℕ) → place < length xs → HoldsAt (λ x. name_cmp (f x).0 name ≡ Equal) xs place → IsAt (map f xs) name place
   named_at place within equal =
       let named : IsSomeAnd (slice_get (map f xs) place) (λ p. p.0 ≡ name) =
-              one_at f (λ p. p.0 ≡ name) xs place within (λ d. name_cmp-IsAntisymmetric _ name (equal d)) in
+      one_at f (λ p. p.0 ≡ name) xs place within (λ d. name_cmp-IsAntisymmetric _ name (equal d)) in
       record {
         within = omega (arith, length-map xs f);
         named = named;
@@ -205,7 +240,7 @@ module _ {A X : Type 0} (f : A → List ℕ × X) (xs : List A) (rising : T (is_
       }
 
   located : (r : Result ℕ ℕ) → IsSearchInRange r (length xs) → IsBinarySearchResult (λ x. name_cmp (f x).0 name) xs r →
-          record { found : IfOk r (IsAt (map f xs) name); absent : IfErr r (IsGap (map f xs) name) }
+      record { found : IfOk r (IsAt (map f xs) name); absent : IfErr r (IsGap (map f xs) name) }
   located (Ok place) within equal = record { found = named_at place within equal; absent = tt }
   located (Err place) within parted =
       let point = parted (searchable_from_sorted nat_list_cmp_total (λ x. (f x).0) xs name (in_order name_cmp nat_list_cmp_total f xs rising)) in
@@ -215,7 +250,7 @@ module _ {A X : Type 0} (f : A → List ℕ × X) (xs : List A) (rising : T (is_
           within = omega (arith, length-map xs f);
           below = all_before f (λ p. name_cmp p.0 name ≡ Less) xs place point.0;
           above = all_from f (λ p. name_cmp name p.0 ≡ Less) xs place
-                  (λ k d low high. nat_list_cmp_total.antisymm name (f (get_or xs k d)).0 ∙ ap ordering_reverse (point.1 k d low high));
+              (λ k d low high. nat_list_cmp_total.antisymm name (f (get_or xs k d)).0 ∙ ap ordering_reverse (point.1 k d low high));
         };
       }
 

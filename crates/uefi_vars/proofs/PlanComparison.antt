@@ -42,5 +42,5 @@ pub plan_eq-Decides : ComparesOptions → (p q : PlanParts) (answer : Bool) → 
 plan_eq-Decides each p q answer is =
     let choices = choice_Decides each in
     let decides : Decides answer (SamePlan p q) = Decides-at answer (plan_eq p q) is
-            (Decides-and _ _ (optional_Decides choices p.next q.next) (lists_Decide choices p.normal q.normal)) in
+    (Decides-and _ _ (optional_Decides choices p.next q.next) (lists_Decide choices p.normal q.normal)) in
     (λ yes. let e = decides.0 yes in same_plan p q e.0 e.1, λ e. decides.1 (ap (λ (r : PlanParts). r.next) e, ap (λ (r : PlanParts). r.normal) e))

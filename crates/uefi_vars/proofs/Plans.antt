@@ -1,6 +1,35 @@
 -- Plans: that there is one, what they hold and depend on, and how the plan of variables is put together.
-use Rattle.std.proofs.Common.{◌≡◌, ◌⊎◌, ℕ, zero, suc, ◌+◌, ◌<◌, bit_and, List, [], ◌∷◌, ◌++◌, length, take, get_or,
-    Contains, Option, Some, None, IfSome, inl, inr, refl, sym, ap, subst, ◌∙◌, ⊎_elim, arith}
+use Rattle.std.proofs.Common.{
+  ◌≡◌,
+  ◌⊎◌,
+  ℕ,
+  zero,
+  suc,
+  ◌+◌,
+  ◌<◌,
+  bit_and,
+  List,
+  [],
+  ◌∷◌,
+  ◌++◌,
+  length,
+  take,
+  get_or,
+  Contains,
+  Option,
+  Some,
+  None,
+  IfSome,
+  inl,
+  inr,
+  refl,
+  sym,
+  ap,
+  subst,
+  ◌∙◌,
+  ⊎_elim,
+  arith,
+}
 use Rattle.std.specs.List.{AllByRecursion}
 use Rattle.std.proofs.lemmas.Bool.Decides.{eqb_tells}
 use Rattle.std.proofs.lemmas.List.{append-nil, take_more}
@@ -62,30 +91,30 @@ module _ (one : SpellsOne) (entries : ℕ → Option (List ℕ)) where
 
 module _ (entries : ℕ → Option (List ℕ)) where
   more_choices : (order more : List ℕ) (choices others : List Choice) → AreNormalChoices entries order choices →
-          AreNormalChoices entries more others → AreNormalChoices entries (order ++ more) (choices ++ others)
+      AreNormalChoices entries more others → AreNormalChoices entries (order ++ more) (choices ++ others)
   more_choices [] more choices others f g = rw f g
   more_choices (number ∷ order) more choices others (inl f) g =
-          inl (f.0, f.1 ++ others, ap (λ (cs : List Choice). cs ++ others) f.2, f.3, more_choices order more f.1 others f.4 g)
+      inl (f.0, f.1 ++ others, ap (λ (cs : List Choice). cs ++ others) f.2, f.3, more_choices order more f.1 others f.4 g)
   more_choices (number ∷ order) more choices others (inr f) g = inr (f.0, more_choices order more choices others f.1 g)
 
   -- the number of a normal option
   pub choose : (order : List ℕ) (i : ℕ) (choices : List Choice) (choice : Choice) → i < length order →
-          AreNormalChoices entries (take i order) choices → IsNormalChoice entries (get_or order i 0) choice
+      AreNormalChoices entries (take i order) choices → IsNormalChoice entries (get_or order i 0) choice
       → AreNormalChoices entries (take (i + 1) order) (choices ++ choice ∷ [])
   choose order i choices choice within f is = rw (take_more order i 0 within)
-          (more_choices (take i order) (get_or order i 0 ∷ []) choices (choice ∷ []) f (inl (choice, [], refl, is, refl)))
+      (more_choices (take i order) (get_or order i 0 ∷ []) choices (choice ∷ []) f (inl (choice, [], refl, is, refl)))
 
   -- a number that has none
   pub pass : (order : List ℕ) (i : ℕ) (choices : List Choice) → i < length order →
-          AreNormalChoices entries (take i order) choices → ((choice : Choice) → IsNormalChoice entries (get_or order i 0) choice → ⊥)
+      AreNormalChoices entries (take i order) choices → ((choice : Choice) → IsNormalChoice entries (get_or order i 0) choice → ⊥)
       → AreNormalChoices entries (take (i + 1) order) choices
   pass order i choices within f none =
       rw (take_more order i 0 within) (subst (AreNormalChoices entries (take i order ++ get_or order i 0 ∷ []))
-              (append-nil choices) (more_choices (take i order) (get_or order i 0 ∷ []) choices [] f (inr (none, refl))))
+      (append-nil choices) (more_choices (take i order) (get_or order i 0 ∷ []) choices [] f (inr (none, refl))))
 
   -- an option that isn't normal leaves none that is
   no_other : SpellsOne → (number : ℕ) (choice : Choice) → IsChoice entries number choice → ¬ IsNormal choice.option.attributes →
-          (other : Choice) → IsNormalChoice entries number other → ⊥
+      (other : Choice) → IsNormalChoice entries number other → ⊥
   no_other one number choice is odd other f = odd (subst (λ (c : Choice). IsNormal c.option.attributes) (one_choice one entries number other choice f.0 is) f.1)
 
 -- ---- what there is at all
@@ -100,7 +129,7 @@ normal_or_not attributes =
 -- bytes spell a load option, or none
 abbrev pub SpellsOrNot : Type 0
 SpellsOrNot = (bytes : List ℕ) → AllByRecursion IsByte bytes →
-        ((option : OptionParts) × SpellsOption bytes option) ⊎ ((option : OptionParts) → SpellsOption bytes option → ⊥)
+    ((option : OptionParts) × SpellsOption bytes option) ⊎ ((option : OptionParts) → SpellsOption bytes option → ⊥)
 
 module _ (one : SpellsOne) (spells : SpellsOrNot) (entries : ℕ → Option (List ℕ)) (are : (number : ℕ) → IfSome (entries number) (AllByRecursion IsByte)) where
   stored_choice : (number : ℕ) (stored : Option (List ℕ)) → entries number ≡ stored → IfSome stored (AllByRecursion IsByte)
@@ -109,7 +138,7 @@ module _ (one : SpellsOne) (spells : SpellsOrNot) (entries : ℕ → Option (Lis
   stored_choice number (Some bytes) e valid =
       ⊎_elim (λ option. inl (choice_of number option.0, (refl, record { bytes = bytes; stored = e; spelled = option.1 })))
       (λ none. inr (λ choice is. let stored = is.1.stored in let same : is.1.bytes ≡ bytes = cc in
-              none choice.option (subst (λ (t : List ℕ). SpellsOption t choice.option) same is.1.spelled)))
+      none choice.option (subst (λ (t : List ℕ). SpellsOption t choice.option) same is.1.spelled)))
       (spells bytes valid)
 
   a_choice : (number : ℕ) → ((choice : Choice) × IsChoice entries number choice) ⊎ ((choice : Choice) → IsChoice entries number choice → ⊥)
@@ -136,24 +165,24 @@ module _ (one : SpellsOne) (spells : SpellsOrNot) (entries : ℕ → Option (Lis
 
 -- a number of the order, here at its place, with a normal option
 pub has_normal : SpellsOne → (entries : ℕ → Option (List ℕ)) (order : List ℕ) (choices : List Choice) (number : ℕ)
-        (choice : Choice) (place : ℕ) → place < length order → get_or order place number ≡ number
+    (choice : Choice) (place : ℕ) → place < length order → get_or order place number ≡ number
     → AreNormalChoices entries order choices → IsNormalChoice entries number choice → Contains choices choice
 has_normal one entries [] choices number choice place within at f is = absurd (omega arith)
 has_normal one entries (n ∷ order) choices number choice zero within at (inl f) is =
     let same : f.0 ≡ choice = one_choice one entries number f.0 choice (subst (λ (m : ℕ). IsChoice entries m f.0) at f.3.0) is.0 in
     subst (λ (cs : List Choice). Contains cs choice) (sym f.2) (0, omega arith, same)
 has_normal one entries (n ∷ order) choices number choice zero within at (inr f) is =
-        absurd (f.0 choice (subst (λ (m : ℕ). IsNormalChoice entries m choice) (sym at) is))
+    absurd (f.0 choice (subst (λ (m : ℕ). IsNormalChoice entries m choice) (sym at) is))
 has_normal one entries (n ∷ order) choices number choice (suc place) within at (inl f) is =
     subst (λ (cs : List Choice). Contains cs choice) (sym f.2)
-            (Contains-append_right (f.0 ∷ []) f.1 choice (has_normal one entries order f.1 number choice place (omega arith) at f.4 is))
+    (Contains-append_right (f.0 ∷ []) f.1 choice (has_normal one entries order f.1 number choice place (omega arith) at f.4 is))
 has_normal one entries (n ∷ order) choices number choice (suc place) within at (inr f) is =
-        has_normal one entries order choices number choice place (omega arith) at f.1 is
+    has_normal one entries order choices number choice place (omega arith) at f.1 is
 
 -- ---- entries that are equal
 
 other_choice : (entries others : ℕ → Option (List ℕ)) (number : ℕ) (choice : Choice) → entries number ≡ others number →
-        IsChoice entries number choice → IsChoice others number choice
+    IsChoice entries number choice → IsChoice others number choice
 other_choice entries others number choice e is = (is.0, record { bytes = is.1.bytes; stored = sym e ∙ is.1.stored; spelled = is.1.spelled })
 
 module _ (entries others : ℕ → Option (List ℕ)) (same : (number : ℕ) → IsEntryNumber number → entries number ≡ others number) where
@@ -163,22 +192,29 @@ module _ (entries others : ℕ → Option (List ℕ)) (same : (number : ℕ) →
   other_next (Some number) None valid f = λ choice is. f choice (other_choice others entries number choice (sym (same number valid)) is)
 
   other_normal : (order : List ℕ) (choices : List Choice) → AllByRecursion IsEntryNumber order →
-          AreNormalChoices entries order choices → AreNormalChoices others order choices
+      AreNormalChoices entries order choices → AreNormalChoices others order choices
   other_normal [] choices valid f = f
-  other_normal (number ∷ order) choices valid (inl f) = inl (f.0, f.1, f.2,
-          (other_choice entries others number f.0 (same number valid.0) f.3.0, f.3.1), other_normal order f.1 valid.1 f.4)
+  other_normal (number ∷ order) choices valid (inl f) = inl (
+    f.0,
+    f.1,
+    f.2,
+    (other_choice entries others number f.0 (same number valid.0) f.3.0, f.3.1),
+    other_normal order f.1 valid.1 f.4,
+  )
   other_normal (number ∷ order) choices valid (inr f) =
       inr (λ choice is. f.0 choice (other_choice others entries number choice (sym (same number valid.0)) is.0, is.1), other_normal order choices valid.1 f.1)
 
   pub other_plan : (order : List ℕ) (next : Option ℕ) (plan : PlanParts) → AllByRecursion IsEntryNumber order →
-          IfSome next IsEntryNumber → IsPlan entries order next plan → IsPlan others order next plan
-  other_plan order next plan numbers number is = record { first = other_next next plan.next number is.first;
-          others = other_normal order plan.normal numbers is.others }
+      IfSome next IsEntryNumber → IsPlan entries order next plan → IsPlan others order next plan
+  other_plan order next plan numbers number is = record {
+    first = other_next next plan.next number is.first;
+    others = other_normal order plan.normal numbers is.others;
+  }
 
 -- ---- of variables
 
 pub plan_found : (vars : Variables) (order : List ℕ) (number : Option ℕ) (next : Option Choice) (normal : List Choice) →
-        HasOrder vars order → HasNext vars number → IsNextChoice (entry_of vars) number next
+    HasOrder vars order → HasNext vars number → IsNextChoice (entry_of vars) number next
     → AreNormalChoices (entry_of vars) order normal → HasPlan vars (plan_parts next normal)
 plan_found vars order number next normal has_order has_next first others =
     record { order = order; next = number; has_order = has_order; has_next = has_next; is = record { first = first; others = others } }

@@ -1,6 +1,29 @@
 -- The records of a set: each is read in one way, and in what order their names are.
-use Rattle.std.proofs.Common.{◌≡◌, ℕ, zero, suc, ◌+◌, ◌<◌, ◌≤◌, ◌^◌, T, List, [], ◌∷◌, ◌++◌, length, get_or, take,
-    drop, sym, ap, subst, ◌∙◌, arith, append_assoc}
+use Rattle.std.proofs.Common.{
+  ◌≡◌,
+  ℕ,
+  zero,
+  suc,
+  ◌+◌,
+  ◌<◌,
+  ◌≤◌,
+  ◌^◌,
+  T,
+  List,
+  [],
+  ◌∷◌,
+  ◌++◌,
+  length,
+  get_or,
+  take,
+  drop,
+  sym,
+  ap,
+  subst,
+  ◌∙◌,
+  arith,
+  append_assoc,
+}
 use Rattle.std.specs.Int.{w32, from_le_bytes, to_le_bytes}
 use Rattle.std.specs.List.{AllByRecursion}
 use Rattle.std.specs.List.Sorted.{IsStrictlySortedBy}
@@ -43,20 +66,20 @@ data_len value is = let len = is.len in omega (arith, len)
 pub same_data : (a b x y : List ℕ) → IsData a → IsData b → data_bytes a ++ x ≡ data_bytes b ++ y → (a ≡ b) × (x ≡ y)
 same_data a b x y is-a is-b e =
     let len = same_len (length a) (length b) (a ++ x) (b ++ y) (data_len a is-a) (data_len b is-b)
-            (sym (append_assoc (to_le_bytes w32 (length a)) a x) ∙ e ∙ append_assoc (to_le_bytes w32 (length b)) b y) in
+    (sym (append_assoc (to_le_bytes w32 (length a)) a x) ∙ e ∙ append_assoc (to_le_bytes w32 (length b)) b y) in
     same_size a b x y len.0 len.1
 
 pub same_record : (v w : Pair) (x y : List ℕ) → IsVariable v → IsVariable w → record_bytes v ++ x ≡ record_bytes w ++ y → (v ≡ w) × (x ≡ y)
 same_record v w x y is-v is-w e =
     let names = same_name v.0 w.0 (data_bytes v.1 ++ x) (data_bytes w.1 ++ y)
-            (sym (append_assoc (name_bytes v.0) (data_bytes v.1) x) ∙ e ∙ append_assoc (name_bytes w.0) (data_bytes w.1) y) in
+    (sym (append_assoc (name_bytes v.0) (data_bytes v.1) x) ∙ e ∙ append_assoc (name_bytes w.0) (data_bytes w.1) y) in
     let values = same_data v.1 w.1 x y is-v.1 is-w.1 names.1 in
     (ap (λ (name : List ℕ). (name, v.1)) names.0 ∙ ap (λ (value : List ℕ). (w.0, value)) values.0, values.1)
 
 -- the records before one variable and its own have no more bytes than all
 pub length-records_bytes-take : (variables : List (Named (List ℕ))) (i : ℕ) (variable : Named (List ℕ)) → i < length variables →
-        variable ≡ get_or variables i variable → length (records_bytes (pairs_of (take i variables))) + length
-        (record_bytes (pair_of variable)) ≤ length (records_bytes (pairs_of variables))
+    variable ≡ get_or variables i variable → length (records_bytes (pairs_of (take i variables))) + length
+    (record_bytes (pair_of variable)) ≤ length (records_bytes (pairs_of variables))
 length-records_bytes-take [] i variable within is = absurd (omega (arith, within))
 length-records_bytes-take (v ∷ variables) zero variable within is =
     let same = ap (λ (w : Named (List ℕ)). length (record_bytes (pair_of w))) is in
@@ -84,7 +107,7 @@ above_front (n ∷ names) name others rising =
 
 -- a key above rising keys, as a name above rising names
 pub one_above : {K : Type 0} (R : K → K → Ordering) (keys : List K) (key : K) → IsStrictlySortedBy R keys →
-        AllByRecursion (λ before. R before key ≡ Less) keys → IsStrictlySortedBy R (keys ++ key ∷ [])
+    AllByRecursion (λ before. R before key ≡ Less) keys → IsStrictlySortedBy R (keys ++ key ∷ [])
 unfolding IsStrictlySortedBy
 one_above R [] key rising above = (tt, tt)
 one_above R (k ∷ keys) key rising above =
@@ -92,7 +115,7 @@ one_above R (k ∷ keys) key rising above =
 
 -- what is above the last of rising names is above each
 pub above_last : (names : List (List ℕ)) (last name : List ℕ) → IsStrictlySortedBy name_cmp (names ++ last ∷ []) →
-        name_cmp last name ≡ Less → IsAbove (names ++ last ∷ []) name
+    name_cmp last name ≡ Less → IsAbove (names ++ last ∷ []) name
 unfolding IsStrictlySortedBy
 above_last [] last name rising above = (above, tt)
 above_last (n ∷ names) last name rising above =
@@ -102,7 +125,7 @@ above_last (n ∷ names) last name rising above =
 -- ---- the same of entries, by a test
 
 below_names : (name : List ℕ) (pairs : List Pair) → AllByRecursion (λ (p : Pair). name_cmp name p.0 ≡ Less) pairs →
-        AllByRecursion (λ (m : List ℕ). name_cmp name m ≡ Less) (names_of pairs)
+    AllByRecursion (λ (m : List ℕ). name_cmp name m ≡ Less) (names_of pairs)
 below_names name [] below = tt
 below_names name (p ∷ pairs) below = (below.0, below_names name pairs below.1)
 

@@ -1,6 +1,33 @@
 -- One set for each spelling, and one first fault if there is none.
-use Rattle.std.proofs.Common.{◌≡◌, ◌⊎◌, ℕ, zero, suc, ◌+◌, ◌<◌, Bool, true, false, eqb, List, [], ◌∷◌, ◌++◌, length,
-    take, drop, refl, sym, ap, subst, ◌∙◌, inl, inr, arith, append_assoc}
+use Rattle.std.proofs.Common.{
+  ◌≡◌,
+  ◌⊎◌,
+  ℕ,
+  zero,
+  suc,
+  ◌+◌,
+  ◌<◌,
+  Bool,
+  true,
+  false,
+  eqb,
+  List,
+  [],
+  ◌∷◌,
+  ◌++◌,
+  length,
+  take,
+  drop,
+  refl,
+  sym,
+  ap,
+  subst,
+  ◌∙◌,
+  inl,
+  inr,
+  arith,
+  append_assoc,
+}
 use Rattle.std.specs.List.{AllByRecursion}
 use Rattle.std.specs.List.Sorted.{IsStrictlySortedBy}
 use Rattle.std.specs.declared.cmp.Ordering.TheVariants.{Less}
@@ -44,31 +71,34 @@ behind_one before p pairs rest h =
 
 -- if one reading has no record, the other has none
 none_reads : (before : List (List ℕ)) (p : Pair) (pairs : List Pair) (x y : List ℕ) → Reads before [] x →
-        Reads before (p ∷ pairs) y → x ≡ records_bytes (p ∷ pairs) ++ y → ⊥
+    Reads before (p ∷ pairs) y → x ≡ records_bytes (p ∷ pairs) ++ y → ⊥
 none_reads before p pairs x y first second e =
     first.stops p (records_bytes pairs ++ y) second.whole.0 (subst
-            (λ (names : List (List ℕ)). AllByRecursion (λ m. name_cmp m p.0 ≡ Less) names) (sym (append-nil before))
-            (above_front before p.0 (names_of pairs) second.rising))
+    (λ (names : List (List ℕ)). AllByRecursion (λ m. name_cmp m p.0 ≡ Less) names) (sym (append-nil before))
+    (above_front before p.0 (names_of pairs) second.rising))
     (e ∙ append_assoc (record_bytes p) (records_bytes pairs) y)
 
 same_records : (before : List (List ℕ)) (ps qs : List Pair) (x y : List ℕ) → Reads before ps x → Reads before qs y →
-        records_bytes ps ++ x ≡ records_bytes qs ++ y → (ps ≡ qs) × (x ≡ y)
+    records_bytes ps ++ x ≡ records_bytes qs ++ y → (ps ≡ qs) × (x ≡ y)
 same_records before [] [] x y first second e = (refl, e)
 same_records before [] (q ∷ qs) x y first second e = absurd (none_reads before q qs x y first second e)
 same_records before (p ∷ ps) [] x y first second e = absurd (none_reads before p ps y x second first (sym e))
 same_records before (p ∷ ps) (q ∷ qs) x y first second e =
     let regrouped : record_bytes p ++ (records_bytes ps ++ x) ≡ record_bytes q ++ (records_bytes qs ++ y) =
-            sym (append_assoc (record_bytes p) (records_bytes ps) x) ∙ e ∙ append_assoc (record_bytes q) (records_bytes qs) y in
+    sym (append_assoc (record_bytes p) (records_bytes ps) x) ∙ e ∙ append_assoc (record_bytes q) (records_bytes qs) y in
     let here = same_record p q (records_bytes ps ++ x) (records_bytes qs ++ y) first.whole.0 second.whole.0 regrouped in
     let others = same_records (before ++ q.0 ∷ []) ps qs x y (subst (λ (r : Pair). Reads (before ++ r.0 ∷ []) ps x) here.0
-            (behind_one before p ps x first)) (behind_one before q qs y second) here.1 in
+    (behind_one before p ps x first)) (behind_one before q qs y second) here.1 in
     (ap (λ (r : Pair). r ∷ ps) here.0 ∙ ap (λ (rs : List Pair). q ∷ rs) others.0, others.1)
 
 -- ---- one set
 
 set_reads : (vars : Variables) → IsVars vars → Reads [] (entries vars) []
-set_reads vars are = record { whole = entries-AllByRecursion vars are; rising = names_rise (entries vars) (entries_sorted vars);
-        stops = end_stops (names_of (entries vars)) }
+set_reads vars are = record {
+  whole = entries-AllByRecursion vars are;
+  rising = names_rise (entries vars) (entries_sorted vars);
+  stops = end_stops (names_of (entries vars));
+}
 
 pub same_set : (bytes : List ℕ) (a b : Variables) → SpellsSet bytes a → SpellsSet bytes b → a ≡ b
 same_set bytes a b first second =
@@ -89,7 +119,7 @@ abbrev Kinds : List ℕ → SetFault → Type 0
 Kinds input f = (HasNoMagic input × (f ≡ fault.BadMagic 0)) ⊎ HasFault input f
 
 rest_fault : (input : List ℕ) (place : ℕ) (P : List (List ℕ) → List ℕ → Type 0) (f : SetFault) → HasRestWith input place P →
-        ((names : List (List ℕ)) (rest : List ℕ) → P names rest → IsRecordFault names rest place f) → HasFault input f
+    ((names : List (List ℕ)) (rest : List ℕ) → P names rest → IsRecordFault names rest place f) → HasFault input f
 rest_fault input place P f h turn =
     let before = h.before in
     let at : place ≡ 4 + length (records_bytes before.variables) = before.at ∙ omega arith in
@@ -106,8 +136,8 @@ rest_fault input place P f h turn =
     }
 
 truncated : (place : ℕ) (names : List (List ℕ)) (rest : List ℕ) →
-        HasCutName rest ⊎ HasNameWith names rest (λ bytes. (length bytes < 4) ⊎ IsCutData bytes) →
-        IsRecordFault names rest place (fault.Truncated place)
+    HasCutName rest ⊎ HasNameWith names rest (λ bytes. (length bytes < 4) ⊎ IsCutData bytes) →
+    IsRecordFault names rest place (fault.Truncated place)
 truncated place names rest (inl h) = inl (inl (refl, h))
 truncated place names rest (inr h) = inr (inr (h.behind, h.name, inl (refl, h.here)))
 
@@ -128,7 +158,7 @@ fault_reads bytes start f h = record { whole = h.before.whole; rising = h.before
 same_records_fault : (bytes : List ℕ) (start : ℕ) (f g : SetFault) → HasRecordsFault bytes start f → HasRecordsFault bytes start g → f ≡ g
 same_records_fault bytes start f g x y =
     let same = same_records [] x.pairs y.pairs x.rest y.rest (fault_reads bytes start f x) (fault_reads bytes start g y)
-            (sym x.before.parts ∙ y.before.parts) in
+    (sym x.before.parts ∙ y.before.parts) in
     let pairs = subst (λ (ps : List Pair). IsRecordFault (names_of ps) x.rest (start + length (records_bytes ps)) f) same.0 x.here in
     let here = subst (λ (t : List ℕ). IsRecordFault (names_of y.pairs) t (start + length (records_bytes y.pairs)) f) same.1 pairs in
     same_record_fault (names_of y.pairs) y.rest (start + length (records_bytes y.pairs)) f g here y.here
@@ -154,7 +184,7 @@ no_kind input f vars (inl x) spelled = x.0 (records_bytes (entries vars)) spelle
 no_kind input f vars (inr x) spelled =
     let behind : x.behind ≡ records_bytes (entries vars) = behind_magic x.behind (records_bytes (entries vars)) (sym x.parts ∙ spelled.1) in
     let e : records_bytes x.records.pairs ++ x.records.rest ≡ records_bytes (entries vars) ++ [] =
-            sym x.records.before.parts ∙ behind ∙ sym (append-nil (records_bytes (entries vars))) in
+    sym x.records.before.parts ∙ behind ∙ sym (append-nil (records_bytes (entries vars))) in
     let same = same_records [] x.records.pairs (entries vars) x.records.rest [] (fault_reads x.behind 4 f x.records) (set_reads vars spelled.0) e in
     fault_some (names_of x.records.pairs) x.records.rest _ f x.records.here same.1
 
@@ -164,7 +194,7 @@ fault_leaves_none input f vars first spelled = no_kind input f vars (kind_of inp
 -- ---- a fault in a record is the first
 
 rest_with : (input behind : List ℕ) (place : ℕ) (P : List (List ℕ) → List ℕ → Type 0) (pairs : List Pair) (rest : List ℕ) →
-        input ≡ magic ++ behind → HasRecords behind pairs rest → place ≡ 4 + length (records_bytes pairs) → P (names_of pairs) rest
+    input ≡ magic ++ behind → HasRecords behind pairs rest → place ≡ 4 + length (records_bytes pairs) → P (names_of pairs) rest
     → HasRestWith input place P
 rest_with input behind place P pairs rest parts before at here = record {
   names = names_of pairs;
@@ -181,7 +211,7 @@ rest_with input behind place P pairs rest parts before at here = record {
 }
 
 record_fault_is : (input behind : List ℕ) (f : SetFault) (pairs : List Pair) (rest : List ℕ) → input ≡ magic ++ behind →
-        HasRecords behind pairs rest → IsRecordFault (names_of pairs) rest (4 + length (records_bytes pairs)) f → IsFirstFault input f
+    HasRecords behind pairs rest → IsRecordFault (names_of pairs) rest (4 + length (records_bytes pairs)) f → IsFirstFault input f
 record_fault_is input behind f pairs rest parts before (inl (inl (e, h))) =
     subst (IsFirstFault input) (sym e) (rest_with input behind _ _ pairs rest parts before refl (inl h))
 record_fault_is input behind f pairs rest parts before (inl (inr (e, h))) =
@@ -203,31 +233,31 @@ records_spell input behind pairs parts h =
     let sorted = pairs_rise pairs h.rising in (
       IsVars-from_sorted pairs sorted h.whole,
       parts ∙ ap (λ (t : List ℕ). magic ++ t) (h.parts ∙ append-nil (records_bytes pairs))
-              ∙ ap (λ (ps : List Pair). magic ++ records_bytes ps) (sym (entries-from_sorted name_cmp pairs sorted)),
+          ∙ ap (λ (ps : List Pair). magic ++ records_bytes ps) (sym (entries-from_sorted name_cmp pairs sorted)),
     )
 
 -- ---- every input is a set, or has a first fault
 
 -- one more record
 pub one_record : (bytes : List ℕ) (pairs : List Pair) (rest : List ℕ) (v : Pair) (behind : List ℕ) →
-        HasRecords bytes pairs rest → IsVariable v → IsAbove (names_of pairs) v.0 → rest ≡ record_bytes v ++ behind →
-        HasRecords bytes (pairs ++ v ∷ []) behind
+    HasRecords bytes pairs rest → IsVariable v → IsAbove (names_of pairs) v.0 → rest ≡ record_bytes v ++ behind →
+    HasRecords bytes (pairs ++ v ∷ []) behind
 one_record bytes pairs rest v behind has is above parts =
     let more : records_bytes (pairs ++ v ∷ []) ≡ records_bytes pairs ++ record_bytes v =
-            flat_map-append record_bytes pairs (v ∷ []) ∙ ap (λ (t : List ℕ). records_bytes pairs ++ t) (append-nil (record_bytes v)) in
+    flat_map-append record_bytes pairs (v ∷ []) ∙ ap (λ (t : List ℕ). records_bytes pairs ++ t) (append-nil (record_bytes v)) in
     record {
       whole = AllByRecursion-append IsVariable pairs (v ∷ []) has.whole (is, tt);
       rising = subst (IsStrictlySortedBy name_cmp) (sym (map-append (λ (p : Pair). p.0) pairs (v ∷ [])))
-              (one_above name_cmp (names_of pairs) v.0 has.rising above);
+          (one_above name_cmp (names_of pairs) v.0 has.rising above);
       parts = has.parts ∙ ap (λ (t : List ℕ). records_bytes pairs ++ t) parts
-              ∙ sym (append_assoc (records_bytes pairs) (record_bytes v) behind) ∙ ap (λ (t : List ℕ). t ++ behind) (sym more);
+          ∙ sym (append_assoc (records_bytes pairs) (record_bytes v) behind) ∙ ap (λ (t : List ℕ). t ++ behind) (sym more);
     }
 
 abbrev Ends : List ℕ → ℕ → Type 0
 Ends bytes start = ((pairs : List Pair) × HasRecords bytes pairs []) ⊎ ((f : SetFault) × HasRecordsFault bytes start f)
 
 records_end : (start n : ℕ) (bytes : List ℕ) (pairs : List Pair) (rest : List ℕ) → length rest < n → AllByRecursion IsByte rest →
-        HasRecords bytes pairs rest → Ends bytes start
+    HasRecords bytes pairs rest → Ends bytes start
 records_end start zero bytes pairs rest less fits has = absurd (omega (arith, less))
 records_end start (suc n) bytes pairs [] less fits has = inl (pairs, has)
 records_end start (suc n) bytes pairs (b ∷ rest) less fits has =
@@ -237,7 +267,7 @@ records_end start (suc n) bytes pairs (b ∷ rest) less fits has =
           let parts = stands.2.parts in
           let size : length (b ∷ rest) ≡ length (record_bytes v) + length stands.1 = ap length parts ∙ length-append (record_bytes v) stands.1 in
           records_end start n bytes (pairs ++ v ∷ []) stands.1 (omega (arith, less, size))
-                  (AllByRecursion-behind IsByte (record_bytes v) stands.1 (subst (AllByRecursion IsByte) parts fits))
+          (AllByRecursion-behind IsByte (record_bytes v) stands.1 (subst (AllByRecursion IsByte) parts fits))
           (one_record bytes pairs (b ∷ rest) v stands.1 has stands.2.is stands.2.above parts)
       | inr stop ↦ inr (stop.0, record { pairs = pairs; rest = b ∷ rest; before = has; here = stop.1 })
     ]
@@ -256,9 +286,9 @@ pub bytes_end : (input : List ℕ) → AllByRecursion IsByte input → IsSetOrFa
 bytes_end input fits =
     let starts = starts_is Decides-eqb input magic (pointwise eqb magic (take 4 input)) refl in
     elim (pointwise eqb magic (take 4 input)) as (λ (r : Bool). (r ≡ true → input ≡ magic ++ drop 4 input)
-            × ((rest : List ℕ) → input ≡ magic ++ rest → r ≡ true) → IsSetOrFault input) [
+    × ((rest : List ℕ) → input ≡ magic ++ rest → r ≡ true) → IsSetOrFault input) [
       | true ↦ λ h. let parts = h.0 refl in behind_ends input (drop 4 input)
-              (AllByRecursion-behind IsByte magic (drop 4 input) (subst (AllByRecursion IsByte) parts fits)) parts
+          (AllByRecursion-behind IsByte magic (drop 4 input) (subst (AllByRecursion IsByte) parts fits)) parts
       | false ↦ λ h. inr (fault.BadMagic 0, (λ rest e. false≢true (h.1 rest e), refl))
     ] starts
 
@@ -277,7 +307,7 @@ record_is_bytes v is =
 records_are_bytes : (pairs : List Pair) → AllByRecursion IsVariable pairs → AllByRecursion IsByte (records_bytes pairs)
 records_are_bytes [] are = tt
 records_are_bytes (v ∷ pairs) are = AllByRecursion-append IsByte (record_bytes v) (records_bytes pairs) (record_is_bytes v are.0)
-        (records_are_bytes pairs are.1)
+    (records_are_bytes pairs are.1)
 
 pub set_is_bytes : (vars : Variables) → IsVars vars → AllByRecursion IsByte (set_bytes vars)
 set_is_bytes vars are = (omega arith, (omega arith, (omega arith, (omega arith, records_are_bytes (entries vars) (entries-AllByRecursion vars are)))))

@@ -1,6 +1,34 @@
 -- What is there once the boot manager's variables were written.
-use Rattle.std.proofs.Common.{◌≡◌, ◌≢◌, ◌⊎◌, ℕ, ◌-◌, Bool, true, false, cond, ◌&&◌, not, List, [], ◌∷◌, ◌++◌, length,
-    Option, Some, None, IfSome, inl, inr, refl, sym, ap, subst, ◌∙◌, arith}
+use Rattle.std.proofs.Common.{
+  ◌≡◌,
+  ◌≢◌,
+  ◌⊎◌,
+  ℕ,
+  ◌-◌,
+  Bool,
+  true,
+  false,
+  cond,
+  ◌&&◌,
+  not,
+  List,
+  [],
+  ◌∷◌,
+  ◌++◌,
+  length,
+  Option,
+  Some,
+  None,
+  IfSome,
+  inl,
+  inr,
+  refl,
+  sym,
+  ap,
+  subst,
+  ◌∙◌,
+  arith,
+}
 use Rattle.std.specs.Option.{option_map, option_map_or}
 use Rattle.std.specs.List.{AllByRecursion}
 use Rattle.std.specs.FinMap.{get, entries, find, get-entries}
@@ -9,10 +37,37 @@ use Rattle.uefi_vars.specs.Name.{IsName, global_vendor}
 use Rattle.uefi_vars.specs.Vars.{Variables, name_cmp}
 use Rattle.var_stores.specs.Record.{RecordParts, vendor_in, IsRecord}
 use Rattle.uefi_vars.specs.BootChange.{same_name, is_boot_name, same_data, differs}
-use Rattle.var_stores.specs.Present.{stored_name, name_in, key_of, global_key, is_of, is_alive, is_added_there,
-    found_with, found_after, found, is_set_value, set_data, is_set_name, is_left_out, if_left_out, IsSetOf}
-use Rattle.var_stores.specs.Rewriting.{is_rewritten, is_outdated, deleted, without_outdated, unless_outdated,
-    new_attributes, new_record, added, new_records, AreKept, IsWritten}
+use Rattle.var_stores.specs.Present.{
+  stored_name,
+  name_in,
+  key_of,
+  global_key,
+  is_of,
+  is_alive,
+  is_added_there,
+  found_with,
+  found_after,
+  found,
+  is_set_value,
+  set_data,
+  is_set_name,
+  is_left_out,
+  if_left_out,
+  IsSetOf,
+}
+use Rattle.var_stores.specs.Rewriting.{
+  is_rewritten,
+  is_outdated,
+  deleted,
+  without_outdated,
+  unless_outdated,
+  new_attributes,
+  new_record,
+  added,
+  new_records,
+  AreKept,
+  IsWritten,
+}
 use Rattle.uefi_vars.proofs.NameTests.{same_name-is, same_name-of}
 use Rattle.uefi_vars.proofs.Members.{same_data-is}
 use Rattle.var_stores.proofs.Found.{IsFoundAs, found_after-append, found_after-added, found_after-is, found_after-all}
@@ -30,7 +85,7 @@ same_end a b e = (same_size global_vendor global_vendor a b refl e).1
 
 -- a record of a variable of the standard that is alive is outdated if the variable changes
 outdated_is : (from to : Variables) (r : RecordParts) (name : List ℕ) → IsRecord r → IsName name → is_alive r ≡ true →
-        key_of r ≡ global_key name → is_outdated from to r ≡ is_rewritten from to name
+    key_of r ≡ global_key name → is_outdated from to r ≡ is_rewritten from to name
 outdated_is from to r name whole is alive key =
     let parts = global_name r name (vendor_len r whole) (sym key) in
     ap (λ b. b && (same_name global_vendor (vendor_in r.header) && option_map_or (is_rewritten from to) (name_in r.name) false)) alive
@@ -39,16 +94,20 @@ outdated_is from to r name whole is alive key =
 
 -- an outdated record is of a variable of the boot manager
 of_boot : (from to : Variables) (r : RecordParts) → is_outdated from to r ≡ true →
-        (is_alive r ≡ true) × (name : List ℕ) × (is_rewritten from to name ≡ true) × (key_of r ≡ global_key name)
+    (is_alive r ≡ true) × (name : List ℕ) × (is_rewritten from to name ≡ true) × (key_of r ≡ global_key name)
 of_boot from to r outdated =
     let first = and_parts (is_alive r) (same_name global_vendor (vendor_in r.header) && option_map_or (is_rewritten from to) (name_in r.name) false) outdated in
     let second = and_parts (same_name global_vendor (vendor_in r.header)) (option_map_or (is_rewritten from to) (name_in r.name) false) first.1 in
-    let named = go (name_in r.name) refl second.1 in
-    (first.0, named.0, named.1, ap (λ (v : List ℕ). v ++ r.name) (sym (same_name-is global_vendor (vendor_in r.header) second.0))
-            ∙ ap (λ (n : List ℕ). global_vendor ++ n) named.2)
+    let named = go (name_in r.name) refl second.1 in (
+      first.0,
+      named.0,
+      named.1,
+      ap (λ (v : List ℕ). v ++ r.name) (sym (same_name-is global_vendor (vendor_in r.header) second.0))
+          ∙ ap (λ (n : List ℕ). global_vendor ++ n) named.2,
+    )
   where
     go : (n : Option (List ℕ)) → name_in r.name ≡ n → option_map_or (is_rewritten from to) n false ≡ true →
-            (name : List ℕ) × (is_rewritten from to name ≡ true) × (r.name ≡ stored_name name)
+        (name : List ℕ) × (is_rewritten from to name ≡ true) × (r.name ≡ stored_name name)
     go None e none = absurd (false≢true none)
     go (Some name) e some = (name, some, stored_name-name_in r.name name e)
 
@@ -66,11 +125,11 @@ dead key before r e = ap (λ b. cond ((b && is_of key r) && not (is_added_there 
 -- a variable that doesn't change is found as before
 pub stays : (from to : Variables) (key : List ℕ) (before : Option RecordParts) (records : List RecordParts) →
     ((r : RecordParts) → is_outdated from to r ≡ true → is_of key r ≡ true → ⊥) →
-            found_after key before (without_outdated from to records) ≡ found_after key before records
+    found_after key before (without_outdated from to records) ≡ found_after key before records
 stays from to key before [] apart = refl
 stays from to key before (r ∷ records) apart =
     ap (λ o. found_after key o (without_outdated from to records)) (one (is_outdated from to r) refl)
-            ∙ stays from to key (found_with key before r) records apart
+    ∙ stays from to key (found_with key before r) records apart
   where
     one : (b : Bool) → is_outdated from to r ≡ b → found_with key before (cond b (deleted r) r) ≡ found_with key before r
     one false e = refl
@@ -79,12 +138,12 @@ stays from to key before (r ∷ records) apart =
 
 -- one that changes isn't found any more
 pub goes : (from to : Variables) (name : List ℕ) (records : List RecordParts) → AllByRecursion IsRecord records → IsName name →
-        is_rewritten from to name ≡ true →
+    is_rewritten from to name ≡ true →
     found (global_key name) (without_outdated from to records) ≡ None
 goes from to name [] whole is rewritten = refl
 goes from to name (r ∷ records) whole is rewritten =
     ap (λ o. found_after (global_key name) o (without_outdated from to records)) (one (is_outdated from to r) refl)
-            ∙ goes from to name records whole.1 is rewritten
+    ∙ goes from to name records whole.1 is rewritten
   where
     alive_one : (b c : Bool) → is_alive r ≡ b → is_of (global_key name) r ≡ c → is_outdated from to r ≡ false → found_with (global_key name) None r ≡ None
     alive_one false c a o e = dead (global_key name) None r a
@@ -137,22 +196,22 @@ module _ (from to : Variables) (of : List ℕ → List ℕ) (four : (name : List
       one : found_after (global_key name) None (added from to of rest) ≡ option_map (made name) (find name_cmp name rest) →
           (b : Bool) → same_name name variable.0 ≡ b → (c : Bool) → is_rewritten from to variable.0 ≡ c →
           found_after (global_key name) None (cond c (made variable.0 variable.1 ∷ added from to of rest)
-                  (added from to of rest)) ≡ option_map (made name) (cond b (Some variable.1) (find name_cmp name rest))
+          (added from to of rest)) ≡ option_map (made name) (cond b (Some variable.1) (find name_cmp name rest))
       one again true same false other = absurd (true≢false (sym rewritten ∙ ap (is_rewritten from to) (same_name-is name variable.0 same) ∙ other))
       one again true same true e =
           ap (λ o. found_after (global_key name) o (added from to of rest))
           (sym (takes_over (global_key name) None (made variable.0 variable.1) refl
           (same_name-of (global_key name) (key_of (made variable.0 variable.1))
-                  (ap global_key (same_name-is name variable.0 same) ∙ sym (key_of_made variable.0 variable.1))) refl))
+          (ap global_key (same_name-is name variable.0 same) ∙ sym (key_of_made variable.0 variable.1))) refl))
           ∙ found_after-added (global_key name) (made variable.0 variable.1) (added from to of rest) refl
-                  ∙ ap (λ n. Some (made n variable.1)) (sym (same_name-is name variable.0 same))
+          ∙ ap (λ n. Some (made n variable.1)) (sym (same_name-is name variable.0 same))
       one again false other false e = again
       one again false other true e =
           ap (λ o. found_after (global_key name) o (added from to of rest))
           (sym (stays_of_other (global_key name) None (made variable.0 variable.1) (false_from_ne_true (is_of (global_key name) (made variable.0 variable.1))
           (λ same. false≢true (sym other ∙ same_name-of name variable.0
           (stored_name-same name variable.0 (same_end (stored_name name) (stored_name variable.0)
-                  (same_name-is (global_key name) (key_of (made variable.0 variable.1)) same ∙ key_of_made variable.0 variable.1))))))))
+          (same_name-is (global_key name) (key_of (made variable.0 variable.1)) same ∙ key_of_made variable.0 variable.1))))))))
           ∙ again
 
 -- ---- the laws
@@ -185,13 +244,13 @@ module _ (records : List RecordParts) (from to attributes : Variables) (whole : 
 
   -- a variable that doesn't change, whose record is still there
   found_before : (name : List ℕ) (others : List RecordParts) → is_rewritten from to name ≡ false →
-          found (global_key name) others ≡ found (global_key name) records →
+      found (global_key name) others ≡ found (global_key name) records →
       found (global_key name) (others ++ new) ≡ found (global_key name) records
   found_before name others same there =
       found_after-append (global_key name) None others new
       ∙ added_others from to of four (global_key name) (found (global_key name) others) (entries to)
       (λ other e key. true≢false (sym e ∙ ap (is_rewritten from to)
-              (sym (stored_name-same name other (same_end (stored_name name) (stored_name other) key))) ∙ same)) ∙ there
+      (sym (stored_name-same name other (same_end (stored_name name) (stored_name other) key))) ∙ same)) ∙ there
 
   -- what is there of a variable that a set has, or of which no record is left out
   abbrev IsAskedFor : List ℕ → Type 0
@@ -202,14 +261,14 @@ module _ (records : List RecordParts) (from to attributes : Variables) (whole : 
   unfit_left_out name r there unfit =
       let own = subst (λ (o : Option RecordParts). IfSome o (IsFoundAs (global_key name))) there (found_after-is (global_key name) None records tt) in
       let of_vendor = (global_name r name
-              (vendor_len r (subst (λ (o : Option RecordParts). IfSome o IsRecord) there
-              (found_after-all (global_key name) IsRecord None records whole tt))) (sym own.0)).0 in
+      (vendor_len r (subst (λ (o : Option RecordParts). IfSome o IsRecord) there
+      (found_after-all (global_key name) IsRecord None records whole tt))) (sym own.0)).0 in
       ap (λ b. b && not (is_set_value r.value && is_set_name r.name))
-              (same_name-of global_vendor (vendor_in r.header) (sym of_vendor)) ∙ ap (λ b. not (b && is_set_name r.name)) unfit
+      (same_name-of global_vendor (vendor_in r.header) (sym of_vendor)) ∙ ap (λ b. not (b && is_set_name r.name)) unfit
 
   -- and what is left out of a boot variable has such a value
   left_out_unfit : (name : List ℕ) (r : RecordParts) → IsName name → found (global_key name) records ≡ Some r →
-          is_left_out r ≡ true → is_set_value r.value ≡ false
+      is_left_out r ≡ true → is_set_value r.value ≡ false
   left_out_unfit name r is there left = go (is_set_value r.value) refl
     where
       own : IsFoundAs (global_key name) r
@@ -217,7 +276,7 @@ module _ (records : List RecordParts) (from to attributes : Variables) (whole : 
 
       parts : (vendor_in r.header ≡ global_vendor) × (r.name ≡ stored_name name)
       parts = global_name r name (vendor_len r (subst (λ (o : Option RecordParts). IfSome o IsRecord) there
-              (found_after-all (global_key name) IsRecord None records whole tt))) (sym own.0)
+          (found_after-all (global_key name) IsRecord None records whole tt))) (sym own.0)
 
       fits : is_set_name r.name ≡ true
       fits = ap is_set_name parts.1 ∙ set_name_fits name is
@@ -226,7 +285,7 @@ module _ (records : List RecordParts) (from to attributes : Variables) (whole : 
       go false e = refl
       go true e =
           absurd (false≢true (sym (ap (λ b. b && not (is_set_value r.value && is_set_name r.name))
-                  (same_name-of global_vendor (vendor_in r.header) (sym parts.0))
+          (same_name-of global_vendor (vendor_in r.header) (sym parts.0))
           ∙ ap (λ b. not (b && is_set_name r.name)) e ∙ ap not fits) ∙ left))
 
   written_before : (name : List ℕ) (others : List RecordParts) → IsName name → is_boot_name name ≡ true → is_rewritten from to name ≡ false → IsAskedFor name →
@@ -247,7 +306,7 @@ module _ (records : List RecordParts) (from to attributes : Variables) (whole : 
             | inl some ↦ absurd (some (sym equal ∙ sym e'))
             | inr none ↦
                 let left : if_left_out (found (global_key name) records) ≡ Some r =
-                        ap if_left_out found_o ∙ ap (λ b. cond b (Some r) None) (unfit_left_out name r found_o unfit) in
+                ap if_left_out found_o ∙ ap (λ b. cond b (Some r) None) (unfit_left_out name r found_o unfit) in
                 let never : None ≡ Some r = sym none ∙ left in
                 cc
           ]
@@ -264,13 +323,13 @@ module _ (records : List RecordParts) (from to attributes : Variables) (whole : 
   found_own name r is e =
       let own = subst (λ (o : Option RecordParts). IfSome o (IsFoundAs (global_key name))) e (found_after-is (global_key name) None records tt) in
       outdated_is from to r name (subst (λ (o : Option RecordParts). IfSome o IsRecord) e
-              (found_after-all (global_key name) IsRecord None records whole tt)) is own.1 own.0
+      (found_after-all (global_key name) IsRecord None records whole tt)) is own.1 own.0
 
   -- Records that keep what doesn't change, and no record of what changes: as those in their places, and those that were moved.
   abbrev Keeps : List ℕ → List RecordParts → Type 0
   Keeps name others =
       (is_rewritten from to name ≡ true → found (global_key name) others ≡ None)
-              × (is_rewritten from to name ≡ false → found (global_key name) others ≡ found (global_key name) records)
+      × (is_rewritten from to name ≡ false → found (global_key name) others ≡ found (global_key name) records)
 
   pub asked_for : (name : List ℕ) (others : List RecordParts) → IsName name → is_boot_name name ≡ true → IsAskedFor name → Keeps name others →
       option_map (λ r. r.value) (found (global_key name) (others ++ new)) ≡ get to name
@@ -282,13 +341,13 @@ module _ (records : List RecordParts) (from to attributes : Variables) (whole : 
 
   -- what is left out, and isn't asked for, stays
   pub left_as_it_is : (name : List ℕ) (others : List RecordParts) (r : RecordParts) → IsName name → Keeps name others →
-          found (global_key name) records ≡ Some r → is_left_out r ≡ true →
+      found (global_key name) records ≡ Some r → is_left_out r ≡ true →
       get to name ≡ None → found (global_key name) (others ++ new) ≡ Some r
   left_as_it_is name others r is keeps there left none =
       let lacks : get from name ≡ None = from_is name is ∙ ap set_data there ∙ ap (λ b. cond b (Some r.value) None) (left_out_unfit name r is there left) in
       let same : is_rewritten from to name ≡ false =
       ap (λ (o : Option (List ℕ)). is_boot_name name && not (same_data o (get to name))) lacks
-              ∙ ap (λ (o : Option (List ℕ)). is_boot_name name && not (same_data None o)) none ∙ never (is_boot_name name) in
+      ∙ ap (λ (o : Option (List ℕ)). is_boot_name name && not (same_data None o)) none ∙ never (is_boot_name name) in
       found_before name others same (keeps.1 same) ∙ there
     where
       never : (b : Bool) → (b && false) ≡ false
@@ -297,7 +356,7 @@ module _ (records : List RecordParts) (from to attributes : Variables) (whole : 
 
   -- a new record has the attributes that are given, or else those of the record that was there
   pub as_given : (name value : List ℕ) (others : List RecordParts) → is_boot_name name ≡ true → Keeps name others →
-          get to name ≡ Some value → get from name ≢ Some value →
+      get to name ≡ Some value → get from name ≢ Some value →
       found (global_key name) (others ++ new) ≡ Some (new_record (of name) name value)
   as_given name value others boot keeps put other = found_new name others rewritten (keeps.0 rewritten) ∙ ap (option_map (made from to of four name)) put
     where
@@ -327,16 +386,16 @@ module _ (records : List RecordParts) (from to attributes : Variables) (whole : 
 
   -- and every other variable
   pub others_in_place : (key : List ℕ) → ((name : List ℕ) → is_boot_name name ≡ true → key ≡ global_key name → ⊥) →
-          found key (without_outdated from to records ++ new) ≡ found key records
+      found key (without_outdated from to records ++ new) ≡ found key records
   others_in_place key apart =
       found_after-append key None (without_outdated from to records) new
       ∙ added_others from to of four key (found key (without_outdated from to records)) (entries to)
-              (λ name e is. apart name (and_parts (is_boot_name name) _ e).0 is)
+      (λ name e is. apart name (and_parts (is_boot_name name) _ e).0 is)
       ∙ stays from to key None records (λ r outdated same. let own = of_boot from to r outdated in
-              apart own.1 (and_parts (is_boot_name own.1) _ own.2).0 (same_name-is key (key_of r) same ∙ own.3))
+      apart own.1 (and_parts (is_boot_name own.1) _ own.2).0 (same_name-is key (key_of r) same ∙ own.3))
 
   pub others_after_moving : (key : List ℕ) (kept : List RecordParts) → AreKept records from to kept →
-          ((name : List ℕ) → is_boot_name name ≡ true → key ≡ global_key name → ⊥) →
+      ((name : List ℕ) → is_boot_name name ≡ true → key ≡ global_key name → ⊥) →
       found key (kept ++ new) ≡ found key records
   others_after_moving key kept are apart =
       found_after-append key None kept new
@@ -377,9 +436,9 @@ module _ (file bytes : List ℕ) (to attributes : Variables) (written : IsWritte
         ∙ asked_for before written.from to attributes whole written.from_is name split.0 is boot asked split.1
 
     pub left_out_stays : (r : RecordParts) → found (global_key name) before ≡ Some r → is_left_out r ≡ true →
-            get to name ≡ None → found (global_key name) after ≡ Some r
+        get to name ≡ None → found (global_key name) after ≡ Some r
     left_out_stays r there left none = ap (found (global_key name)) split.2
-            ∙ left_as_it_is before written.from to attributes whole written.from_is name split.0 r is split.1 there left none
+        ∙ left_as_it_is before written.from to attributes whole written.from_is name split.0 r is split.1 there left none
 
     pub attributes_as_given : (value : List ℕ) → is_boot_name name ≡ true → get to name ≡ Some value → get written.from name ≢ Some value →
         found (global_key name) after ≡ Some (new_record (new_attributes (get attributes name) (found (global_key name) before)) name value)

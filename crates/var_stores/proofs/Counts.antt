@@ -1,6 +1,32 @@
 -- Bytes have one count of the records among them, and no first byte that is written if all are erased.
-use Rattle.std.proofs.Common.{◌≡◌, ◌≢◌, ℕ, suc, ◌+◌, ◌≤◌, ◌<◌, ◌==◌, Bool, true, false, cond, not, List, [], ◌∷◌,
-    length, drop, Some, None, refl, sym, ap, subst, ◌∙◌, arith}
+use Rattle.std.proofs.Common.{
+  ◌≡◌,
+  ◌≢◌,
+  ℕ,
+  suc,
+  ◌+◌,
+  ◌≤◌,
+  ◌<◌,
+  ◌==◌,
+  Bool,
+  true,
+  false,
+  cond,
+  not,
+  List,
+  [],
+  ◌∷◌,
+  length,
+  drop,
+  Some,
+  None,
+  refl,
+  sym,
+  ap,
+  subst,
+  ◌∙◌,
+  arith,
+}
 use Rattle.std.specs.Prelude.{nat_lt}
 use Rattle.std.specs.List.{position_or_len}
 use Rattle.std.proofs.lemmas.List.{length-append}
@@ -54,7 +80,7 @@ pub none_written : (bytes : List ℕ) → AreErased bytes → first_written byte
 none_written bytes erased =
     ap (λ n. cond (nat_lt n (length bytes)) (Some n) None) (erased_len bytes erased)
     ∙ ap (λ b. cond b (Some (length bytes)) None) (false_from_ne_true (nat_lt (length bytes) (length bytes))
-            (λ e. let below = ltb-true (length bytes) (length bytes) e in omega (arith, below)))
+    (λ e. let below = ltb-true (length bytes) (length bytes) e in omega (arith, below)))
 
 all_passed : (bytes : List ℕ) → length bytes ≤ position_or_len is_written bytes → AreErased bytes
 all_passed [] past = tt
@@ -67,7 +93,7 @@ all_passed (byte ∷ bytes) past = go (λ more. all_passed bytes more) (byte == 
 
 pub all_erased : (bytes : List ℕ) → first_written bytes ≡ None → AreErased bytes
 all_erased bytes none = all_passed bytes (ltb-false (position_or_len is_written bytes) (length bytes)
-        (no_place (position_or_len is_written bytes) (nat_lt (position_or_len is_written bytes) (length bytes)) none))
+    (no_place (position_or_len is_written bytes) (nat_lt (position_or_len is_written bytes) (length bytes)) none))
   where
     no_place : (n : ℕ) (b : Bool) → cond b (Some n) None ≡ None → b ≡ false
     no_place n true e = cc
@@ -90,9 +116,9 @@ pub past_record : (bytes rest after : List ℕ) (count : ℕ) → IsAfterRecord 
 past_record bytes rest after count p leads more total counts is = leads (suc more) total (one_more p counts) (omega (arith, is))
 
 pub past_four : (bytes rest after : List ℕ) (count : ℕ) → rest ≢ [] → BeginsNone rest → after ≡ drop 4 rest →
-        LeadsTo bytes rest count → LeadsTo bytes after count
+    LeadsTo bytes rest count → LeadsTo bytes after count
 past_four bytes rest after count some none is leads more total counts sum =
-        leads more total (none_here some none (subst (λ (t : List ℕ). CountsRecords t more) is counts)) sum
+    leads more total (none_here some none (subst (λ (t : List ℕ). CountsRecords t more) is counts)) sum
 
 pub all_counted : (bytes rest : List ℕ) (count : ℕ) → length rest ≡ 0 → LeadsTo bytes rest count → CountsRecords bytes count
 all_counted bytes [] count none leads = leads 0 count at_end (omega arith)

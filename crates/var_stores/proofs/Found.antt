@@ -27,7 +27,7 @@ abbrev pub IsFoundAs : List ℕ → RecordParts → Type 0
 IsFoundAs key r = (key_of r ≡ key) × (is_alive r ≡ true)
 
 with_found : (key : List ℕ) (P : RecordParts → Type 0) (before : Option RecordParts) (r : RecordParts) →
-        (is_of key r ≡ true → is_alive r ≡ true → P r) → IfSome before P →
+    (is_of key r ≡ true → is_alive r ≡ true → P r) → IfSome before P →
     IfSome (found_with key before r) P
 with_found key P before r holds was = go (is_alive r && is_of key r) refl
   where
@@ -39,18 +39,18 @@ with_found key P before r holds was = go (is_alive r && is_of key r) refl
     ]
 
 pub found_after-is : (key : List ℕ) (before : Option RecordParts) (records : List RecordParts) → IfSome before (IsFoundAs key) →
-        IfSome (found_after key before records) (IsFoundAs key)
+    IfSome (found_after key before records) (IsFoundAs key)
 found_after-is key before [] was = was
 found_after-is key before (r ∷ records) was =
     found_after-is key (found_with key before r) records (with_found key (IsFoundAs key) before r
-            (λ same alive. (sym (same_name-is key (key_of r) same), alive)) was)
+    (λ same alive. (sym (same_name-is key (key_of r) same), alive)) was)
 
 pub found_after-all : (key : List ℕ) (P : RecordParts → Type 0) (before : Option RecordParts) (records : List RecordParts) →
-        AllByRecursion P records → IfSome before P →
+    AllByRecursion P records → IfSome before P →
     IfSome (found_after key before records) P
 found_after-all key P before [] all was = was
 found_after-all key P before (r ∷ records) all was = found_after-all key P (found_with key before r) records all.1
-        (with_found key P before r (λ same alive. all.0) was)
+    (with_found key P before r (λ same alive. all.0) was)
 
 -- ---- the first that was added, or else the last that is being replaced
 
@@ -72,11 +72,11 @@ pub none_alive : (key : List ℕ) (before : Option RecordParts) (records : List 
 none_alive key before [] none = refl
 none_alive key before (r ∷ records) none =
     ap (λ b. found_after key (cond (b && not (is_added_there before)) (Some r) before) records)
-            (swapped (is_alive r) (is_of key r) ∙ none.0) ∙ none_alive key before records none.1
+    (swapped (is_alive r) (is_of key r) ∙ none.0) ∙ none_alive key before records none.1
 
 -- what was found before isn't of a record that was added
 none_added : (key : List ℕ) (before : Option RecordParts) (records : List RecordParts) → NoneAdded key records →
-        is_added_there before ≡ false → is_added_there (found_after key before records) ≡ false
+    is_added_there before ≡ false → is_added_there (found_after key before records) ≡ false
 none_added key before [] none was = was
 none_added key before (r ∷ records) none was = none_added key (found_with key before r) records none.1 (one (is_alive r) (is_of key r) refl)
   where
@@ -86,22 +86,22 @@ none_added key before (r ∷ records) none was = none_added key (found_with key 
     one true true e = ap (λ c. is_added_there (cond (not c) (Some r) before)) was ∙ sym (ap (λ c. c && is_added r) e) ∙ none.0
 
 takes : (key : List ℕ) (before : Option RecordParts) (r : RecordParts) → (is_of key r && is_alive r) ≡ true →
-        is_added_there before ≡ false → found_with key before r ≡ Some r
+    is_added_there before ≡ false → found_with key before r ≡ Some r
 takes key before r is was =
     ap (λ b. cond (b && not (is_added_there before)) (Some r) before) (swapped (is_alive r) (is_of key r) ∙ is) ∙ ap (λ c. cond (not c) (Some r) before) was
 
 pub first_added : (key : List ℕ) (before after : List RecordParts) (r : RecordParts) → NoneAdded key before →
-        (is_of key r && is_added r) ≡ true → found key (before ++ (r ∷ after)) ≡ Some r
+    (is_of key r && is_added r) ≡ true → found key (before ++ (r ∷ after)) ≡ Some r
 first_added key before after r none is =
     let both = and_parts (is_of key r) (is_added r) is in
     found_after-append key None before (r ∷ after)
     ∙ ap (λ o. found_after key o after) (takes key (found key before) r
-            (ap (λ b. b && is_alive r) both.0 ∙ or_left (is_added r) _ both.1) (none_added key None before none refl))
+    (ap (λ b. b && is_alive r) both.0 ∙ or_left (is_added r) _ both.1) (none_added key None before none refl))
     ∙ found_after-added key r after both.1
 
 pub last_replaced : (key : List ℕ) (before after : List RecordParts) (r : RecordParts) → NoneAdded key before →
-        (is_of key r && is_alive r) ≡ true → NoneAlive key after →
+    (is_of key r && is_alive r) ≡ true → NoneAlive key after →
     found key (before ++ (r ∷ after)) ≡ Some r
 last_replaced key before after r none is later =
     found_after-append key None before (r ∷ after) ∙ ap (λ o. found_after key o after)
-            (takes key (found key before) r is (none_added key None before none refl)) ∙ none_alive key (Some r) after later
+    (takes key (found key before) r is (none_added key None before none refl)) ∙ none_alive key (Some r) after later

@@ -20,7 +20,7 @@ pub vendor_len : (r : RecordParts) → IsRecord r → length (vendor_in r.header
 vendor_len r is = length-drop 41 r.header ∙ ap (λ n. n - 41) is.header
 
 pub global_name : (r : RecordParts) (name : List ℕ) → length (vendor_in r.header) ≡ 16 → global_key name ≡ key_of r →
-        (vendor_in r.header ≡ global_vendor) × (r.name ≡ stored_name name)
+    (vendor_in r.header ≡ global_vendor) × (r.name ≡ stored_name name)
 global_name r name len same =
     let parts = same_size global_vendor (vendor_in r.header) (stored_name name) r.name (sym len) same in (sym parts.0, sym parts.1)
 
@@ -31,13 +31,13 @@ is_of-global r name vendor = same_truth (is_of (global_key name) r) (same_name r
     (ap (λ (n : List ℕ). global_vendor ++ n) (sym (same_name-is r.name (stored_name name) same)) ∙ ap (λ (v : List ℕ). v ++ r.name) (sym vendor)))
 
 pub is_of-foreign : (r : RecordParts) (name : List ℕ) → length (vendor_in r.header) ≡ 16 →
-        (vendor_in r.header ≡ global_vendor → ⊥) → is_of (global_key name) r ≡ false
+    (vendor_in r.header ≡ global_vendor → ⊥) → is_of (global_key name) r ≡ false
 is_of-foreign r name len other =
     false_from_ne_true (is_of (global_key name) r) (λ same. other (global_name r name len (same_name-is (global_key name) (key_of r) same)).0)
 
 -- what a set has once a part of the record of a variable of the standard was put into it
 pub puts_global : (old new : Variables) (r : RecordParts) (part : List ℕ) → vendor_in r.header ≡ global_vendor →
-        is_set_value part ≡ is_set_value r.value → PutsStored old new r.name part →
+    is_set_value part ≡ is_set_value r.value → PutsStored old new r.name part →
     PutsRecord old new r part
 puts_global old new r part vendor held puts name is =
     puts name is ∙ ap (λ b. cond (same_name r.name (stored_name name) && b) (Some part) (get old name)) held
@@ -45,6 +45,6 @@ puts_global old new r part vendor held puts name is =
 
 -- or of one of another vendor
 pub puts_foreign : (vars : Variables) (r : RecordParts) (part : List ℕ) → length (vendor_in r.header) ≡ 16 →
-        (vendor_in r.header ≡ global_vendor → ⊥) → (name : List ℕ) →
+    (vendor_in r.header ≡ global_vendor → ⊥) → (name : List ℕ) →
     get vars name ≡ cond (is_of (global_key name) r && is_set_value r.value) (Some part) (get vars name)
 puts_foreign vars r part len other name = ap (λ b. cond (b && is_set_value r.value) (Some part) (get vars name)) (sym (is_of-foreign r name len other))

@@ -17,7 +17,7 @@ use Rattle.var_stores.proofs.PresentValues.{records_sorted, records_of_each_one,
 
 -- what holds of all holds of those that pass
 pub filter-all : (P : RecordParts → Type 0) (p : RecordParts → Bool) (records : List RecordParts) → AllByRecursion P records →
-        AllByRecursion P (filter p records)
+    AllByRecursion P (filter p records)
 filter-all P p [] all = tt
 filter-all P p (r ∷ records) all = elim (p r) as (λ b. AllByRecursion P (cond b (r ∷ filter p records) (filter p records))) [
   | true ↦ (all.0, filter-all P p records all.1)
@@ -28,13 +28,13 @@ below-filter : (key : List ℕ) (p : RecordParts → Bool) (records : List Recor
     AllByRecursion (λ k. name_cmp key k ≡ Less) (map key_of (filter p records))
 below-filter key p [] below = tt
 below-filter key p (r ∷ records) below = elim (p r) as (λ b.
-        AllByRecursion (λ k. name_cmp key k ≡ Less) (map key_of (cond b (r ∷ filter p records) (filter p records)))) [
-  | true ↦ (below.0, below-filter key p records below.1)
-  | false ↦ below-filter key p records below.1
-]
+    AllByRecursion (λ k. name_cmp key k ≡ Less) (map key_of (cond b (r ∷ filter p records) (filter p records)))) [
+      | true ↦ (below.0, below-filter key p records below.1)
+      | false ↦ below-filter key p records below.1
+    ]
 
 pub sorted-filter : (p : RecordParts → Bool) (records : List RecordParts) → IsStrictlySortedBy name_cmp (map key_of records) →
-        IsStrictlySortedBy name_cmp (map key_of (filter p records))
+    IsStrictlySortedBy name_cmp (map key_of (filter p records))
 unfolding IsStrictlySortedBy
 sorted-filter p [] sorted = tt
 sorted-filter p (r ∷ records) sorted = elim (p r) as (λ b. IsStrictlySortedBy name_cmp (map key_of (cond b (r ∷ filter p records) (filter p records)))) [
@@ -57,13 +57,13 @@ module _ (present : BTreeMap (Vec ℕ) Record) (ordered : IsOrdered (λ x y. nam
   kept_alive from to = filter-all (λ r. is_alive r ≡ true) (λ r. not (is_outdated from to r)) there (records_alive present ordered keyed)
 
   pub are_kept : (records : List RecordParts) (from to : Variables) →
-          ((key : List ℕ) → record_under present key ≡ found key records) → AreKept records from to (unchanged from to there)
+      ((key : List ℕ) → record_under present key ≡ found key records) → AreKept records from to (unchanged from to there)
   are_kept records from to all = record {
     order = kept_sorted from to;
     alive = kept_alive from to;
     each = λ key.
         found-first key (unchanged from to there) (IsDistinct-from_sorted name_cmp (map key_of (unchanged from to there))
-                (kept_sorted from to)) (kept_alive from to)
+        (kept_sorted from to)) (kept_alive from to)
         ∙ first_of-filter (λ r. not (is_outdated from to r)) key there (records_of_each_one present ordered keyed)
         ∙ ap (if_passes (λ r. not (is_outdated from to r))) (first_under present ordered keyed key ∙ all key) ∙ passes-or-not from to (found key records);
   }

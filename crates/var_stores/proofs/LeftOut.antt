@@ -1,6 +1,32 @@
 -- The records of the variables that are there and that no set can hold.
-use Rattle.std.proofs.Common.{◌≡◌, ◌↔◌, ℕ, ◌==◌, Bool, true, false, cond, not, ◌&&◌, List, [], ◌∷◌, ◌++◌, length, map,
-    Option, Some, None, IfSome, refl, sym, ap, subst, ◌∙◌, arith}
+use Rattle.std.proofs.Common.{
+  ◌≡◌,
+  ◌↔◌,
+  ℕ,
+  ◌==◌,
+  Bool,
+  true,
+  false,
+  cond,
+  not,
+  ◌&&◌,
+  List,
+  [],
+  ◌∷◌,
+  ◌++◌,
+  length,
+  map,
+  Option,
+  Some,
+  None,
+  IfSome,
+  refl,
+  sym,
+  ap,
+  subst,
+  ◌∙◌,
+  arith,
+}
 use Rattle.std.specs.Prelude.{nat_lt}
 use Rattle.std.specs.Option.{option_map, option_map_or}
 use Rattle.std.specs.Char.{is_ascii_graphic}
@@ -14,8 +40,21 @@ use Rattle.uefi_vars.specs.Name.{IsName, IsNameByte, name_max, global_vendor}
 use Rattle.uefi_vars.specs.Vars.{Variables, name_cmp}
 use Rattle.var_stores.specs.declared.record.Record.{Record}
 use Rattle.var_stores.specs.Record.{RecordParts, record_parts, vendor_in}
-use Rattle.var_stores.specs.Present.{stored_name, name_in, key_of, global_key, is_alive, found, is_set_value, set_data,
-    is_set_name, is_left_out, if_left_out, IsSetOf, AreLeftOut}
+use Rattle.var_stores.specs.Present.{
+  stored_name,
+  name_in,
+  key_of,
+  global_key,
+  is_alive,
+  found,
+  is_set_value,
+  set_data,
+  is_set_name,
+  is_left_out,
+  if_left_out,
+  IsSetOf,
+  AreLeftOut,
+}
 use Rattle.var_stores.specs.PresentMap.{record_under, AreKeyed}
 use Rattle.uefi_vars.proofs.NameTests.{same_name-of}
 use Rattle.var_stores.proofs.Found.{IsFoundAs, found_after-is}
@@ -31,7 +70,7 @@ passes-if_left_out (Some r) = refl
 
 pub are_left_out : (present : BTreeMap (Vec ℕ) Record) → IsOrdered (λ x y. name_cmp x.items y.items) present → AreKeyed present →
     (records : List RecordParts) → ((key : List ℕ) → record_under present key ≡ found key records) →
-            AreLeftOut records (filter is_left_out (map record_parts (values present)))
+    AreLeftOut records (filter is_left_out (map record_parts (values present)))
 are_left_out present ordered keyed records all =
     let there = map record_parts (values present) in
     let left = filter is_left_out there in
@@ -67,7 +106,7 @@ printing (low ∷ high ∷ stored) name e = go (λ rest is. printing stored rest
     at_end false is = absurd cc
 
     go : ((rest : List ℕ) → name_in stored ≡ Some rest → AllByRecursion IsNameByte rest) → (b : Bool) →
-            ((high == 0) && is_ascii_graphic low) ≡ b → AllByRecursion IsNameByte name
+        ((high == 0) && is_ascii_graphic low) ≡ b → AllByRecursion IsNameByte name
     go again true is = with_more again (name_in stored) refl (sym (ap (name_if low high stored) is) ∙ e) (and_parts (high == 0) (is_ascii_graphic low) is).1
     go again false is = at_end (((low == 0) && (high == 0)) && (length stored == 0)) (sym (ap (name_if low high stored) is) ∙ e)
 
@@ -121,7 +160,7 @@ module _ (records : List RecordParts) (vars : Variables) (key : List ℕ) (r : R
       go (Some name) e fits =
           let named = name_is r.name name e fits in
           let same : key ≡ global_key name = sym own ∙ ap (λ (v : List ℕ). v ++ r.name) vendor
-                  ∙ ap (λ (n : List ℕ). global_vendor ++ n) (stored_name-name_in r.name name e) in
+          ∙ ap (λ (n : List ℕ). global_vendor ++ n) (stored_name-name_in r.name name e) in
           (name, (named, same, set_has name named same ∙ ap (λ b. cond b (Some r.value) None) both.0))
 
   kept_of : (name : List ℕ) → IsHeld name → is_left_out r ≡ false
@@ -137,7 +176,7 @@ module _ (records : List RecordParts) (vars : Variables) (key : List ℕ) (r : R
       some_of false e = absurd cc
 
 pub held_or_left_out : (records : List RecordParts) (vars : Variables) (key : List ℕ) (r : RecordParts) → IsSetOf records vars →
-        found key records ≡ Some r → vendor_in r.header ≡ global_vendor →
+    found key records ≡ Some r → vendor_in r.header ≡ global_vendor →
     (is_left_out r ≡ false) ↔ ((name : List ℕ) × IsName name × (key ≡ global_key name) × (get vars name ≡ Some r.value))
 held_or_left_out records vars key r is there vendor = (
   λ kept. let found = held records vars key r is there vendor kept in (found.0, found.1.0, found.1.1, found.1.2),

@@ -21,7 +21,7 @@ AreOfOthers key records = AllByRecursion (λ r. is_of key r ≡ false) records
 
 -- a variable's record comes first, and no other follows, or one of another variable comes first
 pub by_first : (key : List ℕ) (r : RecordParts) (records : List RecordParts) (P : Type 0) → AreOfEachOne (r ∷ records) →
-        (is_of key r ≡ true → AreOfOthers key records → P) → (is_of key r ≡ false → P) → P
+    (is_of key r ≡ true → AreOfOthers key records → P) → (is_of key r ≡ false → P) → P
 by_first key r records P each here there = go (is_of key r) refl
   where
     others : (rs : List RecordParts) → key ≡ key_of r → AllByRecursion (λ k. same_name (key_of r) k ≡ false) (map key_of rs) → AreOfOthers key rs
@@ -48,21 +48,21 @@ first_none key (r ∷ records) others = first_later key r records others.0 ∙ f
 -- ---- what is found among them
 
 pub found_after-others : (key : List ℕ) (before : Option RecordParts) (records : List RecordParts) → AreOfOthers key records →
-        found_after key before records ≡ before
+    found_after key before records ≡ before
 found_after-others key before [] others = refl
 found_after-others key before (r ∷ records) others =
     ap (λ found. found_after key found records) (sym (stays_of_other key before r others.0)) ∙ found_after-others key before records others.1
 
 pub found-first : (key : List ℕ) (records : List RecordParts) → AreOfEachOne records →
-        AllByRecursion (λ r. is_alive r ≡ true) records → found key records ≡ first_of key records
+    AllByRecursion (λ r. is_alive r ≡ true) records → found key records ≡ first_of key records
 found-first key [] each alive = refl
 found-first key (r ∷ records) each alive = by_first key r records (found key (r ∷ records) ≡ first_of key (r ∷ records)) each
     (λ same others.
     ap (λ before. found_after key before records) (sym (takes_over key None r alive.0 same refl))
-            ∙ found_after-others key (Some r) records others ∙ sym (first_is key r records same))
+    ∙ found_after-others key (Some r) records others ∙ sym (first_is key r records same))
     (λ other.
     ap (λ before. found_after key before records) (sym (stays_of_other key None r other))
-            ∙ found-first key records (tail_of r records each) alive.1 ∙ sym (first_later key r records other))
+    ∙ found-first key records (tail_of r records each) alive.1 ∙ sym (first_later key r records other))
 
 -- ---- those of them that pass a test
 
@@ -78,7 +78,7 @@ others-filter p key (r ∷ records) others = elim (p r) as (λ b. AreOfOthers ke
 ]
 
 pub first_of-filter : (p : RecordParts → Bool) (key : List ℕ) (records : List RecordParts) → AreOfEachOne records →
-        first_of key (filter p records) ≡ if_passes p (first_of key records)
+    first_of key (filter p records) ≡ if_passes p (first_of key records)
 first_of-filter p key [] each = refl
 first_of-filter p key (r ∷ records) each = by_first key r records (first_of key (filter p (r ∷ records)) ≡ if_passes p (first_of key (r ∷ records))) each
     (λ same others. passes same others (p r) ∙ ap (if_passes p) (sym (first_is key r records same)))
@@ -100,21 +100,21 @@ part_after part key before [] = before
 part_after part key before (r ∷ records) = part_after part key (cond (is_of key r && is_set_value r.value) (Some (part r)) before) records
 
 part_after-others : (part : RecordParts → List ℕ) (key : List ℕ) (before : Option (List ℕ)) (records : List RecordParts) →
-        AreOfOthers key records → part_after part key before records ≡ before
+    AreOfOthers key records → part_after part key before records ≡ before
 part_after-others part key before [] others = refl
 part_after-others part key before (r ∷ records) others =
     ap (λ b. part_after part key (cond (b && is_set_value r.value) (Some (part r)) before) records) others.0
-            ∙ part_after-others part key before records others.1
+    ∙ part_after-others part key before records others.1
 
 pub part_after-first : (part : RecordParts → List ℕ) (key : List ℕ) (records : List RecordParts) → AreOfEachOne records →
-        part_after part key None records ≡ set_part part (first_of key records)
+    part_after part key None records ≡ set_part part (first_of key records)
 part_after-first part key [] each = refl
 part_after-first part key (r ∷ records) each = by_first key r records (part_after part key None (r ∷ records) ≡ set_part part (first_of key (r ∷ records))) each
     (λ same others.
     ap (λ b. part_after part key (cond (b && is_set_value r.value) (Some (part r)) None) records) same
-            ∙ part_after-others part key (set_part part (Some r)) records others
+    ∙ part_after-others part key (set_part part (Some r)) records others
     ∙ ap (set_part part) (sym (first_is key r records same)))
     (λ other.
     ap (λ b. part_after part key (cond (b && is_set_value r.value) (Some (part r)) None) records) other
-            ∙ part_after-first part key records (tail_of r records each)
+    ∙ part_after-first part key records (tail_of r records each)
     ∙ ap (set_part part) (sym (first_later key r records other)))

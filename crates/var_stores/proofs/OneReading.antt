@@ -9,7 +9,7 @@ same_record : (r s : RecordParts) → r.state ≡ s.state → r.header ≡ s.hea
 same_record r s a b c d e = λ i. record { state = a i; header = b i; name = c i; value = d i; padding = e i }
 
 pub one_record : (bytes : List ℕ) (r s : RecordParts) (x y : List ℕ) → IsRecord r → IsRecord s → bytes ≡ record_bytes r ++ x →
-        bytes ≡ record_bytes s ++ y → (r ≡ s) × (x ≡ y)
+    bytes ≡ record_bytes s ++ y → (r ≡ s) × (x ≡ y)
 one_record bytes r s x y p q e f =
     let header = same_header bytes r.state s.state r.header s.header _ _ (record_header bytes r x p e) (record_header bytes s y q f) in
     let name_is : length r.name ≡ length s.name = p.name ∙ ap (λ (t : ℕ). name_len t r.header) header.0 ∙ ap (name_len s.state) header.1 ∙ sym q.name in
@@ -26,7 +26,7 @@ begins r rest = (refl, refl)
 
 -- a record with more after it
 longer : (r : RecordParts) (records : List RecordParts) (free : List ℕ) →
-        flat_map record_bytes (r ∷ records) ++ free ≡ record_bytes r ++ (flat_map record_bytes records ++ free)
+    flat_map record_bytes (r ∷ records) ++ free ≡ record_bytes r ++ (flat_map record_bytes records ++ free)
 longer r records free = append_assoc (record_bytes r) (flat_map record_bytes records) free
 
 pub one_reading : (rs ss : List RecordParts) (bytes f g : List ℕ) → HasRecords bytes rs f → HasRecords bytes ss g → (rs ≡ ss) × (f ≡ g)
@@ -37,21 +37,21 @@ one_reading (r ∷ rs) [] bytes f g p q =
     absurd (q.stops (subst BeginsRecord (sym (longer r rs f) ∙ sym p.is ∙ q.is) (begins r (flat_map record_bytes rs ++ f))))
 one_reading (r ∷ rs) (s ∷ ss) bytes f g p q =
     let one = one_record bytes r s (flat_map record_bytes rs ++ f) (flat_map record_bytes ss ++ g) p.whole.0 q.whole.0
-            (p.is ∙ longer r rs f) (q.is ∙ longer s ss g) in
+    (p.is ∙ longer r rs f) (q.is ∙ longer s ss g) in
     let rest = one_reading rs ss (flat_map record_bytes rs ++ f) f g (record { is = refl; whole = p.whole.1; stops = p.stops })
-            (record { is = one.1; whole = q.whole.1; stops = q.stops }) in
+    (record { is = one.1; whole = q.whole.1; stops = q.stops }) in
     (ap (λ (t : RecordParts). t ∷ rs) one.0 ∙ ap (λ (t : List RecordParts). s ∷ t) rest.0, rest.1)
 
 -- bytes that end in a record aren't records with others after them
 no_reading : (rs ss : List RecordParts) (bytes rest g : List ℕ) → bytes ≡ flat_map record_bytes rs ++ rest →
-        AllByRecursion IsRecord rs → IsCutRecord rest → HasRecords bytes ss g → ⊥
+    AllByRecursion IsRecord rs → IsCutRecord rest → HasRecords bytes ss g → ⊥
 no_reading [] [] bytes rest g is whole cut q = q.stops (subst BeginsRecord (sym is ∙ q.is) cut.begins)
 no_reading [] (s ∷ ss) bytes rest g is whole cut q = cut.cut s (flat_map record_bytes ss ++ g) q.whole.0 (sym is ∙ q.is ∙ longer s ss g)
 no_reading (r ∷ rs) [] bytes rest g is whole cut q =
     q.stops (subst BeginsRecord (sym (longer r rs rest) ∙ sym is ∙ q.is) (begins r (flat_map record_bytes rs ++ rest)))
 no_reading (r ∷ rs) (s ∷ ss) bytes rest g is whole cut q =
     let one = one_record bytes r s (flat_map record_bytes rs ++ rest) (flat_map record_bytes ss ++ g) whole.0 q.whole.0
-            (is ∙ longer r rs rest) (q.is ∙ longer s ss g) in
+    (is ∙ longer r rs rest) (q.is ∙ longer s ss g) in
     no_reading rs ss (flat_map record_bytes rs ++ rest) rest g refl whole.1 cut (record { is = one.1; whole = q.whole.1; stops = q.stops })
 
 pub cut_or_read : (bytes g : List ℕ) (place : ℕ) (ss : List RecordParts) → HasCutRecord bytes place → HasRecords bytes ss g → ⊥
@@ -59,7 +59,7 @@ cut_or_read bytes g place ss h q = no_reading h.records ss bytes h.rest g h.is h
 
 -- bytes end in one record
 one_cut : (rs ss : List RecordParts) (bytes x y : List ℕ) → bytes ≡ flat_map record_bytes rs ++ x →
-        bytes ≡ flat_map record_bytes ss ++ y → AllByRecursion IsRecord rs → AllByRecursion IsRecord ss →
+    bytes ≡ flat_map record_bytes ss ++ y → AllByRecursion IsRecord rs → AllByRecursion IsRecord ss →
     IsCutRecord x → IsCutRecord y → flat_map record_bytes rs ≡ flat_map record_bytes ss
 one_cut [] [] bytes x y e f p q cut cut' = refl
 one_cut [] (s ∷ ss) bytes x y e f p q cut cut' = absurd (cut.cut s (flat_map record_bytes ss ++ y) q.0 (sym e ∙ f ∙ longer s ss y))

@@ -30,7 +30,7 @@ module _ (key : List ℕ) (before : Option RecordParts) (r : RecordParts) where
 
   pub stays_added : is_added_there before ≡ true → before ≡ found_with key before r
   stays_added added = sym (ap (λ a. cond ((is_alive r && is_of key r) && not a) (Some r) before) added
-          ∙ ap (λ b. cond b (Some r) before) (never (is_alive r && is_of key r)))
+      ∙ ap (λ b. cond b (Some r) before) (never (is_alive r && is_of key r)))
     where
       never : (b : Bool) → (b && false) ≡ false
       never true = refl
@@ -60,7 +60,7 @@ module _ (old new : BTreeMap (Vec ℕ) Record) (k : Vec ℕ) (r : Record)
   others_stay : (key : List ℕ) → is_of key (record_parts r) ≡ false → record_under new key ≡ record_under old key
   unfolding KeepsOthers
   others_stay key other = ap (option_map record_parts) (updates.3 (λ x. same_name key x.items)
-          (λ x y. (eq_by_cmp_equiv nat_list_cmp_total).congr key x.items y.items) apart)
+      (λ x y. (eq_by_cmp_equiv nat_list_cmp_total).congr key x.items y.items) apart)
     where
       apart : (x : Vec ℕ) → same_name k.items x.items ≡ true → same_name key x.items ≡ false
       apart x same = ap (same_name key) (sym (same_name-is k.items x.items same) ∙ own) ∙ other
@@ -76,12 +76,12 @@ module _ (old new : BTreeMap (Vec ℕ) Record) (k : Vec ℕ) (r : Record)
 
 -- what a look-up under a record's key gives
 pub looked_up : (present : BTreeMap (Vec ℕ) Record) (slice own : List ℕ) (got : Option (Bor Record)) →
-        option_copied got ≡ get_by (λ k. name_cmp slice k.items) present → slice ≡ own →
+    option_copied got ≡ get_by (λ k. name_cmp slice k.items) present → slice ≡ own →
     record_under present own ≡ option_map record_parts (option_copied got)
 looked_up present slice own got value is = sym (ap (option_map record_parts) (value ∙ ap (λ (key : List ℕ). get_by (λ k. name_cmp key k.items) present) is))
 
 -- the records that are there are among all
 pub are_whole : (present : BTreeMap (Vec ℕ) Record) (records : List RecordParts) →
-        ((key : List ℕ) → record_under present key ≡ found key records) → AllByRecursion IsRecord records → AreWhole present
+    ((key : List ℕ) → record_under present key ≡ found key records) → AllByRecursion IsRecord records → AreWhole present
 are_whole present records there whole key = subst (λ (o : Option RecordParts). IfSome o IsRecord) (sym (there key))
-        (found_after-all key IsRecord None records whole tt)
+    (found_after-all key IsRecord None records whole tt)

@@ -57,7 +57,7 @@ module _ (P : List ℕ → RecordParts → Type 0) where
   of_each [] distinct holds = tt
   of_each (e ∷ es) distinct holds = (
     subst (λ (o : Option RecordParts). IfSome o (P e.0.items))
-            (ap (option_map record_parts) (lookup_head (has_key e.0.items) e es (same_name-refl e.0.items))) (holds e.0.items),
+        (ap (option_map record_parts) (lookup_head (has_key e.0.items) e es (same_name-refl e.0.items))) (holds e.0.items),
     of_each es distinct.1 (later e es distinct holds),
   )
 
@@ -75,10 +75,10 @@ first_is_under key (e ∷ es) keyed = go (first_is_under key es keyed.1) (has_ke
     go : first_of key (records_of es) ≡ under key es → (b : Bool) → has_key key e.0 ≡ b → first_of key (records_of (e ∷ es)) ≡ under key (e ∷ es)
     go again true same =
         ap (λ b. cond b (Some (record_parts e.1)) (first_of key (records_of es))) (ap (same_name key) keyed.0.0 ∙ same)
-                ∙ sym (ap (option_map record_parts) (lookup_head (has_key key) e es same))
+        ∙ sym (ap (option_map record_parts) (lookup_head (has_key key) e es same))
     go again false other =
         ap (λ b. cond b (Some (record_parts e.1)) (first_of key (records_of es))) (ap (same_name key) keyed.0.0 ∙ other) ∙ again
-                ∙ sym (ap (option_map record_parts) (lookup_tail (has_key key) e es other))
+        ∙ sym (ap (option_map record_parts) (lookup_tail (has_key key) e es other))
 
 all_alive : (es : Entries) → AllByRecursion (λ e. IsKeyed e.0.items (record_parts e.1)) es → AllByRecursion (λ r. is_alive r ≡ true) (records_of es)
 all_alive [] keyed = tt
@@ -94,7 +94,7 @@ sorted_bytes [] sorted = tt
 sorted_bytes (k ∷ ks) sorted = (below ks sorted.0, sorted_bytes ks sorted.1)
   where
     below : (others : List (Vec ℕ)) → AllByRecursion (λ y. name_cmp k.items y.items ≡ Less) others →
-            AllByRecursion (λ y. name_cmp k.items y ≡ Less) (map (λ k'. k'.items) others)
+        AllByRecursion (λ y. name_cmp k.items y ≡ Less) (map (λ k'. k'.items) others)
     below [] all = tt
     below (o ∷ others) all = (all.0, below others all.1)
 

@@ -4,8 +4,23 @@ use Rattle.std.proofs.Math.Seq.{drop-append_seam, drop-append-add, take-append_s
 use Rattle.std.proofs.lemmas.List.{drop-take, take-append-le, take-append-drop, length-append, length-take-le, length-drop}
 use Rattle.std.specs.Int.{w16, w32, w64, from_le_bytes}
 use Rattle.var_stores.specs.Record.{RecordParts, HasRecords}
-use Rattle.var_stores.specs.Volume.{bytes_at, volume_len, header_size, header_min, word_sum, IsVolume, HasGoodHeader,
-    store_guid, store_header_len, store_size, HasStoreHeader, HasGoodStore, StoreParts, area_of, SpellsStore}
+use Rattle.var_stores.specs.Volume.{
+  bytes_at,
+  volume_len,
+  header_size,
+  header_min,
+  word_sum,
+  IsVolume,
+  HasGoodHeader,
+  store_guid,
+  store_header_len,
+  store_size,
+  HasStoreHeader,
+  HasGoodStore,
+  StoreParts,
+  area_of,
+  SpellsStore,
+}
 
 same_bytes_at : (head x y : List ℕ) (place len : ℕ) → place + len ≤ length head → bytes_at (head ++ x) place len ≡ bytes_at (head ++ y) place len
 same_bytes_at head x y place len within = front x ∙ sym (front y)
@@ -36,7 +51,7 @@ module _ (file : List ℕ) (s : StoreParts) (is : SpellsStore file s) where
       sym (take-append-drop start file) ∙ ap (λ (head : List ℕ). head ++ drop start file) (sym is.head)
       ∙ ap (λ (after : List ℕ). s.head ++ after)
       (sym (take-append-drop len (drop start file)) ∙ ap (λ (rest : List ℕ). area_of file ++ rest)
-              (drop-drop len start file ∙ ap (λ (n : ℕ). drop n file) more ∙ sym is.rest))
+      (drop-drop len start file ∙ ap (λ (n : ℕ). drop n file) more ∙ sym is.rest))
 
   pub file_len : length file ≡ length s.head + (length (area_of file) + length s.rest)
   file_len = ap length file_is ∙ length-append s.head (area_of file ++ s.rest) ∙ ap (λ (n : ℕ). length s.head + n) (length-append (area_of file) s.rest)
@@ -44,7 +59,7 @@ module _ (file : List ℕ) (s : StoreParts) (is : SpellsStore file s) where
 -- ---- another area
 
 module _ (head x y : List ℕ) (s : StoreParts) (is : SpellsStore (head ++ x) s)
-        (len : length head ≡ header_size (head ++ x) + store_header_len) (same : length x ≡ length y) where
+    (len : length head ≡ header_size (head ++ x) + store_header_len) (same : length x ≡ length y) where
   abbrev old : List ℕ
   old = head ++ x
 
@@ -83,7 +98,7 @@ module _ (head x y : List ℕ) (s : StoreParts) (is : SpellsStore (head ++ x) s)
   same_front : take (header_size new) new ≡ take (header_size old) old
   same_front =
       ap (λ (size : ℕ). take size new) same_header_size ∙ take-append-le (header_size old) head y (omega (arith, len))
-              ∙ sym (take-append-le (header_size old) head x (omega (arith, len)))
+      ∙ sym (take-append-le (header_size old) head x (omega (arith, len)))
 
   has_good_header : HasGoodHeader new
   has_good_header = let size = same_header_size in let lens = same_len in let volume = same_volume_len in record {
@@ -116,7 +131,7 @@ module _ (head x y : List ℕ) (s : StoreParts) (is : SpellsStore (head ++ x) s)
     area_is =
         ap (λ (n : ℕ). bytes_at new n (store_size new - store_header_len)) start_is ∙ ap (take (store_size new - store_header_len)) (drop-append_seam head y)
         ∙ ap (λ (n : ℕ). take (n - store_header_len) y) same_store_size ∙ ap (λ (n : ℕ). take n y) (sym size)
-                ∙ ap (take (length area)) parts ∙ take-append_seam area rest
+        ∙ ap (take (length area)) parts ∙ take-append_seam area rest
 
     rest_is : drop (header_size new + store_size new) new ≡ rest
     rest_is =
@@ -127,7 +142,7 @@ module _ (head x y : List ℕ) (s : StoreParts) (is : SpellsStore (head ++ x) s)
         ap (λ (n : ℕ). drop n new) where' ∙ drop-append-add head y (length area) ∙ ap (drop (length area)) parts ∙ drop-append_seam area rest
 
     pub spells : (records : List RecordParts) (free : List ℕ) → HasRecords area records free →
-            SpellsStore new (record { head = head; records = records; free = free; rest = rest })
+        SpellsStore new (record { head = head; records = records; free = free; rest = rest })
     spells records free has = record {
       volume = is_volume;
       header = has_good_header;

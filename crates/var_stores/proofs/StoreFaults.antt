@@ -95,13 +95,13 @@ of_fault file to attributes f h = elim (out_of_memory_or f) as (λ _. IsWriteFau
 module _ {T : Type 0} (file : List ℕ) where
   -- a fault of the file is why nothing is written
   pub store_fault : (to attributes : Variables) (f : StoreFault) (r : Result T WriteFault) →
-          IsErrAnd r (λ made. made ≡ write_fault_of f) → IsStoreFault file f → IfErr r (IsWriteFault file to attributes)
+      IsErrAnd r (λ made. made ≡ write_fault_of f) → IsStoreFault file f → IfErr r (IsWriteFault file to attributes)
   store_fault to attributes f (Ok value) is h = absurd is
   store_fault to attributes f (Err made) is h = subst (IsWriteFault file to attributes) (sym is) (of_fault file to attributes f h)
 
   -- and the first fault is, unless memory was refused
   pub store_only : (f g : StoreFault) (r : Result T WriteFault) → IsErrAnd r (λ made. made ≡ write_fault_of f) →
-          IsStoreFault file f → g ≢ fault.OutOfMemory → IsStoreFault file g →
+      IsStoreFault file f → g ≢ fault.OutOfMemory → IsStoreFault file g →
       IsUnless r (Err (write_fault.Store g)) write_fault.OutOfMemory
   store_only f g (Ok value) is h other k = absurd is
   store_only f g (Err made) is h other k =
@@ -112,11 +112,11 @@ module _ {T : Type 0} (file : List ℕ) where
 
   -- memory was refused
   pub memory_fault : (to attributes : Variables) (r : Result T WriteFault) →
-          IsErrAnd r (λ made. made ≡ write_fault.OutOfMemory) → IfErr r (IsWriteFault file to attributes)
+      IsErrAnd r (λ made. made ≡ write_fault.OutOfMemory) → IfErr r (IsWriteFault file to attributes)
   memory_fault to attributes (Ok value) is = absurd is
   memory_fault to attributes (Err made) is = subst (IsWriteFault file to attributes) (sym is) tt
 
 pub memory_only : {T : Type 0} (g : StoreFault) (r : Result T WriteFault) → IsErrAnd r (λ made. made ≡ write_fault.OutOfMemory) →
-        IsUnless r (Err (write_fault.Store g)) write_fault.OutOfMemory
+    IsUnless r (Err (write_fault.Store g)) write_fault.OutOfMemory
 memory_only g (Ok value) is = absurd is
 memory_only g (Err made) is = inr (ap Err is)

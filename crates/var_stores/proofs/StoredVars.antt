@@ -1,6 +1,39 @@
 -- What a set has once a stored variable was put into it.
-use Rattle.std.proofs.Common.{◌≡◌, ◌≢◌, ℕ, ◌<◌, Bool, true, false, cond, ◌&&◌, List, [], ◌∷◌, length, Option, Some,
-    None, Result, Ok, Err, OnOk, OnErr, IfOk, IfSome, ◌↔◌, ◌⊎◌, inl, inr, refl, sym, ap, subst, ◌∙◌, arith}
+use Rattle.std.proofs.Common.{
+  ◌≡◌,
+  ◌≢◌,
+  ℕ,
+  ◌<◌,
+  Bool,
+  true,
+  false,
+  cond,
+  ◌&&◌,
+  List,
+  [],
+  ◌∷◌,
+  length,
+  Option,
+  Some,
+  None,
+  Result,
+  Ok,
+  Err,
+  OnOk,
+  OnErr,
+  IfOk,
+  IfSome,
+  ◌↔◌,
+  ◌⊎◌,
+  inl,
+  inr,
+  refl,
+  sym,
+  ap,
+  subst,
+  ◌∙◌,
+  arith,
+}
 use Rattle.std.specs.FinMap.{get, insert, get-insert}
 use Rattle.std.proofs.lemmas.Bool.{false_from_ne_true, false≢true}
 use Rattle.std.proofs.lemmas.Cmp.{nat_list_cmp_total}
@@ -21,12 +54,12 @@ module _ (old : Variables) (stored value name : List ℕ) where
   put_or_before b = cond b (Some value) (get old name)
 
   pub other_name : same_name stored (stored_name name) ≡ false →
-          get old name ≡ cond (same_name stored (stored_name name) && is_set_value value) (Some value) (get old name)
+      get old name ≡ cond (same_name stored (stored_name name) && is_set_value value) (Some value) (get old name)
   other_name other = sym (ap (λ b. put_or_before (b && is_set_value value)) other)
 
   pub other_value : is_set_value value ≡ false → get old name ≡ cond (same_name stored (stored_name name) && is_set_value value) (Some value) (get old name)
   other_value other = sym (ap (λ b. put_or_before (same_name stored (stored_name name) && b)) other
-          ∙ ap put_or_before (never (same_name stored (stored_name name))))
+      ∙ ap put_or_before (never (same_name stored (stored_name name))))
     where
       never : (b : Bool) → (b && false) ≡ false
       never true = refl
@@ -40,7 +73,7 @@ put_none vars stored value none name is =
 
 -- the value is put under the name that is stored so
 put_done : (old new : Variables) (stored value own : List ℕ) → name_in stored ≡ Some own → new ≡ insert old own value →
-        is_set_value value ≡ true → PutsStored old new stored value
+    is_set_value value ≡ true → PutsStored old new stored value
 put_done old new stored value own read put fits name is =
     ap (λ (vars : Variables). get vars name) put ∙ get-insert nat_list_cmp_total old own value name
     ∙ ap (λ b. put_or_before old stored value name b) (same ∙ both (same_name stored (stored_name name)) (is_set_value value) fits)
@@ -60,7 +93,7 @@ put_done old new stored value own read put fits name is =
 
 -- nothing is put of what a set can't hold
 put_refused : (old new : Variables) (stored value own : List ℕ) → name_in stored ≡ Some own → new ≡ old →
-        ((IsName own → ⊥) ⊎ (is_set_value value ≡ false)) → PutsStored old new stored value
+    ((IsName own → ⊥) ⊎ (is_set_value value ≡ false)) → PutsStored old new stored value
 put_refused old new stored value own read stays (inr unfit) name is = ap (λ (vars : Variables). get vars name) stays ∙ other_value old stored value name unfit
 put_refused old new stored value own read stays (inl bad) name is =
     ap (λ (vars : Variables). get vars name) stays ∙ other_name old stored value name (false_from_ne_true (same_name stored (stored_name name))
@@ -86,18 +119,18 @@ pub record PutAnswer (old new : Variables) (own value : List ℕ) (result : Resu
   pub valid : IsVars new
 
 pub put_gives : (old new : Variables) (stored value own : List ℕ) (result : Result (Unit {0}) PutFault) →
-        name_in stored ≡ Some own → PutAnswer old new own value result → result ≢ Err fault.OutOfMemory →
+    name_in stored ≡ Some own → PutAnswer old new own value result → result ≢ Err fault.OutOfMemory →
     PutsStored old new stored value
 put_gives old new stored value own (Ok u) read answer whole =
     put_done old new stored value own read answer.put (fit_bytes value
     (let held = answer.valid own in let here = ap (λ (vars : Variables). get vars own) answer.put
-            ∙ get-insert_here old own value in (subst (λ (o : Option (List ℕ)). IfSome o (λ bytes. IsVariable (own, bytes))) here held).1))
+    ∙ get-insert_here old own value in (subst (λ (o : Option (List ℕ)). IfSome o (λ bytes. IsVariable (own, bytes))) here held).1))
 put_gives old new stored value own (Err fault.BadName) read answer whole =
-        put_refused old new stored value own read answer.unchanged (inl (answer.bad_name.0 refl))
+    put_refused old new stored value own read answer.unchanged (inl (answer.bad_name.0 refl))
 put_gives old new stored value own (Err fault.EmptyData) read answer whole =
-        put_refused old new stored value own read answer.unchanged (inr (no_bytes value (answer.empty_data.0 refl).1))
+    put_refused old new stored value own read answer.unchanged (inr (no_bytes value (answer.empty_data.0 refl).1))
 put_gives old new stored value own (Err fault.DataTooLong) read answer whole =
-        put_refused old new stored value own read answer.unchanged (inr (many_bytes value (answer.data_too_long.0 refl).1))
+    put_refused old new stored value own read answer.unchanged (inr (many_bytes value (answer.data_too_long.0 refl).1))
 put_gives old new stored value own (Err fault.OutOfMemory) read answer whole = absurd (whole refl)
 
 pub on_ok : {A B P Q : Type 0} (result : Result A B) → OnOk result P → (P → Q) → OnOk result Q

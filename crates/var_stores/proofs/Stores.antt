@@ -16,7 +16,7 @@ store_found file after area rest free records size len size_is len_is volume hea
   head = ap (λ (n : ℕ). take (n + 28) file) size_is;
   area = subst (λ (t : List ℕ). HasRecords t records free)
       (area_is ∙ ap (take (len - 28)) after_is ∙ ap (λ (n : ℕ). take (n - 28) (drop (size + 28) file)) len_is
-              ∙ ap (λ (n : ℕ). take (store_size file - 28) (drop (n + 28) file)) size_is) has;
+      ∙ ap (λ (n : ℕ). take (store_size file - 28) (drop (n + 28) file)) size_is) has;
   rest = rest_is ∙ ap (drop (len - 28)) after_is ∙ drop-drop (len - 28) (size + 28) file ∙ ap (λ (n : ℕ). drop n file) sum;
 }
   where

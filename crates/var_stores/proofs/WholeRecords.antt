@@ -1,6 +1,38 @@
 -- Deleted and new records have the lengths that their headers state.
-use Rattle.std.proofs.Common.{◌≡◌, ◌≢◌, ◌⊎◌, ℕ, ◌+◌, ◌-◌, ◌<◌, ◌==◌, ◌||◌, ◌&&◌, not, Bool, true, false, cond, List,
-    [], ◌∷◌, length, take, drop, Option, Some, None, IfSome, inl, inr, refl, sym, ap, ◌∙◌, arith}
+use Rattle.std.proofs.Common.{
+  ◌≡◌,
+  ◌≢◌,
+  ◌⊎◌,
+  ℕ,
+  ◌+◌,
+  ◌-◌,
+  ◌<◌,
+  ◌==◌,
+  ◌||◌,
+  ◌&&◌,
+  not,
+  Bool,
+  true,
+  false,
+  cond,
+  List,
+  [],
+  ◌∷◌,
+  length,
+  take,
+  drop,
+  Option,
+  Some,
+  None,
+  IfSome,
+  inl,
+  inr,
+  refl,
+  sym,
+  ap,
+  ◌∙◌,
+  arith,
+}
 use Rattle.std.specs.Prelude.{nat_lt}
 use Rattle.std.specs.Option.{unwrap_or}
 use Rattle.std.specs.FinMap.{get}
@@ -39,7 +71,7 @@ deleted-whole r alive is = record {
 }
 
 pub without_outdated-whole : (from to : Variables) (records : List RecordParts) → AllByRecursion IsRecord records →
-        AllByRecursion IsRecord (without_outdated from to records)
+    AllByRecursion IsRecord (without_outdated from to records)
 without_outdated-whole from to [] whole = tt
 without_outdated-whole from to (r ∷ records) whole = (one (is_outdated from to r) refl, without_outdated-whole from to records whole.1)
   where
@@ -59,7 +91,7 @@ record FinishedHeader (header : List ℕ) (name_size value_size : ℕ) : Type 0 
   value : value_len 63 header ≡ value_size
 
 module _ (a b c d name_size value_size : ℕ) (name_small : name_size < blank) (value_small : value_size < blank)
-        (written : from_le_bytes w32 (a ∷ b ∷ c ∷ d ∷ []) ≢ blank) where
+    (written : from_le_bytes w32 (a ∷ b ∷ c ∷ d ∷ []) ≢ blank) where
   abbrev header : List ℕ
   header = header_of (a ∷ b ∷ c ∷ d ∷ []) name_size value_size
 
@@ -83,7 +115,7 @@ module _ (a b c d name_size value_size : ℕ) (name_small : name_size < blank) (
   }
 
 of_four : (attributes : List ℕ) (name_size value_size : ℕ) → length attributes ≡ 4 → name_size < blank → value_size < blank →
-        from_le_bytes w32 attributes ≢ blank →
+    from_le_bytes w32 attributes ≢ blank →
     FinishedHeader (header_of attributes name_size value_size) name_size value_size
 of_four [] n v four small value_small written = absurd (omega (arith, four))
 of_four (a ∷ []) n v four small value_small written = absurd (omega (arith, four))
@@ -93,7 +125,7 @@ of_four (a ∷ b ∷ c ∷ d ∷ []) n v four small value_small written = finish
 of_four (a ∷ b ∷ c ∷ d ∷ e ∷ rest) n v four small value_small written = absurd (omega (arith, four))
 
 pub new-whole : (attributes name value : List ℕ) → length attributes ≡ 4 → from_le_bytes w32 attributes ≢ blank → IsName name →
-        IsData value → IsRecord (new_record attributes name value)
+    IsData value → IsRecord (new_record attributes name value)
 new-whole attributes name value four written is held =
     let size = stored_name-len name in
     let short = is.len in
@@ -134,9 +166,9 @@ of_record r name is key = (four_bytes r is, λ e. unfinished (or_right' e))
     or_right' e = or_right (r.state == 255) _ (or_left (attributes_in r.header == blank) _ (eq-eqb (attributes_in r.header) blank e))
 
 pub attributes-there : (records : List RecordParts) (name : List ℕ) → AllByRecursion IsRecord records →
-        HasAttributes (attributes_there (found (global_key name) records))
+    HasAttributes (attributes_there (found (global_key name) records))
 attributes-there records name whole = go (found (global_key name) records) (found_after-is (global_key name) None records tt)
-        (found_after-all (global_key name) IsRecord None records whole tt)
+    (found_after-all (global_key name) IsRecord None records whole tt)
   where
     go : (o : Option RecordParts) → IfSome o (IsFoundAs (global_key name)) → IfSome o IsRecord → HasAttributes (attributes_there o)
     go None own is = (refl, λ e. let seven : 7 ≡ blank = e in omega (arith, seven))
@@ -155,7 +187,7 @@ attributes-new records name (Some given) whole = few (nat_lt (length given) 4) r
 
     few : (b : Bool) → nat_lt (length given) 4 ≡ b →
         HasAttributes (unwrap_or (cond b None (cond (from_le_bytes w32 (take 4 given) == blank) None (Some (take 4 given))))
-                (attributes_there (found (global_key name) records)))
+        (attributes_there (found (global_key name) records)))
     few true e = attributes-there records name whole
     few false e = erased (from_le_bytes w32 (take 4 given) == blank) refl (length-take-le 4 given (ltb-false (length given) 4 e))
 
@@ -164,7 +196,7 @@ abbrev attributes_for : List RecordParts → Variables → List ℕ → List ℕ
 attributes_for records attributes name = new_attributes (get attributes name) (found (global_key name) records)
 
 pub added-whole : (records : List RecordParts) (from to attributes : Variables) (variables : List (List ℕ × List ℕ)) →
-        AllByRecursion IsRecord records → AllByRecursion IsVariable variables →
+    AllByRecursion IsRecord records → AllByRecursion IsVariable variables →
     AllByRecursion IsRecord (added from to (attributes_for records attributes) variables)
 added-whole records from to attributes [] whole valid = tt
 added-whole records from to attributes (variable ∷ rest) whole valid =
@@ -172,7 +204,7 @@ added-whole records from to attributes (variable ∷ rest) whole valid =
   where
     one : (b : Bool) → AllByRecursion IsRecord (added from to (attributes_for records attributes) rest) →
         AllByRecursion IsRecord (cond b (new_record (attributes_for records attributes variable.0) variable.0 variable.1 ∷ added
-                from to (attributes_for records attributes) rest)
+        from to (attributes_for records attributes) rest)
         (added from to (attributes_for records attributes) rest))
     one true others =
         let has = attributes-new records variable.0 (get attributes variable.0) whole in

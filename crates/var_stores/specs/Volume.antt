@@ -120,7 +120,7 @@ abbrev pub IsStoreFault : List ℕ → StoreFault → Type 0
 IsStoreFault file fault.NoVolume = ¬ IsVolume file
 IsStoreFault file fault.BadHeader = IsVolume file × (¬ HasGoodHeader file)
 IsStoreFault file fault.NoStore = HasVolume file × ((¬ HasStoreHeader file)
-        ⊎ ((bytes_at file (header_size file) 16 ≢ store_guid) × (bytes_at file (header_size file) 16 ≢ plain_store_guid)))
+    ⊎ ((bytes_at file (header_size file) 16 ≢ store_guid) × (bytes_at file (header_size file) 16 ≢ plain_store_guid)))
 IsStoreFault file fault.Unauthenticated = HasVolume file × HasStoreHeader file × (bytes_at file (header_size file) 16 ≡ plain_store_guid)
 IsStoreFault file fault.BadStore = HasRoom file × (¬ HasGoodStore file)
 IsStoreFault file (fault.CutRecord place) =

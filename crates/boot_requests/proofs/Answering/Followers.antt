@@ -1,6 +1,39 @@
 -- The requests that follow one without a gap: each of their outcomes is kept.
-use Rattle.std.proofs.Common.{◌≡◌, ◌≢◌, ◌⊎◌, inl, inr, ℕ, zero, suc, ◌+◌, ◌-◌, ◌<◌, ◌≤◌, min, ltb, leb, eqb, true,
-    false, List, [], ◌∷◌, ◌++◌, map, length, Option, Some, None, refl, sym, ap, subst, ◌∙◌, arith}
+use Rattle.std.proofs.Common.{
+  ◌≡◌,
+  ◌≢◌,
+  ◌⊎◌,
+  inl,
+  inr,
+  ℕ,
+  zero,
+  suc,
+  ◌+◌,
+  ◌-◌,
+  ◌<◌,
+  ◌≤◌,
+  min,
+  ltb,
+  leb,
+  eqb,
+  true,
+  false,
+  List,
+  [],
+  ◌∷◌,
+  ◌++◌,
+  map,
+  length,
+  Option,
+  Some,
+  None,
+  refl,
+  sym,
+  ap,
+  subst,
+  ◌∙◌,
+  arith,
+}
 use Rattle.std.specs.Prelude.{MatchBool, MatchOption, IfSome, IsSome, is_some, slice_get, nat_lt, if◌then◌else◌}
 use Rattle.std.specs.FinMap.{get, insert}
 use Rattle.std.proofs.lemmas.Bool.{le-ltb}
@@ -121,15 +154,15 @@ module _ (m : State) (requests : Requests) (gap after number next : ℕ) (reques
 
   found : get requests number ≡ None → Held None → Found
   found none = elim (eqb number gap) as (λ b. eqb number gap ≡ b →
-          answer ≡ (if b then reply.Applied (outcome_of m request) after else reply.Waiting gap) → Found) [
-    | true ↦ λ t h. let last : next ≡ after = cc in (grind (arith, nat_tests, t), none, last)
-    | false ↦ λ t h. absurd (let no = h in cc)
-  ] refl
+      answer ≡ (if b then reply.Applied (outcome_of m request) after else reply.Waiting gap) → Found) [
+        | true ↦ λ t h. let last : next ≡ after = cc in (grind (arith, nat_tests, t), none, last)
+        | false ↦ λ t h. absurd (let no = h in cc)
+      ] refl
 
   applied_next : IsReplyTo m requests gap after number request answer → Found
   applied_next =
       elim (ltb number gap) as (λ b. MatchBool b (answer ≡ again (kept_outcome m number))
-              (MatchBool (leb width (number - gap)) (answer ≡ reply.Ahead gap) (Held (get requests number))) → Found) [
+      (MatchBool (leb width (number - gap)) (answer ≡ reply.Ahead gap) (Held (get requests number))) → Found) [
         | true ↦ λ h. absurd (not_again (kept_outcome m number) outcome next h)
         | false ↦ elim (leb width (number - gap)) as (λ b. MatchBool b (answer ≡ reply.Ahead gap) (Held (get requests number)) → Found) [
           | true ↦ λ h. absurd (let no : answer ≡ reply.Ahead gap = h in cc)
@@ -154,7 +187,7 @@ module _ (m : State) (waiting : Requests) (request : Request) (waits : AreWaitin
 
   beyond : m.next_number < after
   beyond = less (gap_is m.next_number joined).from (λ same. clash
-          (sym (request_here waiting m.next_number request) ∙ ap (get joined) same ∙ (gap_is m.next_number joined).free))
+      (sym (request_here waiting m.next_number request) ∙ ap (get joined) same ∙ (gap_is m.next_number joined).free))
     where
       less : m.next_number ≤ after → m.next_number ≢ after → m.next_number < after
       less l apart = omega (arith, l, apart)
@@ -216,14 +249,14 @@ turn_there k to seen (reply.Applied outcome next) waits turn = by_seen seen turn
         prepared : (found : Option PlanParts) →
             MatchOption found
             ((plan : PlanParts) × HasPlanOf k.state plan × (to ≡ record k { state = after_boot k.state; plan = Some plan })
-                    × (reply.Applied outcome next ≡ reply.Prepared (choice_count plan)))
+            × (reply.Applied outcome next ≡ reply.Prepared (choice_count plan)))
             (λ _. (to ≡ k) × (reply.Applied outcome next ≡ reply.AlreadyPrepared)) → AreThere k.state.next_number to.state (reply.Applied outcome next)
         prepared None g = absurd (let no = g.3 in cc)
         prepared (Some plan) g = absurd (let no = g.1 in cc)
     by_seen Hand h = handed k.plan h.1
       where
         handed : (found : Option PlanParts) → reply.Applied outcome next ≡ reply_to_hand found →
-                AreThere k.state.next_number to.state (reply.Applied outcome next)
+            AreThere k.state.next_number to.state (reply.Applied outcome next)
         handed None g = absurd (let no = g in cc)
         handed (Some plan) g = absurd (let no = g in cc)
     by_seen Restart h = absurd (let no = h.1 in cc)

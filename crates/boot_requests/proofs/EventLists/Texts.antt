@@ -1,6 +1,31 @@
 -- Each text is a script or has a first bad line.
-use Rattle.std.proofs.Common.{◌≡◌, ◌≢◌, ◌+◌, ℕ, true, false, true≢false, List, [], ◌∷◌, ◌++◌, length, take, drop,
-    Result, Ok, Err, refl, ap, sym, ◌∙◌, inl, inr, arith, take-append-drop}
+use Rattle.std.proofs.Common.{
+  ◌≡◌,
+  ◌≢◌,
+  ◌+◌,
+  ℕ,
+  true,
+  false,
+  true≢false,
+  List,
+  [],
+  ◌∷◌,
+  ◌++◌,
+  length,
+  take,
+  drop,
+  Result,
+  Ok,
+  Err,
+  refl,
+  ap,
+  sym,
+  ◌∙◌,
+  inl,
+  inr,
+  arith,
+  take-append-drop,
+}
 use Rattle.std.specs.Prelude.{◌⊎◌, codes}
 use Rattle.std.specs.Bool.{Decides}
 use Rattle.std.specs.List.{AllByRecursion}
@@ -96,14 +121,30 @@ lines_or_bad ((c ∷ line) ∷ lines) =
         | inl told ↦ inl (first.0 ∷ told.0, (first.1, told.1))
         | inr h ↦ inr (bad_later (c ∷ line) lines (inr first) h)
       ]
-      | inr none ↦ inr (record { before = []; bad = c ∷ line; after = lines; parts = refl; good = tt;
-              is_bad = no_line (c ∷ line) (λ none_at_all. omega arith) none })
+      | inr none ↦ inr (record {
+        before = [];
+        bad = c ∷ line;
+        after = lines;
+        parts = refl;
+        good = tt;
+        is_bad = no_line (c ∷ line) (λ none_at_all. omega arith) none;
+      })
     ]
 
 pub script_or_bad : (text : List ℕ) → ((events : List Event) × IsScript text events) ⊎ ((number : ℕ) × IsFirstBadLine text number)
 script_or_bad text =
     elim (lines_or_bad (lines_of text)) [
       | inl told ↦ inl (told.0, told.1)
-      | inr h ↦ inr (length h.before + 1, record { before = h.before; bad = h.bad; after = h.after; lines = h.parts;
-              good = h.good; is_bad = h.is_bad; at = refl })
+      | inr h ↦ inr (
+        length h.before + 1,
+        record {
+          before = h.before;
+          bad = h.bad;
+          after = h.after;
+          lines = h.parts;
+          good = h.good;
+          is_bad = h.is_bad;
+          at = refl;
+        },
+      )
     ]

@@ -59,7 +59,7 @@ same_payload again one (Order ms) (Order ns) first second kinds e = ap (λ (t : 
 same_payload again one (Next m) (Next n) first second kinds e = ap (λ (k : ℕ). Next k) (same_number m n [] [] first second e).0
 same_payload again one (AddFree o) (AddFree p) first second kinds e = ap (λ (t : OptionParts). AddFree t) (one (option_bytes o) o p (first, refl) (second, e))
 same_payload again one (AddFirst o) (AddFirst p) first second kinds e =
-        ap (λ (t : OptionParts). AddFirst t) (one (option_bytes o) o p (first, refl) (second, e))
+    ap (λ (t : OptionParts). AddFirst t) (one (option_bytes o) o p (first, refl) (second, e))
 same_payload again one (First m) (First n) first second kinds e = ap (λ (k : ℕ). First k) (same_number m n [] [] first second e).0
 same_payload again one q r first second kinds e = absurd cc
 

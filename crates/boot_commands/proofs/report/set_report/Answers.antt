@@ -8,7 +8,7 @@ use Rattle.boot_commands.proofs.report.set_report.Goals as goal
 
 -- what is wrong with the variables is wrong with the set file that spells them
 of_set : {T : Type 0} (bytes : List ℕ) (vars : Variables) (result : Result T Refusal) → SpellsSet bytes vars →
-        IfErr result (λ r. IfInput r (TellsVarFault vars)) → IfErr result (λ r. IfInput r (TellsSetFault bytes))
+    IfErr result (λ r. IfInput r (TellsVarFault vars)) → IfErr result (λ r. IfInput r (TellsSetFault bytes))
 of_set bytes vars (Ok report) spelled told = tt
 of_set bytes vars (Err (refusal.Input words)) spelled told = inr (vars, spelled, told)
 of_set bytes vars (Err refusal.Memory) spelled told = told

@@ -8,5 +8,7 @@ use Rattle.boot_edits.proofs.activate.set_active.Given as goal
 -- the entries of the numbers so far are switched
 abbrev pub invariant-loop-number : goal.invariant-loop-number
 invariant-loop-number l =
-    Becomes l.vars (record (parts_of l.vars) { entries = entries_changed (take l.number-index l.numbers)
-            (option_map (switched l.active)) (entry_of l.vars) }) l.edited
+    Becomes l.vars (record (parts_of l.vars) {
+      entries = entries_changed (take l.number-index l.numbers)
+          (option_map (switched l.active)) (entry_of l.vars);
+    }) l.edited

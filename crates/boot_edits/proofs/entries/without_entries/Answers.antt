@@ -19,11 +19,11 @@ pub loop-name-preserved : goal.loop-name-preserved
 loop-name-preserved c = λ numbers tells.
     step (IsNameOf numbers) empty c.args.vars.now _ _ _
     (subst (λ (left : List (List ℕ × List ℕ)). IsGoing (IsNameOf numbers) empty c.args.vars.now left c.loop-name.others)
-            c.in-Some.ensures.steps (c.loop-name.invariant numbers tells))
+    c.in-Some.ensures.steps (c.loop-name.invariant numbers tells))
     _ (c.in_ok-copy_unlisted.ensures numbers tells)
 
 pub returns : goal.returns
 returns c = λ numbers tells.
     let done = subst (λ (left : List (List ℕ × List ℕ)). IsGoing (IsNameOf numbers) empty c.args.vars.now left
-            c.loop-name.others) c.in-None.ensures.steps.0 (c.loop-name.invariant numbers tells) in
+    c.loop-name.others) c.in-None.ensures.steps.0 (c.loop-name.invariant numbers tells) in
     record { out = λ name named. done.skipped name named ∙ get-empty name_cmp name; kept = λ name other. done.taken name other }

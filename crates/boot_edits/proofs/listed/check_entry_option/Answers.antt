@@ -8,7 +8,7 @@ returns-clause-fine c =
     let stored = c.in-Some.ensures.value in
     on_ok_weaker c.check_bytes.result
     (λ s fault is. ⊎_elim (λ missing. let none = missing.1 in cc)
-            (λ other. other.2 s.0 (record { bytes = c.in-Some.bytes.now; stored = sym stored; spelled = s.1 })) is)
+    (λ other. other.2 s.0 (record { bytes = c.in-Some.bytes.now; stored = sym stored; spelled = s.1 })) is)
     c.check_bytes.ensures.fine
 
 pub returns-clause-refused : goal.returns-clause-refused

@@ -14,6 +14,6 @@ returns-clause-done c =
     let next = Some c.args.number in (
       λ none. c.in_ok-check_one.ensures.fine (Missing c.args.number) (refl, none),
       subst (IsNextOf vars next) (sym (c.in_ok-store_next.ensures
-              ∙ ap (λ (m : Variables). with_data m next_text (stored_next next)) c.in_ok-edited.ensures.equal))
+          ∙ ap (λ (m : Variables). with_data m next_text (stored_next next)) c.in_ok-edited.ensures.equal))
           (then_next vars vars _ (as_it_was vars) (stored_next next)),
     )

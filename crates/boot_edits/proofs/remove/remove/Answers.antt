@@ -17,7 +17,7 @@ returns-clause-done c =
     let others = c.deref-2.ensures.value ∙ c.in_ok-others.ensures numbers tells ∙ ap (without_all numbers) c.deref.ensures.value in
     let edited = c.in_ok-edited.edited in
     let mid = then_order vars edited _ (without_becomes numbers vars edited (c.in_ok-edited.ensures numbers tells))
-            (stored_order (without_all numbers c.in_ok-order.order.items)) in
+    (stored_order (without_all numbers c.in_ok-order.order.items)) in
     record {
       fine = c.in_ok-check_each.ensures.fine;
       order = c.in_ok-order.order.items;

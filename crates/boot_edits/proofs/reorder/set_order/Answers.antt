@@ -12,8 +12,8 @@ returns-clause-done c =
     let fine = as_stale (λ Is. AreFine Is new.entries.now) vars new.stale c.order_need.result c.order_need.ensures c.in_ok-check_each.ensures.fine in
     let is = subst (IsNewOrder vars new.only new.entries.now) (sym c.deref.ensures.value) c.in_ok-order.ensures in
     IfOk-weaker c.with_order.result _ _
-            (λ to done. record { fine = fine; order = c.deref.result.now; is = is; fits = done.0; becomes = done.1 })
-            c.with_order.ensures.done
+    (λ to done. record { fine = fine; order = c.deref.result.now; is = is; fits = done.0; becomes = done.1 })
+    c.with_order.ensures.done
 
 pub returns-clause-refused : goal.returns-clause-refused
 returns-clause-refused c =
@@ -30,4 +30,4 @@ returns-in_err-check_each-clause-refused c =
     let p = err_from_is_err_and c.from_residual.result c.from_residual.ensures.1 in
     rw (p.1, p.2) (λ told.
     inl (as_stale (λ Is. IsFirstFault Is new.entries.now c.in_err-check_each.field-0.0) vars new.stale c.order_need.result
-            c.order_need.ensures (c.in_err-check_each.ensures.refused told)))
+    c.order_need.ensures (c.in_err-check_each.ensures.refused told)))

@@ -13,6 +13,6 @@ returns-clause-done c =
     let order = c.args.order.now in (
       c.in_ok-store_order.ensures.fits,
       subst (IsOrderOf vars order) (sym (c.in_ok-store_order.ensures.stored
-              ∙ ap (λ (m : Variables). with_data m order_text (stored_order order)) c.in_ok-edited.ensures.equal))
+          ∙ ap (λ (m : Variables). with_data m order_text (stored_order order)) c.in_ok-edited.ensures.equal))
           (then_order vars vars _ (as_it_was vars) (stored_order order)),
     )

@@ -19,14 +19,14 @@ loop-name-preserved c =
     let Skips : List ℕ → Type 0 = λ name. is_boot_name name ≡ c.args.boot → ⊥ in
     step Skips c.args.vars.now c.args.from.now _ _ _
     (subst (λ (left : List (List ℕ × List ℕ)). IsGoing Skips c.args.vars.now c.args.from.now left c.loop-name.vars)
-            c.in-Some.ensures.steps c.loop-name.invariant)
+    c.in-Some.ensures.steps c.loop-name.invariant)
     _ c.in_ok-copy_if.ensures
 
 pub returns-clause-copied : goal.returns-clause-copied
 returns-clause-copied c = λ name so.
     let Skips : List ℕ → Type 0 = λ name. is_boot_name name ≡ c.args.boot → ⊥ in
     let done = subst (λ (left : List (List ℕ × List ℕ)). IsGoing Skips c.args.vars.now c.args.from.now left c.loop-name.vars)
-            c.in-None.ensures.steps.0 c.loop-name.invariant in
+    c.in-None.ensures.steps.0 c.loop-name.invariant in
     done.taken name (λ skipped. skipped so)
 
 pub returns-clause-kept : goal.returns-clause-kept

@@ -9,7 +9,7 @@ pub store_order-requires : goal.store_order-requires
 store_order-requires c =
     let order = c.in_ok-order.order.items in
     let room : has_room order c.args.number ≡ true = ap (λ (o : List ℕ). has_room o c.args.number) (sym c.deref.ensures.value)
-            ∙ sym c.has_room.ensures ∙ c.if-not-has_room.false in
+    ∙ sym c.has_room.ensures ∙ c.if-not-has_room.false in
     let new = c.deref-3.ensures.value ∙ c.in_ok-new.ensures ∙ ap (in_front (c.args.number ∷ [])) c.deref-2.ensures.value in
     let len : length c.deref-3.result.now ≡ length (in_front (c.args.number ∷ []) order) = ap length new in
     omega (arith, len, front_fits order c.args.number room c.in_ok-order.ensures.len)

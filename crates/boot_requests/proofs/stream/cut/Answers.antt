@@ -21,7 +21,7 @@ returns c =
     let start = c.new-inbox.ensures.start in
     record {
       cut = fed_fault c.args.stream.now c.feed.new.self c.new-frames.result.items c.feed.new.frames.items
-              c.new-frames.ensures.items c.in-Err.fault c.from.result
+          c.new-frames.ensures.items c.in-Err.fault c.from.result
           (λ other. c.in-Err.ensures.fed other [] nothing_cut start.0 start.1) c.from.ensures c.in_default-from.not-OutOfMemory;
       rest = λ count is. let same : c.from.result ≡ fault.Rest count = cc in absurd (no_rest c.in-Err.fault c.from.result count c.from.ensures same);
     }

@@ -6,5 +6,5 @@ use Rattle.boot_texts.proofs.option.read_paths.Goals as goal
 pub loop-text-preserved : goal.loop-text-preserved
 loop-text-preserved c =
     each_step (λ (text : Bor (List ℕ)). text.now) IsPathText c.args.texts.now c.loop-text.paths.items c.push.new.self.items
-            c.loop-text.text-index _ c.in_ok-read_path.field-0 c.loop-text-test.true c.loop-text.invariant
-            c.in_ok-read_path.ensures c.in_ok-push.ensures.items
+    c.loop-text.text-index _ c.in_ok-read_path.field-0 c.loop-text-test.true c.loop-text.invariant
+    c.in_ok-read_path.ensures c.in_ok-push.ensures.items

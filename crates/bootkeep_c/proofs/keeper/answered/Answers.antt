@@ -12,5 +12,5 @@ returns c =
     let told = c.in-Ok.ensures in
     let steps = subst (λ (from : Plain). StepsTo from c.args.event.now c.in-Ok.next told.0) c.as_ref.ensures told.1 in
     comes c.args.event.now c.give-status.result c.args.keeper.value c.in-Ok.next c.go_on.new.keeper.value told.0
-            c.as_bytes.result.now c.args.out.now c.give-status.new.out
+    c.as_bytes.result.now c.args.out.now c.give-status.new.out
     c.args.len.now c.give-status.new.len steps (c.as_bytes.ensures.value ∙ told.2) c.give-status.ensures c.go_on.ensures.given c.go_on.ensures.otherwise

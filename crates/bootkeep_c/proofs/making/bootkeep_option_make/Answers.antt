@@ -6,6 +6,6 @@ pub returns : goal.returns
 returns c =
     let parts = c.args in
     answers (λ bytes. bytes.items) (IsOptionOf parts.attributes parts.description.now parts.list.now parts.optional.now)
-            (IsMakeFailure parts.description.now parts.list.now)
+    (IsMakeFailure parts.description.now parts.list.now)
     c.option_of-made.result c.answer.result parts.out.now c.answer.new.out parts.len.now c.answer.new.len parts.refusal.now c.answer.new.refusal
     c.option_of-made.ensures.made c.option_of-made.ensures.fault c.answer.ensures.given c.answer.ensures.told

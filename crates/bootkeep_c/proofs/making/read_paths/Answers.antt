@@ -15,6 +15,6 @@ pub returns-in-Err-clause-fault : goal.returns-in-Err-clause-fault
 returns-in-Err-clause-fault c = λ other.
     let some : 0 < length c.loop-rest.rest.now = grind (arith, c.is_empty.ensures, c.loop-rest-test.true) in
     bad_path c.args.list.now c.loop-rest.paths.items c.loop-rest.rest.now c.in-Err.fault
-            (length c.args.list.now - length c.loop-rest.rest.now) c.in_list.result c.loop-rest.invariant some
+    (length c.args.list.now - length c.loop-rest.rest.now) c.in_list.result c.loop-rest.invariant some
     refl c.in-Err.ensures.fault (c.in_list.ensures ∙ ap (λ (f : Failure).
-            list_failure (length c.args.list.now - length c.loop-rest.rest.now) f) c.from.ensures) other
+    list_failure (length c.args.list.now - length c.loop-rest.rest.now) f) c.from.ensures) other

@@ -6,6 +6,6 @@ use Rattle.bootkeep_c.proofs.named.bootkeep_set_named.Goals as goal
 pub returns : goal.returns
 returns c =
     answers (λ named. named.items) (AreNamedIn c.args.set.now) (IsPlanFailure c.args.set.now) c.named_in-found.result
-            c.answer.result c.args.named.now c.answer.new.out
+    c.answer.result c.args.named.now c.answer.new.out
     c.args.len.now c.answer.new.len c.args.refusal.now c.answer.new.refusal c.named_in-found.ensures.found c.named_in-found.ensures.fault c.answer.ensures.given
     c.answer.ensures.told

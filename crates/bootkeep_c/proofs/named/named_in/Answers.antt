@@ -35,5 +35,5 @@ returns-clause-found c = (
   c.in_ok-next.ensures.found,
   c.in_ok-order.ensures.found,
   subst (λ (order : List ℕ). AreNamed (entry_of c.in_ok-vars.vars) c.in_ok-next.next order c.in_ok-named_by.field-0.items)
-          c.deref.ensures.value c.in_ok-named_by.ensures,
+      c.deref.ensures.value c.in_ok-named_by.ensures,
 )

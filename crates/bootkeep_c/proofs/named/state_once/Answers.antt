@@ -9,5 +9,5 @@ returns-clause-known c =
     let entries = entry_of c.args.vars.now in
     let place : c.from-place.result ≡ c.args.number = c.from-place.ensures in
     still_known entries c.args.known.now c.from-place.result c.state_of-state.result
-            (omega (arith, place, c.requires.room, c.ranges.number.fits)) c.requires.known
+    (omega (arith, place, c.requires.room, c.ranges.number.fits)) c.requires.known
     (subst (λ (n : ℕ). IsEntryState entries n c.state_of-state.result) (sym place) c.state_of-state.ensures)

@@ -4,8 +4,14 @@ use Rattle.uefi_vars.proofs.Sets.{fault_leaves_none}
 use Rattle.bootkeep_c.specs.Refusals.{set_failure, open_failure}
 use Rattle.bootkeep_c.specs.Runs.{GivesBoth}
 use Rattle.bootkeep_c.proofs.Telling.{only_memory, only_failure, not_memory}
-use Rattle.bootkeep_c.proofs.Openings.{opened_without_fault, events_have_no_failure, run_failure_is_of_set,
-    run_failure_is_of_stream, run_failure_is, no_run_failure}
+use Rattle.bootkeep_c.proofs.Openings.{
+  opened_without_fault,
+  events_have_no_failure,
+  run_failure_is_of_set,
+  run_failure_is_of_stream,
+  run_failure_is,
+  no_run_failure,
+}
 use Rattle.bootkeep_c.proofs.run.bootkeep_run.Goals as goal
 
 pub returns-in-Ok-clause-runs : goal.returns-in-Ok-clause-runs
@@ -19,10 +25,10 @@ returns-in-Ok-clause-given c = λ told.
     let after = c.in-Ok.after.items in
     let both = c.give_both in
     let first = subst (λ (first : List ℕ). GivesBoth both.result first c.as_bytes.result.now c.args.set_out.now
-            both.new.first_out c.args.lines.now both.new.second_out both.new.first_len
+    both.new.first_out c.args.lines.now both.new.second_out both.new.first_len
     both.new.second_len) c.deref.ensures.value both.ensures in
     let second = subst (λ (second : List ℕ). GivesBoth both.result after second c.args.set_out.now both.new.first_out
-            c.args.lines.now both.new.second_out both.new.first_len
+    c.args.lines.now both.new.second_out both.new.first_len
     both.new.second_len) c.as_bytes.ensures.value first in
     (after, string_bytes c.in-Ok.text, c.in-Ok.ensures.ran, second)
 
@@ -40,7 +46,7 @@ pub returns-in-Ok-clause-open_fault : goal.returns-in-Ok-clause-open_fault
 returns-in-Ok-clause-open_fault c = λ vars events fault spelled are is.
     let ran = c.in-Ok.ensures.ran in
     absurd (opened_without_fault c.what_opens_has_no_fault.ensures c.args.set.now ran.vars vars ran.happens.start fault
-            ran.spelled ran.happens.opened spelled is)
+    ran.spelled ran.happens.opened spelled is)
 
 pub returns-in-Ok-clause-told : goal.returns-in-Ok-clause-told
 returns-in-Ok-clause-told c = λ is. elim c.give_both.ensures.given [

@@ -15,7 +15,7 @@ pub returns-in-Ok-clause-found : goal.returns-in-Ok-clause-found
 returns-in-Ok-clause-found c = λ done.
     let found = c.in-Ok.ensures.found in
     let gives = subst (λ (answer : List ℕ). Gives c.give.result answer c.args.out.now c.give.new.out c.give.new.len)
-            (c.deref.ensures.value ∙ found.3) c.give.ensures in
+    (c.deref.ensures.value ∙ found.3) c.give.ensures in
     (found.0, found.1, found.2, given c.give.result _ c.args.out.now c.give.new.out c.give.new.len gives done)
 
 pub returns-in-Err-clause-set : goal.returns-in-Err-clause-set
@@ -40,10 +40,10 @@ pub returns-in-Err-clause-empty_data : goal.returns-in-Err-clause-empty_data
 returns-in-Err-clause-empty_data c = λ vars spelled is empty.
     only_failure c.in-Err.failure (put_failure put.EmptyData) c.tell.result c.args.refusal.now c.tell.new.refusal c.tell.ensures
     (λ other. put_failure_is c.args.set.now c.args.name.now c.args.value.now vars put.EmptyData c.in-Err.failure spelled
-            (is, empty) (c.in-Err.ensures.fault other))
+    (is, empty) (c.in-Err.ensures.fault other))
 
 pub returns-in-Err-clause-data_too_long : goal.returns-in-Err-clause-data_too_long
 returns-in-Err-clause-data_too_long c = λ vars spelled is long.
     only_failure c.in-Err.failure (put_failure put.DataTooLong) c.tell.result c.args.refusal.now c.tell.new.refusal c.tell.ensures
     (λ other. put_failure_is c.args.set.now c.args.name.now c.args.value.now vars put.DataTooLong c.in-Err.failure spelled
-            (is, long) (c.in-Err.ensures.fault other))
+    (is, long) (c.in-Err.ensures.fault other))

@@ -15,7 +15,7 @@ pub returns-in-Ok-Some-clause-found : goal.returns-in-Ok-Some-clause-found
 returns-in-Ok-Some-clause-found c = λ done.
     let found = rw c.in-Ok-Some.field-0-is at c.in-Ok-Some.ensures.found in
     let gives = subst (λ (answer : List ℕ). Gives c.give.result answer c.args.out.now c.give.new.out c.give.new.len)
-            (c.deref.ensures.value ∙ found.3) c.give.ensures in
+    (c.deref.ensures.value ∙ found.3) c.give.ensures in
     (found.0, found.1, found.2, given c.give.result _ c.args.out.now c.give.new.out c.give.new.len gives done)
 
 pub returns-in-Ok-None-clause-fault : goal.returns-in-Ok-None-clause-fault

@@ -6,7 +6,7 @@ use Rattle.bootkeep_c.proofs.variable.bootkeep_set_variables.Goals as goal
 pub returns : goal.returns
 returns c =
     answers (λ places. places.items) (HasVariablesAt c.args.set.now) (IsSetFailure c.args.set.now) c.variables_of-found.result
-            c.answer.result c.args.variables.now c.answer.new.out
+    c.answer.result c.args.variables.now c.answer.new.out
     c.args.len.now c.answer.new.len c.args.refusal.now c.answer.new.refusal c.variables_of-found.ensures.found
-            c.variables_of-found.ensures.fault c.answer.ensures.given
+    c.variables_of-found.ensures.fault c.answer.ensures.given
     c.answer.ensures.told

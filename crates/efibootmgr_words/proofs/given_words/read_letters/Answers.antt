@@ -24,7 +24,7 @@ returns-in-Value c =
     (λ next added. read_valued c.args.table.now c.args.letters.now (chars_rest c.loop-letter.rest) (chars_rest c.next.new.self) c.args.given.now
     c.loop-letter.given c.read_value.new.given c.in-Some.letter c.in-Some-row_of_letter.row.now _ next c.loop-letter.invariant c.in-Some.ensures.steps.0
     c.in-Some-row_of_letter.ensures (λ same. grind (arith, c.in-Value.is, same))
-            (c.own_value.ensures ∙ ap (λ (text : List ℕ). own_value (chars text)) c.as_str.ensures) added)
+    (c.own_value.ensures ∙ ap (λ (text : List ℕ). own_value (chars text)) c.as_str.ensures) added)
     c.read_value.ensures
 
 pub returns : goal.returns

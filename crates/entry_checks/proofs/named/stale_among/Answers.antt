@@ -1,5 +1,31 @@
-use Rattle.std.proofs.Common.{◌≡◌, ℕ, ◌+◌, ◌<◌, true, false, not, Bool, is_some, List, [], ◌∷◌, ◌++◌, length, get_or,
-    Option, Some, None, refl, sym, ap, ◌∙◌, cond, arith, filter, take}
+use Rattle.std.proofs.Common.{
+  ◌≡◌,
+  ℕ,
+  ◌+◌,
+  ◌<◌,
+  true,
+  false,
+  not,
+  Bool,
+  is_some,
+  List,
+  [],
+  ◌∷◌,
+  ◌++◌,
+  length,
+  get_or,
+  Option,
+  Some,
+  None,
+  refl,
+  sym,
+  ap,
+  ◌∙◌,
+  cond,
+  arith,
+  filter,
+  take,
+}
 use Rattle.std.specs.Option.{option_map}
 use Rattle.std.proofs.lemmas.List.{append-nil}
 use Rattle.std.proofs.lemmas.List.Elements.{filter_more}
@@ -23,7 +49,7 @@ loop-number-preserved c =
     let number = get_or numbers i 0 in
     let stale = filter (λ (n : ℕ). not (is_some (entries n))) (take i numbers) in
     let test = ap (λ (o : Option (List ℕ)). not (is_some o)) (sym c.entry.ensures.value)
-            ∙ none_told (λ bytes. bytes.now) c.entry.result c.is_none.result c.is_none.ensures in
+    ∙ none_told (λ bytes. bytes.now) c.entry.result c.is_none.result c.is_none.ensures in
     let more = filter_more (λ (n : ℕ). not (is_some (entries n))) numbers i 0 within in
     elim c.if-is_none.branch [
       | then-is_none+in_ok-push w ↦

@@ -11,8 +11,8 @@ returns-clause-fault c =
     let told = c.in-Err-from_vec.ensures in
     too_long c.args.name.now refused.fault c.in-Ok.ensures.cases.1 good
     (λ at is. rw same at (rw made at
-            ((told.zero_unit at).0 (refusal_is (λ fault units. record refused { fault = fault; units = units }) refused.fault
-            (refusal.ZeroUnit at) refused.units c.in_ok-units.units is told.handed_back))))
+    ((told.zero_unit at).0 (refusal_is (λ fault units. record refused { fault = fault; units = units }) refused.fault
+    (refusal.ZeroUnit at) refused.units c.in_ok-units.units is told.handed_back))))
     (λ is. rw same at (rw made at (told.too_long.0 (refusal_is (λ fault units. record refused { fault = fault; units = units })
-            refused.fault refusal.TooLong refused.units c.in_ok-units.units is told.handed_back))))
+    refused.fault refusal.TooLong refused.units c.in_ok-units.units is told.handed_back))))
     told.named

@@ -13,7 +13,7 @@ loop-at-preserved c =
     let after = c.next.new.self in
     rw (c.in_ok-push-in-Some-unit_of.ensures.items, unit.1)
     (read_more c.args.text.now (char_indices_rest before) (char_indices_rest after) c.loop-at.units.items
-            (char_indices_offset before) (char_indices_offset after)
+    (char_indices_offset before) (char_indices_offset after)
     c.in-Some.character c.loop-at.invariant steps.1 steps.2 unit.0)
 
 pub returns-in-None-unit_of-clause-fault : goal.returns-in-None-unit_of-clause-fault
@@ -25,7 +25,7 @@ returns-in-None-unit_of-clause-fault c =
       c.in-Some.at,
       refl,
       read_bad c.args.text.now (char_indices_rest before) (char_indices_rest c.next.new.self) c.loop-at.units.items
-              (char_indices_offset before) c.in-Some.character
+          (char_indices_offset before) c.in-Some.character
           c.loop-at.invariant steps.1 bad ∙ ap Some (sym steps.0),
     )
 

@@ -13,5 +13,5 @@ loop-mount-preserved c =
     let more = take_more mounts at mount c.loop-mount-test.true
     ∙ ap (λ (item : Mount). take at mounts ++ item ∷ []) (sym c.mount-item.is) in
     let family : List Mount → Type 0 = λ xs. MatchOption c.leading_of-leading.result (LeadsToNone xs c.args.path.now)
-            (λ one. IsLeading xs c.args.path.now one.now) in
+    (λ one. IsLeading xs c.args.path.now one.now) in
     subst family (sym more) (c.leading_of-leading.ensures (take at mounts) c.loop-mount.invariant)

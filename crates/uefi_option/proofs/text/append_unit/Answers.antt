@@ -12,7 +12,7 @@ shown unit e = rw e refl
 -- the two digits of each of its bytes are its four digits
 four_digits : (unit : ℕ) → unit < 2 ^ 16 →
     digit_glyph false (unit / 256 % 256 / 16) ∷ digit_glyph false (unit / 256 % 256 % 16) ∷ digit_glyph false (unit % 256 / 16) ∷
-            digit_glyph false (unit % 256 % 16) ∷ [] ≡ unit_digits unit
+    digit_glyph false (unit % 256 % 16) ∷ [] ≡ unit_digits unit
 four_digits unit fits =
     let first : unit / 256 % 256 / 16 ≡ unit / 0x1000 = omega arith in
     let second : unit / 256 % 256 % 16 ≡ unit / 0x100 % 0x10 = omega arith in
@@ -25,6 +25,13 @@ returns c =
     let unit = c.args.unit in
     let high = hex_byte false (unit / 256 % 256) (omega arith) in
     let low = hex_byte false (unit % 256) (omega arith) in
-    let written = rw (c.laid_out.ensures, c.laid_out-2.ensures, c.in_radix.ensures, c.in_radix-2.ensures, c.to_be_bytes.ensures,
-            high, low) at c.write.ensures.bytes in
+    let written = rw (
+      c.laid_out.ensures,
+      c.laid_out-2.ensures,
+      c.in_radix.ensures,
+      c.in_radix-2.ensures,
+      c.to_be_bytes.ensures,
+      high,
+      low,
+    ) at c.write.ensures.bytes in
     rw (shown unit (sym c.is_plain_unit.ensures ∙ c.if-is_plain_unit.false), ← four_digits unit (omega arith)) written

@@ -13,7 +13,7 @@ pub returns : goal.returns
 returns c =
     let numbers = c.args.numbers.now in
     let collected = fact_from_collect (λ (ns : List ℕ) (set : BTreeSet ℕ). IsFromIterResult nat_cmp ns set) c.collect.result
-            c.collect.ensures.ran (YieldsList-from_copied (YieldsList-from_slice numbers cc)) in
+    c.collect.ensures.ran (YieldsList-from_copied (YieldsList-from_slice numbers cc)) in
     IfOk-weaker c.collect.result (IsFromIterResult nat_cmp numbers)
-            (λ (set : BTreeSet ℕ). (number : ℕ) → IsTrue (contains nat_cmp set number) ↔ Contains numbers number)
+    (λ (set : BTreeSet ℕ). (number : ℕ) → IsTrue (contains nat_cmp set number) ↔ Contains numbers number)
     (λ set is number. btree_set_contains_from_list nat_cmp_total exact_unsigned numbers set is number) collected

@@ -30,14 +30,17 @@ loop-variable-preserved c =
       | then-eq+in_ok-free w ↦
           let named = sym c.as_str.ensures ∙ ((c.entry_number.ensures free).0 (equal.0 (sym w.if-eq.ensures))).1 in
           let more = w.in_ok-free.ensures in
-          rw (w.free-is, more.1) (record { is = more.0; taken = taken_more vars i _ at free named before.taken;
-                  passed = pass_next vars i _ at free named more.0 })
+          rw (w.free-is, more.1) (record {
+            is = more.0;
+            taken = taken_more vars i _ at free named before.taken;
+            passed = pass_next vars i _ at free named more.0;
+          })
       | else-eq w ↦
           rw w.free-is (record {
             is = before.is;
             taken = before.taken;
             passed = pass vars i _ at free before.passed (λ named.
-                    false≢true (w.if-eq.ensures ∙ equal.1 ((c.entry_number.ensures free).1 (before.is, c.as_str.ensures ∙ named))));
+                false≢true (w.if-eq.ensures ∙ equal.1 ((c.entry_number.ensures free).1 (before.is, c.as_str.ensures ∙ named))));
           })
     ]
 
@@ -47,6 +50,6 @@ returns-clause-free c =
     record {
       is = c.loop-variable.invariant.is;
       free = none_stored c.args.vars.now items.result.now c.loop-variable.variable-index c.loop-variable.free items.ensures.pairs
-              c.loop-variable-test.false c.loop-variable.invariant.passed;
+          c.loop-variable-test.false c.loop-variable.invariant.passed;
       taken = c.loop-variable.invariant.taken;
     }

@@ -25,7 +25,7 @@ returns-in-Equal-clause-found g c =
     let name = c.args.name.now in
     let equal = ap (λ k. name_cmp k name) (sym c.as_bytes.ensures) ∙ sym c.cmp.ensures ∙ c.in-Equal.is in
     sym (find_here name (pair_of c.in-Some.first.now) (pairs_of c.in-Some.behind.now) equal)
-            ∙ ap (λ l. find name_cmp name (pairs_of l)) (sym c.in-Some.ensures.cases.0)
+    ∙ ap (λ l. find name_cmp name (pairs_of l)) (sym c.in-Some.ensures.cases.0)
     ∙ c.loop-first.invariant.left name (not_below_itself name)
 
 pub returns-in-Greater-clause-found : goal.returns-in-Greater-clause-found
@@ -34,11 +34,11 @@ returns-in-Greater-clause-found g c =
     let rising = subst IsRising (ap pairs_of c.in-Some.ensures.cases.0) c.loop-first.invariant.rising in
     let greater = ap (λ k. name_cmp k name) (sym c.as_bytes.ensures) ∙ sym c.cmp.ensures ∙ c.in-Greater.is in
     sym (find_none name (pair_of c.in-Some.first.now) (pairs_of c.in-Some.behind.now) rising greater)
-            ∙ ap (λ l. find name_cmp name (pairs_of l)) (sym c.in-Some.ensures.cases.0)
+    ∙ ap (λ l. find name_cmp name (pairs_of l)) (sym c.in-Some.ensures.cases.0)
     ∙ c.loop-first.invariant.left name (not_below_itself name)
 
 pub returns-clause-found : goal.returns-clause-found
 returns-clause-found g c =
     let name = c.args.name.now in
     ap (λ l. find name_cmp name (pairs_of l)) (sym (none_of c.loop-first.left.now c.in_default.ensures.cases))
-            ∙ c.loop-first.invariant.left name (not_below_itself name)
+    ∙ c.loop-first.invariant.left name (not_below_itself name)

@@ -6,4 +6,4 @@ use Rattle.uefi_vars.proofs.normal_entry.look_once.Goals as goal
 pub returns-clause-known : goal.returns-clause-known
 returns-clause-known c =
     still_tell (TellsNormal (entry_of c.args.vars.now)) c.args.known.now c.keep.new.self c.args.number
-            c.is_normal_entry-normal.result c.requires c.is_normal_entry-normal.ensures c.keep.ensures
+    c.is_normal_entry-normal.result c.requires c.is_normal_entry-normal.ensures c.keep.ensures

@@ -14,9 +14,9 @@ loop-number-preserved c =
       known = c.look_once.ensures.known;
       chosen = elim c.if-look_once.branch [
         | then-look_once+in_ok-push w ↦ rw (w.numbers-is, w.in_ok-push.ensures.items)
-                (choose_number entries c.args.order.now i c.loop-number.numbers.items (omega arith)
-                c.loop-number.invariant.chosen (tells.0 w.if-look_once.true))
+            (choose_number entries c.args.order.now i c.loop-number.numbers.items (omega arith)
+            c.loop-number.invariant.chosen (tells.0 w.if-look_once.true))
         | else-look_once w ↦ rw w.numbers-is (pass_number entries c.args.order.now i c.loop-number.numbers.items (omega arith)
-                c.loop-number.invariant.chosen (λ has. false≢true (sym w.if-look_once.false ∙ tells.1 has)))
+            c.loop-number.invariant.chosen (λ has. false≢true (sym w.if-look_once.false ∙ tells.1 has)))
       ];
     }

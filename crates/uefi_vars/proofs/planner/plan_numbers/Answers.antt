@@ -8,7 +8,7 @@ found : (c : After-drop-order-2) → (plan : PlanParts) × HasPlan c.args.vars.n
 found c =
     let others = rw (c.deref.ensures.value, c.in_ok-order.ensures) at c.in_ok-normal.ensures in
     numbers_found c.args.vars.now _ c.in_ok-next.next c.next_number-next.result c.in_ok-normal.normal.items
-            c.in_ok-bytes.ensures.found c.in_ok-next.ensures.found c.next_number-next.ensures others
+    c.in_ok-bytes.ensures.found c.in_ok-next.ensures.found c.next_number-next.ensures others
 
 pub returns-clause-found : goal.returns-clause-found
 returns-clause-found c = found c
@@ -16,4 +16,4 @@ returns-clause-found c = found c
 pub returns-clause-only : goal.returns-clause-only
 returns-clause-only c = λ plan has.
     subst (λ (p : PlanParts). AreNumbersOf p c.next_number-next.result c.in_ok-normal.normal.items)
-            (c.variables_have_one_plan.ensures c.args.vars.now (found c).0 plan (found c).1 has) (found c).2
+    (c.variables_have_one_plan.ensures c.args.vars.now (found c).0 plan (found c).1 has) (found c).2

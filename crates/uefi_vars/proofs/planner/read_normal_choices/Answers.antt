@@ -13,10 +13,10 @@ loop-number-preserved c =
       known = c.in_ok-choice.ensures.known;
       chosen = elim c.match-branch-3.branch [
         | in-Some+in_ok-push w ↦ rw (w.choices-is, w.in_ok-push.ensures.items)
-                (choose entries c.args.order.now i c.loop-number.choices.items w.in-Some.choice (omega arith)
-                c.loop-number.invariant.chosen (rw w.in-Some.is at found))
+            (choose entries c.args.order.now i c.loop-number.choices.items w.in-Some.choice (omega arith)
+            c.loop-number.invariant.chosen (rw w.in-Some.is at found))
         | in_default w ↦ let none = rw w.in_default.is at found in
-                rw w.choices-is (pass entries c.args.order.now i c.loop-number.choices.items (omega arith)
-                c.loop-number.invariant.chosen (λ choice is. none (choice, is)))
+            rw w.choices-is (pass entries c.args.order.now i c.loop-number.choices.items (omega arith)
+            c.loop-number.invariant.chosen (λ choice is. none (choice, is)))
       ];
     }

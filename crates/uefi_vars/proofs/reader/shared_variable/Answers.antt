@@ -5,16 +5,26 @@ use Rattle.uefi_vars.proofs.Readings.{record_within, name_part, value_part}
 use Rattle.uefi_vars.proofs.reader.shared_variable.Goals as goal
 
 pub overflow_add-name_start : goal.overflow_add-name_start
-overflow_add-name_start c = omega (arith, c.requires.fits, record_within c.args.file.now c.requires.record.0 c.args.name.now
-        c.args.value.now c.args.place c.requires.record.1)
+overflow_add-name_start c = omega (
+  arith,
+  c.requires.fits,
+  record_within c.args.file.now c.requires.record.0 c.args.name.now
+      c.args.value.now c.args.place c.requires.record.1,
+)
 
 pub overflow_add-value_start : goal.overflow_add-value_start
-overflow_add-value_start c = omega (arith, c.requires.fits,
-        record_within c.args.file.now c.requires.record.0 c.args.name.now c.args.value.now c.args.place c.requires.record.1)
+overflow_add-value_start c = omega (
+  arith,
+  c.requires.fits,
+  record_within c.args.file.now c.requires.record.0 c.args.name.now c.args.value.now c.args.place c.requires.record.1,
+)
 
 pub overflow_add-value_start-2 : goal.overflow_add-value_start-2
-overflow_add-value_start-2 c = omega (arith, c.requires.fits,
-        record_within c.args.file.now c.requires.record.0 c.args.name.now c.args.value.now c.args.place c.requires.record.1)
+overflow_add-value_start-2 c = omega (
+  arith,
+  c.requires.fits,
+  record_within c.args.file.now c.requires.record.0 c.args.name.now c.args.value.now c.args.place c.requires.record.1,
+)
 
 pub part-requires : goal.part-requires
 part-requires c = omega (arith, record_within c.args.file.now c.requires.record.0 c.args.name.now c.args.value.now c.args.place c.requires.record.1)

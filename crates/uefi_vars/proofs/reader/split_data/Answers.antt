@@ -7,7 +7,7 @@ pub returns-then-len-eq0-clause-fault : goal.returns-then-len-eq0-clause-fault
 returns-then-len-eq0-clause-fault c =
     bad_length c.args.bytes.now c.from_le_bytes-len.result (drop 4 c.args.bytes.now) c.args.place
     (front_states c.args.bytes.now c.from_le_bytes-len.result (λ i. omega (arith, c.type_inv.bytes i)) c.in-len4-up.len_at_least
-            c.from_le_bytes-len.ensures) c.then-len-eq0.either
+    c.from_le_bytes-len.ensures) c.then-len-eq0.either
 
 pub returns-clause-found : goal.returns-clause-found
 returns-clause-found c =
@@ -16,5 +16,5 @@ returns-clause-found c =
     let within = rw all at c.if-len-behind.false in
     data_read bytes c.from_le_bytes-len.result (drop 4 bytes) c.split_at.result.0.now c.split_at.result.1.now (λ i. omega (arith, c.type_inv.bytes i))
     (front_states bytes c.from_le_bytes-len.result (λ i. omega (arith, c.type_inv.bytes i)) c.in-len4-up.len_at_least
-            c.from_le_bytes-len.ensures) c.if-len-eq0.false c.if-len-gt-DATA_MAX.false within
+    c.from_le_bytes-len.ensures) c.if-len-eq0.false c.if-len-gt-DATA_MAX.false within
     (c.split_at.ensures.front ∙ ap (take c.from_le_bytes-len.result) all) (c.split_at.ensures.back ∙ ap (drop c.from_le_bytes-len.result) all)

@@ -14,7 +14,7 @@ returns-in-Ok c =
     let at = subst (λ l. IsAt (pairs_of l) name place) c.deref.ensures.value c.in-Ok.ensures.found in
     let found = find_at name_cmp nat_list_cmp_total name (pairs_of variables) place at.below at.named in
     let erased = ap pairs_of c.remove.ensures.items ∙ map-remove pair_of variables place
-            ∙ sym (without_at name_cmp nat_list_cmp_total name (pairs_of variables) place at.below at.named at.above) in
+    ∙ sym (without_at name_cmp nat_list_cmp_total name (pairs_of variables) place at.below at.named at.above) in
     record {
       was = sym (ap is_some found ∙ some_at (λ e. e.1) (pairs_of variables) place at.within);
       erased = erased;

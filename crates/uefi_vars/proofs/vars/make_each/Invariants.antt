@@ -11,7 +11,7 @@ invariant-loop-change l =
     let left = into_iter_items l.change-iterator in
     record {
       made : after_each (vars_of l.variables.items) (pairs_of left)
-              ≡ after_each (vars_of l.initial.variables.items) (pairs_of (into_iter_items l.initial.change-iterator));
+          ≡ after_each (vars_of l.initial.variables.items) (pairs_of (into_iter_items l.initial.change-iterator));
       held : AreVariables (pairs_of l.variables.items);
       valid : AllByRecursion IsChange (pairs_of left);
       room : vec_len l.variables + length left ≤ vec_capacity l.variables;

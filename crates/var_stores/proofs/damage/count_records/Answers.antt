@@ -9,8 +9,11 @@ loop-rest-preserved-in-Some c =
     let after = c.in-Some.after.now in
     let room = c.loop-rest.invariant.room in
     let shorter = shorter_after rest after c.in-Some.ensures in
-    record { room = omega (arith, room, shorter); leads = past_record c.args.bytes.now rest after c.loop-rest.count
-            c.in-Some.ensures c.loop-rest.invariant.leads }
+    record {
+      room = omega (arith, room, shorter);
+      leads = past_record c.args.bytes.now rest after c.loop-rest.count
+          c.in-Some.ensures c.loop-rest.invariant.leads;
+    }
 
 pub loop-rest-preserved : goal.loop-rest-preserved
 loop-rest-preserved c =
@@ -21,7 +24,7 @@ loop-rest-preserved c =
     record {
       room = omega (arith, room, left);
       leads = past_four c.args.bytes.now rest c.four_on-rest.result.now c.loop-rest.count (has_some rest some)
-              c.in_default.ensures c.four_on-rest.ensures c.loop-rest.invariant.leads;
+          c.in_default.ensures c.four_on-rest.ensures c.loop-rest.invariant.leads;
     }
 
 pub returns : goal.returns

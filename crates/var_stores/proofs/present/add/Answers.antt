@@ -13,7 +13,7 @@ returns-in-Some c =
     let present = c.args.present.now in
     kept_added present r
     (ap is_added_there (looked_up present c.as_slice.result.now (key_of r) c.get.result c.get.ensures.value
-            (c.as_slice.ensures.value ∙ c.in_ok-key.ensures) ∙ ap (λ got. option_map record_parts (option_copied got)) c.in-Some.is)
+    (c.as_slice.ensures.value ∙ c.in_ok-key.ensures) ∙ ap (λ got. option_map record_parts (option_copied got)) c.in-Some.is)
     ∙ sym c.is_added.ensures ∙ c.if-is_added.true)
 
 pub returns-in_ok-insert-in_default : goal.returns-in_ok-insert-in_default
@@ -25,8 +25,8 @@ returns-in_ok-insert-in_default c =
     let free : is_added_there (record_under present (key_of r)) ≡ false =
     ap is_added_there under ∙ elim c.in_default.branch [
       | in_default-via-in-Some+else-is_added w ↦ ap (λ got. is_added_there (option_map record_parts (option_copied got)))
-              w.in-Some.is ∙ sym w.is_added.ensures ∙ w.if-is_added.false
+          w.in-Some.is ∙ sym w.is_added.ensures ∙ w.if-is_added.false
       | in_default-via-in_default w ↦ ap (λ got. is_added_there (option_map record_parts (option_copied got))) w.in_default.is
     ] in
     inserted present c.insert.new.self c.in_ok-key.key c.args.record.now c.in_ok-insert-in_default.ensures.updates
-            c.in_ok-key.ensures (sym c.is_alive.ensures ∙ c.if-not-is_alive.false) free
+    c.in_ok-key.ensures (sym c.is_alive.ensures ∙ c.if-not-is_alive.false) free

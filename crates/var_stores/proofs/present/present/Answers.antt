@@ -11,5 +11,5 @@ returns-clause-keyed c = λ key.
     let records = c.args.records.now in
     let all : found_after key None (map record_parts records) ≡ record_under c.loop-record.present key =
     sym (c.loop-record.invariant key) ∙ ap (λ rs. found_after key (record_under c.loop-record.present key) (map record_parts rs))
-            (drop_all c.loop-record.record-index records c.loop-record-test.false) in
+    (drop_all c.loop-record.record-index records c.loop-record-test.false) in
     subst (λ (found : Option RecordParts). IfSome found (IsFoundAs key)) all (found_after-is key None (map record_parts records) tt)

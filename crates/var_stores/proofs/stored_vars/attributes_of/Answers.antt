@@ -17,16 +17,16 @@ loop-record-init c = λ whole.
     let present = c.args.present.now in
     let ordered = c.values-record-items.ensures.ordered in
     let all : c.into_iter-record-iterator.result ≡ values present =
-            c.into_iter-record-iterator.ensures.into_iter_gives ∙ c.values-record-items.ensures.rest in (
+    c.into_iter-record-iterator.ensures.into_iter_gives ∙ c.values-record-items.ensures.rest in (
       subst (λ (rs : List Record). AllByRecursion IsRecord (map record_parts rs)) (sym all) (records_whole present ordered c.requires whole),
       λ name is.
           ap (λ vars. part_after (λ r. attribute_bytes r.header) (global_key name) (get vars name)
-                  (map record_parts c.into_iter-record-iterator.result)) c.new-vars.ensures
+          (map record_parts c.into_iter-record-iterator.result)) c.new-vars.ensures
           ∙ ap (λ before. part_after (λ r. attribute_bytes r.header) (global_key name) before
-                  (map record_parts c.into_iter-record-iterator.result)) (get-empty name_cmp name)
+          (map record_parts c.into_iter-record-iterator.result)) (get-empty name_cmp name)
           ∙ ap (λ (rs : List Record). part_after (λ r. attribute_bytes r.header) (global_key name) None (map record_parts rs)) all
           ∙ part_after-first (λ r. attribute_bytes r.header) (global_key name) (map record_parts (values present))
-                  (records_of_each_one present ordered c.requires)
+          (records_of_each_one present ordered c.requires)
           ∙ ap set_attributes (first_under present ordered c.requires (global_key name)),
     )
 
@@ -35,13 +35,13 @@ loop-record-preserved c = λ whole.
     let vars = c.loop-record.vars in
     let leads : AllByRecursion IsRecord (map record_parts (c.in-Some.record.now ∷ c.next.new.self))
     × ((name : List ℕ) → IsName name → part_after (λ r. attribute_bytes r.header) (global_key name) (get vars name)
-            (map record_parts (c.in-Some.record.now ∷ c.next.new.self))
-            ≡ set_attributes (record_under c.args.present.now (global_key name)))
+    (map record_parts (c.in-Some.record.now ∷ c.next.new.self))
+    ≡ set_attributes (record_under c.args.present.now (global_key name)))
     = subst (λ (rs : List Record). AllByRecursion IsRecord (map record_parts rs)
     × ((name : List ℕ) → IsName name → part_after (λ r. attribute_bytes r.header) (global_key name) (get vars name)
-            (map record_parts rs) ≡ set_attributes (record_under c.args.present.now (global_key name)))) c.in-Some.ensures.steps
+    (map record_parts rs) ≡ set_attributes (record_under c.args.present.now (global_key name)))) c.in-Some.ensures.steps
     (c.loop-record.invariant whole) in (
       leads.0.1,
       λ name is. ap (λ before. part_after (λ r. attribute_bytes r.header) (global_key name) before
-              (map record_parts c.next.new.self)) (c.in_ok-put_attributes.ensures leads.0.0 name is) ∙ leads.1 name is,
+          (map record_parts c.next.new.self)) (c.in_ok-put_attributes.ensures leads.0.0 name is) ∙ leads.1 name is,
     )

@@ -13,4 +13,4 @@ abbrev pub invariant-loop-record : goal.invariant-loop-record
 invariant-loop-record l =
     AreWhole l.present → AllByRecursion IsRecord (map record_parts l.record-iterator)
     × ((name : List ℕ) → IsName name → part_after (λ r. attribute_bytes r.header) (global_key name) (get l.vars name)
-            (map record_parts l.record-iterator) ≡ set_attributes (record_under l.present (global_key name)))
+    (map record_parts l.record-iterator) ≡ set_attributes (record_under l.present (global_key name)))

@@ -12,6 +12,6 @@ returns c =
     let present = c.in_ok-present.present in
     let records = map record_parts c.args.store.now.records.items in
     let there : (key : List ℕ) → record_under present key ≡ found key records =
-            λ key. c.in_ok-present.ensures.there key ∙ ap (λ (rs : List Record). found key (map record_parts rs)) c.deref.ensures.value in
+    λ key. c.in_ok-present.ensures.there key ∙ ap (λ (rs : List Record). found key (map record_parts rs)) c.deref.ensures.value in
     if_ok c.left_out_of.result c.left_out_of.ensures.left
     (λ left is. subst (AreLeftOut records) (sym is) (are_left_out present c.left_out_of.ensures.ordered c.in_ok-present.ensures.keyed records there))

@@ -8,7 +8,7 @@ use Rattle.var_stores.proofs.stored_vars.put.Goals as goal
 pub returns-in_default : goal.returns-in_default
 returns-in_default c =
     put_none c.args.vars.now c.args.stored.now c.args.value.now
-            (sym c.in_ok-name.ensures ∙ ap (λ name. option_map (λ text. string_bytes text) name) c.in_default.is)
+    (sym c.in_ok-name.ensures ∙ ap (λ name. option_map (λ text. string_bytes text) name) c.in_default.is)
 
 pub returns : goal.returns
 returns c =
@@ -24,4 +24,4 @@ returns c =
       valid = c.put.ensures.valid;
     } in
     on_ok c.unless_no_memory.result c.unless_no_memory.ensures
-            (put_gives c.args.vars.now c.put.new.self c.args.stored.now c.args.value.now own c.put.result read answer)
+    (put_gives c.args.vars.now c.put.new.self c.args.stored.now c.args.value.now own c.put.result read answer)

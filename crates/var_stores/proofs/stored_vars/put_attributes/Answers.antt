@@ -15,7 +15,7 @@ returns-then-ne c = λ whole name is.
     let r = record_parts c.args.record.now in
     puts_foreign c.args.vars.now r (attribute_bytes r.header) (vendor_len r whole)
     (λ vendor. false≢true (sym (not-true _ (sym c.if-ne.ensures))
-            ∙ (bytes_same c.vendor.result.now c.as_slice.result.now).1 (c.vendor.ensures ∙ vendor ∙ sym c.as_slice.ensures))) name
+    ∙ (bytes_same c.vendor.result.now c.as_slice.result.now).1 (c.vendor.ensures ∙ vendor ∙ sym c.as_slice.ensures))) name
 
 pub returns : goal.returns
 returns c =
@@ -27,4 +27,4 @@ returns c =
     let fits : is_set_value r.value ≡ true = sym c.is_set_value.ensures ∙ c.if-not-is_set_value.false in
     on_ok c.put.result c.put.ensures (λ puts whole.
     puts_global old new r (attribute_bytes r.header) vendor (attributes_fit r whole ∙ sym fits)
-            (subst (λ (part : List ℕ). PutsStored old new r.name part) c.attributes.ensures puts))
+    (subst (λ (part : List ℕ). PutsStored old new r.name part) c.attributes.ensures puts))

@@ -12,7 +12,7 @@ returns-then-ne c = λ whole name is.
     let r = record_parts c.args.record.now in
     puts_foreign c.args.vars.now r r.value (vendor_len r whole)
     (λ vendor. false≢true (sym (not-true _ (sym c.if-ne.ensures))
-            ∙ (bytes_same c.vendor.result.now c.as_slice.result.now).1 (c.vendor.ensures ∙ vendor ∙ sym c.as_slice.ensures))) name
+    ∙ (bytes_same c.vendor.result.now c.as_slice.result.now).1 (c.vendor.ensures ∙ vendor ∙ sym c.as_slice.ensures))) name
 
 pub returns : goal.returns
 returns c =

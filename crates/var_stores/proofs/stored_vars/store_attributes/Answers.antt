@@ -12,6 +12,6 @@ returns c =
     let present = c.in_ok-present.present in
     let records = map record_parts c.args.store.now.records.items in
     let there : (key : List ℕ) → record_under present key ≡ found key records =
-            λ key. c.in_ok-present.ensures.there key ∙ ap (λ (rs : List Record). found key (map record_parts rs)) c.deref.ensures.value in
+    λ key. c.in_ok-present.ensures.there key ∙ ap (λ (rs : List Record). found key (map record_parts rs)) c.deref.ensures.value in
     if_ok c.attributes_of.result c.attributes_of.ensures (λ vars has whole name is.
-            has (are_whole present records there whole) name is ∙ ap set_attributes (there (global_key name)))
+    has (are_whole present records there whole) name is ∙ ap set_attributes (there (global_key name)))

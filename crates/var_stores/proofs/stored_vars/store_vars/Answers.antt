@@ -12,6 +12,6 @@ returns c =
     let present = c.in_ok-present.present in
     let records = map record_parts c.args.store.now.records.items in
     let there : (key : List ℕ) → record_under present key ≡ found key records =
-            λ key. c.in_ok-present.ensures.there key ∙ ap (λ (rs : List Record). found key (map record_parts rs)) c.deref.ensures.value in
+    λ key. c.in_ok-present.ensures.there key ∙ ap (λ (rs : List Record). found key (map record_parts rs)) c.deref.ensures.value in
     if_ok c.vars_of.result c.vars_of.ensures (λ vars has whole name is. has (are_whole present records there whole) name is
-            ∙ ap set_data (there (global_key name)))
+    ∙ ap set_data (there (global_key name)))

@@ -17,7 +17,7 @@ loop-record-init c = λ whole.
     let present = c.args.present.now in
     let ordered = c.values-record-items.ensures.ordered in
     let all : c.into_iter-record-iterator.result ≡ values present =
-            c.into_iter-record-iterator.ensures.into_iter_gives ∙ c.values-record-items.ensures.rest in (
+    c.into_iter-record-iterator.ensures.into_iter_gives ∙ c.values-record-items.ensures.rest in (
       subst (λ (rs : List Record). AllByRecursion IsRecord (map record_parts rs)) (sym all) (records_whole present ordered c.requires whole),
       λ name is.
           ap (λ vars. part_after (λ r. r.value) (global_key name) (get vars name) (map record_parts c.into_iter-record-iterator.result)) c.new-vars.ensures
@@ -32,12 +32,12 @@ loop-record-preserved c = λ whole.
     let vars = c.loop-record.vars in
     let leads : AllByRecursion IsRecord (map record_parts (c.in-Some.record.now ∷ c.next.new.self))
     × ((name : List ℕ) → IsName name → part_after (λ r. r.value) (global_key name) (get vars name)
-            (map record_parts (c.in-Some.record.now ∷ c.next.new.self)) ≡ set_data (record_under c.args.present.now (global_key name)))
+    (map record_parts (c.in-Some.record.now ∷ c.next.new.self)) ≡ set_data (record_under c.args.present.now (global_key name)))
     = subst (λ (rs : List Record). AllByRecursion IsRecord (map record_parts rs)
     × ((name : List ℕ) → IsName name → part_after (λ r. r.value) (global_key name) (get vars name) (map record_parts rs)
-            ≡ set_data (record_under c.args.present.now (global_key name)))) c.in-Some.ensures.steps
+    ≡ set_data (record_under c.args.present.now (global_key name)))) c.in-Some.ensures.steps
     (c.loop-record.invariant whole) in (
       leads.0.1,
       λ name is. ap (λ before. part_after (λ r. r.value) (global_key name) before (map record_parts c.next.new.self))
-              (c.in_ok-put_record.ensures leads.0.0 name is) ∙ leads.1 name is,
+          (c.in_ok-put_record.ensures leads.0.0 name is) ∙ leads.1 name is,
     )

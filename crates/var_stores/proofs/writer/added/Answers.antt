@@ -13,16 +13,16 @@ use Rattle.var_stores.proofs.writer.added.Goals as goal
 pub loop-name-init : goal.loop-name-init
 loop-name-init c =
     let all : variables_left c.into_iter-name-iterator.result ≡ entries c.args.to.now =
-            ap variables_left c.into_iter-name-iterator.ensures.into_iter_gives ∙ c.iter-name-items.ensures.items in
+    ap variables_left c.into_iter-name-iterator.ensures.into_iter_gives ∙ c.iter-name-items.ensures.items in
     record {
       valid = subst (AllByRecursion IsVariable) (sym all) (entries-AllByRecursion c.args.to.now c.iter-name-items.ensures.valid);
       is =
           ap (λ (b : List ℕ). b ++ flat_map record_bytes (added c.args.from.now c.args.to.now
-                  (λ name. new_attributes (get c.args.attributes.now name) (record_under c.args.present.now (global_key name)))
-                  (variables_left c.into_iter-name-iterator.result))) c.new-bytes.ensures.items
+          (λ name. new_attributes (get c.args.attributes.now name) (record_under c.args.present.now (global_key name)))
+          (variables_left c.into_iter-name-iterator.result))) c.new-bytes.ensures.items
           ∙ ap (λ (variables : List (List ℕ × List ℕ)). flat_map record_bytes
-                  (added c.args.from.now c.args.to.now (λ name. new_attributes (get c.args.attributes.now name)
-                  (record_under c.args.present.now (global_key name))) variables)) all;
+          (added c.args.from.now c.args.to.now (λ name. new_attributes (get c.args.attributes.now name)
+          (record_under c.args.present.now (global_key name))) variables)) all;
     }
 
 pub append_new-requires-clause-name : goal.append_new-requires-clause-name
@@ -46,8 +46,8 @@ loop-name-preserved-in-Continue-1 c =
           ap (λ (b : List ℕ). b ++ flat_map record_bytes (added from to attributes rest)) c.in_ok-append_new.ensures
           ∙ append_assoc c.loop-name.bytes.items (record_bytes r) (flat_map record_bytes (added from to attributes rest))
           ∙ ap (λ b. c.loop-name.bytes.items ++ flat_map record_bytes
-                  (cond b (r ∷ added from to attributes rest) (added from to attributes rest))) c.if-is_rewritten.ensures
+          (cond b (r ∷ added from to attributes rest) (added from to attributes rest))) c.if-is_rewritten.ensures
           ∙ ap (λ (variables : List (List ℕ × List ℕ)). c.loop-name.bytes.items
-                  ++ flat_map record_bytes (added from to attributes variables)) (sym c.in-Some.ensures.steps)
+          ++ flat_map record_bytes (added from to attributes variables)) (sym c.in-Some.ensures.steps)
           ∙ c.loop-name.invariant.is;
     }

@@ -14,6 +14,6 @@ abbrev pub invariant-loop-name : goal.invariant-loop-name
 invariant-loop-name l = record {
   valid : AllByRecursion IsVariable (variables_left l.name-iterator);
   is : l.bytes.items ++ flat_map record_bytes (added l.from l.to
-          (λ name. new_attributes (get l.attributes name) (record_under l.present (global_key name))) (variables_left l.name-iterator))
+      (λ name. new_attributes (get l.attributes name) (record_under l.present (global_key name))) (variables_left l.name-iterator))
       ≡ flat_map record_bytes (added l.from l.to (λ name. new_attributes (get l.attributes name) (record_under l.present (global_key name))) (entries l.to));
 }

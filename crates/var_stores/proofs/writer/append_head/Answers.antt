@@ -16,7 +16,7 @@ returns c =
     c.in_ok-extend_from_slice-2.ensures.items ∙ ap (λ (b : List ℕ). b ++ a) c.in_ok-extend_from_slice.ensures.items in
     let second : c.extend_from_slice-4.new.self.items ≡ (((old ++ (0xAA ∷ 0x55 ∷ 0x3F ∷ 0 ∷ [])) ++ a) ++ z) ++ n =
     c.in_ok-extend_from_slice-4.ensures.items ∙ ap (λ (b : List ℕ). b ++ c.to_le_bytes.result)
-            (c.in_ok-extend_from_slice-3.ensures.items ∙ ap (λ (b : List ℕ). b ++ z) first)
+    (c.in_ok-extend_from_slice-3.ensures.items ∙ ap (λ (b : List ℕ). b ++ z) first)
     ∙ ap (λ (b : List ℕ). (((old ++ (0xAA ∷ 0x55 ∷ 0x3F ∷ 0 ∷ [])) ++ a) ++ z) ++ b) c.to_le_bytes.ensures in
     c.in_ok-extend_from_slice-6.ensures.items
     ∙ ap (λ (b : List ℕ). b ++ global_vendor) (c.in_ok-extend_from_slice-5.ensures.items ∙ ap (λ (b : List ℕ). b ++ c.to_le_bytes-2.result) second

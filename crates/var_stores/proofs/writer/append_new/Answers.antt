@@ -20,18 +20,18 @@ returns c =
     let given = c.new_attributes-attributes.result in
     let size = 2 * length name + 2 in
     let key : c.deref.result.now ≡ global_key name = c.deref.ensures.value ∙ c.in_ok-append_name.ensures
-            ∙ ap (λ (guid : List ℕ). guid ++ stored) c.in_ok-key.ensures.items in
+    ∙ ap (λ (guid : List ℕ). guid ++ stored) c.in_ok-key.ensures.items in
     let asked = get c.args.attributes.now name in
     let attributes : given ≡ new_attributes asked (record_under present (global_key name)) =
     c.new_attributes-attributes.ensures ∙ ap (λ (o : Option (List ℕ)). new_attributes o (record_under present c.deref.result.now)) c.get.ensures.value
     ∙ ap (λ (k : List ℕ). new_attributes asked (record_under present k)) key in
     let bytes : c.extend_from_slice.new.self.items ≡ ((old ++ (0xAA ∷ 0x55 ∷ 0x3F ∷ header_of given size (length value))) ++ stored) ++ value =
     c.in_ok-extend_from_slice.ensures.items ∙ ap (λ (b : List ℕ). b ++ value)
-            (c.in_ok-append_name-2.ensures ∙ ap (λ (b : List ℕ). b ++ stored) c.in_ok-append_head.ensures) in
+    (c.in_ok-append_name-2.ensures ∙ ap (λ (b : List ℕ). b ++ stored) c.in_ok-append_head.ensures) in
     on_ok c.append_padding.result c.append_padding.ensures (λ padded.
     padded ∙ ap (λ (b : List ℕ). b ++ replicate (padding_len (size + length value)) 0xFF) bytes
     ∙ record_appended old (header_of given size (length value)) stored value (replicate (padding_len (size + length value)) 0xFF)
     ∙ ap (λ (n : ℕ). old ++ (0xAA ∷ 0x55 ∷ 0x3F ∷ (header_of given n (length value)
-            ++ (stored ++ (value ++ replicate (padding_len (n + length value)) 0xFF))))) (sym (stored_name-len name))
+    ++ (stored ++ (value ++ replicate (padding_len (n + length value)) 0xFF))))) (sym (stored_name-len name))
     ∙ ap (λ (a : List ℕ). old ++ (0xAA ∷ 0x55 ∷ 0x3F ∷ (header_of a (length stored) (length value)
-            ++ (stored ++ (value ++ replicate (padding_len (length stored + length value)) 0xFF))))) attributes)
+    ++ (stored ++ (value ++ replicate (padding_len (length stored + length value)) 0xFF))))) attributes)

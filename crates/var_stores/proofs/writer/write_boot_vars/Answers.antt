@@ -23,12 +23,12 @@ added-requires c =
     let records = map record_parts c.in_ok-store.store.records.items in
     are_whole c.in_ok-present.present records
     (λ key. c.in_ok-present.ensures.there key ∙ ap (λ (rs : List Record). found key (map record_parts rs)) c.deref.ensures.value)
-            c.in_ok-store.ensures.found.area.whole
+    c.in_ok-store.ensures.found.area.whole
 
 pub returns-in_err-store-clause-fault : goal.returns-in_err-store-clause-fault
 returns-in_err-store-clause-fault c =
     store_fault c.args.file.now c.args.to.now c.args.attributes.now c.in_err-store.field-0.0 c.from_residual.result
-            c.from_residual.ensures.1 c.in_err-store.ensures.fault
+    c.from_residual.ensures.1 c.in_err-store.ensures.fault
 
 pub returns-in_err-store-clause-only_fault : goal.returns-in_err-store-clause-only_fault
 returns-in_err-store-clause-only_fault c = λ fault other is.
@@ -60,7 +60,7 @@ returns-then-not-branch-clause-fault c =
     let new_is : c.in_ok-added.added.items ≡ new_bytes s.records from to given =
     c.in_ok-added.ensures.bytes
     ∙ ap (λ (before : List ℕ → Option RecordParts). flat_map record_bytes
-            (added from to (λ name. new_attributes (get given name) (before name)) (entries to))) (λ i name. there (global_key name) i) in
+    (added from to (λ name. new_attributes (get given name) (before name)) (entries to))) (λ i name. there (global_key name) i) in
     let kept = unchanged from to (map record_parts (values present)) in
     let full : Fits (new_bytes s.records from to given) s.free → ⊥ =
     subst (λ (new : List ℕ). Fits new s.free → ⊥) (c.deref-2.ensures.value ∙ new_is) c.in-None.ensures in
@@ -98,9 +98,9 @@ returns-clause-written c =
     let new_is : c.in_ok-added.added.items ≡ new_bytes s.records from to given =
     c.in_ok-added.ensures.bytes
     ∙ ap (λ (before : List ℕ → Option RecordParts). flat_map record_bytes
-            (added from to (λ name. new_attributes (get given name) (before name)) (entries to))) (λ i name. there (global_key name) i) in
+    (added from to (λ name. new_attributes (get given name) (before name)) (entries to))) (λ i name. there (global_key name) i) in
     let new_whole : AllByRecursion IsRecord (new_records s.records from to given) =
-            added-whole s.records from to given (entries to) whole (entries-AllByRecursion to c.in_ok-added.ensures.valid) in
+    added-whole s.records from to given (entries to) whole (entries-AllByRecursion to c.in_ok-added.ensures.valid) in
     let bytes = c.extend_from_slice.new.self.items in
     elim c.match-free_after.branch as (λ w. IsWritten file to given bytes) [
       | in-Some+in_ok-append_all-in-Some w ↦
@@ -108,24 +108,24 @@ returns-clause-written c =
           subst (λ (new : List ℕ). Fits new s.free × (w.in-Some.free.now ≡ drop (length new) s.free)) (c.deref-2.ensures.value ∙ new_is) w.in-Some.ensures in
           appended file s was from to given from_is new_whole bytes (without_outdated-whole from to s.records whole) fits.0
           (put_together bytes c.match-free_after.bytes.items c.in_ok-bytes.bytes.items s.head _
-                  (flat_map record_bytes (without_outdated from to s.records)) _ (new_bytes s.records from to given) w.in-Some.free.now
+          (flat_map record_bytes (without_outdated from to s.records)) _ (new_bytes s.records from to given) w.in-Some.free.now
           (drop (length (new_bytes s.records from to given)) s.free) s.rest c.in_ok-extend_from_slice.ensures.items
-                  (ap (λ b. b.items) w.bytes-is ∙ w.in_ok-append_all-in-Some.ensures) c.in_ok-bytes.ensures.items
+          (ap (λ b. b.items) w.bytes-is ∙ w.in_ok-append_all-in-Some.ensures) c.in_ok-bytes.ensures.items
           (ap (λ (rs : List Record). flat_map record_bytes (without_outdated from to (map record_parts rs)))
-                  w.deref-in-Some.ensures.value) (w.deref-in-Some-2.ensures.value ∙ new_is) fits.1)
+          w.deref-in-Some.ensures.value) (w.deref-in-Some-2.ensures.value ∙ new_is) fits.1)
       | in-None+in_ok-append_moved-in-None+else-not-branch w ↦
           let kept = unchanged from to (map record_parts (values present)) in
           let full : Fits (new_bytes s.records from to given) s.free → ⊥ =
-                  subst (λ (new : List ℕ). Fits new s.free → ⊥) (c.deref-2.ensures.value ∙ new_is) w.in-None.ensures in
+          subst (λ (new : List ℕ). Fits new s.free → ⊥) (c.deref-2.ensures.value ∙ new_is) w.in-None.ensures in
           let done = w.in_ok-append_moved-in-None.ensures.moved (ap Ok w.if-not-branch.false) in
           let area = (flat_map record_bytes kept ++ new_bytes s.records from to given) ++ replicate done.0 0xFF in
           let area_is : w.append_moved.new.bytes.items ≡ s.head ++ area =
           done.1 ∙ ap (λ (h : List ℕ). h ++ ((flat_map record_bytes kept ++ w.deref-in-None.result.now) ++ replicate done.0 0xFF)) c.in_ok-bytes.ensures.items
           ∙ ap (λ (new : List ℕ). s.head ++ ((flat_map record_bytes kept ++ new) ++ replicate done.0 0xFF)) (w.deref-in-None.ensures.value ∙ new_is) in
           moved file s was from to given from_is new_whole bytes kept done.0
-                  (kept_whole present w.in_ok-append_moved-in-None.ensures.ordered c.in_ok-present.ensures.keyed from to present_whole)
+          (kept_whole present w.in_ok-append_moved-in-None.ensures.ordered c.in_ok-present.ensures.keyed from to present_whole)
           (are_kept present w.in_ok-append_moved-in-None.ensures.ordered c.in_ok-present.ensures.keyed s.records from to there) full
           (c.in_ok-extend_from_slice.ensures.items ∙ ap (λ (b : List ℕ). b ++ s.rest) (ap (λ b. b.items) w.bytes-is ∙ area_is)
-                  ∙ append_assoc s.head area s.rest)
+          ∙ append_assoc s.head area s.rest)
           (fills_area file s area was (ap length (sym area_is) ∙ done.2))
     ]

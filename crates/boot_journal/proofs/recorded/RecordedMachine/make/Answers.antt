@@ -1,4 +1,4 @@
--- The three ends of `make` once the device was asked to make the change: it did, it did but says that it failed, or it
+-- The three ends of `make` once the storage was asked to make the change: it did, it did but says that it failed, or it
 -- didn't. For each, which moves the record got, and what it was asked; the rest follows from the moves.
 use Rattle.std.proofs.Common.{inl, inr, true, false, is_ok, [], ◌∷◌, refl, ap, ◌∙◌}
 use Rattle.boot_journal.specs.declared.recorded.Move.TheVariants.{Made, Refused}
@@ -26,8 +26,8 @@ returns-in-Ok g c =
       whole = inr goes.leads;
       moments = moments (IsEither (store_of s.now) (with_made (c.args.change.now ∷ []) (store_of s.now))) goes (inr refl, tt);
       asked = record {
-        asks = ap g.D.Device.asked c.keep_change.ensures.device ∙ c.make.ensures
-            ∙ (λ i. and_then (g.D.Device.asked (c.reserve.ensures.device i)) (ToMake c.args.change.now (is_ok (c.in-Ok.is i)) ∷ []));
+        asks = ap g.D.Storage.asked c.keep_change.ensures.storage ∙ c.make.ensures
+            ∙ (λ i. and_then (g.D.Storage.asked (c.reserve.ensures.storage i)) (ToMake c.args.change.now (is_ok (c.in-Ok.is i)) ∷ []));
         told = goes.told;
       };
       refused = tt;
@@ -56,11 +56,11 @@ returns-then-has_made g c =
       refused = inr (
         true,
         record {
-          asks = ap g.D.Device.asked (r.ensures.device ∙ k.ensures.device) ∙ asked_twice _ _ _ _ _
+          asks = ap g.D.Storage.asked (r.ensures.storage ∙ k.ensures.storage) ∙ asked_twice _ _ _ _ _
               (c.make.ensures
-              ∙ ap (λ r. and_then (g.D.Device.asked c.reserve.new.self.device) (ToMake c.args.change.now (is_ok r) ∷ [])) c.in-Err.is
-              ∙ ap (λ d. and_then (g.D.Device.asked d) (ToMake c.args.change.now false ∷ [])) c.reserve.ensures.device)
-              (c.has_made.ensures ∙ ap (λ b. and_then (g.D.Device.asked c.make.new.self) (HasMade c.args.change.now b ∷ [])) c.if-has_made.true);
+              ∙ ap (λ r. and_then (g.D.Storage.asked c.reserve.new.self.storage) (ToMake c.args.change.now (is_ok r) ∷ [])) c.in-Err.is
+              ∙ ap (λ d. and_then (g.D.Storage.asked d) (ToMake c.args.change.now false ∷ [])) c.reserve.ensures.storage)
+              (c.has_made.ensures ∙ ap (λ b. and_then (g.D.Storage.asked c.make.new.self) (HasMade c.args.change.now b ∷ [])) c.if-has_made.true);
           told = goes.told;
         },
       );
@@ -88,11 +88,11 @@ returns-else-has_made g c =
       refused = inr (
         false,
         record {
-          asks = ap g.D.Device.asked r.ensures.device ∙ asked_twice _ _ _ _ _
+          asks = ap g.D.Storage.asked r.ensures.storage ∙ asked_twice _ _ _ _ _
               (c.make.ensures
-              ∙ ap (λ r. and_then (g.D.Device.asked c.reserve.new.self.device) (ToMake c.args.change.now (is_ok r) ∷ [])) c.in-Err.is
-              ∙ ap (λ d. and_then (g.D.Device.asked d) (ToMake c.args.change.now false ∷ [])) c.reserve.ensures.device)
-              (c.has_made.ensures ∙ ap (λ b. and_then (g.D.Device.asked c.make.new.self) (HasMade c.args.change.now b ∷ [])) c.if-has_made.false);
+              ∙ ap (λ r. and_then (g.D.Storage.asked c.reserve.new.self.storage) (ToMake c.args.change.now (is_ok r) ∷ [])) c.in-Err.is
+              ∙ ap (λ d. and_then (g.D.Storage.asked d) (ToMake c.args.change.now false ∷ [])) c.reserve.ensures.storage)
+              (c.has_made.ensures ∙ ap (λ b. and_then (g.D.Storage.asked c.make.new.self) (HasMade c.args.change.now b ∷ [])) c.if-has_made.false);
           told = goes.told;
         },
       );

@@ -1,4 +1,4 @@
--- The three ends of `replace_journal` once the device was asked to replace it, as those of `make`: it did, it did but says that
+-- The three ends of `replace_journal` once the storage was asked to replace it, as those of `make`: it did, it did but says that
 -- it failed, or it didn't. For each, which moves the record got, and what it was asked; the rest follows from the moves.
 use Rattle.std.proofs.Common.{inl, inr, true, false, is_ok, [], ◌∷◌, refl, ap, ◌∙◌}
 use Rattle.boot_journal.specs.declared.recorded.Move.TheVariants.{Replaced, Refused}
@@ -26,8 +26,8 @@ returns-in-Ok g c =
       whole = inr goes.leads;
       moments = moments (IsEither (store_of s.now) (with_journal c.args.journal.now (store_of s.now))) goes (inr refl, tt);
       asked = record {
-        asks = ap g.D.Device.asked c.keep_journal.ensures.device ∙ c.replace_journal.ensures
-            ∙ (λ i. and_then (g.D.Device.asked (c.reserve.ensures.device i)) (ToReplace c.args.journal.now (is_ok (c.in-Ok.is i)) ∷ []));
+        asks = ap g.D.Storage.asked c.keep_journal.ensures.storage ∙ c.replace_journal.ensures
+            ∙ (λ i. and_then (g.D.Storage.asked (c.reserve.ensures.storage i)) (ToReplace c.args.journal.now (is_ok (c.in-Ok.is i)) ∷ []));
         told = goes.told;
       };
       refused = tt;
@@ -56,12 +56,12 @@ returns-then-has_replaced g c =
       refused = inr (
         true,
         record {
-          asks = ap g.D.Device.asked (r.ensures.device ∙ k.ensures.device) ∙ asked_twice _ _ _ _ _
+          asks = ap g.D.Storage.asked (r.ensures.storage ∙ k.ensures.storage) ∙ asked_twice _ _ _ _ _
               (c.replace_journal.ensures
-              ∙ ap (λ r. and_then (g.D.Device.asked c.reserve.new.self.device) (ToReplace c.args.journal.now (is_ok r) ∷ [])) c.in-Err.is
-              ∙ ap (λ d. and_then (g.D.Device.asked d) (ToReplace c.args.journal.now false ∷ [])) c.reserve.ensures.device)
+              ∙ ap (λ r. and_then (g.D.Storage.asked c.reserve.new.self.storage) (ToReplace c.args.journal.now (is_ok r) ∷ [])) c.in-Err.is
+              ∙ ap (λ d. and_then (g.D.Storage.asked d) (ToReplace c.args.journal.now false ∷ [])) c.reserve.ensures.storage)
               (c.has_replaced.ensures
-              ∙ ap (λ b. and_then (g.D.Device.asked c.replace_journal.new.self) (HasReplaced c.args.journal.now b ∷ [])) c.if-has_replaced.true);
+              ∙ ap (λ b. and_then (g.D.Storage.asked c.replace_journal.new.self) (HasReplaced c.args.journal.now b ∷ [])) c.if-has_replaced.true);
           told = goes.told;
         },
       );
@@ -89,12 +89,12 @@ returns-else-has_replaced g c =
       refused = inr (
         false,
         record {
-          asks = ap g.D.Device.asked r.ensures.device ∙ asked_twice _ _ _ _ _
+          asks = ap g.D.Storage.asked r.ensures.storage ∙ asked_twice _ _ _ _ _
               (c.replace_journal.ensures
-              ∙ ap (λ r. and_then (g.D.Device.asked c.reserve.new.self.device) (ToReplace c.args.journal.now (is_ok r) ∷ [])) c.in-Err.is
-              ∙ ap (λ d. and_then (g.D.Device.asked d) (ToReplace c.args.journal.now false ∷ [])) c.reserve.ensures.device)
+              ∙ ap (λ r. and_then (g.D.Storage.asked c.reserve.new.self.storage) (ToReplace c.args.journal.now (is_ok r) ∷ [])) c.in-Err.is
+              ∙ ap (λ d. and_then (g.D.Storage.asked d) (ToReplace c.args.journal.now false ∷ [])) c.reserve.ensures.storage)
               (c.has_replaced.ensures
-              ∙ ap (λ b. and_then (g.D.Device.asked c.replace_journal.new.self) (HasReplaced c.args.journal.now b ∷ [])) c.if-has_replaced.false);
+              ∙ ap (λ b. and_then (g.D.Storage.asked c.replace_journal.new.self) (HasReplaced c.args.journal.now b ∷ [])) c.if-has_replaced.false);
           told = goes.told;
         },
       );

@@ -8,7 +8,7 @@ pub returns-in_err-passes_over-clause-refused : goal.returns-in_err-passes_over-
 returns-in_err-passes_over-clause-refused g c =
     let p = err_from_is_err_and c.from_residual.result c.from_residual.ensures.1 in
     let last = last_here c.args.self.now.changes.now c.args.vars.now c.loop-change.change-index c.change-item.result
-            (omega arith) c.change-item.is c.loop-change.invariant in
+    (omega arith) c.change-item.is c.loop-change.invariant in
     rw (p.1, p.2)
     (refused_weaker c.in_err-passes_over.field-0.0 _ _ (λ fault is. inr (c.change-item.result, last, is)) c.in_err-passes_over.ensures.refused)
 
@@ -21,5 +21,5 @@ returns-then-not-branch-clause-last g c = (
 pub loop-change-preserved : goal.loop-change-preserved
 loop-change-preserved g c =
     passed_more c.args.self.now.changes.now c.args.vars.now c.loop-change.change-index c.change-item.result (omega arith)
-            c.change-item.is c.loop-change.invariant
+    c.change-item.is c.loop-change.invariant
     (c.in_ok-passes_over.ensures.over c.if-not-branch.false)

@@ -13,7 +13,7 @@ returns-in-Some-Some c =
     let name = c.args.name.now in
     let found : find name_cmp name (pairs_of changes) ≡ Some (Some c.as_slice.result.now) =
     sym (λ i. find name_cmp (c.as_bytes.ensures.value i) (pairs_of (c.deref.ensures.value i))) ∙ sym c.in-Some-Some.ensures
-            ∙ ap Some (c.in-Some-Some.field-0-is ∙ ap Some (sym c.as_slice.ensures)) in
+    ∙ ap Some (c.in-Some-Some.field-0-is ∙ ap Some (sym c.as_slice.ensures)) in
     sym (get_changed changes c.self.invariant c.args.vars.now name _ found) ∙ ap (λ m. get (with_changes c.args.vars.now m) name) c.self.view_is
 
 pub returns-in-Some-None : goal.returns-in-Some-None
@@ -22,7 +22,7 @@ returns-in-Some-None c =
     let name = c.args.name.now in
     let found : find name_cmp name (pairs_of changes) ≡ Some None =
     sym (λ i. find name_cmp (c.as_bytes.ensures.value i) (pairs_of (c.deref.ensures.value i))) ∙ sym c.in-Some-None.ensures
-            ∙ ap Some c.in-Some-None.field-0-is in
+    ∙ ap Some c.in-Some-None.field-0-is in
     sym (get_changed changes c.self.invariant c.args.vars.now name _ found) ∙ ap (λ m. get (with_changes c.args.vars.now m) name) c.self.view_is
 
 pub returns-in-None : goal.returns-in-None
@@ -32,4 +32,4 @@ returns-in-None c =
     let found : find name_cmp name (pairs_of changes) ≡ None =
     sym (λ i. find name_cmp (c.as_bytes.ensures.value i) (pairs_of (c.deref.ensures.value i))) ∙ sym c.in-None.ensures in
     c.get.ensures.value ∙ sym (get_unchanged changes c.self.invariant c.args.vars.now name found)
-            ∙ ap (λ m. get (with_changes c.args.vars.now m) name) c.self.view_is
+    ∙ ap (λ m. get (with_changes c.args.vars.now m) name) c.self.view_is

@@ -9,4 +9,4 @@ returns-clause-put c vars =
     let name = c.args.name.now in
     let value = c.args.value.items in
     ap (λ l. with_changes vars (from_sorted l)) c.in_ok-store.ensures.stored
-            ∙ with_changes-put _ c.self.invariant name (Some value) vars ∙ ap (λ m. insert (with_changes vars m) name value) c.self.view_is
+    ∙ with_changes-put _ c.self.invariant name (Some value) vars ∙ ap (λ m. insert (with_changes vars m) name value) c.self.view_is

@@ -12,7 +12,7 @@ returns c =
     let name = c.args.name.now in
     record {
       value = c.find_data.ensures ∙ ap (λ n. find name_cmp n (pairs_of c.deref.result.now)) c.as_bytes.ensures.value
-              ∙ ap (λ l. find name_cmp name (pairs_of l)) c.deref.ensures.value
-              ∙ sym (get-vars_of variables c.self.invariant name) ∙ ap (λ m. get m name) c.self.view_is;
+          ∙ ap (λ l. find name_cmp name (pairs_of l)) c.deref.ensures.value
+          ∙ sym (get-vars_of variables c.self.invariant name) ∙ ap (λ m. get m name) c.self.view_is;
       valid = subst IsVars c.self.view_is (IsVars-vars_of variables c.self.invariant);
     }

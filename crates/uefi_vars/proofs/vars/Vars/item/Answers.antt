@@ -11,8 +11,8 @@ returns-in_err-variable c =
     let variables = c.self.inside.variables.items in
     let past : length variables ≤ c.args.index = omega (arith, c.in_err-variable.ensures.lookup, ap length c.deref.ensures.value) in
     let listed = ap (λ l. slice_get l c.args.index) (sym (ap entries c.self.view_is)
-            ∙ entries-vars_of variables c.self.invariant) ∙ slice_get-map pair_of variables c.args.index
-            ∙ ap (option_map pair_of) (slice_get_past variables c.args.index past) in
+    ∙ entries-vars_of variables c.self.invariant) ∙ slice_get-map pair_of variables c.args.index
+    ∙ ap (option_map pair_of) (slice_get_past variables c.args.index past) in
     record {
       item = ap (option_map (λ item. (item.0.now, item.1.now))) c.from_residual.ensures ∙ sym listed;
       valid = subst IsVars c.self.view_is (IsVars-vars_of variables c.self.invariant);
@@ -25,8 +25,8 @@ returns c =
     let found = c.in_ok-variable.ensures.lookup in
     let read = slice_get-get_or c.deref.result.now c.args.index variable (omega (arith, found)) in
     let listed = ap (λ l. slice_get l c.args.index) (sym (ap entries c.self.view_is) ∙ entries-vars_of variables c.self.invariant
-            ∙ sym (ap pairs_of c.deref.ensures.value)) ∙ slice_get-map pair_of c.deref.result.now c.args.index
-            ∙ ap (option_map pair_of) read in
+    ∙ sym (ap pairs_of c.deref.ensures.value)) ∙ slice_get-map pair_of c.deref.result.now c.args.index
+    ∙ ap (option_map pair_of) read in
     record {
       item = (λ i. Some (c.as_str.ensures i, c.as_slice.ensures i)) ∙ ap (λ v. Some (pair_of v)) found.1 ∙ sym listed;
       valid = subst IsVars c.self.view_is (IsVars-vars_of variables c.self.invariant);

@@ -16,7 +16,7 @@ pub returns-clause-put : goal.returns-clause-put
 returns-clause-put c =
     let name = c.args.name.now in
     ap from_sorted c.in_ok-store.ensures.stored ∙ from_sorted-put _ c.self.invariant name _
-            ∙ (λ i. insert (c.self.view_is i) name (c.in_ok-value.ensures.items i))
+    ∙ (λ i. insert (c.self.view_is i) name (c.in_ok-value.ensures.items i))
 
 pub returns-clause-valid : goal.returns-clause-valid
 returns-clause-valid c = IsVars-vars_of _ c.store.ensures.held

@@ -14,7 +14,7 @@ returns c =
     let erased = c.erase.ensures.erased ∙ ap (λ n. without n (pairs_of variables)) c.entry_name.ensures.text in
     record {
       was = c.erase.ensures.was ∙ ap is_some (ap (λ n. find name_cmp n (pairs_of variables)) c.entry_name.ensures.text
-              ∙ sym (get-vars_of variables c.self.invariant name) ∙ ap (λ m. get m name) c.self.view_is);
+          ∙ sym (get-vars_of variables c.self.invariant name) ∙ ap (λ m. get m name) c.self.view_is);
       removed = ap from_sorted erased ∙ from_sorted-without (pairs_of variables) c.self.invariant name ∙ ap (λ m. remove m name) c.self.view_is;
       valid = IsVars-vars_of _ c.erase.ensures.held;
     }

@@ -7,28 +7,28 @@ use std::fmt;
 
 /// Where an event or a fault is.
 #[derive(Clone, Copy, Debug, PartialEq, Eq, Drop)]
-pub enum Place {
+pub enum EventPosition {
     /// In the line of this number of a script, counted from 1.
     Line(usize),
     /// At this offset of a stream, in bytes from the first one.
     Offset(usize),
 }
 
-impl Place {
+impl EventPosition {
     /// The line of this number, counted from 1, of a script; this offset of a stream.
-    pub fn new(format: InputFormat, at: usize) -> Place {
+    pub fn new(format: InputFormat, at: usize) -> EventPosition {
         match format {
-            InputFormat::Script => Place::Line(at),
-            InputFormat::Stream => Place::Offset(at),
+            InputFormat::Script => EventPosition::Line(at),
+            InputFormat::Stream => EventPosition::Offset(at),
         }
     }
 }
 
-impl JsonObject for Place {
+impl JsonObject for EventPosition {
     fn append_members<S: Serializer>(&self, out: &mut S) -> Result<(), S::Error> {
         let (line, offset) = match self {
-            Place::Line(number) => (Some(*number), None),
-            Place::Offset(offset) => (None, Some(*offset)),
+            EventPosition::Line(number) => (Some(*number), None),
+            EventPosition::Offset(offset) => (None, Some(*offset)),
         };
         append_leaves(
             &[("line", Leaf::Count(line)), ("offset", Leaf::Count(offset))],
@@ -37,11 +37,11 @@ impl JsonObject for Place {
     }
 }
 
-impl fmt::Display for Place {
+impl fmt::Display for EventPosition {
     fn fmt<W: fmt::Write>(&self, f: &mut fmt::Formatter<W>) -> fmt::Result {
         match self {
-            Place::Line(number) => write!(f, "line {number}"),
-            Place::Offset(offset) => write!(f, "offset {offset}"),
+            EventPosition::Line(number) => write!(f, "line {number}"),
+            EventPosition::Offset(offset) => write!(f, "offset {offset}"),
         }
     }
 }

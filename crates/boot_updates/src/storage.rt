@@ -2,7 +2,7 @@
 
 use crate::notes::KeptNotes;
 use crate::variable_file::{is_in_file, set_in_file};
-use boot_journal::{CallError, Change, Device, Journal, MachineName, write_journal};
+use boot_journal::{CallError, Change, Journal, MachineName, Storage, write_journal};
 use boot_notes::{Notes, with_notes};
 use std::alloc::{AllocError, Global};
 use std::io::{self, ErrorKind};
@@ -32,7 +32,7 @@ pub(crate) enum Place<F> {
 
 /// A place, and the file of its journal.
 #[derive(Drop)]
-pub struct PlaceDevice<'a, R: Files> {
+pub struct PlaceStorage<'a, R: Files> {
     /// What reaches them.
     pub(crate) rt: &'a R,
     /// The place.
@@ -45,7 +45,7 @@ pub struct PlaceDevice<'a, R: Files> {
     pub(crate) notes: Rc<KeptNotes>,
 }
 
-impl<R: Files<File: OutputFile> + Input + Print + AllocGlobal> Device for PlaceDevice<'_, R> {
+impl<R: Files<File: OutputFile> + Input + Print + AllocGlobal> Storage for PlaceStorage<'_, R> {
     type Refusal = Failure;
 
     fn make(&mut self, change: &Change) -> Result<(), CallError<Failure>> {
@@ -65,7 +65,7 @@ impl<R: Files<File: OutputFile> + Input + Print + AllocGlobal> Device for PlaceD
     }
 }
 
-impl<R: Files<File: OutputFile> + AllocGlobal> PlaceDevice<'_, R> {
+impl<R: Files<File: OutputFile> + AllocGlobal> PlaceStorage<'_, R> {
     /// Replaces the journal's file by that of this journal, unless it would be longer than what is read of one.
     ///
     /// # Errors
@@ -97,7 +97,7 @@ impl<R: Files<File: OutputFile> + AllocGlobal> PlaceDevice<'_, R> {
     ///
     /// # Errors
     ///
-    /// As of [`PlaceDevice::replace`]: nothing is kept beside the journal then.
+    /// As of [`PlaceStorage::replace`]: nothing is kept beside the journal then.
     pub(crate) fn replace_with(&self, notes: Notes, journal: &Journal) -> Result<(), Failure> {
         let _ = self.notes.try_replace(Some(notes));
         let replaced = self.replace(journal);
