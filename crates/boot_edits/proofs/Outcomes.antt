@@ -20,37 +20,10 @@ use Rattle.boot_edits.specs.declared.edit.Edit.{Edit}
 use Rattle.boot_edits.specs.declared.edit.Edit.TheVariants.{Add, Remove, First as FirstOf, Order, Next, Activate, Deactivate}
 use Rattle.boot_edits.specs.declared.fault.EditFault.{EditFault}
 use Rattle.boot_edits.specs.declared.fault.EditFault.TheVariants.{BadOption}
-use Rattle.boot_edits.specs.Addition.{
-  placed,
-  IsSame,
-  IsLowestSame,
-  IsPresent,
-  IsWanted,
-  IsNewNumber,
-  StoresPlaced,
-  IsPlaced,
-  IsEntryAdded,
-  IsAdded,
-  IsAdditionDone,
-  IsNumberFault,
-  IsOrderFault,
-  IsPlaceFault,
-  IsRoomFaultAt,
-  IsAdditionFault,
-}
-use Rattle.boot_edits.specs.Edit.{
-  IsRemoved,
-  IsRemoveFault,
-  IsFrontOrder,
-  IsNewOrder,
-  IsOrderOf,
-  IsReordered,
-  IsReorderFault,
-  IsNextSet,
-  IsNextFault,
-  IsEdited,
-  IsEditFault,
-}
+use Rattle.boot_edits.specs.Addition.{placed, IsSame, IsLowestSame, IsPresent, IsWanted, IsNewNumber, StoresPlaced, IsPlaced, IsEntryAdded}
+use Rattle.boot_edits.specs.Addition.{IsAdded, IsAdditionDone, IsNumberFault, IsOrderFault, IsPlaceFault, IsRoomFaultAt, IsAdditionFault}
+use Rattle.boot_edits.specs.Edit.{IsRemoved, IsRemoveFault, IsFrontOrder, IsNewOrder, IsOrderOf, IsReordered, IsReorderFault, IsNextSet}
+use Rattle.boot_edits.specs.Edit.{IsNextFault, IsEdited, IsEditFault}
 use Rattle.boot_edits.specs.Lists.{IsMissing, IsStale, IsNoOption}
 use Rattle.boot_edits.specs.Orders.{extended, next_without_all}
 use Rattle.boot_edits.specs.Parts.{BootParts, parts_of, Becomes, IsOtherName, entries_with, entries_changed, is_stored, IsOldOrder}

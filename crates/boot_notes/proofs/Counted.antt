@@ -36,18 +36,8 @@ use Rattle.boot_requests.proofs.WholeRuns.Numbers.{get_inserted, get_retained}
 use Rattle.boot_requests.proofs.WholeRuns.Told.{IsToldNear, IsToldNew}
 use Rattle.boot_notes.specs.declared.digest.FrameDigest.{FrameDigest}
 use Rattle.boot_notes.specs.Digest.{digest_under, frame_digest}
-use Rattle.boot_notes.specs.Applied.{
-  SentFrames,
-  sent_of,
-  with_waiting,
-  found_under,
-  followers_of,
-  still_waiting,
-  with_frame,
-  with_delivery,
-  with_answer,
-  after_answers,
-}
+use Rattle.boot_notes.specs.Applied.{SentFrames, sent_of, with_waiting, found_under, followers_of, still_waiting, with_frame}
+use Rattle.boot_notes.specs.Applied.{with_delivery, with_answer, after_answers}
 use Rattle.boot_notes.specs.Noted.{IsOfAccepted}
 use Rattle.boot_notes.proofs.Noted.{Fit, under_waiting, came_extends, came_open, opens, applies, below_after, fit_next}
 

@@ -1,32 +1,7 @@
 -- What a run notes is of what it applied: each frame that waits is accepted above the gap, and each that was applied below it
 -- (`Fit`). An event keeps that so (`fit_next`), and so do all (`all_fit`).
-use Rattle.std.proofs.Common.{
-  ◌≡◌,
-  ◌≢◌,
-  ◌⊎◌,
-  inl,
-  inr,
-  ℕ,
-  zero,
-  suc,
-  ltb,
-  leb,
-  eqb,
-  ◌+◌,
-  ◌-◌,
-  ◌<◌,
-  ◌≤◌,
-  Bool,
-  true,
-  false,
-  cond,
-  List,
-  [],
-  ◌∷◌,
-  ◌++◌,
-  filter,
-  map,
-}
+use Rattle.std.proofs.Common.{◌≡◌, ◌≢◌, ◌⊎◌, inl, inr, ℕ, zero, suc, ltb, leb, eqb, ◌+◌, ◌-◌, ◌<◌, ◌≤◌, Bool, true, false, cond, List, []}
+use Rattle.std.proofs.Common.{◌∷◌, ◌++◌, filter, map}
 use Rattle.std.proofs.Common.{Option, Some, None, refl, sym, ap, subst, ◌∙◌, arith}
 use Rattle.std.specs.Prelude.{◌&&◌, not, is_some, nat_le, if◌then◌else◌, MatchBool, MatchOption}
 use Rattle.std.specs.FinMap.{get, contains_key}

@@ -1,30 +1,8 @@
 -- Going over rising numbers for the entries that are among them and not among others, and what a change of variables makes
 -- of entries that neither BootOrder nor BootNext names.
 use Rattle.std.proofs.Common.{◌≡◌, ℕ, ◌+◌, ◌<◌, ◌≤◌, ◌↔◌, List, [], ◌∷◌, ◌++◌, length, take, get_or}
-use Rattle.std.proofs.Common.{
-  Contains,
-  Option,
-  Some,
-  None,
-  Result,
-  Ok,
-  Err,
-  IfSome,
-  IsSome,
-  IsTrue,
-  is_some,
-  is_ok,
-  option_map,
-  Bor,
-  nat_cmp,
-  refl,
-  sym,
-  ap,
-  subst,
-  ◌∙◌,
-  ⊎_elim,
-  arith,
-}
+use Rattle.std.proofs.Common.{Contains, Option, Some, None, Result, Ok, Err, IfSome, IsSome, IsTrue, is_some, is_ok, option_map, Bor}
+use Rattle.std.proofs.Common.{nat_cmp, refl, sym, ap, subst, ◌∙◌, ⊎_elim, arith}
 use Rattle.std.specs.Cmp.{nat_cmp_is}
 use Rattle.std.specs.List.Sorted.{IsStrictlySortedBy, IsBinarySearchResult}
 use Rattle.std.specs.declared.cmp.Ordering.TheVariants.{Less}

@@ -1,34 +1,6 @@
 -- The variables of changes, and what is told of them one after the other.
-use Rattle.std.proofs.Common.{
-  ◌≡◌,
-  ◌⊎◌,
-  ◌↔◌,
-  ℕ,
-  ◌+◌,
-  ◌^◌,
-  ◌<◌,
-  Bool,
-  true,
-  false,
-  List,
-  [],
-  ◌∷◌,
-  ◌++◌,
-  ◌||◌,
-  length,
-  map,
-  take,
-  get_or,
-  Option,
-  Some,
-  None,
-  inl,
-  inr,
-  sym,
-  refl,
-  subst,
-  ◌∙◌,
-}
+use Rattle.std.proofs.Common.{◌≡◌, ◌⊎◌, ◌↔◌, ℕ, ◌+◌, ◌^◌, ◌<◌, Bool, true, false, List, [], ◌∷◌, ◌++◌, ◌||◌, length, map, take, get_or}
+use Rattle.std.proofs.Common.{Option, Some, None, inl, inr, sym, refl, subst, ◌∙◌}
 use Rattle.std.specs.List.{AllByRecursion}
 use Rattle.std.proofs.lemmas.Bool.{or_cases, false≢true}
 use Rattle.std.proofs.lemmas.List.{map_more}

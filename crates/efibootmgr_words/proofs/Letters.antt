@@ -6,20 +6,8 @@ use Rattle.std.proofs.lemmas.Str.{chars_past_char, IsUtf8-past_char, chars-nil, 
 use Rattle.std.proofs.lemmas.List.{append-nil, map-append}
 use denote.Ref.{Bor}
 use Rattle.efibootmgr_words.specs.Parts.{OptionParts, option_parts, UnknownLetter}
-use Rattle.efibootmgr_words.specs.Words.{
-  own_value,
-  letters_parts,
-  letter_parts,
-  letter_by,
-  row_of_letter,
-  with_option,
-  nothing_before,
-  value_parts,
-  wrong,
-  WordParts,
-  IsAdded,
-  Any,
-}
+use Rattle.efibootmgr_words.specs.Words.{own_value, letters_parts, letter_parts, letter_by, row_of_letter, with_option, nothing_before}
+use Rattle.efibootmgr_words.specs.Words.{value_parts, wrong, WordParts, IsAdded, Any}
 use Rattle.efibootmgr_words.specs.declared.given_words.Behind.{Behind}
 use Rattle.efibootmgr_words.specs.declared.given_words.Behind.TheVariants as behind
 use Rattle.efibootmgr_words.specs.declared.fault.WordFault.TheVariants as fault

@@ -1,45 +1,11 @@
 -- The values of options.
-use Rattle.std.specs.Prelude.{
-  ◌≡◌,
-  ℕ,
-  ◌==◌,
-  ◌&&◌,
-  Bool,
-  true,
-  false,
-  not,
-  ◌||◌,
-  nat_le,
-  nat_lt,
-  List,
-  [],
-  ◌∷◌,
-  Option,
-  Some,
-  None,
-  Result,
-  Ok,
-  Err,
-  if◌then◌else◌,
-}
+use Rattle.std.specs.Prelude.{◌≡◌, ℕ, ◌==◌, ◌&&◌, Bool, true, false, not, ◌||◌, nat_le, nat_lt, List, [], ◌∷◌, Option, Some, None, Result}
+use Rattle.std.specs.Prelude.{Ok, Err, if◌then◌else◌}
 use Rattle.std.specs.List.{slice_split}
 use Rattle.efibootmgr_words.specs.Cut.{behind_hyphen}
 use Rattle.efibootmgr_words.specs.Number.{hexadecimal_of, decimal_of}
-use Rattle.efibootmgr_words.specs.Parts.{
-  FaultParts,
-  BadEntry,
-  LargeEntry,
-  BadEdd,
-  UnknownEdd,
-  LongPath,
-  BadNext,
-  LargeNext,
-  BadPart,
-  BadTimeout,
-  BadVerbose,
-  BadOrder,
-  fault_parts,
-}
+use Rattle.efibootmgr_words.specs.Parts.{FaultParts, BadEntry, LargeEntry, BadEdd, UnknownEdd, LongPath, BadNext, LargeNext, BadPart}
+use Rattle.efibootmgr_words.specs.Parts.{BadTimeout, BadVerbose, BadOrder, fault_parts}
 use Rattle.efibootmgr_words.specs.declared.values.ValueFault.{ValueFault}
 use Rattle.efibootmgr_words.specs.declared.values.ValueFault.TheVariants as refused
 

@@ -4,18 +4,8 @@ use Rattle.std.specs.List.{find, starts_with}
 use Rattle.std.specs.Cmp.Lexicographic.{pointwise}
 use Rattle.std.specs.Str.{chars, encode_utf8_all}
 use Rattle.efibootmgr_words.specs.Cut.{before_mark, behind_mark, behind_hyphen}
-use Rattle.efibootmgr_words.specs.Parts.{
-  FaultParts,
-  OptionParts,
-  GivenParts,
-  fault_parts,
-  option_parts,
-  UnknownLetter,
-  UnknownName,
-  Ambiguous,
-  NoValue,
-  ExtraValue,
-}
+use Rattle.efibootmgr_words.specs.Parts.{FaultParts, OptionParts, GivenParts, fault_parts, option_parts, UnknownLetter, UnknownName}
+use Rattle.efibootmgr_words.specs.Parts.{Ambiguous, NoValue, ExtraValue}
 use Rattle.efibootmgr_words.specs.declared.given_words.Behind.{Behind}
 use Rattle.efibootmgr_words.specs.declared.given_words.Behind.TheVariants as behind
 use Rattle.efibootmgr_words.specs.declared.given_words.Given.{Given}

@@ -1,32 +1,6 @@
 -- The changes from one set to another.
-use Rattle.std.proofs.Common.{
-  ◌≡◌,
-  ◌≢◌,
-  ◌⊎◌,
-  ◌↔◌,
-  ℕ,
-  ◌<◌,
-  ◌^◌,
-  true,
-  false,
-  cond,
-  List,
-  [],
-  ◌∷◌,
-  map,
-  take,
-  Option,
-  Some,
-  None,
-  Contains,
-  inl,
-  inr,
-  refl,
-  sym,
-  ap,
-  subst,
-  ◌∙◌,
-}
+use Rattle.std.proofs.Common.{◌≡◌, ◌≢◌, ◌⊎◌, ◌↔◌, ℕ, ◌<◌, ◌^◌, true, false, cond, List, [], ◌∷◌, map, take, Option, Some, None, Contains}
+use Rattle.std.proofs.Common.{inl, inr, refl, sym, ap, subst, ◌∙◌}
 use Rattle.std.specs.Option.{option_map}
 use Rattle.std.specs.List.{AllByRecursion, IsDistinct, list_any, slice_get}
 use Rattle.std.specs.FinMap.{get}
@@ -36,19 +10,8 @@ use Rattle.std.proofs.lemmas.Option.{slice_get-map}
 use Rattle.uefi_vars.specs.Name.{entry_text, order_text, next_text}
 use Rattle.uefi_vars.specs.Vars.{Variables}
 use Rattle.uefi_vars.specs.NameChanges.{after_each}
-use Rattle.uefi_vars.specs.BootChange.{
-  ChangeParts,
-  same_name,
-  is_boot_name,
-  changed_names,
-  change_under,
-  changes_from,
-  new_data,
-  IsNeeded,
-  order_in,
-  DanglesInOrder,
-  DanglesAsNext,
-}
+use Rattle.uefi_vars.specs.BootChange.{ChangeParts, same_name, is_boot_name, changed_names, change_under, changes_from, new_data, IsNeeded}
+use Rattle.uefi_vars.specs.BootChange.{order_in, DanglesInOrder, DanglesAsNext}
 use Rattle.uefi_vars.proofs.NameTests.{same_name-refl}
 use Rattle.uefi_vars.proofs.Distinct.{before_apart}
 use Rattle.uefi_vars.proofs.Afterwards.{get_after}

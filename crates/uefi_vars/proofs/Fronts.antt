@@ -1,58 +1,11 @@
 -- The first of the names under which there is a change, and what is under a name once these are changed.
-use Rattle.std.proofs.Common.{
-  ◌≡◌,
-  ◌≢◌,
-  ◌⊎◌,
-  ℕ,
-  zero,
-  suc,
-  ◌<◌,
-  ◌^◌,
-  ◌+◌,
-  ◌-◌,
-  length,
-  Bool,
-  true,
-  false,
-  cond,
-  not,
-  ◌&&◌,
-  ◌||◌,
-  List,
-  [],
-  ◌∷◌,
-  ◌++◌,
-  take,
-  Option,
-  Some,
-  None,
-  inl,
-  inr,
-  refl,
-  sym,
-  ap,
-  subst,
-  ◌∙◌,
-  append_assoc,
-  arith,
-}
+use Rattle.std.proofs.Common.{◌≡◌, ◌≢◌, ◌⊎◌, ℕ, zero, suc, ◌<◌, ◌^◌, ◌+◌, ◌-◌, length, Bool, true, false, cond, not, ◌&&◌, ◌||◌, List, []}
+use Rattle.std.proofs.Common.{◌∷◌, ◌++◌, take, Option, Some, None, inl, inr, refl, sym, ap, subst, ◌∙◌, append_assoc, arith}
 use Rattle.std.specs.Option.{is_some}
 use Rattle.std.specs.List.{list_any, IsDistinct}
 use Rattle.std.specs.FinMap.{get, contains_key, keys}
-use Rattle.std.proofs.lemmas.Bool.{
-  cases_lt,
-  and_parts,
-  and_from,
-  or_from,
-  or_left,
-  or_right,
-  or_cases,
-  false_from_ne_true,
-  cond-true,
-  cond-false,
-  false≢true,
-  true≢false,
-}
+use Rattle.std.proofs.lemmas.Bool.{cases_lt, and_parts, and_from, or_from, or_left, or_right, or_cases, false_from_ne_true, cond-true}
+use Rattle.std.proofs.lemmas.Bool.{cond-false, false≢true, true≢false}
 use Rattle.std.proofs.Math.Seq.{take-append-add}
 use Rattle.std.proofs.lemmas.List.{take-append-le}
 use Rattle.std.proofs.lemmas.List.Folds.{list_any-append}

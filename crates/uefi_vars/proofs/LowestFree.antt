@@ -1,33 +1,6 @@
 -- Going over variables for the least number that is free.
-use Rattle.std.proofs.Common.{
-  ◌≡◌,
-  ◌≢◌,
-  ℕ,
-  ◌+◌,
-  ◌<◌,
-  ◌≤◌,
-  ◌^◌,
-  cond,
-  List,
-  [],
-  ◌∷◌,
-  length,
-  get_or,
-  take,
-  slice_get,
-  Some,
-  None,
-  IsSome,
-  is_some,
-  option_map,
-  refl,
-  sym,
-  ap,
-  below_more,
-  subst,
-  ◌∙◌,
-  arith,
-}
+use Rattle.std.proofs.Common.{◌≡◌, ◌≢◌, ℕ, ◌+◌, ◌<◌, ◌≤◌, ◌^◌, cond, List, [], ◌∷◌, length, get_or, take, slice_get, Some, None, IsSome}
+use Rattle.std.proofs.Common.{is_some, option_map, refl, sym, ap, below_more, subst, ◌∙◌, arith}
 use Rattle.std.specs.List.{All, AllByRecursion}
 use Rattle.std.specs.Ordering.{is_eq}
 use Rattle.std.specs.declared.cmp.Ordering.{Ordering}

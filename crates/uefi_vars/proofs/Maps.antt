@@ -1,56 +1,14 @@
 -- Finite maps and lists of entries in the order of their keys: a fact of what is stored under each key is one of each entry.
-use Rattle.std.proofs.Common.{
-  ◌≡◌,
-  ℕ,
-  Bool,
-  true,
-  false,
-  cond,
-  not,
-  ◌&&◌,
-  T,
-  List,
-  [],
-  ◌∷◌,
-  length,
-  Contains,
-  Option,
-  Some,
-  None,
-  IfSome,
-  refl,
-  sym,
-  ap,
-  subst,
-  ◌∙◌,
-}
+use Rattle.std.proofs.Common.{◌≡◌, ℕ, Bool, true, false, cond, not, ◌&&◌, T, List, [], ◌∷◌, length, Contains, Option, Some, None, IfSome}
+use Rattle.std.proofs.Common.{refl, sym, ap, subst, ◌∙◌}
 use Rattle.std.specs.List.{AllByRecursion, filter}
 use Rattle.std.specs.Ordering.{is_eq, is_lt, eq_by_cmp}
 use Rattle.std.specs.declared.cmp.Ordering.{Ordering}
 use Rattle.std.specs.declared.cmp.Ordering.TheVariants.{Less, Equal, Greater}
 use Rattle.std.specs.Cmp.{IsTotalOrder}
-use Rattle.std.specs.FinMap.{
-  IsAntisymmetric,
-  empty,
-  entries,
-  entries_sorted,
-  entries-from_sorted,
-  from_sorted,
-  get,
-  get-entries,
-  len,
-  len-entries,
-  empty_of_len,
-  get-from_sorted,
-  same_map,
-  same_entries_map,
-  insert,
-  remove,
-  entries-insert,
-  get-remove,
-  nat_cmp-IsAntisymmetric,
-  slice_cmp-IsAntisymmetric,
-}
+use Rattle.std.specs.FinMap.{IsAntisymmetric, empty, entries, entries_sorted, entries-from_sorted, from_sorted, get, get-entries, len}
+use Rattle.std.specs.FinMap.{len-entries, empty_of_len, get-from_sorted, same_map, same_entries_map, insert, remove, entries-insert}
+use Rattle.std.specs.FinMap.{get-remove, nat_cmp-IsAntisymmetric, slice_cmp-IsAntisymmetric}
 use Rattle.std.specs.FinMap.Entries.{find, put, by_order, is_sorted, below_all, is_sorted-put, is_sorted-where_key, find-where_key}
 use Rattle.std.proofs.lemmas.Cmp.{tied_itself, alike_right, eq_by_cmp_equiv, nat_list_cmp_total}
 use Rattle.std.proofs.lemmas.List.{length-map}

@@ -3,21 +3,8 @@ use Rattle.std.proofs.Common.{◌≡◌, ℕ, Bool, true, false, cond, T, List, 
 use Rattle.std.specs.Ordering.{is_eq, eq_by_cmp}
 use Rattle.std.specs.declared.cmp.Ordering.{Ordering}
 use Rattle.std.specs.declared.cmp.Ordering.TheVariants.{Less, Equal, Greater}
-use Rattle.std.specs.FinMap.{
-  empty,
-  entries,
-  entries_sorted,
-  entries-from_sorted,
-  from_sorted,
-  get,
-  get-entries,
-  get-from_sorted,
-  get-empty,
-  get-insert,
-  get-remove,
-  same_map,
-  insert,
-}
+use Rattle.std.specs.FinMap.{empty, entries, entries_sorted, entries-from_sorted, from_sorted, get, get-entries, get-from_sorted}
+use Rattle.std.specs.FinMap.{get-empty, get-insert, get-remove, same_map, insert}
 use Rattle.std.specs.FinMap.Entries.{find, put, is_sorted, is_sorted-put}
 use Rattle.std.proofs.lemmas.Cmp.{nat_list_cmp_total}
 use Rattle.uefi_vars.specs.declared.named.Named.{Named}

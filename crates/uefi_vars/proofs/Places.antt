@@ -1,42 +1,7 @@
 -- A key's place among sorted entries: how a search finds it, and what is found, put and removed there.
-use Rattle.std.proofs.Common.{
-  ◌≡◌,
-  ◌≢◌,
-  ℕ,
-  zero,
-  suc,
-  ◌<◌,
-  true,
-  cond,
-  not,
-  T,
-  List,
-  [],
-  ◌∷◌,
-  map,
-  length,
-  take,
-  drop,
-  set,
-  get_or,
-  slice_get,
-  Some,
-  None,
-  IsSomeAnd,
-  is_some,
-  option_map,
-  Result,
-  Ok,
-  Err,
-  IfOk,
-  IfErr,
-  refl,
-  sym,
-  ap,
-  subst,
-  ◌∙◌,
-  arith,
-}
+use Rattle.std.proofs.Common.{◌≡◌, ◌≢◌, ℕ, zero, suc, ◌<◌, true, cond, not, T, List, [], ◌∷◌, map, length, take, drop, set, get_or}
+use Rattle.std.proofs.Common.{slice_get, Some, None, IsSomeAnd, is_some, option_map, Result, Ok, Err, IfOk, IfErr, refl, sym, ap, subst}
+use Rattle.std.proofs.Common.{◌∙◌, arith}
 use Rattle.std.specs.List.{take-map, drop-map, AllByRecursion, AllWithin, HoldsAt, insert, remove}
 use Rattle.std.specs.List.Sorted.{IsSortedBy, IsSearchInRange, IsBinarySearchResult}
 use Rattle.std.specs.Ordering.{is_eq, is_lt, ordering_reverse, eq_by_cmp}

@@ -1,30 +1,6 @@
 -- What changes of the boot manager's variables from one set to another (UEFI 2.10, 3.3), one variable after the other.
-use Rattle.std.specs.Prelude.{
-  ◌≡◌,
-  ◌≢◌,
-  ℕ,
-  zero,
-  suc,
-  ◌^◌,
-  ◌==◌,
-  ◌||◌,
-  ◌&&◌,
-  not,
-  Bool,
-  true,
-  false,
-  if◌then◌else◌,
-  List,
-  [],
-  ◌∷◌,
-  ◌++◌,
-  map,
-  filter,
-  Option,
-  Some,
-  None,
-  Contains,
-}
+use Rattle.std.specs.Prelude.{◌≡◌, ◌≢◌, ℕ, zero, suc, ◌^◌, ◌==◌, ◌||◌, ◌&&◌, not, Bool, true, false, if◌then◌else◌, List, [], ◌∷◌, ◌++◌}
+use Rattle.std.specs.Prelude.{map, filter, Option, Some, None, Contains}
 use Rattle.std.specs.Option.{option_eq, option_map}
 use Rattle.std.specs.Int.{w16, from_le_bytes}
 use Rattle.std.specs.Ordering.{eq_by_cmp}

@@ -1,34 +1,6 @@
 -- What is there once the boot manager's variables were written.
-use Rattle.std.proofs.Common.{
-  ◌≡◌,
-  ◌≢◌,
-  ◌⊎◌,
-  ℕ,
-  ◌-◌,
-  Bool,
-  true,
-  false,
-  cond,
-  ◌&&◌,
-  not,
-  List,
-  [],
-  ◌∷◌,
-  ◌++◌,
-  length,
-  Option,
-  Some,
-  None,
-  IfSome,
-  inl,
-  inr,
-  refl,
-  sym,
-  ap,
-  subst,
-  ◌∙◌,
-  arith,
-}
+use Rattle.std.proofs.Common.{◌≡◌, ◌≢◌, ◌⊎◌, ℕ, ◌-◌, Bool, true, false, cond, ◌&&◌, not, List, [], ◌∷◌, ◌++◌, length, Option, Some, None}
+use Rattle.std.proofs.Common.{IfSome, inl, inr, refl, sym, ap, subst, ◌∙◌, arith}
 use Rattle.std.specs.Option.{option_map, option_map_or}
 use Rattle.std.specs.List.{AllByRecursion}
 use Rattle.std.specs.FinMap.{get, entries, find, get-entries}
@@ -37,37 +9,10 @@ use Rattle.uefi_vars.specs.Name.{IsName, global_vendor}
 use Rattle.uefi_vars.specs.Vars.{Variables, name_cmp}
 use Rattle.var_stores.specs.Record.{RecordParts, vendor_in, IsRecord}
 use Rattle.uefi_vars.specs.BootChange.{same_name, is_boot_name, same_data, differs}
-use Rattle.var_stores.specs.Present.{
-  stored_name,
-  name_in,
-  key_of,
-  global_key,
-  is_of,
-  is_alive,
-  is_added_there,
-  found_with,
-  found_after,
-  found,
-  is_set_value,
-  set_data,
-  is_set_name,
-  is_left_out,
-  if_left_out,
-  IsSetOf,
-}
-use Rattle.var_stores.specs.Rewriting.{
-  is_rewritten,
-  is_outdated,
-  deleted,
-  without_outdated,
-  unless_outdated,
-  new_attributes,
-  new_record,
-  added,
-  new_records,
-  AreKept,
-  IsWritten,
-}
+use Rattle.var_stores.specs.Present.{stored_name, name_in, key_of, global_key, is_of, is_alive, is_added_there, found_with, found_after}
+use Rattle.var_stores.specs.Present.{found, is_set_value, set_data, is_set_name, is_left_out, if_left_out, IsSetOf}
+use Rattle.var_stores.specs.Rewriting.{is_rewritten, is_outdated, deleted, without_outdated, unless_outdated, new_attributes, new_record}
+use Rattle.var_stores.specs.Rewriting.{added, new_records, AreKept, IsWritten}
 use Rattle.uefi_vars.proofs.NameTests.{same_name-is, same_name-of}
 use Rattle.uefi_vars.proofs.Members.{same_data-is}
 use Rattle.var_stores.proofs.Found.{IsFoundAs, found_after-append, found_after-added, found_after-is, found_after-all}

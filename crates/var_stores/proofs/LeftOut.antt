@@ -1,32 +1,6 @@
 -- The records of the variables that are there and that no set can hold.
-use Rattle.std.proofs.Common.{
-  ◌≡◌,
-  ◌↔◌,
-  ℕ,
-  ◌==◌,
-  Bool,
-  true,
-  false,
-  cond,
-  not,
-  ◌&&◌,
-  List,
-  [],
-  ◌∷◌,
-  ◌++◌,
-  length,
-  map,
-  Option,
-  Some,
-  None,
-  IfSome,
-  refl,
-  sym,
-  ap,
-  subst,
-  ◌∙◌,
-  arith,
-}
+use Rattle.std.proofs.Common.{◌≡◌, ◌↔◌, ℕ, ◌==◌, Bool, true, false, cond, not, ◌&&◌, List, [], ◌∷◌, ◌++◌, length, map, Option, Some, None}
+use Rattle.std.proofs.Common.{IfSome, refl, sym, ap, subst, ◌∙◌, arith}
 use Rattle.std.specs.Prelude.{nat_lt}
 use Rattle.std.specs.Option.{option_map, option_map_or}
 use Rattle.std.specs.Char.{is_ascii_graphic}
@@ -40,21 +14,8 @@ use Rattle.uefi_vars.specs.Name.{IsName, IsNameByte, name_max, global_vendor}
 use Rattle.uefi_vars.specs.Vars.{Variables, name_cmp}
 use Rattle.var_stores.specs.declared.record.Record.{Record}
 use Rattle.var_stores.specs.Record.{RecordParts, record_parts, vendor_in}
-use Rattle.var_stores.specs.Present.{
-  stored_name,
-  name_in,
-  key_of,
-  global_key,
-  is_alive,
-  found,
-  is_set_value,
-  set_data,
-  is_set_name,
-  is_left_out,
-  if_left_out,
-  IsSetOf,
-  AreLeftOut,
-}
+use Rattle.var_stores.specs.Present.{stored_name, name_in, key_of, global_key, is_alive, found, is_set_value, set_data, is_set_name}
+use Rattle.var_stores.specs.Present.{is_left_out, if_left_out, IsSetOf, AreLeftOut}
 use Rattle.var_stores.specs.PresentMap.{record_under, AreKeyed}
 use Rattle.uefi_vars.proofs.NameTests.{same_name-of}
 use Rattle.var_stores.proofs.Found.{IsFoundAs, found_after-is}

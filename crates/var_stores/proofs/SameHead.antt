@@ -4,23 +4,8 @@ use Rattle.std.proofs.Math.Seq.{drop-append_seam, drop-append-add, take-append_s
 use Rattle.std.proofs.lemmas.List.{drop-take, take-append-le, take-append-drop, length-append, length-take-le, length-drop}
 use Rattle.std.specs.Int.{w16, w32, w64, from_le_bytes}
 use Rattle.var_stores.specs.Record.{RecordParts, HasRecords}
-use Rattle.var_stores.specs.Volume.{
-  bytes_at,
-  volume_len,
-  header_size,
-  header_min,
-  word_sum,
-  IsVolume,
-  HasGoodHeader,
-  store_guid,
-  store_header_len,
-  store_size,
-  HasStoreHeader,
-  HasGoodStore,
-  StoreParts,
-  area_of,
-  SpellsStore,
-}
+use Rattle.var_stores.specs.Volume.{bytes_at, volume_len, header_size, header_min, word_sum, IsVolume, HasGoodHeader, store_guid}
+use Rattle.var_stores.specs.Volume.{store_header_len, store_size, HasStoreHeader, HasGoodStore, StoreParts, area_of, SpellsStore}
 
 same_bytes_at : (head x y : List ℕ) (place len : ℕ) → place + len ≤ length head → bytes_at (head ++ x) place len ≡ bytes_at (head ++ y) place len
 same_bytes_at head x y place len within = front x ∙ sym (front y)

@@ -1,33 +1,6 @@
 -- Scripts and their events: there is one of each.
-use Rattle.std.proofs.Common.{
-  ◌≡◌,
-  ◌≢◌,
-  ◌<◌,
-  ◌≤◌,
-  ◌+◌,
-  ℕ,
-  suc,
-  List,
-  Option,
-  Some,
-  None,
-  Result,
-  Err,
-  [],
-  ◌∷◌,
-  ◌++◌,
-  length,
-  refl,
-  ap,
-  sym,
-  subst,
-  ◌∙◌,
-  inl,
-  inr,
-  arith,
-  append_assoc,
-  length-append,
-}
+use Rattle.std.proofs.Common.{◌≡◌, ◌≢◌, ◌<◌, ◌≤◌, ◌+◌, ℕ, suc, List, Option, Some, None, Result, Err, [], ◌∷◌, ◌++◌, length, refl, ap, sym}
+use Rattle.std.proofs.Common.{subst, ◌∙◌, inl, inr, arith, append_assoc, length-append}
 use Rattle.std.specs.Prelude.{codes, Ok, IfOk, IfErr, MatchOption, MatchResult}
 use Rattle.uefi_path.specs.Answer.{IsUnless}
 use Rattle.boot_requests.specs.declared.script_fault.ScriptFault.{ScriptFault}

@@ -25,22 +25,8 @@ use Rattle.boot_requests.specs.Outcome.{IsOutcome}
 use Rattle.boot_requests.specs.Request.{IsRequest, payload_of}
 use Rattle.boot_requests.specs.Frame.{IsSent}
 use Rattle.boot_requests.specs.State.{State, IsMark, IsState}
-use Rattle.boot_requests.specs.Apply.{
-  is_in,
-  order_with,
-  has_room,
-  in_front,
-  order_from,
-  without,
-  next_without,
-  outcome_of,
-  with_new_entry,
-  effect_if_done,
-  effect_by,
-  effect,
-  kept_with,
-  with_outcome,
-}
+use Rattle.boot_requests.specs.Apply.{is_in, order_with, has_room, in_front, order_from, without, next_without, outcome_of, with_new_entry}
+use Rattle.boot_requests.specs.Apply.{effect_if_done, effect_by, effect, kept_with, with_outcome}
 use Rattle.boot_requests.specs.Apply.{after_request, after_boot}
 use Rattle.boot_requests.specs.Seen.{Seen}
 use Rattle.boot_requests.specs.Changes.{Change, Applies, Boots, after_changes, numbers_in, numbers_from}

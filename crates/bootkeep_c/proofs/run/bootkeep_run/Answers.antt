@@ -4,14 +4,8 @@ use Rattle.uefi_vars.proofs.Sets.{fault_leaves_none}
 use Rattle.bootkeep_c.specs.Refusals.{set_failure, open_failure}
 use Rattle.bootkeep_c.specs.Runs.{GivesBoth}
 use Rattle.bootkeep_c.proofs.Telling.{only_memory, only_failure, not_memory}
-use Rattle.bootkeep_c.proofs.Openings.{
-  opened_without_fault,
-  events_have_no_failure,
-  run_failure_is_of_set,
-  run_failure_is_of_stream,
-  run_failure_is,
-  no_run_failure,
-}
+use Rattle.bootkeep_c.proofs.Openings.{opened_without_fault, events_have_no_failure, run_failure_is_of_set, run_failure_is_of_stream}
+use Rattle.bootkeep_c.proofs.Openings.{run_failure_is, no_run_failure}
 use Rattle.bootkeep_c.proofs.run.bootkeep_run.Goals as goal
 
 pub returns-in-Ok-clause-runs : goal.returns-in-Ok-clause-runs

@@ -3,12 +3,8 @@ use Rattle.uefi_vars.specs.RiskOfVariable.{IsUnnamedEntry, IsUndecodableEntry}
 use Rattle.uefi_vars.proofs.LowestFree.{item_at}
 use Rattle.uefi_vars.proofs.EntriesAtRisk.{none_those, none_here, pass_it, add_it, all_those}
 use Rattle.uefi_vars.proofs.at_risk.numbers_at_risk.Goals as goal
-use Rattle.uefi_vars.proofs.at_risk.numbers_at_risk.Goals.{
-  in-Some+in_ok-push,
-  in_default,
-  in-Some-undecodable_number+in_ok-push-2,
-  in_default-undecodable_number,
-}
+use Rattle.uefi_vars.proofs.at_risk.numbers_at_risk.Goals.{in-Some+in_ok-push, in_default, in-Some-undecodable_number+in_ok-push-2}
+use Rattle.uefi_vars.proofs.at_risk.numbers_at_risk.Goals.{in_default-undecodable_number}
 
 pub loop-variable-init : goal.loop-variable-init
 loop-variable-init c = record {

@@ -1,27 +1,5 @@
-use Rattle.std.proofs.Common.{
-  ◌≡◌,
-  ◌≢◌,
-  ℕ,
-  ◌+◌,
-  ◌<◌,
-  ◌≤◌,
-  ◌^◌,
-  Bool,
-  List,
-  Option,
-  Some,
-  None,
-  IsSome,
-  is_some,
-  false,
-  refl,
-  sym,
-  ap,
-  subst,
-  below_more,
-  ◌∙◌,
-  arith,
-}
+use Rattle.std.proofs.Common.{◌≡◌, ◌≢◌, ℕ, ◌+◌, ◌<◌, ◌≤◌, ◌^◌, Bool, List, Option, Some, None, IsSome, is_some, false, refl, sym, ap}
+use Rattle.std.proofs.Common.{subst, below_more, ◌∙◌, arith}
 use Rattle.std.specs.FinMap.{get, get-entries, entries_sorted}
 use Rattle.std.specs.FinMap.Entries.{find}
 use Rattle.std.specs.declared.cmp.Ordering.TheVariants.{Less}
