@@ -115,7 +115,7 @@ uint32_t bootkeep_version(void);
 #define BOOTKEEP_NO_MEMORY 4
 /* The keeper isn't open. */
 #define BOOTKEEP_CLOSED 5
-/* The `size` of a struct is smaller than this library's. Nothing has happened. */
+/* The `size` of a struct is below that which the struct had when it first came. Nothing has happened. */
 #define BOOTKEEP_BAD_SIZE 6
 
 /* ---- Sizes ------------------------------------------------------------------------------------------------------ */
@@ -365,6 +365,12 @@ struct bootkeep_option_parts {
     size_t optional_len;
 };
 
+/* To GCC a call of C++ that has the name of a struct hides that struct's constructors. */
+#if defined(__cplusplus) && defined(__GNUC__)
+#pragma GCC diagnostic push
+#pragma GCC diagnostic ignored "-Wshadow"
+#endif
+
 /*
  * The parts of the load option that the bytes are, all of them, in `*parts`. This takes no memory.
  *
@@ -373,6 +379,10 @@ struct bootkeep_option_parts {
  */
 uint32_t bootkeep_option_parts(const uint8_t *bytes, size_t bytes_len, struct bootkeep_option_parts *parts,
                                struct bootkeep_refusal *refusal) BOOTKEEP_CHECKED BOOTKEEP_NONNULL((3, 4));
+
+#if defined(__cplusplus) && defined(__GNUC__)
+#pragma GCC diagnostic pop
+#endif
 
 /*
  * The description of the load option that the bytes are, as one line of ASCII: units that don't print are shown by
@@ -703,7 +713,7 @@ uint32_t bootkeep_keeper_restart(struct bootkeep_keeper *keeper, uint8_t *out, s
 #define BOOTKEEP_OUTCOME_ORDER_UNKNOWN 5
 #define BOOTKEEP_OUTCOME_NO_FREE 6
 
-/* A reply as a value. Later versions may add fields at its end. */
+/* A reply as a value. Later versions may add fields at its end: of those a call writes none that `size` leaves out. */
 struct bootkeep_reply {
     /* sizeof(struct bootkeep_reply): the caller writes it before a call, and no call changes it. */
     size_t size;
@@ -730,7 +740,7 @@ struct bootkeep_reply {
  * the normal options of the plan that is handed out, and none at any other reply. `cap` and `*len` count numbers.
  *
  *     BOOTKEEP_DONE, BOOTKEEP_NO_ROOM, BOOTKEEP_NO_MEMORY, BOOTKEEP_CLOSED
- *     BOOTKEEP_BAD_SIZE   `reply->size` is below that of the library's struct
+ *     BOOTKEEP_BAD_SIZE   `reply->size` is below that of the struct of version 1
  */
 uint32_t bootkeep_keeper_deliver_reply(struct bootkeep_keeper *keeper, const uint8_t *frame, size_t frame_len,
                                        struct bootkeep_reply *reply, uint16_t *numbers, size_t cap, size_t *len)
