@@ -9,14 +9,15 @@ const ARCHIVE: &str = "libbootkeep.a";
 fn main() {
     println!("cargo:rerun-if-changed=build.rs");
     println!("cargo:rerun-if-env-changed=BOOTKEEP_LIBRARY_DIR");
-    let folder = env::var("BOOTKEEP_LIBRARY_DIR").ok().or_else(installed);
-    let folder = match folder.filter(|folder| Path::new(folder).join(ARCHIVE).is_file()) {
-        Some(folder) => folder,
-        None => {
-            eprintln!("BOOTKEEP_LIBRARY_DIR has to name the folder of {ARCHIVE}, which ./build-c FOLDER makes");
-            process::exit(1);
-        }
-    };
+    let folder = env::var("BOOTKEEP_LIBRARY_DIR").ok().or_else(installed).unwrap_or_default();
+    // Cargo calls this in the crate's folder, and not in that in which it was called itself.
+    if !Path::new(&folder).is_absolute() || !Path::new(&folder).join(ARCHIVE).is_file() {
+        eprintln!(
+            "BOOTKEEP_LIBRARY_DIR has to be the whole path of the folder of {ARCHIVE}, which ./build-c FOLDER makes: \
+             it is {folder:?}"
+        );
+        process::exit(1);
+    }
     println!("cargo:rerun-if-changed={folder}/{ARCHIVE}");
     println!("cargo:rustc-link-search=native={folder}");
     println!("cargo:rustc-link-lib=static=bootkeep");

@@ -30,7 +30,7 @@ pub enum Request<'a> {
 /// # Errors
 ///
 /// A fault `Option..` of the load option; otherwise [`FrameTooLong`](crate::Fault::FrameTooLong), or
-/// [`FrameBadNumber`](crate::Fault::FrameBadNumber) of [`NO_NUMBER`](crate::NO_NUMBER); [`Error::NoMemory`].
+/// [`FrameBadNumber`](crate::Fault::FrameBadNumber) of [`NO_NUMBER`]; [`Error::NoMemory`].
 pub fn make(number: u32, request: Request<'_>) -> Result<Vec<u8>, Error> {
     let (kind, entry, option, order): (u32, u16, &[u8], &[u16]) = match request {
         Request::Add(entry, option) => (REQUEST_ADD, entry, option, &[]),
