@@ -1,14 +1,18 @@
 """Builds the wheel of the package `bootkeep`, which holds the shared library: what `pip wheel` calls.
 
 The library is the one that the environment's BOOTKEEP_LIBRARY names, as `./build-c FOLDER` makes it. Nothing is
-downloaded."""
+downloaded. An archive of the sources has no library: to make a wheel of it takes BOOTKEEP_LIBRARY, too."""
 
 from __future__ import annotations
 
 import base64
+import calendar
+import gzip
 import hashlib
+import io
 import os
 import re
+import tarfile
 import zipfile
 from pathlib import Path
 from typing import Any, Dict, List, Optional
@@ -49,18 +53,33 @@ def metadata() -> str:
     return "".join(f"{field}: {text}\n" for field, text in said)
 
 
+def library() -> bytes:
+    """The library that the wheel holds."""
+    named = Path(os.environ.get("BOOTKEEP_LIBRARY", ""))
+    # What builds wheels calls this in another folder than that in which it was called.
+    if not named.is_absolute() or not named.is_file():
+        raise SystemExit(
+            "BOOTKEEP_LIBRARY has to be the whole path of libbootkeep.so.1, which ./build-c FOLDER makes: "
+            f"it is {str(named)!r}"
+        )
+    return named.read_bytes()
+
+
+def modules() -> Dict[str, bytes]:
+    """The files of the package, by their names."""
+    found = sorted((HERE / NAME).glob("*.py"))
+    return {
+        **{f"{NAME}/{file.name}": file.read_bytes() for file in found},
+        f"{NAME}/py.typed": b"",
+    }
+
+
 def files() -> Dict[str, bytes]:
     """The files of the wheel, by their names in it, without the list of them."""
-    library = os.environ.get("BOOTKEEP_LIBRARY")
-    if library is None:
-        raise SystemExit(
-            "BOOTKEEP_LIBRARY has to name libbootkeep.so.1, which ./build-c FOLDER makes"
-        )
     info = f"{NAME}-{project('version')}.dist-info"
     return {
-        **{f"{NAME}/{file.name}": file.read_bytes() for file in sorted((HERE / NAME).glob("*.py"))},
-        f"{NAME}/py.typed": b"",
-        f"{NAME}/libbootkeep.so.1": Path(library).read_bytes(),
+        **modules(),
+        f"{NAME}/libbootkeep.so.1": library(),
         f"{info}/METADATA": metadata().encode(),
         f"{info}/WHEEL": f"Wheel-Version: 1.0\nGenerator: {NAME}\nRoot-Is-Purelib: false\nTag: {TAG}\n".encode(),
     }
@@ -91,6 +110,24 @@ def build_wheel(
             about.compress_type = zipfile.ZIP_DEFLATED
             wheel.writestr(about, data)
     return name
+
+
+def build_sdist(sdist_directory: str, config_settings: Optional[Dict[str, Any]] = None) -> str:
+    """Writes an archive of the sources into a folder, and gives its name."""
+    held = {
+        "PKG-INFO": metadata().encode(),
+        PROJECT.name: PROJECT.read_bytes(),
+        Path(__file__).name: Path(__file__).read_bytes(),
+        **modules(),
+    }
+    stem, packed = f"{NAME}-{project('version')}", io.BytesIO()
+    with tarfile.open(fileobj=packed, mode="w", format=tarfile.PAX_FORMAT) as archive:
+        for path, data in held.items():
+            about = tarfile.TarInfo(f"{stem}/{path}")
+            about.size, about.mtime = len(data), calendar.timegm(MOMENT)
+            archive.addfile(about, io.BytesIO(data))
+    Path(sdist_directory, f"{stem}.tar.gz").write_bytes(gzip.compress(packed.getvalue(), mtime=0))
+    return f"{stem}.tar.gz"
 
 
 def get_requires_for_build_wheel(config_settings: Optional[Dict[str, Any]] = None) -> List[str]:
