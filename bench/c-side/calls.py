@@ -68,7 +68,7 @@ def word(call: Callable[[int], Optional[str]]) -> Callable[[bytes], str]:
 
 
 def option_parts(data: bytes) -> str:
-    option = bootkeep.option(data)
+    option = bootkeep.option_parts(data)
     description, paths = len(option.description_bytes), sum(map(len, option.paths))
     start = 8 + description
     return f"{option.attributes} 6 {description} {start} {paths} {start + paths} {len(option.optional)}"
@@ -159,9 +159,9 @@ CALLS = {
     "refusal_word": word(bootkeep.refusal_word),
     "outcome_word": word(bootkeep.outcome_word),
     "path_check": lambda data: str(bootkeep.path_check(data)),
-    "text_path": lambda text: digits(bootkeep.text_path(text_of(text))),
+    "text_path": lambda text: digits(bootkeep.path_parse(text_of(text))),
     "option_parts": option_parts,
-    "option_description": lambda data: digits(bootkeep.option(data).description.encode()),
+    "option_description": lambda data: digits(bootkeep.option_parts(data).description.encode()),
     "option_make": option_make,
     "frame_make": frame_make,
     "set_plan": set_plan,

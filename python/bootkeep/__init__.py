@@ -15,7 +15,8 @@ What isn't what it has to be is refused by :class:`Refused`, with the number and
 ``MemoryError`` is raised where memory is refused, and ``KeyError`` where a set has no variable of a name.
 
 The calls of ``include/bootkeep.h`` that have no keeper have their names here, without ``bootkeep_``, and return what
-they tell.
+they tell; but :func:`path_parse` is ``bootkeep_text_path``, :func:`option_parts` has the description too, and
+:func:`library_version` is ``bootkeep_version``.
 
 The shared library is found by the environment's ``BOOTKEEP_LIBRARY``, beside this file, or where the system looks for
 ``libbootkeep.so.1``; ``./build-c FOLDER`` makes it, and a wheel of this package has it.
@@ -47,14 +48,14 @@ from ._numbers import (
     VERSION,
     WORD_MAX,
 )
-from ._options import LoadOption, option, option_make
+from ._options import LoadOption, option_make, option_parts
 from ._paths import (
     path_check,
     path_names,
     path_names_and_len,
+    path_parse,
     path_text,
     path_text_and_len,
-    text_path,
 )
 from ._sets import (
     AtRisk,
@@ -110,10 +111,12 @@ __all__ = [
     "library_version",
     "option",
     "option_make",
+    "option_parts",
     "outcome_word",
     "path_check",
     "path_names",
     "path_names_and_len",
+    "path_parse",
     "path_text",
     "path_text_and_len",
     "plan",
@@ -138,6 +141,7 @@ __version__ = "0.2.0"
 
 # The names of before, for one version.
 plan, entries_at_risk, check_path = set_plan, set_at_risk, path_check
+option, text_path = option_parts, path_parse
 
 # To those who use them, all of these are of the package.
 for _name in __all__:

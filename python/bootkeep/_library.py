@@ -138,7 +138,9 @@ def _load() -> ctypes.CDLL:
         ) from error
     version = library.bootkeep_version()
     if version < VERSION:
-        raise ImportError(f"libbootkeep has version {version}, and this module needs {VERSION}")
+        raise ImportError(
+            f"{named} has version {version}, and this module needs {VERSION}: BOOTKEEP_LIBRARY can name another library"
+        )
     return library
 
 

@@ -10,12 +10,12 @@ from ._buffers import Bytes, bytes_in, bytes_of, utf8
 from ._faults import failure, number_in
 from ._library import RawParts, RawRefusal, library
 from ._numbers import DONE, OPTION_ACTIVE, OPTION_CATEGORY, OPTION_CATEGORY_BOOT
-from ._paths import path_check, text_path
+from ._paths import path_check, path_parse
 
 
 @dataclass(frozen=True)
 class LoadOption:
-    """A load option (UEFI 2.10, 3.1.3), as :func:`option` reads it."""
+    """A load option (UEFI 2.10, 3.1.3), as :func:`option_parts` reads it."""
 
     #: All 32 bits as they are stored.
     attributes: int
@@ -44,7 +44,7 @@ class LoadOption:
         return self.is_active and self.category == OPTION_CATEGORY_BOOT
 
 
-def option(data: Bytes) -> LoadOption:
+def option_parts(data: Bytes) -> LoadOption:
     """The load option that the bytes are, all of them. ``Refused`` has a kind ``OPTION_..``; ``OPTION_PATH`` has the
     place of the path in the bytes, and the path's fault within."""
     parts, refusal, given = RawParts(), RawRefusal(), bytes_in(data)
@@ -82,7 +82,7 @@ def option_make(
     one path after the other. ``Refused`` has a kind ``OPTION_..``, or ``TEXT_..`` of a path's text; ``OverflowError``
     is of attributes with more than 32 bits."""
     held = b"".join(
-        text_path(path) if isinstance(path, str) else bytes_in(path)[0] for path in paths
+        path_parse(path) if isinstance(path, str) else bytes_in(path)[0] for path in paths
     )
     refusal = RawRefusal()
     given = (

@@ -51,7 +51,7 @@ def path_check(data: Bytes) -> int:
     return taken.value
 
 
-def text_path(text: str) -> bytes:
+def path_parse(text: str) -> bytes:
     """The bytes of the device path that the text stands for: that of :func:`path_text`, and other spellings besides.
     ``Refused`` has a kind ``TEXT_..`` and the place in the text, in bytes of its UTF-8."""
     refusal, given = RawRefusal(), bytes_in(utf8(text))

@@ -50,7 +50,7 @@ class Values(unittest.TestCase):
     def test_a_path_has_its_text(self) -> None:
         self.assertEqual(bootkeep.path_text_and_len(PATH + b"rest"), (TEXT, len(PATH)))
         self.assertEqual(bootkeep.path_check(PATH + b"rest"), len(PATH))
-        self.assertEqual(bootkeep.text_path(TEXT), PATH)
+        self.assertEqual(bootkeep.path_parse(TEXT), PATH)
 
     def test_bytes_come_in_each_type(self) -> None:
         spread = bytes(byte for one in PATH for byte in (one, 0))
@@ -59,11 +59,13 @@ class Values(unittest.TestCase):
 
     def test_an_option_has_its_parts(self) -> None:
         made = bootkeep.option_make(bootkeep.OPTION_ACTIVE, "Bööt", [TEXT, PATH], b"\1\0")
-        option = bootkeep.option(made)
+        option = bootkeep.option_parts(made)
         self.assertEqual(option.description_bytes.decode("utf-16-le"), "Bööt")
         self.assertEqual((option.paths, option.optional), ((PATH, PATH), b"\1\0"))
         self.assertTrue(option.is_normal)
-        app = bootkeep.option(bootkeep.option_make(bootkeep.OPTION_CATEGORY_APP | 1, "", [PATH]))
+        app = bootkeep.option_parts(
+            bootkeep.option_make(bootkeep.OPTION_CATEGORY_APP | 1, "", [PATH])
+        )
         self.assertEqual((app.is_active, app.is_normal), (True, False))
 
     def test_the_variables_are_those_that_are_got(self) -> None:
@@ -100,6 +102,9 @@ class Values(unittest.TestCase):
         self.assertEqual(bootkeep.plan(SET), bootkeep.set_plan(SET))
         self.assertEqual(bootkeep.entries_at_risk(SET), bootkeep.set_at_risk(SET))
         self.assertEqual(bootkeep.check_path(PATH), bootkeep.path_check(PATH))
+        self.assertEqual(bootkeep.text_path(TEXT), bootkeep.path_parse(TEXT))
+        made = bootkeep.option_make(bootkeep.OPTION_ACTIVE, "", [PATH])
+        self.assertEqual(bootkeep.option(made), bootkeep.option_parts(made))
 
     def test_each_public_name_is_there(self) -> None:
         for name in bootkeep.__all__:
@@ -123,17 +128,17 @@ class Faults(unittest.TestCase):
         self.assertIsInstance(why, ValueError)
 
     def test_a_refusal_has_the_fault_within(self) -> None:
-        why = self.refused(bootkeep.option, b"\1\0\0\0\1\0\0\0\x7f")
+        why = self.refused(bootkeep.option_parts, b"\1\0\0\0\1\0\0\0\x7f")
         self.assertEqual((why.kind, why.place), (Kind.OPTION_PATH, 8))
         self.assertEqual((why.inner_kind, why.inner_place), (Kind.PATH_SHORT_HEADER, 0))
         self.assertEqual(str(why), "OPTION_PATH at 8: PATH_SHORT_HEADER at 0")
 
     def test_a_surrogate_is_no_text(self) -> None:
-        why = self.refused(bootkeep.text_path, "ö\ud800")
+        why = self.refused(bootkeep.path_parse, "ö\ud800")
         self.assertEqual((why.kind, why.place), (Kind.TEXT_NOT_UTF8, 2))
 
     def test_a_refusal_goes_to_another_process(self) -> None:
-        why = self.refused(bootkeep.option, b"\1\0\0\0\1\0\0\0\x7f")
+        why = self.refused(bootkeep.option_parts, b"\1\0\0\0\1\0\0\0\x7f")
         same = pickle.loads(pickle.dumps(why))
         self.assertEqual(str(same), str(why))
         self.assertEqual(str(bootkeep.Refused(0xFFFF, 3)), "0xffff at 3")
@@ -143,7 +148,7 @@ class Faults(unittest.TestCase):
         for call in (bootkeep.set_get, bootkeep.set_remove):
             self.assertRaises(TypeError, call, SET, wrong)
         self.assertRaises(TypeError, bootkeep.set_put, SET, wrong, b"1")
-        self.assertRaises(TypeError, bootkeep.text_path, wrong)
+        self.assertRaises(TypeError, bootkeep.path_parse, wrong)
         self.assertRaises(TypeError, bootkeep.option_make, 1, wrong, [PATH])
         for text in ("text", None, 5):
             given: Any = text
