@@ -13,9 +13,9 @@
 #include <stdlib.h>
 
 /* A frame is a header, with the length of its payload in the last four bytes, and the payload. */
-enum { HEADER = 12, PAYLOAD = 131072, LINE = 2097152 };
+enum { HEADER = 12, PAYLOAD_MAX = BOOTKEEP_FRAME_MAX - HEADER, LINE = 4096 };
 
-static uint8_t frame[HEADER + PAYLOAD], line[LINE];
+static uint8_t frame[BOOTKEEP_FRAME_MAX], line[LINE];
 
 /* Reads the next frame: how many bytes it has, 0 at the end, or -1 if there is no whole frame. */
 static long next_frame(void)
@@ -27,7 +27,7 @@ static long next_frame(void)
     if (count != HEADER)
         return -1;
     len = frame[8] | frame[9] << 8 | (size_t)frame[10] << 16 | (size_t)frame[11] << 24;
-    if (len > PAYLOAD || fread(frame + HEADER, 1, len, stdin) != len)
+    if (len > PAYLOAD_MAX || fread(frame + HEADER, 1, len, stdin) != len)
         return -1;
     return (long)(HEADER + len);
 }
@@ -40,7 +40,7 @@ static int store(struct bootkeep_keeper *keeper, const char *name)
     uint32_t status;
     int failed;
 
-    while ((status = bootkeep_keeper_set(keeper, set ? set : line, set ? len : 0, &len)) == BOOTKEEP_NO_ROOM) {
+    while ((status = bootkeep_keeper_set(keeper, set, set ? len : 0, &len)) == BOOTKEEP_NO_ROOM) {
         grown = realloc(set, len);
         if (grown == NULL)
             break;

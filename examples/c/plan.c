@@ -9,11 +9,11 @@
 #include <stdio.h>
 #include <stdlib.h>
 
-/* How much room the answers have. A plan has at most 65,536 numbers, and a variable at most 1,048,576 bytes. */
-enum { NUMBERS = 65536, DATA = 1048576, TEXT = 4 * DATA };
+/* A description has at most three bytes for each byte of its option. */
+enum { TEXT_MAX = 3 * BOOTKEEP_DATA_MAX };
 
-static uint16_t numbers[NUMBERS];
-static uint8_t data[DATA], text[TEXT];
+static uint16_t numbers[BOOTKEEP_ORDER_MAX];
+static uint8_t data[BOOTKEEP_DATA_MAX], text[TEXT_MAX];
 
 /* Says why a call has no answer. */
 static int tell(const char *call, uint32_t status, const struct bootkeep_refusal *refusal)
@@ -44,10 +44,11 @@ static int show_entry(const uint8_t *set, size_t set_len, unsigned number, const
     uint32_t status;
 
     snprintf(name, sizeof name, "Boot%04X", number);
-    status = bootkeep_set_get(set, set_len, (const uint8_t *)name, sizeof name - 1, data, DATA, &data_len, &refusal);
+    status =
+        bootkeep_set_get(set, set_len, (const uint8_t *)name, sizeof name - 1, data, sizeof data, &data_len, &refusal);
     if (status != BOOTKEEP_DONE)
         return tell("bootkeep_set_get", status, &refusal);
-    status = bootkeep_option_description(data, data_len, text, TEXT, &text_len, &refusal);
+    status = bootkeep_option_description(data, data_len, text, sizeof text, &text_len, &refusal);
     if (status != BOOTKEEP_DONE)
         return tell("bootkeep_option_description", status, &refusal);
     printf("%s %s %.*s\n", name, when, (int)text_len, (const char *)text);
@@ -61,7 +62,7 @@ static int show_plan(const uint8_t *set, size_t set_len)
     size_t count;
     int failed = 0;
 
-    status = bootkeep_set_plan(set, set_len, numbers, NUMBERS, &count, &next, &refusal);
+    status = bootkeep_set_plan(set, set_len, numbers, BOOTKEEP_ORDER_MAX, &count, &next, &refusal);
     if (status != BOOTKEEP_DONE)
         return tell("bootkeep_set_plan", status, &refusal);
     if (next != BOOTKEEP_NO_ENTRY)
