@@ -1,4 +1,5 @@
--- What each finding says of its entry.
+-- What each finding says of its entry, and what JSON calls it.
+use Rattle.std.specs.Prelude.{ℕ, List, codes}
 use Rattle.entry_checks.specs.declared.lead.Lead.{Lead}
 use Rattle.entry_checks.specs.declared.lead.Lead.TheVariants as lead
 use Rattle.entry_checks.specs.declared.finding.Finding.{Finding}
@@ -23,3 +24,31 @@ weight_of finding.Hidden = Remark
 weight_of finding.Unnamed = Remark
 weight_of (finding.Leads found) = weight_of_lead found
 weight_of finding.Twin = Fault
+
+-- ---- what JSON calls it
+
+abbrev pub kind_of_lead : Lead → List ℕ
+kind_of_lead lead.File = codes "file"
+kind_of_lead lead.NoFile = codes "no_file"
+kind_of_lead lead.Folder = codes "folder"
+kind_of_lead lead.Partition = codes "partition"
+kind_of_lead lead.NoPartition = codes "no_partition"
+kind_of_lead lead.Unmounted = codes "not_mounted"
+kind_of_lead lead.Closed = codes "not_readable"
+kind_of_lead lead.Unsigned = codes "unsigned"
+kind_of_lead lead.Onward = codes "onward"
+kind_of_lead lead.Instances = codes "instances"
+kind_of_lead lead.FileAlone = codes "file_alone"
+kind_of_lead lead.Network = codes "network"
+kind_of_lead lead.Firmware = codes "firmware"
+kind_of_lead lead.Legacy = codes "legacy"
+kind_of_lead lead.Device = codes "device"
+
+abbrev pub kind_of : Finding → List ℕ
+kind_of finding.Undecodable = codes "undecodable"
+kind_of finding.Inactive = codes "inactive"
+kind_of finding.OtherCategory = codes "category"
+kind_of finding.Hidden = codes "hidden"
+kind_of finding.Unnamed = codes "unnamed"
+kind_of (finding.Leads found) = kind_of_lead found
+kind_of finding.Twin = codes "same_file"

@@ -1,6 +1,6 @@
 //! Names of files in a FAT file system (UEFI 2.10, 13.3).
 
-ghost use Rattle.std.specs.Prelude.{◌↔◌, IsTrue, All, IfSome, IfNone};
+ghost use Rattle.std.specs.Prelude.{◌≡◌, ◌≢◌, ◌↔◌, ◌⊎◌, IsTrue, All, IfSome, IfNone};
 ghost use Rattle.std.specs.String.{string_bytes};
 ghost use Rattle.entry_checks.specs.FileNames.{IsSameName};
 
@@ -16,6 +16,7 @@ fn is_same_name(name: &str, other: &str) -> bool
 /// case of letters of ASCII.
 pub fn name_among<'a>(names: &'a [String], sought: &str) -> Option<&'a str>
     ensures found { IfSome result (λ name. IsSameName name.now sought.now) }
+    ensures exact { IfSome result (λ name. (name.now ≡ sought.now) ⊎ All (λ other. string_bytes other ≢ sought.now) names.now) }
     ensures none { IfNone result (All (λ name. ¬ IsSameName (string_bytes name) sought.now) names.now) }
 {
     match names.iter().find(|name| name.as_str() == sought) {

@@ -1,7 +1,7 @@
 //! What is found of an entry, and the words for it.
 
 ghost use Rattle.std.specs.Prelude.{◌≡◌};
-ghost use Rattle.entry_checks.specs.Finding.{weight_of, weight_of_lead};
+ghost use Rattle.entry_checks.specs.Finding.{kind_of, kind_of_lead, weight_of, weight_of_lead};
 
 use crate::lead::Lead;
 
@@ -49,7 +49,8 @@ pub struct FindingRow {
 impl Finding {
     /// Its row of the table.
     pub fn row(self) -> FindingRow
-        ensures { result.weight ≡ weight_of self }
+        ensures kind { result.kind.now ≡ kind_of self }
+        ensures weight { result.weight ≡ weight_of self }
     {
         match self {
             Finding::Undecodable => fault("undecodable", "its data is no load option"),
@@ -78,7 +79,8 @@ impl Finding {
 impl Lead {
     /// Its row of the table.
     fn row(self) -> FindingRow
-        ensures { result.weight ≡ weight_of_lead self }
+        ensures kind { result.kind.now ≡ kind_of_lead self }
+        ensures weight { result.weight ≡ weight_of_lead self }
     {
         match self {
             Lead::File => remark("file", "its file is there"),
@@ -114,7 +116,8 @@ impl Lead {
 
 /// The row of something that is wrong.
 fn fault(kind: &'static str, words: &'static str) -> FindingRow
-    ensures { result.weight ≡ Weight.Fault }
+    ensures kind { result.kind.now ≡ kind.now }
+    ensures weight { result.weight ≡ Weight.Fault }
 {
     FindingRow {
         kind,
@@ -125,7 +128,8 @@ fn fault(kind: &'static str, words: &'static str) -> FindingRow
 
 /// The row of something that is as it may be.
 fn remark(kind: &'static str, words: &'static str) -> FindingRow
-    ensures { result.weight ≡ Weight.Remark }
+    ensures kind { result.kind.now ≡ kind.now }
+    ensures weight { result.weight ≡ Weight.Remark }
 {
     FindingRow {
         kind,
@@ -136,7 +140,8 @@ fn remark(kind: &'static str, words: &'static str) -> FindingRow
 
 /// The row of something that wasn't looked at.
 fn unseen(kind: &'static str, words: &'static str) -> FindingRow
-    ensures { result.weight ≡ Weight.Unseen }
+    ensures kind { result.kind.now ≡ kind.now }
+    ensures weight { result.weight ≡ Weight.Unseen }
 {
     FindingRow {
         kind,
