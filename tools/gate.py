@@ -10,14 +10,17 @@ import tempfile
 import unittest
 from concurrent.futures import ThreadPoolExecutor
 from pathlib import Path
-from typing import List, Tuple
+from typing import Dict, List, Optional, Tuple
 
 import runner
 import trying
 from building import proved
-from repository import ROOT, sources_sum, toolchain_note
+from repository import ROOT, Verdict, sources_sum, toolchain_note
 
 PROGRAMS = ("bootkeep", "bootvars")
+
+PRODUCTS = (*PROGRAMS, "bootkeep_c")
+"""What is made of the sources, over which the gate is run."""
 
 ENDED = re.compile(r"^(\d+) passed, (\d+) failed")
 """The last line of `rt ci`."""
@@ -70,11 +73,11 @@ def whole() -> int:
     note = toolchain_note()
     if note:
         print(f"check: {note}", file=sys.stderr)
-    sources = {it: sources_sum(it) for it in PROGRAMS}
+    sources = {it: sources_sum(it) for it in PRODUCTS}
     passed, failed = gate()
     if failed:
         print("check: the cases aren't tried, since the gate failed", file=sys.stderr)
-        return end(passed, failed)
+        return end(passed, failed, sources)
     built = {it: ROOT / "crates" / it / "out" / it for it in PROGRAMS}
     for name, program in built.items():
         # Of sources that were edited meanwhile nobody knows which were proved.
@@ -85,7 +88,7 @@ def whole() -> int:
         case_runner = compiled_runner(Path(folder))
         told = runner.run(runner.Programs(case_runner, by_both), False, [])
     tests = script_tests()
-    return end(passed + told[0] + tests[0], failed + told[1] + tests[1])
+    return end(passed + told[0] + tests[0], failed + told[1] + tests[1], sources)
 
 
 def script_tests() -> Tuple[int, int]:
@@ -119,7 +122,10 @@ def gate() -> Tuple[int, int]:
     return passed, max(failed, int(ci.returncode != 0 and failed == 0))
 
 
-def end(passed: int, failed: int) -> int:
-    """Says what passed, and gives the status."""
-    print(f"{passed} passed, {failed} failed")
+def end(passed: int, failed: int, sources: Optional[Dict[str, str]] = None) -> int:
+    """Says what passed, and gives the status. If it is said of the whole gate, over sources of these sums, it is kept."""
+    line = f"{passed} passed, {failed} failed"
+    if sources == {it: sources_sum(it) for it in sources or ()}:
+        Verdict().keep(line, sources)
+    print(line)
     return 1 if failed else 0

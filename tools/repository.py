@@ -8,7 +8,7 @@ import shutil
 import subprocess
 from dataclasses import dataclass
 from pathlib import Path
-from typing import Dict, List, Optional
+from typing import Dict, Iterator, List, Optional
 
 ROOT = Path(__file__).resolve().parent.parent
 """The top of the clone that this file is in."""
@@ -54,6 +54,15 @@ def crates_below(name: str, crates: Dict[str, Crate]) -> List[str]:
     return [it for it in crates if it in found]
 
 
+def source_files(crate: str, root: Path = ROOT) -> Iterator[str]:
+    """The paths of the files of a crate that a proof reads, always in the same order."""
+    for part in PARTS:
+        for folder, folders, names in os.walk(f"{root}/crates/{crate}/{part}"):
+            folders.sort()
+            for file in sorted(names):
+                yield f"{folder}/{file}"
+
+
 def sources_sum(name: str, root: Path = ROOT) -> str:
     """A sum of what a crate is made from: its files and those of the crates below it, and what is said of them."""
     crates = read_crates(root)
@@ -61,15 +70,11 @@ def sources_sum(name: str, root: Path = ROOT) -> str:
     for crate in [*crates_below(name, crates), name]:
         total.update(repr(crates[crate]).encode())
         top = f"{root}/crates/{crate}/"
-        for part in PARTS:
-            for folder, folders, names in os.walk(top + part):
-                folders.sort()
-                for file in sorted(names):
-                    path = f"{folder}/{file}"
-                    with open(path, "rb") as it:
-                        content = it.read()
-                    total.update(f"{path[len(top):]} {len(content)}\n".encode())
-                    total.update(content)
+        for path in source_files(crate, root):
+            with open(path, "rb") as it:
+                content = it.read()
+            total.update(f"{path[len(top):]} {len(content)}\n".encode())
+            total.update(content)
     return total.hexdigest()
 
 
@@ -136,3 +141,29 @@ class Product:
             os.replace(beside, self.stamp)
         finally:
             beside.unlink(missing_ok=True)
+
+
+class Verdict:
+    """How the gate ended the last time that it was run to its end, which is kept in out/, and over which sources."""
+
+    def __init__(self, root: Path = ROOT) -> None:
+        self.path = root / "out" / "gate"
+
+    def keep(self, line: str, sources: Dict[str, str]) -> None:
+        """Keeps the last line of the gate over sources of these sums.
+
+        Raises OSError if there is no place for it."""
+        self.path.parent.mkdir(exist_ok=True)
+        beside = self.path.with_name(f"gate.{os.getpid()}")
+        sums = "".join(f"{name} {it}\n" for name, it in sorted(sources.items()))
+        beside.write_text(f"{line}\n{toolchain_sum()}\n{sums}", encoding="utf-8")
+        os.replace(beside, self.path)
+
+    def over(self, name: str, root: Path = ROOT) -> Optional[str]:
+        """The last line of the gate, if what it was run over is what a crate is made from now."""
+        try:
+            line, toolchain, *sums = self.path.read_text(encoding="utf-8").splitlines()
+        except (OSError, ValueError):
+            return None
+        is_now = toolchain == toolchain_sum() and f"{name} {sources_sum(name, root)}" in sums
+        return line if is_now else None
