@@ -1,0 +1,314 @@
+"""Tests of what makes packages, and of the script by which an archive is installed."""
+
+from __future__ import annotations
+
+import gzip
+import io
+import os
+import re
+import shutil
+import subprocess
+import sys
+import tarfile
+import tempfile
+import unittest
+from pathlib import Path
+from typing import Dict, List
+
+ROOT = Path(__file__).resolve().parents[1]
+sys.path.insert(0, str(ROOT / "tools"))
+
+import debian_package  # noqa: E402
+import package_files  # noqa: E402
+import packages  # noqa: E402
+import proof_note  # noqa: E402
+import repository  # noqa: E402
+from file_tree import PROGRAM_MODE, FileTree  # noqa: E402
+
+MOMENT = 1_700_000_000
+"""Tue, 14 Nov 2023 22:13:20, as `date -u -d @1700000000` says."""
+
+CHANGES = """# Changes
+
+For readers.
+
+## 0.2.0, not released yet
+
+- **A change** of one thing, which is so long that what says so doesn't fit into a line of a changelog of Debian, and
+  goes on.
+- `other`
+
+In the library:
+
+- A third.
+
+## 0.1.0, 2023-01-02
+
+- The first.
+"""
+
+DEBIAN_CHANGES = """bootkeep (0.2.0) UNRELEASED; urgency=medium
+
+  * A change of one thing, which is so long that what says so doesn't fit into
+    a line of a changelog of Debian, and goes on.
+  * `other`
+
+  [ In the library ]
+  * A third.
+
+ -- Somebody <some@body>  Tue, 14 Nov 2023 22:13:20 +0000
+
+bootkeep (0.1.0) unstable; urgency=medium
+
+  * The first.
+
+ -- Somebody <some@body>  Mon, 02 Jan 2023 00:00:00 +0000
+"""
+
+
+class Changelog(unittest.TestCase):
+    def test_as_debian_has_it(self) -> None:
+        known = debian_package.releases(CHANGES)
+        self.assertEqual([it.version for it in known], ["0.2.0", "0.1.0"])
+        told = debian_package.debian_changelog(known, "Somebody <some@body>", MOMENT)
+        self.assertEqual(told, DEBIAN_CHANGES)
+
+    def test_without_a_version(self) -> None:
+        with self.assertRaises(debian_package.NotPacked):
+            debian_package.releases("# Changes\n\n## Soon\n")
+
+    def test_all_places_have_the_version(self) -> None:
+        version = debian_package.releases((ROOT / "CHANGELOG.md").read_text("utf-8"))[0].version
+        for file, pattern in {
+            "crates/var_commands/src/commands.rt": r'^const VERSION: &str = "(.*)";$',
+            "build-c": r"^readonly VERSION=(\S+) ",
+            "python/pyproject.toml": r'^version = "(.*)"$',
+            "python/bootkeep/__init__.py": r'^__version__ = "(.*)"$',
+            "rust/Cargo.toml": r'^version = "(.*)"$',
+            "rust/Cargo.lock": r'^name = "bootkeep"\nversion = "(.*)"$',
+        }.items():
+            found = re.findall(pattern, (ROOT / file).read_text("utf-8"), re.M)
+            self.assertEqual(found, [version], file)
+
+
+class Words(unittest.TestCase):
+    def test_a_folder_and_a_version(self) -> None:
+        self.assertEqual(packages.read_words(["/made"]), (Path("/made"), ""))
+        self.assertEqual(packages.read_words(["--as", "0.1.9", "/made"]), (Path("/made"), "0.1.9"))
+
+    def test_wrong_words(self) -> None:
+        wrong: List[List[str]] = [[], ["--as"], ["--as", "1"], ["--as", "a b", "f"], ["f", "g"]]
+        for words in [*wrong, ["--help"]]:
+            with self.assertRaises(debian_package.NotPacked, msg=str(words)):
+                packages.read_words(words)
+
+
+class Trees(unittest.TestCase):
+    def setUp(self) -> None:
+        self.folder = Path(tempfile.mkdtemp(prefix="bootkeep test "))
+        self.addCleanup(shutil.rmtree, self.folder)
+        self.files = FileTree()
+        self.files.put("bin/tool", b"run", PROGRAM_MODE)
+        self.files.put("share/a/text", b"read")
+        self.files.link("share/link", "a/text")
+
+    def test_written_whatever_the_umask(self) -> None:
+        before = os.umask(0o077)
+        self.addCleanup(os.umask, before)
+        self.files.write(self.folder / "tree", MOMENT)
+        found = {
+            str(it.relative_to(self.folder)): (oct(it.lstat().st_mode), it.lstat().st_mtime)
+            for it in [self.folder / "tree", *(self.folder / "tree").rglob("*")]
+        }
+        modes = {
+            "tree": "0o40755",
+            "tree/bin": "0o40755",
+            "tree/bin/tool": "0o100755",
+            "tree/share": "0o40755",
+            "tree/share/a": "0o40755",
+            "tree/share/a/text": "0o100644",
+            "tree/share/link": "0o120777",
+        }
+        self.assertEqual(found, {path: (mode, float(MOMENT)) for path, mode in modes.items()})
+
+    def test_an_archive(self) -> None:
+        packed = self.files.tarball(MOMENT)
+        with tarfile.open(fileobj=io.BytesIO(packed)) as archive:
+            found = [(it.name, oct(it.mode), it.linkname, it.uid, it.mtime) for it in archive]
+        self.assertEqual(
+            found,
+            [
+                ("bin", "0o755", "", 0, MOMENT),
+                ("share", "0o755", "", 0, MOMENT),
+                ("share/a", "0o755", "", 0, MOMENT),
+                ("bin/tool", "0o755", "", 0, MOMENT),
+                ("share/a/text", "0o644", "", 0, MOMENT),
+                ("share/link", "0o777", "a/text", 0, MOMENT),
+            ],
+        )
+        self.assertEqual(packed, FileTree(dict(reversed(self.files.files.items()))).tarball(MOMENT))
+
+    def test_sums_as_md5sum_prints_them(self) -> None:
+        self.files.write(self.folder, MOMENT)
+        words = ["md5sum", "bin/tool", "share/a/text"]
+        told = subprocess.run(words, cwd=self.folder, capture_output=True, text=True, check=True)
+        self.assertEqual(self.files.md5sums(), told.stdout)
+
+
+class Notes(unittest.TestCase):
+    def setUp(self) -> None:
+        self.root = Path(tempfile.mkdtemp(prefix="bootkeep test "))
+        self.addCleanup(shutil.rmtree, self.root)
+        (self.root / "HANDLES").write_text("none\n")
+        (self.root / "crates.txt").write_text("low: std\nhigh: low\nother: low\n")
+        for crate in ("low", "high", "other"):
+            (self.root / "crates" / crate / "src").mkdir(parents=True)
+            (self.root / "crates" / crate / "src" / "lib.rt").write_text(f"// {crate}\n")
+
+    def test_sources_are_those_of_the_crates_below_too(self) -> None:
+        listed = proof_note.list_of_sources(("high",), self.root)
+        (self.root / "list").write_text(listed)
+        subprocess.run(["sha256sum", "-c", "--quiet", "list"], cwd=self.root, check=True)
+        self.assertEqual(
+            [line.split()[1] for line in listed.splitlines()],
+            ["HANDLES", "crates.txt", "crates/high/src/lib.rt", "crates/low/src/lib.rt"],
+        )
+
+    def test_the_gate_is_of_the_sources_that_it_was_run_over(self) -> None:
+        verdict = repository.Verdict(self.root)
+        self.assertIsNone(verdict.over("high", self.root))
+        sums = {it: repository.sources_sum(it, self.root) for it in ("high", "other")}
+        verdict.keep("9 passed, 0 failed", sums)
+        self.assertEqual(verdict.over("high", self.root), "9 passed, 0 failed")
+        self.assertIsNone(verdict.over("low", self.root))
+        (self.root / "crates" / "high" / "src" / "lib.rt").write_text("// changed\n")
+        self.assertIsNone(verdict.over("high", self.root))
+        self.assertEqual(verdict.over("other", self.root), "9 passed, 0 failed")
+
+    def test_what_it_says(self) -> None:
+        proofs = proof_note.Proofs(("high", "other"), "a\nb\n", "1234", "a kit", "")
+        said = proofs.note("A title", "About it:", {"bin/tool": b""})
+        self.assertEqual(said.split("\n\n")[:2], ["A title", "About it:"])
+        # `sha256sum </dev/null` and `printf 'a\nb\n' | sha256sum` print these.
+        self.assertIn(
+            "    e3b0c44298fc1c149afbf4c8996fb92427ae41e4649b934ca495991b7852b855  bin/tool\n", said
+        )
+        self.assertIn("911169ddaaf146aff539f58c26c489af3b892dff0fe283c1c264c65ae5aa59a2", said)
+        self.assertIn("2 files: high and other, and the crates below", said)
+        self.assertIn("./check wasn't run to its end over these sources", said)
+        said = proofs.__class__(("high",), "", "1", "a kit", "9 passed, 0 failed").note("", "", {})
+        self.assertIn("./check over these sources ended with: 9 passed, 0 failed\n", said)
+
+
+class Places(unittest.TestCase):
+    def setUp(self) -> None:
+        self.folder = Path(tempfile.mkdtemp(prefix="bootkeep test "))
+        self.addCleanup(shutil.rmtree, self.folder)
+        for name in (package_files.ARCHIVE, package_files.SHARED, package_files.HEADER):
+            (self.folder / name).write_text(name)
+        (self.folder / "bootkeep.pc").write_text(
+            "libdir=${pcfiledir}\nincludedir=${pcfiledir}\n\nName: bootkeep\nLibs: -L${libdir}\n"
+        )
+        self.made = package_files.Made({"bootvars": self.folder / "bootkeep.pc"}, self.folder)
+
+    def test_pkg_config(self) -> None:
+        self.assertEqual(
+            package_files.pkg_config(self.made, package_files.DEBIAN).decode(),
+            "libdir=/usr/lib/x86_64-linux-gnu\nincludedir=/usr/include\n\n"
+            "Name: bootkeep\nLibs: -L${libdir}\n",
+        )
+
+    def test_the_folder_is_named_where_it_is_known(self) -> None:
+        marked: Dict[package_files.Place, List[str]] = {}
+        for place in (package_files.DEBIAN, package_files.OTHERS):
+            files = package_files.program_files(self.made, place).files
+            marked[place] = [it for it in files if package_files.PREFIX_MARK in files[it].data]
+        self.assertEqual(marked[package_files.DEBIAN], [])
+        self.assertEqual(
+            sorted(marked[package_files.OTHERS]),
+            [
+                "lib/dracut/modules.d/90bootkeep/module-setup.sh",
+                "lib/systemd/system/bootkeep-settle.service",
+                "libexec/bootkeep/efibootmgr",
+                "share/initramfs-tools/hooks/bootkeep",
+            ],
+        )
+
+    def test_manuals_are_packed_for_debian(self) -> None:
+        files = package_files.program_files(self.made, package_files.DEBIAN).files
+        packed = files["share/man/man1/bootvars.1.gz"].data
+        self.assertEqual(gzip.decompress(packed), (ROOT / "man" / "bootvars.1").read_bytes())
+
+
+class Install(unittest.TestCase):
+    """The script install.sh, over an archive of a few files."""
+
+    def setUp(self) -> None:
+        self.folder = Path(tempfile.mkdtemp(prefix="bootkeep test "))
+        self.addCleanup(shutil.rmtree, self.folder)
+        self.unpack("unpacked", {"lib/only-before": b"before"})
+
+    def unpack(self, name: str, more: Dict[str, bytes]) -> None:
+        """Makes an archive's folder."""
+        files = FileTree()
+        files.put("files/bin/bootvars", b"#!/bin/sh\necho @prefix@\n", PROGRAM_MODE)
+        files.put("files/lib/systemd/system/a.service", b"ExecStart=@prefix@/bin/bootvars\n")
+        files.link("files/lib/link", "systemd")
+        for path, data in more.items():
+            files.put(f"files/{path}", data)
+        files.put("install.sh", (ROOT / "packaging" / "install.sh").read_bytes(), PROGRAM_MODE)
+        files.write(self.folder / name, MOMENT)
+
+    def call(
+        self, name: str, *words: str, prefix: str = "/opt/boot"
+    ) -> "subprocess.CompletedProcess[str]":
+        """Calls its script, which installs below a folder."""
+        return subprocess.run(
+            [self.folder / name / "install.sh", *words],
+            env={**os.environ, "DESTDIR": str(self.folder / "to"), "PREFIX": prefix},
+            capture_output=True,
+            text=True,
+            check=False,
+        )
+
+    def installed(self) -> List[str]:
+        """What is there."""
+        top = self.folder / "to" / "opt" / "boot"
+        return sorted(str(it.relative_to(top)) for it in top.rglob("*"))
+
+    def test_is_installed_upgraded_and_taken_out(self) -> None:
+        top = self.folder / "to" / "opt" / "boot"
+        (top / "lib").mkdir(parents=True)
+        (top / "lib" / "others").write_text("somebody's")
+        called = self.call("unpacked")
+        self.assertEqual((called.returncode, called.stderr), (0, ""))
+        self.assertEqual((top / "bin" / "bootvars").read_text(), "#!/bin/sh\necho /opt/boot\n")
+        self.assertEqual(oct((top / "bin" / "bootvars").stat().st_mode), "0o100755")
+        self.assertEqual(
+            (top / "lib/systemd/system/a.service").read_text(), "ExecStart=/opt/boot/bin/bootvars\n"
+        )
+        self.assertEqual(os.readlink(top / "lib" / "link"), "systemd")
+        self.assertEqual((top / "lib" / "only-before").read_text(), "before")
+        self.unpack("newer", {"share/new/file": b"new"})
+        self.assertEqual(self.call("newer").returncode, 0)
+        self.assertFalse((top / "lib" / "only-before").exists())
+        self.assertEqual((top / "share/new/file").read_text(), "new")
+        self.assertEqual(self.call("newer", "uninstall").returncode, 0)
+        self.assertEqual(self.installed(), ["lib", "lib/others"])
+
+    def test_what_it_refuses(self) -> None:
+        for words, prefix, why in (
+            ("remove", "/opt/boot", "takes the word uninstall, or none"),
+            ("uninstall it", "/opt/boot", "takes the word uninstall, or none"),
+            ("uninstall", "/opt/boot", "nothing is installed below"),
+            ("", "opt/boot", "PREFIX has to begin with a slash: opt/boot"),
+            ("", "/opt/a b", "PREFIX may have letters, digits and /._+- alone: /opt/a b"),
+        ):
+            called = self.call("unpacked", *words.split(), prefix=prefix)
+            self.assertEqual(called.returncode, 1, words)
+            self.assertIn(why, called.stderr)
+            self.assertFalse((self.folder / "to").exists())
+
+
+if __name__ == "__main__":
+    unittest.main()

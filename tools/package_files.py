@@ -1,0 +1,141 @@
+"""What is in each package, by its path: for Debian, and below one folder for other systems."""
+
+from __future__ import annotations
+
+import gzip
+from dataclasses import dataclass
+from pathlib import Path
+from typing import Dict
+
+import proof_note
+from file_tree import PROGRAM_MODE, FileTree
+from repository import ROOT
+
+PREFIX_MARK = b"@prefix@"
+"""What stands in files of packaging/ for the folder in which bin is."""
+
+ARCHIVE, HEADER = "libbootkeep.a", "bootkeep.h"
+SHARED, SHARED_NAMES = "libbootkeep.so.1.0.0", ("libbootkeep.so.1", "libbootkeep.so")
+
+PAGES = ("machines.md", "requests.md", "formats.md", "promises.md")
+"""The pages for those who have the programs."""
+
+
+@dataclass(frozen=True)
+class Place:
+    """Where a system has things, below the folder in which bin is."""
+
+    prefix: str
+    """That folder, if it is known."""
+    libraries: str
+    zsh: str
+    packs_texts: bool
+    """Whether manuals and pages are compressed."""
+
+    def script(self, name: str) -> bytes:
+        """A file of packaging/ that names this folder."""
+        return (ROOT / "packaging" / name).read_bytes().replace(PREFIX_MARK, self.prefix.encode())
+
+    def put_text(self, files: FileTree, path: str, text: bytes) -> None:
+        """Adds a manual or a page."""
+        if self.packs_texts:
+            files.put(f"{path}.gz", gzip.compress(text, 9, mtime=0))
+        else:
+            files.put(path, text)
+
+
+DEBIAN = Place("/usr", "lib/x86_64-linux-gnu", "share/zsh/vendor-completions", True)
+OTHERS = Place("@prefix@", "lib", "share/zsh/site-functions", False)
+
+
+@dataclass(frozen=True)
+class Made:
+    """What is proved and built."""
+
+    programs: Dict[str, Path]
+    library: Path
+    """The folder in which `./build-c` put it."""
+
+    def built(self, name: str) -> bytes:
+        """A file of the library."""
+        return (self.library / name).read_bytes()
+
+
+def program_files(made: Made, place: Place) -> FileTree:
+    """Both programs, and what belongs to them."""
+    files = FileTree()
+    for name, program in made.programs.items():
+        files.put(f"bin/{name}", program.read_bytes(), PROGRAM_MODE)
+    for manual in sorted((ROOT / "man").glob("*.1")):
+        place.put_text(files, f"share/man/man1/{manual.name}", manual.read_bytes())
+    for completion, path in {
+        "bootvars.bash": "share/bash-completion/completions/bootvars",
+        "_bootvars": f"{place.zsh}/_bootvars",
+        "bootvars.fish": "share/fish/vendor_completions.d/bootvars.fish",
+    }.items():
+        files.put(path, (ROOT / "completions" / completion).read_bytes())
+    unit = "bootkeep-settle.service"
+    files.put(f"lib/systemd/system/{unit}", place.script(unit))
+    files.put("libexec/bootkeep/efibootmgr", place.script("efibootmgr"), PROGRAM_MODE)
+    for script, hook in {
+        "initramfs-tools/bootkeep": "share/initramfs-tools/hooks/bootkeep",
+        "dracut/module-setup.sh": "lib/dracut/modules.d/90bootkeep/module-setup.sh",
+    }.items():
+        files.put(hook, place.script(script), PROGRAM_MODE)
+    for page in PAGES:
+        place.put_text(files, f"share/doc/bootkeep/{page}", (ROOT / "docs" / page).read_bytes())
+    return files
+
+
+def library_files(made: Made, place: Place) -> FileTree:
+    """The shared library."""
+    files = FileTree()
+    files.put(f"{place.libraries}/{SHARED}", made.built(SHARED))
+    files.link(f"{place.libraries}/{SHARED_NAMES[0]}", SHARED)
+    return files
+
+
+def development_files(made: Made, place: Place, examples: str) -> FileTree:
+    """What is needed to build programs over the library, with examples in this folder."""
+    files = FileTree()
+    files.put(f"{place.libraries}/{ARCHIVE}", made.built(ARCHIVE))
+    files.link(f"{place.libraries}/{SHARED_NAMES[1]}", SHARED_NAMES[0])
+    files.put(f"{place.libraries}/pkgconfig/bootkeep.pc", pkg_config(made, place))
+    files.put(f"include/{HEADER}", made.built(HEADER))
+    manual = (ROOT / "man" / "bootkeep.3").read_bytes()
+    place.put_text(files, "share/man/man3/bootkeep.3", manual)
+    for example in sorted((ROOT / "examples" / "c").iterdir()):
+        files.put(f"{examples}/{example.name}", example.read_bytes())
+    return files
+
+
+def pkg_config(made: Made, place: Place) -> bytes:
+    """What pkg-config reads, with this place's folders in the place of the one in which the library was built."""
+    folders = {"libdir": place.libraries, "includedir": "include"}
+    lines = made.built("bootkeep.pc").decode().splitlines()
+    named = {line.partition("=")[0]: line for line in lines if "=" in line}
+    assert set(named) == set(folders), named
+    for name, folder in folders.items():
+        lines[lines.index(named[name])] = f"{name}={place.prefix}/{folder}"
+    return "".join(f"{line}\n" for line in lines).encode()
+
+
+def python_files(metadata: str, version: str) -> FileTree:
+    """The module for Python, and what Python knows of it as a package that is installed."""
+    files = FileTree()
+    for module in sorted((ROOT / "python" / "bootkeep").glob("*.py")):
+        files.put(f"bootkeep/{module.name}", module.read_bytes())
+    files.put("bootkeep/py.typed", b"")
+    files.put(f"bootkeep-{version}.dist-info/METADATA", metadata.encode())
+    return files
+
+
+def proof_files(proofs: proof_note.Proofs, note: str, packs_list: bool) -> FileTree:
+    """What says which sources were proved."""
+    files = FileTree()
+    files.put("PROVED", note.encode())
+    name, sources = proof_note.LIST, proofs.sources.encode()
+    files.put(
+        *((f"{name}.gz", gzip.compress(sources, 9, mtime=0)) if packs_list else (name, sources))
+    )
+    return files
