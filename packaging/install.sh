@@ -101,8 +101,8 @@ do_uninstall() {
 
 # Has the running system see what is new or gone.
 tell_system() {
-    if command -v ldconfig >/dev/null; then ldconfig; fi
-    if [ -d /run/systemd/system ]; then systemctl daemon-reload; fi
+    ! command -v ldconfig >/dev/null || ldconfig || true
+    [ ! -d /run/systemd/system ] || systemctl daemon-reload || true
 }
 
 case $prefix in

@@ -207,14 +207,15 @@ class Places(unittest.TestCase):
         for name in (package_files.ARCHIVE, package_files.SHARED, package_files.HEADER):
             (self.folder / name).write_text(name)
         (self.folder / "bootkeep.pc").write_text(
-            "libdir=${pcfiledir}\nincludedir=${pcfiledir}\n\nName: bootkeep\nLibs: -L${libdir}\n"
+            "prefix=${pcfiledir}\nlibdir=${pcfiledir}\nincludedir=${pcfiledir}\n\n"
+            "Name: bootkeep\nLibs: -L${libdir}\n"
         )
         self.made = package_files.Made({"bootvars": self.folder / "bootkeep.pc"}, self.folder)
 
     def test_pkg_config(self) -> None:
         self.assertEqual(
             package_files.pkg_config(self.made, package_files.DEBIAN).decode(),
-            "libdir=/usr/lib/x86_64-linux-gnu\nincludedir=/usr/include\n\n"
+            "prefix=/usr\nlibdir=/usr/lib/x86_64-linux-gnu\nincludedir=/usr/include\n\n"
             "Name: bootkeep\nLibs: -L${libdir}\n",
         )
 

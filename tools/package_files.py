@@ -111,12 +111,16 @@ def development_files(made: Made, place: Place, examples: str) -> FileTree:
 
 def pkg_config(made: Made, place: Place) -> bytes:
     """What pkg-config reads, with this place's folders in the place of the one in which the library was built."""
-    folders = {"libdir": place.libraries, "includedir": "include"}
+    folders = {
+        "prefix": place.prefix,
+        "libdir": f"{place.prefix}/{place.libraries}",
+        "includedir": f"{place.prefix}/include",
+    }
     lines = made.built("bootkeep.pc").decode().splitlines()
-    named = {line.partition("=")[0]: line for line in lines if "=" in line}
-    assert set(named) == set(folders), named
-    for name, folder in folders.items():
-        lines[lines.index(named[name])] = f"{name}={place.prefix}/{folder}"
+    for at, line in enumerate(lines):
+        name, _, folder = line.partition("=")
+        if folder == "${pcfiledir}":
+            lines[at] = f"{name}={folders[name]}"
     return "".join(f"{line}\n" for line in lines).encode()
 
 
