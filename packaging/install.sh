@@ -3,9 +3,9 @@
 #
 #     ./install.sh [uninstall]
 #
-# It goes below PREFIX, or /usr/local if that isn't set, into bin, lib, libexec, include and share. With DESTDIR, which is
-# put in front of that, nothing else of the system is touched. What an earlier release has put below the same PREFIX, and
-# this one doesn't have, is taken out. share/bootkeep/installed lists what is there.
+# It goes below PREFIX, or /usr/local if that isn't set, into bin, lib, libexec, include and share. With DESTDIR, which
+# is put in front of that, nothing else of the system is touched. What an earlier release has put below the same PREFIX,
+# and this one doesn't have, is taken out. share/bootkeep/installed lists what is there.
 
 set -eu
 umask 022

@@ -123,7 +123,7 @@ def gate() -> Tuple[int, int]:
 
 
 def end(passed: int, failed: int, sources: Optional[Dict[str, str]] = None) -> int:
-    """Says what passed, and gives the status. If it is said of the whole gate, over sources of these sums, it is kept."""
+    """Says what passed, and gives the status. What is said of the whole gate, over sources of these sums, is kept."""
     line = f"{passed} passed, {failed} failed"
     if sources == {it: sources_sum(it) for it in sources or ()}:
         Verdict().keep(line, sources)

@@ -1,6 +1,6 @@
 #!/bin/bash
-# Puts bootvars into the initramfs, so that a rescue shell there can mend boot entries, if a file of /etc/dracut.conf.d has
-# the line add_dracutmodules+=" bootkeep ".
+# Puts bootvars into the initramfs, so that a rescue shell there can mend boot entries, if a file of /etc/dracut.conf.d
+# has the line add_dracutmodules+=" bootkeep ".
 
 # 255: only if it is asked for by its name.
 check() {
