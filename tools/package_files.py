@@ -124,12 +124,11 @@ def pkg_config(made: Made, place: Place) -> bytes:
     return "".join(f"{line}\n" for line in lines).encode()
 
 
-def python_files(metadata: str, version: str) -> FileTree:
+def python_files(modules: Dict[str, bytes], metadata: str, version: str) -> FileTree:
     """The module for Python, and what Python knows of it as a package that is installed."""
     files = FileTree()
-    for module in sorted((ROOT / "python" / "bootkeep").glob("*.py")):
-        files.put(f"bootkeep/{module.name}", module.read_bytes())
-    files.put("bootkeep/py.typed", b"")
+    for path, module in modules.items():
+        files.put(path, module)
     files.put(f"bootkeep-{version}.dist-info/METADATA", metadata.encode())
     return files
 

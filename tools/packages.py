@@ -141,22 +141,23 @@ def build_all(work: Path, version: str) -> Made:
 def debian_packages(made: Made, work: Path, known: List[Release], moment: int) -> List[Path]:
     """Makes the packages for Debian."""
     workshop = debian_package.Workshop(work, known, moment)
-    metadata, version = wheel_of_library.metadata(), wheel_of_library.project("version")
-    examples = "share/doc/libbootkeep-dev/examples"
+    examples, modules = "share/doc/libbootkeep-dev/examples", "usr/lib/python3/dist-packages"
+    python = package_files.python_files(
+        wheel_of_library.modules(), wheel_of_library.metadata(), wheel_of_library.project("version")
+    )
     contents = {
         "bootkeep": package_files.program_files(made, DEBIAN).below("usr"),
         "libbootkeep1": package_files.library_files(made, DEBIAN).below("usr"),
         "libbootkeep-dev": package_files.development_files(made, DEBIAN, examples).below("usr"),
-        "python3-bootkeep": package_files.python_files(metadata, version).below(
-            "usr/lib/python3/dist-packages"
-        ),
+        "python3-bootkeep": python.below(modules),
     }
     programs, library = Proofs.of(*PROGRAMS), Proofs.of("bootkeep_c")
+    called = built_files(contents["libbootkeep1"])
     for name, files in contents.items():
         proofs = programs if name == "bootkeep" else library
-        about = CALLED if name == "python3-bootkeep" else BUILT
-        built = files if name != "python3-bootkeep" else contents["libbootkeep1"]
-        note = proofs.note(f"{name} {known[0].version}", about, built_files(built))
+        built = built_files(files)
+        about = BUILT if built else CALLED
+        note = proofs.note(f"{name} {known[0].version}", about, built or called)
         said = package_files.proof_files(proofs, note, packs_list=True)
         files.files.update(said.below(f"usr/share/doc/{name}").files)
     return [workshop.pack(name, files) for name, files in contents.items()]
