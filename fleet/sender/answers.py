@@ -1,0 +1,149 @@
+"""What machines say: a reply of an agent, read and checked. A machine may say anything: what isn't a reply is told."""
+
+from __future__ import annotations
+
+import hashlib
+import json
+from typing import Any, Dict, NamedTuple, Optional, Tuple
+
+import bootkeep
+
+from .entries import entry_of_shown
+from .goals import Shown
+
+
+MOST_WORDS = 2000
+"""How many characters of a text of a reply are kept."""
+
+
+class BadAnswer(Exception):
+    """Why something isn't a reply."""
+
+
+class Refusal(NamedTuple):
+    """Why an update wasn't made, and what is to be done about it."""
+
+    words: str
+    remedy: str
+
+
+class Reply(NamedTuple):
+    """What became of one request."""
+
+    request: Optional[int]
+    reply: str
+    outcome: Optional[str]
+    same: Optional[bool]
+    entry: Optional[int]
+    reason: Optional[str]
+
+
+class Answer(NamedTuple):
+    """What came of one message to a machine: a refusal, or replies and what is there after them."""
+
+    to: str
+    refusal: Optional[Refusal]
+    next: Optional[int] = None
+    journal: Optional[str] = None
+    replies: Tuple[Reply, ...] = ()
+    shown: Shown = Shown((), (), None)
+    summary: Dict[str, Any] = {}
+
+    def told(self) -> Dict[str, Any]:
+        """What the machine says of itself, for a person who has to decide."""
+        return {"journal": self.journal, "next": self.next, **self.summary}
+
+
+def digest(payload: bytes) -> str:
+    """By what a reply says which message it is to."""
+    return hashlib.sha256(payload).hexdigest()[:16]
+
+
+UNASKED = digest(b"")
+"""What a machine that has just come answers to."""
+
+
+def read_answer(payload: bytes) -> Answer:
+    """The reply that the bytes are. Raises BadAnswer."""
+    try:
+        held = json.loads(payload)
+        return _answer(held)
+    except (
+        ValueError,
+        TypeError,
+        KeyError,
+        AttributeError,
+        RecursionError,
+        OverflowError,
+    ) as error:
+        raise BadAnswer(f"what it said is no reply: {type(error).__name__}: {error}") from error
+    except bootkeep.Error as error:
+        raise BadAnswer(f"what it said is no reply: {error}") from error
+
+
+def _answer(held: Dict[str, Any]) -> Answer:
+    to = _text(held["to"])
+    if "refused" in held:
+        refused = held["refused"]
+        return Answer(to, Refusal(_text(refused["words"]), _text(refused["do"])))
+    if "error" in held:
+        words = f"status {int(held['status'])}: {_text(held['error']).strip()}"
+        return Answer(to, Refusal(words, "send again"))
+    show = held["show"]
+    return Answer(
+        to,
+        None,
+        _number(held["next"]),
+        None if held["journal"] is None else _text(held["journal"]),
+        tuple(_reply(reply) for reply in held["replies"]),
+        _shown(show),
+        _summary(show),
+    )
+
+
+def _reply(held: Dict[str, Any]) -> Reply:
+    request, entry = held["request"], held["entry"]
+    outcome, reason = held["outcome"], held["reason"]
+    return Reply(
+        None if request is None else _number(request),
+        _text(held["reply"]),
+        None if outcome is None else _text(outcome),
+        None if held["same"] is None else bool(held["same"]),
+        None if entry is None else int(_text(entry), 16),
+        None if reason is None else _text(reason),
+    )
+
+
+def _shown(held: Dict[str, Any]) -> Shown:
+    following = held["next"]
+    return Shown(
+        tuple(entry_of_shown(entry) for entry in held["entries"]),
+        tuple(int(_text(number), 16) for number in held.get("order") or ()),
+        None if following is None else int(_text(following), 16),
+    )
+
+
+def _summary(held: Dict[str, Any]) -> Dict[str, Any]:
+    """What a person is shown of a machine's entries."""
+    described = [
+        [_text(it["entry"]), plain(it["description"]) if "description" in it else None]
+        for it in held["entries"]
+    ]
+    return {"entries": described, "order": held.get("order"), "bootnext": held["next"]}
+
+
+def plain(text: str) -> str:
+    """A text without what a terminal takes for something to do."""
+    return "".join(it if it.isprintable() else f"\\u{ord(it):04x}" for it in text)
+
+
+def _text(value: object) -> str:
+    if not isinstance(value, str):
+        raise TypeError(f"{value!r:.40} isn't a text")
+    return plain(value[:MOST_WORDS])
+
+
+def _number(value: object) -> int:
+    if not isinstance(value, int) or isinstance(value, bool) or not 0 <= value < 1 << 32:
+        raise TypeError(f"{value!r:.40} isn't a number of a request")
+    return value

@@ -1,0 +1,452 @@
+"""The words of `bootfleet`, and what is done for them."""
+
+from __future__ import annotations
+
+import argparse
+import fcntl
+import os
+import re
+import shutil
+import signal
+import sys
+import time
+from pathlib import Path
+from typing import IO, Callable, Dict, List
+
+import bootkeep
+
+from . import certificates, machines, status
+from .certificates import CertificateError
+from .courier import MqttCourier, split_broker
+from .entries import Wanted
+from .goals import Goal
+from .ledger import Ledger, LedgerError
+from .run import FIRST_PAUSE, LONGEST_PAUSE, Sender
+
+LEDGER = "/var/lib/bootfleet/ledger"
+
+NOT_DONE = 1
+BAD_WORDS = 2
+FAILED = 3
+
+DELIVER = re.compile(rb"deliver ((?:[0-9a-fA-F]{2})*)")
+
+EMPTY_SET = b"BVS1"
+"""A set without variables, over which frames are tried."""
+
+
+class Problem(Exception):
+    """Why a command isn't carried out."""
+
+
+def main(words: List[str]) -> int:
+    """Does what the words ask for, and gives the status."""
+    options = parser().parse_args(words)
+    try:
+        command: Callable[[argparse.Namespace], int] = options.command
+        return command(options)
+    except (Problem, LedgerError, CertificateError, ValueError, OSError) as problem:
+        print(f"bootfleet: {problem}", file=sys.stderr)
+        return FAILED
+    except bootkeep.Error as refused:
+        print(f"bootfleet: refused: {refused}", file=sys.stderr)
+        return FAILED
+
+
+def parser() -> argparse.ArgumentParser:
+    made = argparse.ArgumentParser(prog="bootfleet", description=__doc__)
+    made.add_argument(
+        "--ledger",
+        type=Path,
+        default=Path(os.environ.get("BOOTFLEET_LEDGER", LEDGER)),
+        help=f"the ledger; otherwise the environment's BOOTFLEET_LEDGER, or {LEDGER}",
+    )
+    commands = made.add_subparsers(metavar="COMMAND", required=True)
+    _add_set_up(commands)
+    _add_goals(commands)
+    _add_running(commands)
+    _add_decisions(commands)
+    return made
+
+
+def _add(commands: "argparse._SubParsersAction[argparse.ArgumentParser]", name: str,
+         does: Callable[[argparse.Namespace], int], about: str) -> argparse.ArgumentParser:  # fmt: skip
+    made = commands.add_parser(name, help=about, description=about)
+    made.set_defaults(command=does)
+    return made
+
+
+def _add_set_up(commands: "argparse._SubParsersAction[argparse.ArgumentParser]") -> None:
+    init = _add(commands, "init", do_init, "makes a ledger, and what a broker needs")
+    init.add_argument("ledger_made", metavar="LEDGER", type=Path)
+    init.add_argument("--broker", metavar="HOST[:PORT]", required=True)
+    init.add_argument("--certs", metavar="FOLDER", type=Path, required=True)
+    enroll = _add(commands, "enroll", do_enroll, "takes machines in, with a certificate for each")
+    enroll.add_argument("machines", metavar="MACHINE", nargs="+")
+    sender = _add(commands, "enroll-sender", do_enroll_sender, "makes certificates of more senders")
+    sender.add_argument("names", metavar="NAME", nargs="+")
+
+
+def _add_goals(commands: "argparse._SubParsersAction[argparse.ArgumentParser]") -> None:
+    for name, about in (
+        ("first", "an entry is to be there, and first in BootOrder"),
+        ("next", "an entry is to be there, and the next one, once"),
+        ("remove", "an entry isn't to be there, or several"),
+    ):
+        made = _add(commands, name, do_goal, about)
+        made.set_defaults(goal=name)
+        made.add_argument("--description", metavar="TEXT", help="its description")
+        made.add_argument("--path", metavar="TEXT", action="append", help="its path, or paths")
+        made.add_argument("--option", metavar="FILE", type=Path, help="all of it: a load option")
+        if name == "first":
+            made.add_argument("--next", action="store_true", help="and the next one, once")
+        _add_machines(made)
+    order = _add(commands, "order", do_order, "entries are to be first in BootOrder, as they stand")
+    order.add_argument(
+        "entries", metavar="ENTRY", nargs="+", help="a file with a load option, or a description"
+    )
+    _add_machines(order)
+    send = _add(
+        commands, "send", do_send, "sends requests, each once: a script or a stream of frames"
+    )
+    send.add_argument("script", metavar="SCRIPT", type=Path)
+    _add_machines(send)
+
+
+def _add_machines(made: argparse.ArgumentParser) -> None:
+    which = made.add_mutually_exclusive_group(required=True)
+    which.add_argument("--machines", metavar="FILE", type=Path, help="a file with their names")
+    which.add_argument("--all", action="store_true", help="all that are enrolled")
+
+
+def _add_running(commands: "argparse._SubParsersAction[argparse.ArgumentParser]") -> None:
+    run = _add(commands, "run", do_run, "sends, until it is ended")
+    run.add_argument(
+        "--until-done", action="store_true", help="or until nothing is left to be done"
+    )
+    run.add_argument("--limit", metavar="SECONDS", type=float, help="or for so many seconds")
+    run.add_argument(
+        "--as", dest="name", metavar="NAME", default=certificates.SENDER, help="by this certificate"
+    )
+    shown = _add(commands, "status", do_status, "shows how it stands")
+    how = shown.add_mutually_exclusive_group()
+    how.add_argument("--json", action="store_true")
+    how.add_argument("--page", metavar="FILE", type=Path, help="writes a page of HTML")
+    shown.add_argument(
+        "--watch", nargs="?", metavar="SECONDS", type=float, const=2.0, help="and so on"
+    )
+
+
+def _add_decisions(commands: "argparse._SubParsersAction[argparse.ArgumentParser]") -> None:
+    for name, does, about in (
+        ("resend", do_resend, "goes on with machines in trouble as the ledger has them"),
+        (
+            "adopt",
+            do_adopt,
+            "goes on with machines in trouble as they say themselves, after showing it",
+        ),
+        ("forget", do_forget, "takes machines out, with all that was asked of them"),
+    ):
+        made = _add(commands, name, does, about)
+        made.add_argument("machines", metavar="MACHINE", nargs="+")
+        if name != "resend":
+            made.add_argument("--yes", action="store_true", help="without asking")
+    cancel = _add(commands, "cancel", do_cancel, "gives up what isn't reached yet of a job")
+    cancel.add_argument("job", metavar="JOB", type=int)
+    cancel.add_argument("machines", metavar="MACHINE", nargs="*")
+
+
+# What is done
+
+
+def do_init(options: argparse.Namespace) -> int:
+    host, port = split_broker(options.broker)
+    if options.ledger_made.exists():
+        raise Problem(f"{options.ledger_made}: it is there already")
+    options.ledger_made.parent.mkdir(parents=True, exist_ok=True)
+    options.certs.mkdir(parents=True, exist_ok=True)
+    certificates.make_authority(options.certs)
+    certificates.make_broker(options.certs, host, port)
+    certificates.make_sender(options.certs, certificates.SENDER)
+    settings = {"broker": f"{host}:{port}", "certs": str(options.certs.resolve())}
+    Ledger.make(options.ledger_made, settings)
+    print(f"{options.certs / 'mosquitto.conf'}: start the broker by it: mosquitto -c")
+    return 0
+
+
+def do_enroll(options: argparse.Namespace) -> int:
+    ledger = Ledger(options.ledger)
+    for name in options.machines:
+        certificates.check_name(name)
+        if name == certificates.BROKER or _is_sender(ledger, name):
+            raise Problem(f"{name}: this name isn't a machine's")
+    for name in options.machines:
+        made = certificates.make_machine(_certs(ledger), name, _broker(ledger))
+        with ledger.transaction():
+            ledger.add_machine(name)
+        print(f"{made}: copy it to the machine, as /etc/bootfleet")
+    return 0
+
+
+def do_enroll_sender(options: argparse.Namespace) -> int:
+    ledger = Ledger(options.ledger)
+    for name in options.names:
+        certificates.check_name(name)
+        if name == certificates.BROKER or ledger.has_machine(name):
+            raise Problem(f"{name}: this name isn't a sender's")
+        certificates.make_sender(_certs(ledger), name)
+    return 0
+
+
+def do_goal(options: argparse.Namespace) -> int:
+    wanted = _wanted(options)
+    goals = [Goal(options.goal, (wanted,))]
+    if options.goal == "first" and options.next:
+        goals.append(Goal("next", (wanted,)))
+    return _add_jobs(options, goals)
+
+
+def do_order(options: argparse.Namespace) -> int:
+    return _add_jobs(options, [Goal("order", tuple(map(_entry_of_word, options.entries)))])
+
+
+def do_send(options: argparse.Namespace) -> int:
+    return _add_jobs(options, [Goal("send", frames=tuple(read_frames(options.script)))])
+
+
+def do_run(options: argparse.Namespace) -> int:
+    ledger = Ledger(options.ledger)
+    lock = _lock(ledger, options.name)
+    stopped: List[int] = []
+    for number in (signal.SIGTERM, signal.SIGINT):
+        signal.signal(number, lambda got, _: stopped.append(got))
+    courier = MqttCourier(_broker(ledger), _certs(ledger) / options.name, options.name)
+    pauses = os.environ.get("BOOTFLEET_PAUSES", f"{FIRST_PAUSE} {LONGEST_PAUSE}").split()
+    sender = Sender(ledger, courier, options.name, float(pauses[0]), float(pauses[1]))
+    try:
+        is_done = sender.run(options.until_done, options.limit, lambda: bool(stopped))
+    finally:
+        courier.close()
+        lock.close()
+    counts = sender.counts
+    print(
+        f"bootfleet: sent {counts.out}, of them {counts.again} again; took {counts.taken} replies,"
+        f" passed over {counts.passed_over}",
+        file=sys.stderr,
+    )
+    if stopped and not options.until_done:
+        return 0
+    return 0 if is_done and ledger.all_reached() else NOT_DONE
+
+
+def do_status(options: argparse.Namespace) -> int:
+    ledger = Ledger(options.ledger)
+    try:
+        while True:
+            _show_status(options, status.read_status(ledger))
+            if options.watch is None:
+                return 0
+            time.sleep(options.watch)
+    except KeyboardInterrupt:
+        return 0
+
+
+def _show_status(options: argparse.Namespace, found: status.Status) -> None:
+    if options.json:
+        print(status.as_json(found), flush=True)
+        return
+    if options.page is not None:
+        again = None if options.watch is None else max(1, round(options.watch))
+        status.write_page(options.page, status.as_page(found, again))
+        return
+    columns, lines = shutil.get_terminal_size()
+    if options.watch is None:
+        print("\n".join(status.as_table(found, columns)))
+    else:
+        print("\033[H\033[2J" + "\n".join(status.as_table(found, columns, lines - 1)), flush=True)
+
+
+def do_resend(options: argparse.Namespace) -> int:
+    ledger = Ledger(options.ledger)
+    with ledger.transaction():
+        for name in _in_trouble(ledger, options.machines):
+            ledger.resend(name)
+    return 0
+
+
+def do_adopt(options: argparse.Namespace) -> int:
+    ledger = Ledger(options.ledger)
+    for name in _in_trouble(ledger, options.machines):
+        told = ledger.told(name)
+        if told is None:
+            raise Problem(f"{name}: it has told nothing of itself: mend it, and then `resend`")
+        machine, sent = ledger.machine(name), len(ledger.sent_frames(name))
+        print(f"{name}: {ledger.trouble(name)}")
+        print(f" the ledger has:\n  journal {machine.journal or '-'}, next {machine.next}")
+        print(f"  {sent} requests without an answer, which are not sent again")
+        print(f" the machine says:\n{machines.describe(told)}")
+        if options.yes or _agrees("Go on from what the machine says?"):
+            with ledger.transaction():
+                ledger.adopt(name, told)
+    return 0
+
+
+def do_forget(options: argparse.Namespace) -> int:
+    ledger = Ledger(options.ledger)
+    for name in options.machines:
+        if not ledger.has_machine(name):
+            raise Problem(f"{name}: there is no such machine in the ledger")
+    if options.yes or _agrees(f"Forget what was asked of {' '.join(options.machines)}?"):
+        with ledger.transaction():
+            for name in options.machines:
+                ledger.forget(name)
+    return 0
+
+
+def do_cancel(options: argparse.Namespace) -> int:
+    ledger = Ledger(options.ledger)
+    with ledger.transaction():
+        count = ledger.cancel(options.job, options.machines or None)
+    print(f"{count} goals of job {options.job} are cancelled")
+    return 0
+
+
+# What the words mean
+
+
+def _wanted(options: argparse.Namespace) -> Wanted:
+    """The entry that is meant. One that may be added is meant by all of it."""
+    paths = tuple(options.path or ())
+    if options.option is not None:
+        if options.description is not None or paths:
+            raise Problem(
+                "--option says all of an entry: --description and --path don't go with it"
+            )
+        return _option(options.option.read_bytes(), str(options.option))
+    if options.description is None and not paths:
+        raise Problem("which entry? --description, --path, both, or --option says it")
+    if options.goal != "remove" and options.description is not None and paths:
+        made = bootkeep.option_make(bootkeep.OPTION_ACTIVE, options.description, paths)
+        return Wanted(made)
+    for path in paths:
+        bootkeep.text_path(path)
+    return Wanted(None, options.description, paths)
+
+
+def _option(data: bytes, name: str) -> Wanted:
+    try:
+        bootkeep.option(data)
+    except bootkeep.Refused as refused:
+        raise Problem(f"{name}: it is no load option: {refused}") from refused
+    return Wanted(data)
+
+
+def _entry_of_word(word: str) -> Wanted:
+    """The entry that a word of `order` means: by a file with a load option, or by a description."""
+    if os.path.isfile(word):
+        return _option(Path(word).read_bytes(), word)
+    return Wanted(None, word)
+
+
+def read_frames(path: Path) -> List[bytes]:
+    """The frames of a script or a stream. Raises Problem for what is no request."""
+    data = path.read_bytes()
+    frames = _cut_stream(data, path) if data[:2] == b"BQ" else _cut_script(data, path)
+    with bootkeep.Keeper(EMPTY_SET) as keeper:
+        for at, frame in enumerate(frames):
+            reply = keeper.deliver(frame)
+            if reply.kind == bootkeep.ReplyKind.MALFORMED:
+                raise Problem(f"{path}: request {at + 1} of it is {reply}")
+    if not frames:
+        raise Problem(f"{path}: it has no request")
+    return frames
+
+
+def _cut_script(data: bytes, path: Path) -> List[bytes]:
+    frames = []
+    for at, line in enumerate(data.split(b"\n"), 1):
+        delivered = DELIVER.fullmatch(line)
+        if line and delivered is None:
+            raise Problem(f"{path}: line {at}: only `deliver` and a frame can be sent")
+        if delivered is not None:
+            frames.append(bytes.fromhex(delivered[1].decode()))
+    return frames
+
+
+def _cut_stream(data: bytes, path: Path) -> List[bytes]:
+    frames, at = [], 0
+    while at < len(data):
+        end = at + 12 + int.from_bytes(data[at + 8 : at + 12], "little")
+        if data[at : at + 2] != b"BQ" or end > len(data):
+            raise Problem(f"{path}: offset {at}: there is no whole frame")
+        frames.append(data[at:end])
+        at = end
+    return frames
+
+
+def _add_jobs(options: argparse.Namespace, goals: List[Goal]) -> int:
+    """Makes goals of machines, and prints the number of each job."""
+    ledger = Ledger(options.ledger)
+    names = ledger.machine_names() if options.all else _names(options.machines)
+    known = set(ledger.machine_names())
+    unknown = [name for name in names if name not in known]
+    if unknown:
+        raise Problem(f"{options.machines}: not enrolled: {' '.join(unknown[:10])}")
+    if not names:
+        raise Problem("there is no machine")
+    with ledger.transaction():
+        jobs = [ledger.add_job(goal, names) for goal in goals]
+    for job, goal in zip(jobs, goals):
+        print(f"job {job}: {goal}, of {len(names)} machines")
+    return 0
+
+
+def _names(path: Path) -> List[str]:
+    """The names in a file, each once: words, and after a # what isn't one."""
+    lines = path.read_text(encoding="utf-8").splitlines()
+    words: Dict[str, None] = {}
+    for line in lines:
+        words.update(dict.fromkeys(line.partition("#")[0].split()))
+    return list(words)
+
+
+def _in_trouble(ledger: Ledger, names: List[str]) -> List[str]:
+    for name in names:
+        if not ledger.has_machine(name):
+            raise Problem(f"{name}: there is no such machine in the ledger")
+        if ledger.trouble(name) is None:
+            raise Problem(f"{name}: it is in no trouble")
+    return names
+
+
+def _agrees(question: str) -> bool:
+    """Asks whoever called. Nobody's answer is no."""
+    if not sys.stdin.isatty():
+        raise Problem("nobody is there to ask: --yes says so")
+    return input(f"{question} [y/N] ").strip().lower() in ("y", "yes")
+
+
+def _broker(ledger: Ledger) -> str:
+    return ledger.setting("broker") or ""
+
+
+def _certs(ledger: Ledger) -> Path:
+    return Path(ledger.setting("certs") or "")
+
+
+def _is_sender(ledger: Ledger, name: str) -> bool:
+    acl = (_certs(ledger) / "acl").read_text(encoding="utf-8")
+    return f"user {name}\n" in acl
+
+
+def _lock(ledger: Ledger, name: str) -> "IO[str]":
+    """Keeps a second sender with the same certificate out: a broker would let only one of them stay connected."""
+    lock = open(f"{ledger.path}.{name}.lock", "w", encoding="utf-8")
+    try:
+        fcntl.flock(lock, fcntl.LOCK_EX | fcntl.LOCK_NB)
+    except BlockingIOError:
+        lock.close()
+        raise Problem(
+            f"{name}: it is running already; `enroll-sender` and `run --as` make it two"
+        ) from None
+    return lock

@@ -1,0 +1,398 @@
+"""The ledger: what was asked of each machine, and what came of it, in a file of SQLite.
+
+A **job** is what somebody asked for; a **goal** is a job for one machine. A machine's goals are gone after one by one, in
+the order of their jobs. A **request** is one number of a machine: its frame is stored with it before it is sent. Each
+time that a machine's numbers are taken up anew, by `adopt`, its `era` is one higher.
+
+A goal, and in it the requests:
+
+    open -----> reached        a look shows that the machine is as it is to be
+      | \\----> failed         it can't be reached: the machine is in trouble; `resend` and `adopt` open the goal again
+      \\------> cancelled      somebody gave it up
+
+    a look  ->  the goal is reached, or has failed, or asks for one request: number and frame are stored, state `sent`
+    sent    ->  done           the machine says that it was applied, and Done
+            ->  refused        it says that it was applied, with another outcome
+            ->  dropped        `adopt`: nobody knows, and it is never sent again
+    done, refused -> a look, which the same reply has
+
+A machine with **trouble** is sent nothing. Only `resend`, `adopt`, `forget`, and `cancel` of the goal that failed end it.
+
+A machine has a **holder** up to a time, its lease: the sender which alone goes after its goals.
+
+Each write is in a transaction of SQLite, which is on the disk (`synchronous=FULL`) when it ends.
+"""
+
+from __future__ import annotations
+
+import json
+import sqlite3
+import time
+from contextlib import contextmanager
+from pathlib import Path
+from typing import Any, Dict, Iterable, Iterator, List, NamedTuple, Optional
+
+from .goals import Asked, Goal, Past
+
+SCHEMA = """
+CREATE TABLE setting(name TEXT PRIMARY KEY, value TEXT NOT NULL) WITHOUT ROWID;
+CREATE TABLE machine(
+    name TEXT PRIMARY KEY,
+    era INTEGER NOT NULL DEFAULT 0,
+    next INTEGER NOT NULL DEFAULT 0,    -- the number of the next request
+    journal TEXT,                       -- the identity of its journal, once it told one
+    entries INTEGER NOT NULL DEFAULT 0, -- how many entries it had when it was looked at last
+    seen REAL,                          -- when it was heard of last
+    note TEXT,                          -- why it refused what is sent again, if it did last
+    trouble TEXT,
+    told TEXT,                          -- what it said of itself when the trouble began
+    holder TEXT,
+    until REAL NOT NULL DEFAULT 0,      -- when the lease ends
+    due REAL NOT NULL DEFAULT 0         -- it is silent: no sender takes it up before
+) WITHOUT ROWID;
+CREATE TABLE job(id INTEGER PRIMARY KEY, goal TEXT NOT NULL, made REAL NOT NULL);
+CREATE TABLE goal(
+    machine TEXT NOT NULL REFERENCES machine ON DELETE CASCADE,
+    job INTEGER NOT NULL REFERENCES job,
+    state TEXT NOT NULL DEFAULT 'open' CHECK (state IN ('open', 'reached', 'failed', 'cancelled')),
+    since INTEGER NOT NULL DEFAULT 0,   -- requests before this number aren't of this attempt
+    entry INTEGER,                      -- where its entry is
+    note TEXT,                          -- why it has failed
+    ended REAL,
+    PRIMARY KEY(machine, job)
+) WITHOUT ROWID;
+CREATE TABLE request(
+    machine TEXT NOT NULL REFERENCES machine ON DELETE CASCADE,
+    era INTEGER NOT NULL,
+    number INTEGER NOT NULL,
+    job INTEGER NOT NULL REFERENCES job,
+    kind INTEGER NOT NULL,
+    entry INTEGER,                      -- what it is about
+    frame BLOB NOT NULL,
+    state TEXT NOT NULL DEFAULT 'sent' CHECK (state IN ('sent', 'done', 'refused', 'dropped')),
+    outcome TEXT,
+    stored INTEGER,                     -- the entry under which it stored an option
+    PRIMARY KEY(machine, era, number)
+) WITHOUT ROWID;
+CREATE INDEX goal_open ON goal(machine) WHERE state = 'open';
+CREATE INDEX goal_job ON goal(job, state);
+CREATE INDEX request_sent ON request(machine) WHERE state = 'sent';
+CREATE INDEX machine_holder ON machine(holder) WHERE holder IS NOT NULL;
+CREATE INDEX machine_trouble ON machine(name) WHERE trouble IS NOT NULL;
+"""
+
+VERSION = 1
+
+HAS_WORK = """trouble IS NULL AND name IN
+    (SELECT machine FROM goal WHERE state = 'open' UNION SELECT machine FROM request WHERE state = 'sent')"""
+
+MOST_FRAMES = 64
+"""How many requests a machine keeps the outcomes of, and so how many may be under way at once."""
+
+
+class LedgerError(Exception):
+    """Why nothing can be done with the ledger."""
+
+
+class Machine(NamedTuple):
+    """What the ledger has of a machine that matters for the next step."""
+
+    name: str
+    era: int
+    next: int
+    journal: Optional[str]
+    entries: int
+
+
+class OpenGoal(NamedTuple):
+    """The goal of a machine that is gone after now."""
+
+    job: int
+    goal: Goal
+    past: Past
+
+
+class Ledger:
+    """An open ledger. Its calls that write are to be made in a `transaction`."""
+
+    def __init__(self, path: Path) -> None:
+        if not path.is_file():
+            raise LedgerError(f"{path}: there is no ledger; `bootfleet init` makes one")
+        self.path = path
+        self.db = sqlite3.connect(str(path), isolation_level=None, timeout=60)
+        try:
+            self.db.execute("PRAGMA journal_mode=WAL")
+            self.db.execute("PRAGMA synchronous=FULL")
+            self.db.execute("PRAGMA foreign_keys=ON")
+            version = self.setting("version")
+        except sqlite3.DatabaseError as error:
+            raise LedgerError(f"{path}: it is no ledger: {error}") from error
+        if version != str(VERSION):
+            raise LedgerError(f"{path}: its version is {version}, and {VERSION} is known")
+
+    @classmethod
+    def make(cls, path: Path, settings: Dict[str, str]) -> Ledger:
+        """A new ledger with these settings."""
+        try:
+            path.touch(0o600, exist_ok=False)
+        except FileExistsError:
+            raise LedgerError(f"{path}: it is there already") from None
+        db = sqlite3.connect(str(path))
+        with db:
+            db.executescript(SCHEMA)
+            held = {"version": str(VERSION), **settings}
+            db.executemany("INSERT INTO setting VALUES(?, ?)", held.items())
+        db.close()
+        return cls(path)
+
+    @contextmanager
+    def transaction(self) -> Iterator[None]:
+        """What is done in it is done as a whole, and on the disk afterwards, or not at all."""
+        self.db.execute("BEGIN IMMEDIATE")
+        try:
+            yield
+        except BaseException:
+            self.db.execute("ROLLBACK")
+            raise
+        self.db.execute("COMMIT")
+
+    def one(self, query: str, *values: object) -> Any:
+        """The first row that a query finds, or none."""
+        return self.db.execute(query, values).fetchone()
+
+    def setting(self, name: str) -> Optional[str]:
+        """A setting of the ledger."""
+        found = self.one("SELECT value FROM setting WHERE name = ?", name)
+        return None if found is None else str(found[0])
+
+    # Machines and jobs
+
+    def add_machine(self, name: str) -> None:
+        self.db.execute("INSERT OR IGNORE INTO machine(name) VALUES(?)", (name,))
+
+    def has_machine(self, name: str) -> bool:
+        return self.one("SELECT 1 FROM machine WHERE name = ?", name) is not None
+
+    def machine_names(self) -> List[str]:
+        return [name for (name,) in self.db.execute("SELECT name FROM machine ORDER BY name")]
+
+    def machine(self, name: str) -> Machine:
+        return Machine(
+            *self.one("SELECT name, era, next, journal, entries FROM machine WHERE name = ?", name)
+        )
+
+    def add_job(self, goal: Goal, machines: Iterable[str]) -> int:
+        """Makes a goal of these machines, and gives the number of the job."""
+        made = self.db.execute(
+            "INSERT INTO job(goal, made) VALUES(?, ?)", (goal.to_json(), time.time())
+        )
+        job = int(made.lastrowid or 0)
+        for name in machines:
+            self.db.execute(
+                "INSERT INTO goal(machine, job, since) SELECT name, ?, next FROM machine WHERE name = ?",
+                (job, name),
+            )
+        return job
+
+    # What is under way
+
+    def sent_frames(self, name: str) -> List[bytes]:
+        """The frames of a machine that aren't answered yet, in the order of their numbers."""
+        return [
+            frame
+            for (frame,) in self.db.execute(
+                "SELECT frame FROM request WHERE machine = ? AND state = 'sent' ORDER BY era, number LIMIT ?",
+                (name, MOST_FRAMES),
+            )
+        ]
+
+    def has_open_goal(self, name: str) -> bool:
+        return self.one("SELECT 1 FROM goal WHERE machine = ? AND state = 'open'", name) is not None
+
+    def open_goal(self, machine: Machine) -> Optional[OpenGoal]:
+        """The goal that a machine's next request is for."""
+        found = self.one(
+            "SELECT job, job.goal, since FROM goal JOIN job ON job = id"
+            " WHERE machine = ? AND state = 'open' ORDER BY job LIMIT 1",
+            machine.name,
+        )
+        if found is None:
+            return None
+        job, goal, since = found
+        rows = self.db.execute(
+            "SELECT kind, entry, outcome, stored FROM request"
+            " WHERE machine = ? AND era = ? AND number >= ? AND job = ? AND outcome IS NOT NULL",
+            (machine.name, machine.era, since, job),
+        )
+        return OpenGoal(job, Goal.from_json(goal), Past(tuple(Asked(*row) for row in rows)))
+
+    def add_request(self, machine: Machine, job: int, asked: Asked, frame: bytes) -> Machine:
+        """Stores a request under the machine's next number, which its frame has."""
+        self.db.execute(
+            "INSERT INTO request(machine, era, number, job, kind, entry, frame) VALUES(?, ?, ?, ?, ?, ?, ?)",
+            (machine.name, machine.era, machine.next, job, asked.kind, asked.entry, frame),
+        )
+        self.db.execute("UPDATE machine SET next = next + 1 WHERE name = ?", (machine.name,))
+        return machine._replace(next=machine.next + 1)
+
+    def request_state(self, machine: Machine, number: int) -> Optional[str]:
+        found = self.one(
+            "SELECT state FROM request WHERE machine = ? AND era = ? AND number = ?",
+            machine.name,
+            machine.era,
+            number,
+        )
+        return None if found is None else str(found[0])
+
+    def answer_request(
+        self, machine: Machine, number: int, outcome: str, stored: Optional[int]
+    ) -> None:
+        """A request was applied, with this outcome."""
+        self.db.execute(
+            "UPDATE request SET state = ?, outcome = ?, stored = ? WHERE machine = ? AND era = ? AND number = ?",
+            (
+                "done" if outcome == "Done" else "refused",
+                outcome,
+                stored,
+                machine.name,
+                machine.era,
+                number,
+            ),
+        )
+
+    def end_goal(
+        self, name: str, job: int, state: str, entry: Optional[int], note: Optional[str]
+    ) -> None:
+        self.db.execute(
+            "UPDATE goal SET state = ?, entry = ?, note = ?, ended = ? WHERE machine = ? AND job = ?",
+            (state, entry, note, time.time(), name, job),
+        )
+
+    def heard(self, name: str, now: float) -> None:
+        """A machine was heard of, so it isn't silent."""
+        self.db.execute("UPDATE machine SET seen = ?, due = 0 WHERE name = ?", (now, name))
+
+    def looked_at(self, machine: Machine, journal: Optional[str], entries: int) -> None:
+        """A machine is as the ledger has it."""
+        self.db.execute(
+            "UPDATE machine SET journal = ?, entries = ?, note = NULL WHERE name = ?",
+            (journal, entries, machine.name),
+        )
+
+    def note(self, name: str, why: str) -> None:
+        self.db.execute("UPDATE machine SET note = ? WHERE name = ?", (why, name))
+
+    def stop(self, name: str, why: str, told: Optional[Dict[str, Any]]) -> None:
+        """A machine is in trouble, and told this of itself."""
+        self.db.execute(
+            "UPDATE machine SET trouble = ?, told = ?, holder = NULL, until = 0 WHERE name = ?",
+            (why, None if told is None else json.dumps(told), name),
+        )
+
+    # Leases
+
+    def hold(self, holder: str, most: int, now: float, until: float) -> List[str]:
+        """Prolongs the leases of a sender, takes more machines that have something to be done up to so many, and gives
+        all that it has."""
+        self.db.execute(
+            f"UPDATE machine SET until = ? WHERE holder = ? AND {HAS_WORK}", (until, holder)
+        )
+        held = [
+            name
+            for (name,) in self.db.execute(
+                f"SELECT name FROM machine WHERE holder = ? AND {HAS_WORK}", (holder,)
+            )
+        ]
+        free = self.db.execute(
+            f"SELECT name FROM machine WHERE (holder IS NULL OR until < ?) AND due <= ? AND {HAS_WORK} LIMIT ?",
+            (now, now, most - len(held)),
+        ).fetchall()
+        self.db.executemany(
+            "UPDATE machine SET holder = ?, until = ? WHERE name = ?",
+            [(holder, until, name) for (name,) in free],
+        )
+        return held + [name for (name,) in free]
+
+    def leave(self, name: str, due: float = 0) -> None:
+        """Gives a lease back. No sender takes the machine up before a time."""
+        self.db.execute(
+            "UPDATE machine SET holder = NULL, until = 0, due = ? WHERE name = ?", (due, name)
+        )
+
+    def leave_all(self, holder: str) -> None:
+        self.db.execute("UPDATE machine SET holder = NULL, until = 0 WHERE holder = ?", (holder,))
+
+    def is_done(self) -> bool:
+        """Whether nothing is left to be done for machines without trouble."""
+        return self.one(f"SELECT 1 FROM machine WHERE {HAS_WORK} LIMIT 1") is None
+
+    def all_reached(self) -> bool:
+        """Whether no goal has failed, or is left open by a machine's trouble."""
+        return (
+            self.one("SELECT 1 FROM goal WHERE state IN ('open', 'failed') LIMIT 1") is None
+            and self.one("SELECT 1 FROM machine WHERE trouble IS NOT NULL LIMIT 1") is None
+        )
+
+    # What somebody decides
+
+    def told(self, name: str) -> Optional[Dict[str, Any]]:
+        """What a machine said of itself when its trouble began."""
+        (told,) = self.one("SELECT told FROM machine WHERE name = ?", name)
+        return None if told is None else json.loads(told)
+
+    def trouble(self, name: str) -> Optional[str]:
+        (trouble,) = self.one("SELECT trouble FROM machine WHERE name = ?", name)
+        return None if trouble is None else str(trouble)
+
+    def _reopen(self, name: str) -> None:
+        """Ends a machine's trouble, and opens the goals that have failed for new attempts."""
+        self.db.execute(
+            "UPDATE machine SET trouble = NULL, told = NULL, note = NULL, due = 0 WHERE name = ?",
+            (name,),
+        )
+        self.db.execute(
+            "UPDATE goal SET state = 'open', note = NULL, ended = NULL,"
+            " since = (SELECT next FROM machine WHERE name = machine)"
+            " WHERE machine = ? AND state = 'failed'",
+            (name,),
+        )
+
+    def resend(self, name: str) -> None:
+        """Goes on with a machine as the ledger has it."""
+        self._reopen(name)
+
+    def adopt(self, name: str, told: Dict[str, Any]) -> None:
+        """Goes on with a machine as it says itself: from its journal and its next number on, with none of the requests
+        that nobody knows the end of."""
+        self.db.execute(
+            "UPDATE request SET state = 'dropped' WHERE machine = ? AND state = 'sent'", (name,)
+        )
+        self.db.execute(
+            "UPDATE machine SET era = era + 1, journal = ?, next = ?, entries = ? WHERE name = ?",
+            (told["journal"], told["next"], len(told["entries"]), name),
+        )
+        self._reopen(name)
+        self.db.execute(
+            "UPDATE goal SET since = ? WHERE machine = ? AND state = 'open'", (told["next"], name)
+        )
+
+    def cancel(self, job: int, names: Optional[List[str]]) -> int:
+        """Gives up the goals of a job that aren't reached, of these machines or of all. How many there were."""
+        where = "job = ? AND state IN ('open', 'failed')"
+        rows = self.db.execute(f"SELECT machine, state FROM goal WHERE {where}", (job,)).fetchall()
+        chosen = [(name, state) for name, state in rows if names is None or name in names]
+        for name, state in chosen:
+            self.end_goal(name, job, "cancelled", None, None)
+            if state == "failed":
+                self._end_trouble_of_goal(name, job)
+        return len(chosen)
+
+    def _end_trouble_of_goal(self, name: str, job: int) -> None:
+        self.db.execute(
+            "UPDATE machine SET trouble = NULL, told = NULL WHERE name = ? AND trouble LIKE ?",
+            (name, f"goal {job}: %"),
+        )
+
+    def forget(self, name: str) -> None:
+        """Takes a machine out, with all that was asked of it."""
+        self.db.execute("DELETE FROM machine WHERE name = ?", (name,))

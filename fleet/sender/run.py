@@ -1,0 +1,197 @@
+"""The loop that brings machines to their goals: it sends, takes what comes, and sends again after growing pauses."""
+
+from __future__ import annotations
+
+import heapq
+import os
+import random
+import secrets
+import sys
+import time
+from dataclasses import dataclass, field
+from typing import Callable, Dict, List, Optional, Tuple
+
+from . import machines
+from .answers import UNASKED, Answer, BadAnswer, Refusal, digest, read_answer
+from .courier import Came, Courier
+from .ledger import Ledger
+
+LEASE = 15.0
+"""For how many seconds a sender holds a machine, unless it prolongs that."""
+
+MOST_HELD = 4096
+"""How many machines a sender goes after at once."""
+
+BATCH = 0.05
+"""For how many seconds replies are gathered before what they lead to is stored."""
+
+FIRST_PAUSE, LONGEST_PAUSE, GROWTH = 1.0, 60.0, 1.6
+"""After how many seconds a message is sent again for the first time, at most, and how that grows."""
+
+MOST_SENT = 8
+"""After how many messages without an answer a machine counts as silent, if others wait: it is given up for a while."""
+
+MOST_REFUSALS = 5
+"""After how many refusals in a row that ask to send again somebody has to look at the machine."""
+
+
+@dataclass
+class Held:
+    """What a sender has of a machine that it holds."""
+
+    payload: bytes
+    due: float
+    pause: float
+    sent: int = 0
+    refusals: int = 0
+    asked: str = ""
+
+    def __post_init__(self) -> None:
+        self.asked = digest(self.payload)
+
+
+@dataclass
+class Counts:
+    """What a sender did."""
+
+    out: int = 0
+    again: int = 0
+    taken: int = 0
+    passed_over: int = 0
+
+
+@dataclass
+class Sender:
+    """A sender over a ledger and a courier."""
+
+    ledger: Ledger
+    courier: Courier
+    name: str
+    first_pause: float = FIRST_PAUSE
+    longest_pause: float = LONGEST_PAUSE
+    held: Dict[str, Held] = field(default_factory=dict)
+    queue: List[Tuple[float, str]] = field(default_factory=list)
+    counts: Counts = field(default_factory=Counts)
+    leased: float = 0.0
+
+    def __post_init__(self) -> None:
+        self.holder = f"{self.name}:{os.getpid()}:{secrets.token_hex(4)}"
+
+    def run(self, until_done: bool, limit: Optional[float], is_stopped: Callable[[], bool]) -> bool:
+        """Sends until all is done, or for so many seconds, or until it is to stop. Whether all is done."""
+        ends = None if limit is None else time.monotonic() + limit
+        try:
+            while not is_stopped() and (ends is None or time.monotonic() < ends):
+                self.turn(self.courier.receive(BATCH))
+                if until_done and not self.held and self.ledger.is_done():
+                    return True
+            return self.ledger.is_done()
+        finally:
+            with self.ledger.transaction():
+                self.ledger.leave_all(self.holder)
+
+    def turn(self, came: List[Came]) -> None:
+        """Takes what came, and sends what is due: after what it is of is stored."""
+        now = time.time()
+        out: List[Tuple[str, bytes]] = []
+        with self.ledger.transaction():
+            if now - self.leased > LEASE / 3:
+                self._renew(now)
+            for one in came:
+                self._take(one, now)
+            while self.queue and self.queue[0][0] <= now:
+                name = heapq.heappop(self.queue)[1]
+                held = self.held.get(name)
+                if held is not None and held.due <= now:
+                    out.append((name, self._send_again(name, held, now)))
+        for name, payload in out:
+            if payload:
+                self.courier.send(name, payload)
+                self.counts.out += 1
+
+    def _renew(self, now: float) -> None:
+        """Takes the leases of machines that have something to be done, and loses those that others took meanwhile."""
+        self.leased = now
+        names = self.ledger.hold(self.holder, MOST_HELD, now, now + LEASE)
+        held = self.held
+        self.held = {name: held[name] for name in names if name in held}
+        for name in names:
+            if name not in self.held:
+                self._begin(name, now + random.random() * self.first_pause)
+
+    def _begin(self, name: str, due: float) -> None:
+        """A machine is asked something new: what isn't answered yet, or for a look."""
+        frames = b"".join(self.ledger.sent_frames(name))
+        held = Held(frames or secrets.token_hex(8).encode(), due, self.first_pause)
+        self.held[name] = held
+        heapq.heappush(self.queue, (due, name))
+
+    def _send_again(self, name: str, held: Held, now: float) -> bytes:
+        """What is sent to a machine now, and when it is due again. Nothing if it is given up for a while."""
+        if held.sent >= MOST_SENT and len(self.held) >= MOST_HELD:
+            self.held.pop(name)
+            self.ledger.leave(name, now + random.uniform(1, 2) * self.longest_pause)
+            return b""
+        self.counts.again += held.sent > 0
+        held.sent += 1
+        held.due = now + held.pause * random.uniform(0.7, 1.3)
+        held.pause = min(held.pause * GROWTH, self.longest_pause)
+        heapq.heappush(self.queue, (held.due, name))
+        return held.payload
+
+    def _take(self, came: Came, now: float) -> None:
+        """Takes what a machine said."""
+        if not self.ledger.has_machine(came.name):
+            self.counts.passed_over += 1
+            return
+        self.ledger.heard(came.name, now)
+        held = self.held.get(came.name)
+        try:
+            answer = read_answer(came.payload)
+        except BadAnswer as bad:
+            if held is not None:
+                self._stop(came.name, str(bad), None)
+            return
+        if held is None or answer.to != held.asked:
+            self._pass_over(came.name, held, answer, now)
+            return
+        self.counts.taken += 1
+        if answer.refusal is not None:
+            self._refused(came.name, held, answer.refusal)
+        elif (trouble := machines.take(self.ledger, came.name, answer)) is not None:
+            self._stopped(came.name, trouble)
+        else:
+            self._next(came.name, now)
+
+    def _pass_over(self, name: str, held: Optional[Held], answer: Answer, now: float) -> None:
+        """Takes a reply to something else: one that is late, or doubled, or of a machine that has just come and is asked
+        at once."""
+        self.counts.passed_over += 1
+        if held is not None and answer.to == UNASKED:
+            held.sent, held.pause = 0, self.first_pause
+            held.due = min(held.due, now + random.random() * self.first_pause)
+            heapq.heappush(self.queue, (held.due, name))
+
+    def _next(self, name: str, now: float) -> None:
+        """Goes on with a machine that has answered, or gives its lease back if there is nothing left to be done."""
+        if self.ledger.sent_frames(name) or self.ledger.has_open_goal(name):
+            self._begin(name, now)
+        else:
+            self.held.pop(name)
+            self.ledger.leave(name)
+
+    def _refused(self, name: str, held: Held, refusal: Refusal) -> None:
+        """A machine didn't make an update: it is asked again, unless somebody has to look at it."""
+        held.refusals += refusal.remedy != "wait"
+        if refusal.remedy == "mend machine" or held.refusals >= MOST_REFUSALS:
+            self._stop(name, f"it refuses: {refusal.words}", None)
+        else:
+            self.ledger.note(name, refusal.words)
+
+    def _stop(self, name: str, why: str, told: None) -> None:
+        self.ledger.stop(name, why, told)
+        self._stopped(name, why)
+
+    def _stopped(self, name: str, why: str) -> None:
+        self.held.pop(name)
+        print(f"bootfleet: {name}: {why}", file=sys.stderr, flush=True)

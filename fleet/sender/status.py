@@ -1,0 +1,234 @@
+"""How it stands: the jobs and the machines of a ledger, as a table, as JSON, and as a page."""
+
+from __future__ import annotations
+
+import html
+import json
+import os
+import tempfile
+import time
+from pathlib import Path
+from typing import Any, Dict, List, NamedTuple, Optional, Tuple
+
+from .entries import entry_name
+from .goals import Goal
+from .ledger import Ledger
+
+STATES = ("reached", "open", "failed", "cancelled")
+
+
+class JobStatus(NamedTuple):
+    """How many machines of a job are in each state."""
+
+    job: int
+    goal: str
+    counts: Dict[str, int]
+
+
+class MachineStatus(NamedTuple):
+    """How a machine stands."""
+
+    name: str
+    state: str
+    job: Optional[int]
+    goals: Dict[str, int]
+    entry: Optional[str]
+    next: int
+    journal: Optional[str]
+    sent: int
+    age: Optional[int]
+    why: Optional[str]
+
+
+class Status(NamedTuple):
+    """How it stands with all of a ledger."""
+
+    jobs: List[JobStatus]
+    machines: List[MachineStatus]
+    now: float
+
+    def goals(self, state: str) -> int:
+        return sum(job.counts[state] for job in self.jobs)
+
+    def troubled(self) -> int:
+        return sum(machine.state == "trouble" for machine in self.machines)
+
+
+RANK = {"trouble": 0, "asked": 1, "open": 2, "quiet": 3}
+"""The states of machines, the most urgent first: in trouble; sent a request; with something to be done; and without."""
+
+
+def read_status(ledger: Ledger) -> Status:
+    """How it stands, at one moment."""
+    with ledger.transaction():
+        now = time.time()
+        machines = sorted(_machines(ledger, now), key=lambda it: (RANK[it.state], it.name))
+        return Status(_jobs(ledger), machines, now)
+
+
+def _jobs(ledger: Ledger) -> List[JobStatus]:
+    counts: Dict[int, Dict[str, int]] = {}
+    for job, state, count in ledger.db.execute(
+        "SELECT job, state, COUNT(*) FROM goal GROUP BY job, state"
+    ):
+        counts.setdefault(job, dict.fromkeys(STATES, 0))[state] = count
+    goals = dict(ledger.db.execute("SELECT id, goal FROM job"))
+    return [JobStatus(job, str(Goal.from_json(goals[job])), counts[job]) for job in sorted(counts)]
+
+
+def _machines(ledger: Ledger, now: float) -> List[MachineStatus]:
+    goals: Dict[str, Dict[str, int]] = {}
+    first: Dict[str, int] = {}
+    last: Dict[str, Tuple[int, Optional[int]]] = {}
+    for name, job, state, entry in ledger.db.execute(
+        "SELECT machine, job, state, entry FROM goal ORDER BY machine, job"
+    ):
+        held = goals.setdefault(name, dict.fromkeys(STATES, 0))
+        held[state] += 1
+        if state in ("open", "failed"):
+            first.setdefault(name, job)
+        if entry is not None:
+            last[name] = (job, entry)
+    sent = dict(
+        ledger.db.execute(
+            "SELECT machine, COUNT(*) FROM request WHERE state = 'sent' GROUP BY machine"
+        )
+    )
+    found = []
+    for name, following, journal, seen, note, trouble in ledger.db.execute(
+        "SELECT name, next, journal, seen, note, trouble FROM machine"
+    ):
+        state = _state(trouble, sent.get(name, 0), name in first)
+        found.append(
+            MachineStatus(
+                name,
+                state,
+                first.get(name),
+                goals.get(name, dict.fromkeys(STATES, 0)),
+                entry_name(last[name][1]) if name in last else None,
+                following,
+                journal,
+                sent.get(name, 0),
+                None if seen is None else max(0, int(now - seen)),
+                trouble or note,
+            )
+        )
+    return found
+
+
+def _state(trouble: Optional[str], sent: int, is_open: bool) -> str:
+    if trouble is not None:
+        return "trouble"
+    return "asked" if sent else "open" if is_open else "quiet"
+
+
+def as_json(status: Status) -> str:
+    """All of it as one object."""
+    held: Dict[str, Any] = {
+        "time": int(status.now),
+        "jobs": [job._asdict() for job in status.jobs],
+        "machines": [machine._asdict() for machine in status.machines],
+    }
+    return json.dumps(held)
+
+
+def age(seconds: Optional[int]) -> str:
+    """How long ago something was, in a few characters."""
+    if seconds is None:
+        return "never"
+    for unit, size in (("d", 86_400), ("h", 3600), ("m", 60)):
+        if seconds >= 2 * size:
+            return f"{seconds // size}{unit}"
+    return f"{seconds}s"
+
+
+def counts_line(status: Status) -> str:
+    goals = ", ".join(f"{status.goals(it)} {it}" for it in STATES if status.goals(it)) or "none"
+    return f"{len(status.machines)} machines, {status.troubled()} in trouble; goals: {goals}"
+
+
+def as_table(status: Status, columns: int, lines: Optional[int] = None) -> List[str]:
+    """All of it in lines of so many columns, and only the first machines if there are more than so many lines."""
+    out = [counts_line(status), ""]
+    for job in status.jobs:
+        done, of = job.counts["reached"], sum(job.counts.values())
+        out.append(f"{job.job:>4}  {_bar(done, of, 20)} {done}/{of}  {job.goal}")
+    width = max([7, *(len(it.name) for it in status.machines)])
+    out += ["", f"{'MACHINE':<{width}}  STATE    GOALS  GOAL  SEEN   NEXT  WHY"]
+    room = len(status.machines) if lines is None else max(0, lines - len(out) - 1)
+    for it in status.machines[:room]:
+        reached = f"{it.goals['reached']}/{sum(it.goals.values())}"
+        goal = "-" if it.job is None else str(it.job)
+        left = f"{it.name:<{width}}  {it.state:<7}  {reached:>5}  {goal:>4}  {age(it.age):>5}"
+        out.append(f"{left}  {it.next:>4}  {it.why or ''}")
+    if room < len(status.machines):
+        out.append(f"and {len(status.machines) - room} more")
+    return [line[:columns].rstrip() for line in out]
+
+
+def _bar(done: int, of: int, width: int) -> str:
+    filled = width * done // of if of else 0
+    return "[" + "#" * filled + "." * (width - filled) + "]"
+
+
+STYLE = """
+:root { color-scheme: light dark; --done: #2e7d32; --bad: #c62828; --line: #8884; }
+body { font: 15px/1.45 system-ui, sans-serif; margin: 2rem auto; max-width: 70rem; padding: 0 1rem; }
+table { border-collapse: collapse; width: 100%; margin: 1rem 0 2rem; }
+th, td { text-align: left; padding: .3rem .6rem; border-bottom: 1px solid var(--line); vertical-align: top; }
+td.n, th.n { text-align: right; font-variant-numeric: tabular-nums; white-space: nowrap; }
+.bar { background: var(--line); border-radius: 4px; height: .8rem; min-width: 12rem; overflow: hidden; display: flex; }
+.bar i { background: var(--done); display: block; height: 100%; }
+.bar i.failed { background: var(--bad); }
+tr.trouble td { color: var(--bad); }
+"""
+
+
+def as_page(status: Status, refresh: Optional[int] = None) -> str:
+    """All of it as one page of HTML, which is read anew every so many seconds."""
+    again = "" if refresh is None else f'<meta http-equiv="refresh" content="{refresh}">'
+    when = time.strftime("%Y-%m-%d %H:%M:%S UTC", time.gmtime(status.now))
+    jobs = "".join(_job_row(job) for job in status.jobs)
+    machines = "".join(_machine_row(machine) for machine in status.machines)
+    return f"""<!DOCTYPE html>
+<html lang="en"><head><meta charset="utf-8">{again}<title>bootfleet</title>
+<meta name="viewport" content="width=device-width"><style>{STYLE}</style></head><body>
+<h1>Boot entries of the fleet</h1><p>{html.escape(counts_line(status))}. As of {when}.</p>
+<table><tr><th class="n">Job</th><th>Goal</th><th>Done</th><th class="n">Reached</th><th class="n">Open</th>
+<th class="n">Failed</th></tr>{jobs}</table>
+<table><tr><th>Machine</th><th>State</th><th class="n">Goals</th><th class="n">Goal</th><th class="n">Seen</th>
+<th class="n">Next</th><th>Why</th></tr>{machines}</table></body></html>
+"""
+
+
+def _job_row(job: JobStatus) -> str:
+    of = sum(job.counts.values())
+    parts = [100 * job.counts[it] / of for it in ("reached", "failed")]
+    bar = (
+        f'<i style="width:{parts[0]:.1f}%"></i><i class="failed" style="width:{parts[1]:.1f}%"></i>'
+    )
+    return (
+        f'<tr><td class="n">{job.job}</td><td>{html.escape(job.goal)}</td><td><div class="bar" role="img"'
+        f' aria-label="{job.counts["reached"]} of {of}">{bar}</div></td>'
+        f'<td class="n">{job.counts["reached"]} of {of}</td><td class="n">{job.counts["open"]}</td>'
+        f'<td class="n">{job.counts["failed"]}</td></tr>'
+    )
+
+
+def _machine_row(it: MachineStatus) -> str:
+    reached = f"{it.goals['reached']} of {sum(it.goals.values())}"
+    return (
+        f'<tr class="{it.state}"><td>{html.escape(it.name)}</td><td>{it.state}</td><td class="n">{reached}</td>'
+        f'<td class="n">{"-" if it.job is None else it.job}</td><td class="n">{age(it.age)}</td>'
+        f'<td class="n">{it.next}</td><td>{html.escape(it.why or "")}</td></tr>'
+    )
+
+
+def write_page(path: Path, page: str) -> None:
+    """Writes the page, as a whole: who reads it meanwhile has the one before."""
+    with tempfile.NamedTemporaryFile(
+        "w", encoding="utf-8", dir=path.parent, prefix=".bootfleet-", delete=False
+    ) as out:
+        out.write(page)
+    os.chmod(out.name, 0o644)
+    os.replace(out.name, path)
