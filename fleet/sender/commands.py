@@ -21,7 +21,7 @@ from .courier import MqttCourier, split_broker
 from .entries import Wanted
 from .goals import Goal
 from .ledger import Ledger, LedgerError
-from .run import FIRST_PAUSE, LONGEST_PAUSE, Sender
+from .run import Sender
 
 LEDGER = "/var/lib/bootfleet/ledger"
 
@@ -221,8 +221,7 @@ def do_run(options: argparse.Namespace) -> int:
     for number in (signal.SIGTERM, signal.SIGINT):
         signal.signal(number, lambda got, _: stopped.append(got))
     courier = MqttCourier(_broker(ledger), _certs(ledger) / options.name, options.name)
-    pauses = os.environ.get("BOOTFLEET_PAUSES", f"{FIRST_PAUSE} {LONGEST_PAUSE}").split()
-    sender = Sender(ledger, courier, options.name, float(pauses[0]), float(pauses[1]))
+    sender = Sender(ledger, courier, options.name)
     try:
         is_done = sender.run(options.until_done, options.limit, lambda: bool(stopped))
     finally:

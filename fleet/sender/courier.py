@@ -5,6 +5,7 @@ from __future__ import annotations
 import queue
 import ssl
 import sys
+import threading
 import time
 from pathlib import Path
 from typing import List, NamedTuple, Protocol
@@ -58,7 +59,8 @@ class MqttCourier:
         self.client.on_disconnect = self._disconnected
         self.client.on_connect_fail = lambda *_: self._say("can't be reached")
         self.client.on_message = self._received
-        self.broker, self.said = broker, ""
+        self.broker, self.said, self.failed = broker, "", ""
+        threading.excepthook = self._thread_failed
         self.client.connect_async(*split_broker(broker))
         self.client.loop_start()
 
@@ -67,6 +69,10 @@ class MqttCourier:
         if what != self.said:
             self.said = what
             print(f"bootfleet: {self.broker}: {what}", file=sys.stderr, flush=True)
+
+    def _thread_failed(self, failed: threading.ExceptHookArgs) -> None:
+        """Keeps why the thread of the connection has ended: paho lets errors of TLS through."""
+        self.failed = f"{self.broker}: {failed.exc_value}"
 
     def _connected(self, client: mqtt.Client, _data: object, _flags: object, code: int) -> None:
         self._say("connected" if code == 0 else f"refused: {mqtt.connack_string(code)}")
@@ -84,6 +90,8 @@ class MqttCourier:
         self.client.publish(f"bootkeep/{name}/request", payload, 0)
 
     def receive(self, seconds: float) -> List[Came]:
+        if self.failed:
+            raise ConnectionError(self.failed)
         came: List[Came] = []
         until = time.monotonic() + seconds
         while len(came) < 1000:

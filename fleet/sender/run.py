@@ -25,7 +25,7 @@ MOST_HELD = 4096
 BATCH = 0.05
 """For how many seconds replies are gathered before what they lead to is stored."""
 
-FIRST_PAUSE, LONGEST_PAUSE, GROWTH = 1.0, 60.0, 1.6
+FIRST_PAUSE, LONGEST_PAUSE, GROWTH = 1.0, 30.0, 1.4
 """After how many seconds a message is sent again for the first time, at most, and how that grows."""
 
 MOST_SENT = 8

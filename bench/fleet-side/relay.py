@@ -1,0 +1,106 @@
+"""What is between the two brokers of `bench/fleet`: it loses, doubles and delays messages, both ways."""
+
+from __future__ import annotations
+
+import heapq
+import random
+import threading
+import time
+from dataclasses import dataclass
+from pathlib import Path
+from typing import Any, Callable, List, Tuple
+
+import paho.mqtt.client as mqtt
+
+from machines import FAIR
+
+NAME = "relay"
+
+
+def client(
+    own: Path, port: int, name: str, came: Callable[[str, bytes], None], *topics: str
+) -> mqtt.Client:
+    """A client of a broker, by the certificate in a folder, that subscribes to these topics."""
+    made = mqtt.Client(name)
+    made.tls_set(str(own / "ca.pem"), str(own / "own.pem"), str(own / "own.key"))
+    made.reconnect_delay_set(1, 1)
+    made.on_connect = lambda it, *_: [it.subscribe(topic, 0) for topic in topics]
+    made.on_message = lambda _client, _data, message: came(message.topic, message.payload)
+    made.connect_async("localhost", port)
+    made.loop_start()
+    return made
+
+
+@dataclass
+class Counts:
+    """How many messages came, and what became of them."""
+
+    requests: int = 0
+    replies: int = 0
+    lost: int = 0
+    doubled: int = 0
+
+
+class Relay:
+    """Takes requests from the sender's broker to the machines', and replies back."""
+
+    def __init__(self, own: Path, ports: Tuple[int, int], seed: int) -> None:
+        self.weather, self.counts, self.draw = FAIR, Counts(), random.Random(seed)
+        self.late: List[Tuple[float, int, mqtt.Client, str, bytes]] = []
+        self.changed = threading.Condition()
+        self.serial = 0
+        self.to_sender = client(own, ports[0], NAME, self._request, "bootkeep/+/request")
+        self.to_machines = client(own, ports[1], NAME, self._reply, "bootkeep/+/reply")
+        self.tapped: List[Tuple[str, bytes]] = []
+        threading.Thread(target=self._pass_on, daemon=True).start()
+
+    def _request(self, topic: str, payload: bytes) -> None:
+        self.counts.requests += 1
+        self._take(self.to_machines, topic, payload)
+
+    def _reply(self, topic: str, payload: bytes) -> None:
+        self.counts.replies += 1
+        self.tapped.append((topic, payload))
+        self._take(self.to_sender, topic, payload)
+
+    def _take(self, to: mqtt.Client, topic: str, payload: bytes) -> None:
+        """Lets a message be lost, or be late once or twice."""
+        lost, doubled, late = self.weather
+        copies = 0 if self.draw.random() < lost else 1 + (self.draw.random() < doubled)
+        self.counts.lost += copies == 0
+        self.counts.doubled += copies == 2
+        if late == 0:
+            to.publish(topic, payload, 0)
+            return
+        with self.changed:
+            for _ in range(copies):
+                most = late if self.draw.random() < 0.1 else 0.1
+                self.serial += 1
+                due = time.monotonic() + self.draw.random() * most
+                heapq.heappush(self.late, (due, self.serial, to, topic, payload))
+            self.changed.notify()
+
+    def _pass_on(self) -> None:
+        while True:
+            with self.changed:
+                while not self.late or self.late[0][0] > time.monotonic():
+                    left = self.late[0][0] - time.monotonic() if self.late else None
+                    self.changed.wait(left)
+                _, _, to, topic, payload = heapq.heappop(self.late)
+            to.publish(topic, payload, 0)
+
+
+def is_refused(made: mqtt.Client, seconds: float) -> bool:
+    """Whether a client isn't connected within a time."""
+    until = time.monotonic() + seconds
+    while time.monotonic() < until:
+        if made.is_connected():
+            return False
+        time.sleep(0.05)
+    return True
+
+
+def end(*clients: Any) -> None:
+    for made in clients:
+        made.disconnect()
+        made.loop_stop()
