@@ -8,7 +8,7 @@ import threading
 import time
 from dataclasses import dataclass
 from pathlib import Path
-from typing import Any, Callable, List, Tuple
+from typing import Any, Callable, List, NamedTuple, Tuple
 
 import paho.mqtt.client as mqtt
 
@@ -17,15 +17,22 @@ from machines import FAIR
 NAME = "relay"
 
 
+class Message(NamedTuple):
+    """What was delivered."""
+
+    topic: str
+    payload: bytes
+
+
 def client(
-    own: Path, port: int, name: str, came: Callable[[str, bytes], None], *topics: str
+    own: Path, port: int, name: str, came: Callable[[Message], Any], *topics: str
 ) -> mqtt.Client:
     """A client of a broker, by the certificate in a folder, that subscribes to these topics."""
     made = mqtt.Client(name)
     made.tls_set(str(own / "ca.pem"), str(own / "own.pem"), str(own / "own.key"))
     made.reconnect_delay_set(1, 1)
     made.on_connect = lambda it, *_: [it.subscribe(topic, 0) for topic in topics]
-    made.on_message = lambda _client, _data, message: came(message.topic, message.payload)
+    made.on_message = lambda _client, _data, it: came(Message(it.topic, it.payload))
     made.connect_async("localhost", port)
     made.loop_start()
     return made
@@ -51,17 +58,17 @@ class Relay:
         self.serial = 0
         self.to_sender = client(own, ports[0], NAME, self._request, "bootkeep/+/request")
         self.to_machines = client(own, ports[1], NAME, self._reply, "bootkeep/+/reply")
-        self.tapped: List[Tuple[str, bytes]] = []
+        self.tapped: List[Message] = []
         threading.Thread(target=self._pass_on, daemon=True).start()
 
-    def _request(self, topic: str, payload: bytes) -> None:
+    def _request(self, message: Message) -> None:
         self.counts.requests += 1
-        self._take(self.to_machines, topic, payload)
+        self._take(self.to_machines, *message)
 
-    def _reply(self, topic: str, payload: bytes) -> None:
+    def _reply(self, message: Message) -> None:
         self.counts.replies += 1
-        self.tapped.append((topic, payload))
-        self._take(self.to_sender, topic, payload)
+        self.tapped.append(message)
+        self._take(self.to_sender, *message)
 
     def _take(self, to: mqtt.Client, topic: str, payload: bytes) -> None:
         """Lets a message be lost, or be late once or twice."""

@@ -87,8 +87,8 @@ def _answer(held: Dict[str, Any]) -> Answer:
         refused = held["refused"]
         return Answer(to, Refusal(_text(refused["words"]), _text(refused["do"])))
     if "error" in held:
-        words = f"status {int(held['status'])}: {_text(held['error']).strip()}"
-        return Answer(to, Refusal(words, "send again"))
+        words = _text(held["error"].strip())
+        return Answer(to, Refusal(f"status {int(held['status'])}: {words}", "send again"))
     show = held["show"]
     return Answer(
         to,

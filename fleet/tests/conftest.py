@@ -1,0 +1,112 @@
+"""What the tests share: the modules, load options by short names, and a machine in a folder."""
+
+from __future__ import annotations
+
+import os
+import subprocess
+import sys
+from importlib.machinery import SourceFileLoader
+from importlib.util import module_from_spec, spec_from_loader
+from pathlib import Path
+from types import ModuleType
+from typing import Any, Dict, List, Optional
+
+import pytest
+
+FLEET = Path(__file__).resolve().parents[1]
+sys.path[:0] = [str(FLEET), str(FLEET.parent / "python")]
+
+import bootkeep  # noqa: E402
+from sender.entries import Wanted  # noqa: E402
+from sender.goals import Goal  # noqa: E402
+from sender.ledger import Ledger  # noqa: E402
+
+PATH = "PciRoot(0x0)/Pci(0x1,0x0)"
+VENDOR = "8be4df61-93ca-11d2-aa0d-00e098032b8c"
+
+
+def option(label: str) -> bytes:
+    """The load option of a description, after which `inactive` or `optional` may say more."""
+    name, _, more = label.partition(" ")
+    attributes = 0 if more == "inactive" else bootkeep.OPTION_ACTIVE
+    return bootkeep.option_make(attributes, name, [PATH], b"x" if more == "optional" else b"")
+
+
+def wanted(label: str) -> Wanted:
+    """What is meant: by a whole option, or after a `=` by its description."""
+    return Wanted(None, label[1:]) if label.startswith("=") else Wanted(option(label))
+
+
+def goal(kind: str, *labels: str) -> Goal:
+    return Goal(kind, tuple(map(wanted, labels)))
+
+
+@pytest.fixture
+def ledger(tmp_path: Path) -> Ledger:
+    """A ledger of two machines."""
+    made = Ledger.make(tmp_path / "ledger", {"broker": "localhost:8883", "certs": str(tmp_path)})
+    with made.transaction():
+        made.add_machine("m1")
+        made.add_machine("m2")
+    return made
+
+
+class Folder:
+    """A machine: variables in a folder, and that of its journal."""
+
+    def __init__(self, path: Path, entries: Dict[int, bytes], order: List[int]) -> None:
+        self.place, self.state = path / "efi", path / "state"
+        self.place.mkdir(parents=True)
+        self.state.mkdir()
+        numbers = b"".join(number.to_bytes(2, "little") for number in order)
+        self.put("BootOrder", numbers)
+        for number, data in entries.items():
+            self.put(f"Boot{number:04X}", data)
+
+    def put(self, name: str, data: bytes) -> None:
+        (self.place / f"{name}-{VENDOR}").write_bytes(b"\7\0\0\0" + data)
+
+    def get(self, name: str) -> Optional[bytes]:
+        file = self.place / f"{name}-{VENDOR}"
+        return file.read_bytes()[4:] if file.exists() else None
+
+    def order(self) -> List[int]:
+        data = self.get("BootOrder") or b""
+        return [int.from_bytes(data[at : at + 2], "little") for at in range(0, len(data), 2)]
+
+    def entries(self) -> Dict[int, bytes]:
+        return {
+            int(file.name[4:8], 16): file.read_bytes()[4:]
+            for file in self.place.glob("Boot????-*")
+            if file.name[4:8] != "Next"
+        }
+
+
+@pytest.fixture
+def machine(tmp_path: Path) -> Folder:
+    """A machine with two entries, of which `b` is first."""
+    return Folder(tmp_path / "machine", {0: option("a"), 1: option("b")}, [1, 0])
+
+
+def load_agent() -> ModuleType:
+    """The agent as a module."""
+    loader = SourceFileLoader("bootfleet_agent", str(FLEET / "bootfleet-agent"))
+    made = module_from_spec(spec_from_loader("bootfleet_agent", loader))  # type: ignore[arg-type]
+    loader.exec_module(made)
+    return made
+
+
+agent: Any = load_agent()
+
+
+def bootfleet(*words: object, status: int = 0) -> str:
+    """Calls bootfleet, and gives what it prints."""
+    run = subprocess.run(
+        [FLEET / "bootfleet", *map(str, words)], capture_output=True, text=True, check=False
+    )
+    assert run.returncode == status, run.stderr
+    return run.stdout + run.stderr
+
+
+def pytest_report_header() -> str:
+    return f"bootvars: {os.environ.get('BOOTVARS')}, library: {os.environ.get('BOOTKEEP_LIBRARY')}"

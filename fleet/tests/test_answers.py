@@ -1,0 +1,114 @@
+"""What machines say, and what isn't a reply."""
+
+from __future__ import annotations
+
+import json
+from typing import Any, Dict
+
+import pytest
+from conftest import PATH, option
+
+from sender.answers import BadAnswer, digest, plain, read_answer
+from sender.entries import entry_of_shown, parts_of_option, units
+
+ENTRY: Dict[str, Any] = {
+    "entry": "0003",
+    "kind": "option",
+    "description": "a",
+    "description_hex": None,
+    "attributes": 1,
+    "paths": [PATH],
+    "optional": None,
+}
+SHOW: Dict[str, Any] = {"entries": [ENTRY], "order": ["0003"], "next": None}
+REPLY: Dict[str, Any] = {
+    "request": 4,
+    "reply": "applied",
+    "outcome": "Done",
+    "same": None,
+    "entry": "0003",
+    "reason": None,
+}
+GOOD: Dict[str, Any] = {
+    "to": digest(b"x"),
+    "status": 0,
+    "next": 5,
+    "journal": "j",
+    "replies": [REPLY],
+    "show": SHOW,
+}
+
+
+def changed(**members: object) -> bytes:
+    return json.dumps({**GOOD, **members}).encode()
+
+
+def test_a_reply_is_read() -> None:
+    answer = read_answer(changed())
+    assert (answer.to, answer.refusal, answer.next, answer.journal) == (digest(b"x"), None, 5, "j")
+    assert answer.shown.entries[0].parts == parts_of_option(option("a"))
+    assert (answer.shown.order, answer.shown.next) == ((3,), None)
+    assert answer.replies[0][:3] == (4, "applied", "Done")
+    assert answer.told()["entries"] == [["0003", "a"]]
+
+
+@pytest.mark.parametrize(
+    "payload",
+    [
+        b"",
+        b"\xff",
+        b"[]",
+        b"7",
+        b"null",
+        b"{}",
+        b"[" * 100_000,
+        changed(next=None),
+        changed(next=-1),
+        changed(next=1 << 32),
+        changed(next=True),
+        changed(next="5"),
+        changed(journal=7),
+        changed(to=None),
+        changed(replies=None),
+        changed(replies=[{}]),
+        changed(replies=[{**REPLY, "request": "4"}]),
+        changed(replies=[{**REPLY, "entry": "x"}]),
+        changed(show=None),
+        changed(show={**SHOW, "order": [3]}),
+        changed(show={**SHOW, "next": 3}),
+        changed(show={**SHOW, "entries": [{**ENTRY, "paths": ["Nonsense(1)"]}]}),
+        changed(show={**SHOW, "entries": [{**ENTRY, "paths": None}]}),
+        changed(show={**SHOW, "entries": [{**ENTRY, "optional": "0"}]}),
+        changed(show={**SHOW, "entries": [{**ENTRY, "description": None}]}),
+        b'{"to":"x","refused":{"words":1,"do":"wait"}}',
+        b'{"to":"x","refused":[]}',
+        b'{"to":"x","status":"y","error":""}',
+    ],
+    ids=lambda payload: payload[:60].decode("latin-1"),
+)
+def test_what_is_no_reply_is_told(payload: bytes) -> None:
+    with pytest.raises(BadAnswer):
+        read_answer(payload)
+
+
+def test_refusals_are_read() -> None:
+    refused = read_answer(b'{"to":"x","status":3,"refused":{"words":"W","do":"mend machine"}}')
+    assert refused.refusal == ("W", "mend machine")
+    failed = read_answer(b'{"to":"x","status":-9,"error":"E\\n"}')
+    assert failed.refusal == ("status -9: E", "send again")
+
+
+def test_a_terminal_is_not_told_what_to_do() -> None:
+    assert plain("a\x1b[2J\u202eb") == "a\\u001b[2J\\u202eb"
+    entry = {**ENTRY, "description": "a\x1b"}
+    told = read_answer(changed(show={**SHOW, "entries": [entry]})).told()
+    assert told["entries"] == [["0003", "a\\u001b"]]
+
+
+def test_descriptions_have_their_units() -> None:
+    assert units("Bö") == "Bö".encode("utf-16-le")
+    assert units("a\\ud800b") == b"a\0\0\xd8b\0"
+    assert units("\\u005cu0041") == b"\\\0" + "u0041".encode("utf-16-le")
+    as_hex = {**ENTRY, "description": "?", "description_hex": "6100"}
+    assert entry_of_shown(as_hex).parts == parts_of_option(option("a"))
+    assert entry_of_shown({"entry": "000A", "kind": "undecodable"}) == (10, None)

@@ -1,0 +1,279 @@
+"""The loop over machines in folders, with a courier that loses, doubles and delays what the tests say."""
+
+from __future__ import annotations
+
+import json
+from collections import deque
+from pathlib import Path
+from typing import Any, Callable, Deque, Dict, List, Tuple
+
+import bootkeep
+import pytest
+from conftest import Folder, agent, goal, option
+
+from sender.answers import digest
+from sender.courier import Came
+from sender.goals import Goal
+from sender.ledger import Ledger
+from sender.run import MOST_REFUSALS, Sender
+
+Deliver = Callable[[int, bytes], List[bytes]]
+
+
+class Hand:
+    """A courier by hand: `requests` and `replies` say what comes of each message, by its number."""
+
+    def __init__(self, machines: Dict[str, Folder]) -> None:
+        self.machines = machines
+        self.count = [0, 0]
+        self.sent: List[Tuple[str, bytes]] = []
+        self.came: Deque[Came] = deque()
+        self.requests: Deliver = lambda _number, payload: [payload]
+        self.replies: Deliver = lambda _number, payload: [payload]
+
+    def send(self, name: str, payload: bytes) -> None:
+        self.sent.append((name, payload))
+        for copy in self.requests(self._next(0), payload):
+            folder = self.machines[name]
+            said = agent.update(copy, str(folder.state), str(folder.place)).encode()
+            self.came += [Came(name, it) for it in self.replies(self._next(1), said)]
+
+    def _next(self, way: int) -> int:
+        self.count[way] += 1
+        return self.count[way] - 1
+
+    def receive(self, seconds: float) -> List[Came]:
+        came = list(self.came)
+        self.came.clear()
+        return came
+
+
+@pytest.fixture
+def sender(ledger: Ledger, machine: Folder) -> Sender:
+    return Sender(ledger, Hand({"m1": machine}), "sender", 0.01, 0.05)
+
+
+def add(ledger: Ledger, *goals: Goal) -> None:
+    with ledger.transaction():
+        for one in goals:
+            ledger.add_job(one, ["m1"])
+
+
+def run(sender: Sender) -> bool:
+    return sender.run(True, 60, lambda: False)
+
+
+def frames(sender: Sender) -> List[bytes]:
+    courier: Any = sender.courier
+    return list(dict.fromkeys(it for _, it in courier.sent if it.startswith(b"BQ")))
+
+
+def test_goals_are_reached_one_after_the_other(sender: Sender, machine: Folder) -> None:
+    ledger = sender.ledger
+    add(
+        ledger,
+        goal("first", "new"),
+        goal("remove", "a"),
+        goal("next", "=b"),
+        goal("order", "=b", "=new"),
+    )
+    assert run(sender) and ledger.all_reached()
+    assert machine.entries() == {1: option("b"), 2: option("new")}
+    assert machine.order() == [1, 2]
+    assert machine.get("BootNext") == b"\1\0"
+    assert len(frames(sender)) == 4
+
+
+def test_a_goal_that_is_reached_sends_nothing(sender: Sender) -> None:
+    add(sender.ledger, goal("first", "b"), goal("remove", "c"))
+    assert run(sender)
+    assert frames(sender) == [] and sender.counts.out == 1
+
+
+@pytest.mark.parametrize("lost", [{0}, {1}, {2}, {3}, {0, 1, 2}, {2, 3, 4, 5}])
+@pytest.mark.parametrize("way", ["requests", "replies"])
+def test_what_is_lost_is_sent_again(
+    sender: Sender, machine: Folder, lost: "set[int]", way: str
+) -> None:
+    add(sender.ledger, goal("first", "new"), goal("remove", "b"))
+    setattr(sender.courier, way, lambda number, payload: [] if number in lost else [payload])
+    assert run(sender)
+    assert machine.entries() == {0: option("a"), 2: option("new")}
+    assert len(frames(sender)) == 2
+
+
+def test_what_comes_twice_or_late_changes_nothing(sender: Sender, machine: Folder) -> None:
+    add(sender.ledger, goal("first", "new"), goal("remove", "b"), goal("next", "new"))
+
+    def doubling() -> Deliver:
+        old: List[bytes] = []
+
+        def double(_number: int, payload: bytes) -> List[bytes]:
+            old.append(payload)
+            return [payload, payload, *old[-3:]]
+
+        return double
+
+    courier: Any = sender.courier
+    courier.requests, courier.replies = doubling(), doubling()
+    assert run(sender) and sender.ledger.all_reached()
+    assert machine.entries() == {0: option("a"), 2: option("new")}
+    assert len(frames(sender)) == 3
+
+
+def test_a_sender_that_was_killed_goes_on(sender: Sender, machine: Folder) -> None:
+    """What was stored and perhaps sent is sent by the next sender, as the same frame."""
+    ledger = sender.ledger
+    add(ledger, goal("first", "new"))
+    courier: Any = sender.courier
+    courier.replies = lambda number, payload: [payload] if number == 0 else []
+    assert not sender.run(True, None, lambda: len(courier.sent) > 3)
+    assert machine.order() == [2, 1, 0]
+    other = Sender(ledger, Hand({"m1": machine}), "sender", 0.01, 0.05)
+    assert run(other) and ledger.all_reached()
+    assert frames(other) == frames(sender)
+    assert list(machine.entries().values()).count(option("new")) == 1
+
+
+def test_frames_of_a_script_are_sent_64_at_once(sender: Sender, machine: Folder) -> None:
+    script = [bootkeep.frame_make(0, bootkeep.Request.FIRST, number % 2) for number in range(70)]
+    add(sender.ledger, Goal("send", frames=tuple(script)))
+    assert run(sender) and sender.ledger.all_reached()
+    assert [len(it) // 14 for it in frames(sender)] == [64, 6]
+    assert machine.order() == [1, 0]
+
+
+def troubled(sender: Sender) -> str:
+    """Runs until nothing is left but trouble, which it gives."""
+    assert run(sender)
+    assert not sender.ledger.all_reached()
+    return sender.ledger.trouble("m1") or ""
+
+
+def test_another_journal_is_told(sender: Sender, machine: Folder) -> None:
+    add(sender.ledger, goal("first", "a"))
+    assert run(sender)
+    (machine.state / "journal").unlink()
+    add(sender.ledger, goal("first", "b"))
+    assert troubled(sender).startswith("another journal: ")
+    assert machine.order() == [0, 1]
+
+
+def test_another_ledger_is_told(sender: Sender, machine: Folder) -> None:
+    agent.update(
+        bootkeep.frame_make(0, bootkeep.Request.FIRST, 0), str(machine.state), str(machine.place)
+    )
+    add(sender.ledger, goal("first", "b"))
+    assert troubled(sender) == "its next number is 1, and the ledger's is 0"
+
+
+def test_another_request_of_the_number_is_told(sender: Sender, machine: Folder) -> None:
+    """Somebody else's request takes the number between the look and the request."""
+    other = bootkeep.frame_make(0, bootkeep.Request.NEXT, 1)
+
+    def come_before(number: int, payload: bytes) -> List[bytes]:
+        if payload.startswith(b"BQ"):
+            agent.update(other, str(machine.state), str(machine.place))
+        return [payload]
+
+    courier: Any = sender.courier
+    courier.requests = come_before
+    add(sender.ledger, goal("first", "a"))
+    assert "isn't known to be the one sent" in troubled(sender)
+    assert machine.order() == [1, 0]
+
+
+def test_a_copied_folder_is_told(sender: Sender, machine: Folder, tmp_path: Path) -> None:
+    other = Folder(tmp_path / "other", {0: option("a")}, [0])
+    agent.update(b"", str(other.state), str(other.place))
+    (machine.state / "journal").write_bytes((other.state / "journal").read_bytes())
+    add(sender.ledger, goal("first", "a"))
+    assert "it is the journal of machine" in troubled(sender)
+
+
+def test_an_emptied_machine_is_told(sender: Sender, machine: Folder) -> None:
+    add(sender.ledger, goal("first", "a"))
+    assert run(sender)
+    machine.put("Timeout", b"\5\0")
+    for file in machine.place.glob("Boot*"):
+        file.unlink()
+    add(sender.ledger, goal("first", "a"))
+    assert troubled(sender) == "it has no entry any more, and had 2"
+
+
+def test_a_machine_that_refuses_is_told(sender: Sender, machine: Folder) -> None:
+    machine.put("BootOrder", b"\1")
+    add(sender.ledger, goal("first", "a"))
+    assert troubled(sender).startswith("it refuses: ")
+
+
+def test_an_error_is_told_after_some_tries(sender: Sender) -> None:
+    tries: List[int] = []
+
+    def fail(number: int, payload: bytes) -> List[bytes]:
+        tries.append(number)
+        said = {"to": json.loads(payload)["to"], "status": 4, "error": "out of memory"}
+        return [json.dumps(said).encode()]
+
+    courier: Any = sender.courier
+    courier.replies = fail
+    add(sender.ledger, goal("first", "a"))
+    assert troubled(sender) == "it refuses: status 4: out of memory"
+    assert len(tries) == MOST_REFUSALS
+
+
+def test_what_is_no_reply_is_told(sender: Sender) -> None:
+    courier: Any = sender.courier
+    courier.replies = lambda _number, _payload: [b"nonsense"]
+    add(sender.ledger, goal("first", "a"))
+    assert troubled(sender).startswith("what it said is no reply: ")
+
+
+def test_a_reply_of_nobody_changes_nothing(sender: Sender) -> None:
+    courier: Any = sender.courier
+    courier.came += [Came("m9", b"{}"), Came("m2", b"nonsense")]
+    assert run(sender) and sender.ledger.all_reached()
+
+
+def test_a_goal_that_fails_stops_the_machine(sender: Sender, machine: Folder) -> None:
+    add(sender.ledger, goal("first", "=missing"), goal("remove", "a"))
+    assert troubled(sender) == "goal 1: there is no entry missing"
+    assert machine.entries() == {0: option("a"), 1: option("b")}
+    with sender.ledger.transaction():
+        sender.ledger.cancel(1, None)
+    assert run(sender) and sender.ledger.all_reached()
+    assert machine.entries() == {1: option("b")}
+
+
+def test_an_adopted_machine_reaches_its_goal(sender: Sender, machine: Folder) -> None:
+    add(sender.ledger, goal("first", "new"))
+    assert run(sender)
+    (machine.state / "journal").unlink()
+    add(sender.ledger, goal("first", "a"))
+    assert troubled(sender)
+    told = sender.ledger.told("m1")
+    assert told is not None and told["next"] == 0
+    with sender.ledger.transaction():
+        sender.ledger.adopt("m1", told)
+    assert run(sender) and sender.ledger.all_reached()
+    assert machine.order() == [0, 2, 1]
+
+
+def test_a_machine_that_has_just_come_is_asked_at_once(sender: Sender) -> None:
+    ledger = sender.ledger
+    add(ledger, goal("first", "a"))
+    with ledger.transaction():
+        sender._renew(100)
+    held = sender.held["m1"]
+    held.due, held.sent, held.pause = 900.0, 5, 30.0
+    reply = agent.update(b"", *(str(it) for it in (_folder(sender).state, _folder(sender).place)))
+    with ledger.transaction():
+        sender._take(Came("m1", reply.encode()), 101)
+    assert held.due <= 101 + sender.first_pause
+    assert (held.sent, held.pause, held.asked) == (0, sender.first_pause, digest(held.payload))
+
+
+def _folder(sender: Sender) -> Folder:
+    courier: Any = sender.courier
+    folder: Folder = courier.machines["m1"]
+    return folder
