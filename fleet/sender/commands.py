@@ -45,11 +45,11 @@ def main(words: List[str]) -> int:
     try:
         command: Callable[[argparse.Namespace], int] = options.command
         return command(options)
-    except (Problem, LedgerError, CertificateError, ValueError, OSError) as problem:
-        print(f"bootfleet: {problem}", file=sys.stderr)
-        return FAILED
     except bootkeep.Error as refused:
         print(f"bootfleet: refused: {refused}", file=sys.stderr)
+        return FAILED
+    except (Problem, LedgerError, CertificateError, ValueError, OSError) as problem:
+        print(f"bootfleet: {problem}", file=sys.stderr)
         return FAILED
 
 
@@ -324,11 +324,14 @@ def _wanted(options: argparse.Namespace) -> Wanted:
         return _option(options.option.read_bytes(), str(options.option))
     if options.description is None and not paths:
         raise Problem("which entry? --description, --path, both, or --option says it")
+    for path in paths:
+        try:
+            bootkeep.text_path(path)
+        except bootkeep.Refused as refused:
+            raise Problem(f"{path}: it is no path: {refused}") from refused
     if options.goal != "remove" and options.description is not None and paths:
         made = bootkeep.option_make(bootkeep.OPTION_ACTIVE, options.description, paths)
         return Wanted(made)
-    for path in paths:
-        bootkeep.text_path(path)
     return Wanted(None, options.description, paths)
 
 

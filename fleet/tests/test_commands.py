@@ -114,8 +114,11 @@ def test_goals_are_made_of_words(fleet: Path) -> None:
         (["first", "--option", "bad", "--all"], "it is no load option"),
         (["first", "--option", "none", "--all"], "No such file"),
         (["first", "--option", "bad", "--path", PATH, "--all"], "says all of an entry"),
-        (["first", "--description", "a", "--path", "Nonsense(", "--all"], "refused: "),
-        (["remove", "--path", "Nonsense(", "--all"], "refused: "),
+        (
+            ["first", "--description", "a", "--path", "Nonsense(", "--all"],
+            "Nonsense(: it is no path: TEXT_BAD_SEGMENT",
+        ),
+        (["remove", "--path", "Nonsense(", "--all"], "Nonsense(: it is no path: TEXT_BAD_SEGMENT"),
         (["remove", "--description", "a", "--machines", "unknown"], "not enrolled: m9"),
         (["remove", "--description", "a", "--machines", "empty"], "there is no machine"),
         (["send", "bad", "--all"], "line 1: only `deliver` and a frame"),
