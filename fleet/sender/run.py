@@ -25,11 +25,15 @@ MOST_HELD = 4096
 BATCH = 0.05
 """For how many seconds replies are gathered before what they lead to is stored."""
 
-FIRST_PAUSE, LONGEST_PAUSE, GROWTH = 1.0, 30.0, 1.4
-"""After how many seconds a message is sent again for the first time, at most, and how that grows."""
+FIRST_PAUSE, LONGEST_PAUSE, GROWTH = 1.0, 8.0, 1.4
+"""After how many seconds a message is sent again for the first time, and at most, and how that grows."""
+
+SILENT_AFTER, SILENT_PAUSE = 20, 300.0
+"""After how many messages a machine counts as silent, so that the pauses grow again, and up to how many seconds. One that
+comes back says so."""
 
 MOST_SENT = 8
-"""After how many messages without an answer a machine counts as silent, if others wait: it is given up for a while."""
+"""After how many messages without an answer a machine is left for a while, if others may wait."""
 
 MOST_REFUSALS = 5
 """After how many refusals in a row that ask to send again somebody has to look at the machine."""
@@ -41,7 +45,6 @@ class Held:
 
     payload: bytes
     due: float
-    pause: float
     sent: int = 0
     refusals: int = 0
     asked: str = ""
@@ -122,7 +125,7 @@ class Sender:
     def _begin(self, name: str, due: float) -> None:
         """A machine is asked something new: what isn't answered yet, or for a look."""
         frames = b"".join(self.ledger.sent_frames(name))
-        held = Held(frames or secrets.token_hex(8).encode(), due, self.first_pause)
+        held = Held(frames or secrets.token_hex(8).encode(), due)
         self.held[name] = held
         heapq.heappush(self.queue, (due, name))
 
@@ -133,11 +136,16 @@ class Sender:
             self.ledger.leave(name, now + random.uniform(1, 2) * self.longest_pause)
             return b""
         self.counts.again += held.sent > 0
+        held.due = now + self._pause(held.sent) * random.uniform(0.7, 1.3)
         held.sent += 1
-        held.due = now + held.pause * random.uniform(0.7, 1.3)
-        held.pause = min(held.pause * GROWTH, self.longest_pause)
         heapq.heappush(self.queue, (held.due, name))
         return held.payload
+
+    def _pause(self, sent: int) -> float:
+        """How long to wait for an answer after so many messages before this one."""
+        pause = min(self.first_pause * GROWTH ** min(sent, SILENT_AFTER), self.longest_pause)
+        later = GROWTH ** min(max(0, sent - SILENT_AFTER), SILENT_AFTER)
+        return min(pause * later, SILENT_PAUSE)
 
     def _take(self, came: Came, now: float) -> None:
         """Takes what a machine said."""
@@ -168,7 +176,7 @@ class Sender:
         at once."""
         self.counts.passed_over += 1
         if held is not None and answer.to == UNASKED:
-            held.sent, held.pause = 0, self.first_pause
+            held.sent = 0
             held.due = min(held.due, now + random.random() * self.first_pause)
             heapq.heappush(self.queue, (held.due, name))
 

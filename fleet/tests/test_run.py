@@ -15,7 +15,14 @@ from sender.answers import digest
 from sender.courier import Came
 from sender.goals import Goal
 from sender.ledger import Ledger
-from sender.run import MOST_REFUSALS, Sender
+from sender.run import (
+    FIRST_PAUSE,
+    LONGEST_PAUSE,
+    MOST_REFUSALS,
+    SILENT_AFTER,
+    SILENT_PAUSE,
+    Sender,
+)
 
 Deliver = Callable[[int, bytes], List[bytes]]
 
@@ -265,12 +272,21 @@ def test_a_machine_that_has_just_come_is_asked_at_once(sender: Sender) -> None:
     with ledger.transaction():
         sender._renew(100)
     held = sender.held["m1"]
-    held.due, held.sent, held.pause = 900.0, 5, 30.0
+    held.due, held.sent = 900.0, 5
     reply = agent.update(b"", *(str(it) for it in (_folder(sender).state, _folder(sender).place)))
     with ledger.transaction():
         sender._take(Came("m1", reply.encode()), 101)
     assert held.due <= 101 + sender.first_pause
-    assert (held.sent, held.pause, held.asked) == (0, sender.first_pause, digest(held.payload))
+    assert (held.sent, held.asked) == (0, digest(held.payload))
+
+
+def test_pauses_grow_twice(ledger: Ledger) -> None:
+    """To some seconds while messages may be lost, and to minutes if the machine seems to be off."""
+    sender = Sender(ledger, Hand({}), "sender")
+    pauses = [sender._pause(sent) for sent in range(60)]
+    assert pauses[0] == FIRST_PAUSE and pauses == sorted(pauses)
+    assert pauses[10] == pauses[SILENT_AFTER] == LONGEST_PAUSE
+    assert pauses[59] == SILENT_PAUSE
 
 
 def _folder(sender: Sender) -> Folder:
