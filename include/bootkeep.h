@@ -90,6 +90,20 @@ extern "C" {
 #define BOOTKEEP_NONNULL(which)
 #endif
 
+/* ---- Firmware --------------------------------------------------------------------------------------------------- */
+
+/*
+ * The library for firmware, libbootkeep-firmware.a, has these calls without a C library. It takes memory by these three
+ * functions of the program's, and refers to nothing else. The other libraries don't call them.
+ *
+ * bootkeep_allocate gives a block of this many bytes, at least one, at a place that 8 divides, or NULL to refuse.
+ * bootkeep_grow gives a block of `len` bytes in the place of one that was given: its first `kept` bytes are those of
+ * that one, which is freed. At NULL that one stays as it was. bootkeep_free frees a block. The library never frees NULL.
+ */
+void *bootkeep_allocate(size_t len);
+void *bootkeep_grow(void *block, size_t kept, size_t len);
+void bootkeep_free(void *block);
+
 /* ---- Version ---------------------------------------------------------------------------------------------------- */
 
 /* The version of the interface that this file declares. Each version has all that earlier ones have. */
