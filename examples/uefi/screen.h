@@ -8,7 +8,7 @@
 #include <efi.h>
 
 /* The most messages, and the most units of a line. */
-enum { MESSAGES = 4, LINE_MAX = 256 };
+enum { MESSAGES = 5, LINE_MAX = 256 };
 
 /* What the console has, up to LINE_MAX columns, and what is said. */
 extern UINTN columns, lines, message_count;

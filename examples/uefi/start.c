@@ -39,7 +39,7 @@ static EFI_STATUS load_file(EFI_HANDLE parent, const uint8_t *node, size_t node_
 
     if (!EFI_ERROR(status))
         status = EFI_NOT_FOUND;
-    for (UINTN at = 0; at < count && EFI_ERROR(status); at++) {
+    for (UINTN at = 0; at < count && EFI_ERROR(status) && status != EFI_OUT_OF_RESOURCES; at++) {
         EFI_DEVICE_PATH *device = DevicePathFromHandle(handles[at]), *end = device, *last = NULL;
         if (device == NULL)
             continue;

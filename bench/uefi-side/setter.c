@@ -1,0 +1,97 @@
+/*
+ * Sets variables as its load options say, one byte: `h` for hostile ones, `f` so that the store of variables is full,
+ * and `e` so that it isn't any more.
+ */
+#include <efi.h>
+#include <efilib.h>
+
+enum {
+    KEPT = EFI_VARIABLE_NON_VOLATILE | EFI_VARIABLE_BOOTSERVICE_ACCESS | EFI_VARIABLE_RUNTIME_ACCESS,
+    FILLS = 64,
+    FILL = 16384,
+};
+
+static EFI_GUID standard = EFI_GLOBAL_VARIABLE;
+static EFI_GUID own = {0x5f2c1a9e, 0x7d64, 0x4b0e, {0x9c, 0x3b, 0x1e, 0x8f, 0x60, 0xa2, 0xd7, 0xc4}};
+
+static void set(CHAR16 *name, UINTN len, const char *data)
+{
+    EFI_STATUS status = RT->SetVariable(name, &standard, KEPT, len, (void *)data);
+
+    if (EFI_ERROR(status))
+        Print(L"%s: %r\n", name, status);
+}
+
+/* Has BootOrder name an entry that isn't there and one that is no load option, and its first one again. */
+static void set_stale(void)
+{
+    UINT8 order[256];
+    UINTN size = sizeof order - 6;
+    EFI_STATUS status = RT->GetVariable(L"BootOrder", &standard, NULL, &size, order);
+
+    if (EFI_ERROR(status))
+        return;
+    CopyMem(order + size, "\x77\x01\xa0\x0b", 4);
+    CopyMem(order + size + 4, order, 2);
+    set(L"Boot0BA0", 1, "\x01");
+    set(L"BootOrder", size + 6, (const char *)order);
+    set(L"BootNext", 2, "\x78\x01");
+}
+
+/* What a machine may have that no boot manager wrote. */
+static void set_hostile(void)
+{
+    set(L"BootOrder", 5, "\x01\x01\x77\x01\x03");
+    set(L"BootNext", 3, "\x01\x01\x00");
+    set(L"Boot000a", 4, "\x01\x00\x00\x00");
+    set(L"boot0001", 4, "\x01\x00\x00\x00");
+    set(L"BootABCDE", 4, "\x01\x00\x00\x00");
+    set(L"Boot0BA0", 1, "\x01");
+    set(L"Boot0BA1", 8, "\x01\x00\x00\x00\x46\x00\x42\x00");
+    set(L"Boot0BA2", 12, "\x01\x00\x00\x00\xff\xff\x46\x00\x00\x00\x7f\xff");
+    set(L"Boot0BA3", 12, "\x01\x00\x00\x00\x04\x00\x46\x00\x00\x00\x7f\x02");
+    set(L"Boot0BA4", 14, "\x01\x00\x00\x00\x04\x00\x1b\x5b\x00\x00\x7f\xff\x04\x00");
+}
+
+/* Has variables take all of the store, down to the least one. */
+static void fill(UINTN least)
+{
+    static UINT8 data[FILL];
+    CHAR16 name[16];
+    UINTN size = FILL;
+
+    for (UINTN at = 0; at < FILLS && size >= least; at++) {
+        SPrint(name, sizeof name, L"Fill%d", at);
+        while (size >= least && EFI_ERROR(RT->SetVariable(name, &own, KEPT, size, data)))
+            size /= 2;
+    }
+}
+
+static void empty(void)
+{
+    CHAR16 name[16];
+
+    for (UINTN at = 0; at < FILLS; at++) {
+        SPrint(name, sizeof name, L"Fill%d", at);
+        RT->SetVariable(name, &own, KEPT, 0, NULL);
+    }
+}
+
+EFI_STATUS efi_main(EFI_HANDLE image, EFI_SYSTEM_TABLE *table)
+{
+    EFI_LOADED_IMAGE *loaded;
+    EFI_STATUS status;
+
+    InitializeLib(image, table);
+    status = BS->HandleProtocol(image, &LoadedImageProtocol, (void **)&loaded);
+    if (EFI_ERROR(status) || loaded->LoadOptionsSize != 1)
+        return EFI_INVALID_PARAMETER;
+    switch (*(char *)loaded->LoadOptions) {
+    case 's': set_stale(); break;
+    case 'h': set_hostile(); break;
+    case 'f': fill(1); break;
+    case 'e': empty(); break;
+    default: return EFI_INVALID_PARAMETER;
+    }
+    return EFI_SUCCESS;
+}
