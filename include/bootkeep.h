@@ -96,10 +96,23 @@ extern "C" {
  * The library for firmware, libbootkeep-firmware.a, has these calls without a C library. It takes memory by these three
  * functions of the program's, and refers to nothing else. The other libraries don't call them.
  *
+ * No call takes more than BOOTKEEP_STACK_MAX bytes of the stack, of which UEFI has 128 KiB (UEFI 2.10, 2.3.4): a plan,
+ * a run and the events of a keeper up to 19,000, bootkeep_set_at_risk 14,000, and all others 2,500. What the three
+ * functions take comes on top. `./build-c --firmware` prints it for each call: it adds up the frames that the compiler
+ * tells, along the longest way down, and counts what calls itself, sorts of numbers and what goes down a tree of them,
+ * as often as it does for 65,536 numbers.
+ *
+ * The library uses no red zone, nothing of it is written, and it needs the processor's level x86-64-v2. Its calls have
+ * the System V convention, so that XMM6 to XMM15 may be changed, which firmware wants back from what it calls (UEFI
+ * 2.10, 2.3.4.2): a function with Microsoft's convention around them saves these, as compilers do.
+ *
  * bootkeep_allocate gives a block of this many bytes, at least one, at a place that 8 divides, or NULL to refuse.
  * bootkeep_grow gives a block of `len` bytes in the place of one that was given: its first `kept` bytes are those of
- * that one, which is freed. At NULL that one stays as it was. bootkeep_free frees a block. The library never frees NULL.
+ * that one, which is freed. At NULL that one stays as it was. bootkeep_free frees a block; the library hands it no
+ * NULL.
  */
+#define BOOTKEEP_STACK_MAX 20480
+
 void *bootkeep_allocate(size_t len);
 void *bootkeep_grow(void *block, size_t kept, size_t len);
 void bootkeep_free(void *block);

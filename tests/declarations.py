@@ -220,10 +220,14 @@ def _package_kinds(handed: ast.expr, named: Dict[str, ast.expr]) -> Kinds:
 # ---- Constants
 
 
+FIRMWARE_ALONE = {"STACK_MAX"}
+"""What the header defines for programs in firmware, which are in C."""
+
+
 def header_constants(text: str) -> Dict[str, int]:
-    """The numbers that the header defines, by their names without `BOOTKEEP_`."""
+    """The numbers that the header defines for all languages, by their names without `BOOTKEEP_`."""
     found = re.findall(r"^#define BOOTKEEP_(\w+) (0x[0-9a-f]+|\d+)$", text, re.MULTILINE)
-    return {name: int(number, 0) for name, number in found}
+    return {name: int(number, 0) for name, number in found if name not in FIRMWARE_ALONE}
 
 
 def constants_of(text: str, kinds: str = "u32|usize") -> Dict[str, int]:

@@ -70,6 +70,41 @@ def build(name: str, root: Path = ROOT) -> Path:
     return product.path
 
 
+def build_by_rattle(name: str, root: Path = ROOT) -> Path:
+    """A static library that is proved as `build` does it, and compiled by the toolchain's own compiler: in a tree of its
+    own, whose crates.txt says so, with what is kept of the proof.
+
+    Raises NotBuilt if there is none."""
+    tree = root / "out" / "rattle"
+    if not Product("proved", f"lib{name}.a", tree).is_of(sources_sum(name, root)):
+        build(name, root)
+        try:
+            _plant_for_rattle(name, root, tree)
+        except OSError as error:
+            raise NotBuilt(f"{error.filename} can't be copied: {error.strerror}") from error
+    return build(name, tree)
+
+
+def _plant_for_rattle(name: str, root: Path, tree: Path) -> None:
+    crates = read_crates(root)
+    below = crates_below(name, crates)
+    shutil.rmtree(tree, ignore_errors=True)
+    for crate in [*below, name]:
+        for part in PARTS:
+            if (root / "crates" / crate / part).is_dir():
+                shutil.copytree(root / "crates" / crate / part, tree / "crates" / crate / part)
+        # What is built of those below is never written to, and links take no room.
+        kept = "out" if crate == name else "out/rlib"
+        copy = shutil.copy2 if crate == name else os.link
+        shutil.copytree(
+            root / "crates" / crate / kept, tree / "crates" / crate / kept, copy_function=copy
+        )
+    shutil.copy(root / "HANDLES", tree)
+    lines = [f"{it}: {' '.join(crates[it].libraries)}\n" for it in below]
+    lines.append(f"{name} staticlib backend=rattle: {' '.join(crates[name].libraries)}\n")
+    (tree / "crates.txt").write_text("".join(lines), encoding="utf-8")
+
+
 @contextlib.contextmanager
 def _turn(name: str, root: Path) -> Iterator[None]:
     """Waits until no other caller builds."""

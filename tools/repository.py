@@ -38,7 +38,7 @@ def read_crates(root: Path = ROOT) -> Dict[str, Crate]:
         head, colon, libraries = line.partition("#")[0].partition(":")
         if colon:
             name, *kind = head.split()
-            crates[name] = Crate(name, kind == ["staticlib"], libraries.split())
+            crates[name] = Crate(name, "staticlib" in kind, libraries.split())
     return crates
 
 
