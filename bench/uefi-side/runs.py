@@ -296,8 +296,9 @@ def try_moves(menu: Menu) -> None:
         set_order(bench, wanted, order)
         menu.compare_changed(f"{key} on {number}", before, wanted)
     order = bench.show_order(bench.read("before"))
-    for key, number in [("+", order[0]), ("-", order[-1])]:
-        before = menu.change(key, number)
+    last = str(len(bench.show()["plan"]["normal"]))
+    for key, number, mark in [("+", order[0], "1"), ("-", order[-1], last)]:
+        before = menu.change(key, number, mark)
         menu.compare_changed(f"{key} at the end", before, before, "that is so already")
 
 
