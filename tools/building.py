@@ -93,12 +93,12 @@ def _plant_for_rattle(name: str, root: Path, tree: Path) -> None:
         for part in PARTS:
             if (root / "crates" / crate / part).is_dir():
                 shutil.copytree(root / "crates" / crate / part, tree / "crates" / crate / part)
-        # What is built of those below is never written to, and links take no room.
-        kept = "out" if crate == name else "out/rlib"
-        copy = shutil.copy2 if crate == name else os.link
-        shutil.copytree(
-            root / "crates" / crate / kept, tree / "crates" / crate / kept, copy_function=copy
-        )
+        kept, copy = root / "crates" / crate / "out", tree / "crates" / crate / "out"
+        if crate == name:
+            shutil.copytree(kept, copy)
+        else:
+            # Nothing writes to a library that is built, and links take no room.
+            shutil.copytree(kept / "rlib", copy / "rlib", copy_function=os.link)
     shutil.copy(root / "HANDLES", tree)
     lines = [f"{it}: {' '.join(crates[it].libraries)}\n" for it in below]
     lines.append(f"{name} staticlib backend=rattle: {' '.join(crates[name].libraries)}\n")

@@ -1,16 +1,17 @@
 """Checks the library for firmware, and says how much of the stack its calls take: `firmware.py OBJECT HEADER`.
 
-Firmware has no C library, and its interrupt handlers write to the stack below its pointer. So the object has to define the
-calls of the header, and to refer to the three functions alone that the header has the program define; nothing is written
-but what is handed in, so that no section may stay writable; and no instruction may use memory below the stack pointer, a
-segment, or a register that UEFI doesn't set up (UEFI 2.10, 2.3.4). What isn't so is told, and the status is then 1.
+Firmware has no C library, and its interrupt handlers write to the stack below its pointer. So the object has to define
+the calls of the header, and to refer to the three functions alone that the header has the program define; nothing is
+written but what is handed in, so that no section may stay writable; and no instruction may use memory below the stack
+pointer, a segment, or a register that UEFI doesn't set up (UEFI 2.10, 2.3.4). What isn't so is told, and the status is
+then 1.
 
 An array on the stack may be indexed from its end, as `-0x1(%rsp,%r8,1)`: that its index is within it is proved of the
 sources. How many instructions do so is told, and which functions use registers of SSE that the firmware's convention
 of calls wants back (UEFI 2.10, 2.3.4.2), and the library's doesn't.
 
-The stack that a call takes is worked out from the frames that the compiler tells, along the longest way down, without the
-program's own three functions. What comes to itself again has to be one of those below, and counts as often as it
+The stack that a call takes is worked out from the frames that the compiler tells, along the longest way down, without
+the program's own three functions. What comes to itself again has to be one of those below, and counts as often as it
 does at most. No call may take more than BOOTKEEP_STACK_MAX of the header.
 """
 
@@ -36,8 +37,8 @@ DEPTHS = {
     "std_collections::btree::node::Node::fill_above": 12,
     "std_collections::btree::node::Node::fill_last": 12,
 }
-"""How often functions of the toolchain's libraries are in themselves, for 65,536 numbers, of which no call sorts more: a
-quicksort twice the binary logarithm of how many there are, and once more, before it leaves the rest to another sort; a
+"""How often functions of the toolchain's libraries are in themselves, for 65,536 numbers, of which no call sorts more:
+a quicksort twice the binary logarithm of how many there are, and once more, before it leaves the rest to another sort; a
 merge sort for each halving; the choice of a pivot for each time that there are eight times as many; a merge of runs for
 each depth of the tree of merges; and what goes down a tree of numbers as often as that is high at most."""
 
@@ -56,7 +57,9 @@ INDEXED = re.compile(r"-0x[0-9a-f]+\(%rsp,")
 PROBED = re.compile(r"^lea +-0x[0-9a-f]+\(%rsp\),%r11$")
 """How far down the stack is touched, page by page, before it is used: an address that is compared alone."""
 
-REFUSED = re.compile(r"\(bad\)|%(st\b|mm\d|[yz]mm\d|k[0-7]\b|[fg]s:|[cd]r\d)|^(syscall|sysenter|int|in|out|hlt|cli|sti)\b")
+REFUSED = re.compile(
+    r"\(bad\)|%(st\b|mm\d|[yz]mm\d|k[0-7]\b|[fg]s:|[cd]r\d)|^(syscall|sysenter|int|in|out|hlt|cli|sti)\b"
+)
 WANTED_BACK = re.compile(r"%xmm(6|7|8|9|1[0-5])\b")
 
 
@@ -149,7 +152,9 @@ class Stack:
 
         Raises KeyError for what comes to itself again, nobody knows how often."""
         most, again = self.of(name)
-        return most + sum((DEPTHS[it.partition("::<")[0]] - 1) * self.functions[it].frame for it in again)
+        return most + sum(
+            (DEPTHS[it.partition("::<")[0]] - 1) * self.functions[it].frame for it in again
+        )
 
     def of(self, name: str, above: Tuple[str, ...] = ()) -> Tuple[int, FrozenSet[str]]:
         """The bytes on the longest way down, and the functions on ways that come to themselves again."""
@@ -183,7 +188,9 @@ def check(file: str, header: str) -> List[str]:
     for line in output("readelf", "-SW", file).splitlines():
         section = SECTION.match(line)
         if section and "W" in section[3] and int(section[2], 16) and section[1] != ".data.rel.ro":
-            findings.wrong.append(f"{section[1]} has {int(section[2], 16)} bytes that may be written")
+            findings.wrong.append(
+                f"{section[1]} has {int(section[2], 16)} bytes that may be written"
+            )
     found = list(functions(file))
     for function in found:
         findings.look(function)

@@ -12,8 +12,8 @@ from typing import List
 
 COLUMNS, LINES = 160, 60
 
-PATIENCE = 300
-"""For how many seconds what has to be shown is waited for. A start takes ten of a processor that has nothing else to do."""
+PATIENCE = 600
+"""For how many seconds what has to be shown is waited for. A start takes ten of a processor with nothing else to do."""
 
 SEQUENCE = re.compile(rb"\x1b\[([?=0-9;]*)([A-Za-z])|\x1b[^\[]")
 """What a terminal of the kind that OVMF takes this one for does without showing it."""
@@ -114,7 +114,9 @@ class Machine:
 
     def _read(self, until: float) -> None:
         assert self.process.stdout is not None
-        ready, _, _ = select.select([self.process.stdout], [], [], max(0.0, until - time.monotonic()))
+        ready, _, _ = select.select(
+            [self.process.stdout], [], [], max(0.0, until - time.monotonic())
+        )
         if not ready:
             raise Ended(f"nothing for {PATIENCE} seconds: {self.screen.lines()}")
         data = os.read(self.process.stdout.fileno(), 1 << 16)

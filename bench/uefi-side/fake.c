@@ -1,10 +1,12 @@
 #include "fake.h"
 
+#include <efilib.h>
 #include <stdio.h>
 #include <stdlib.h>
 #include <string.h>
 
-enum { ENTRIES = 65536, OTHERS = 32, NAME = 2048 };
+/* FILE_SYSTEM is how many bytes the path of the second file system has before its end. */
+enum { ENTRIES = 65536, OTHERS = 32, NAME = 2048, FILE_SYSTEM = 12 + 42 };
 
 struct value {
     void *data;
@@ -332,7 +334,7 @@ static EFI_STATUS EFIAPI load_image(BOOLEAN is_boot, EFI_HANDLE parent, EFI_DEVI
     (void)parent;
     (void)source;
     (void)size;
-    if (memcmp(path, paths[1], 12 + 42) != 0)
+    if (DevicePathSize(path) < FILE_SYSTEM || memcmp(path, paths[1], FILE_SYSTEM) != 0)
         return EFI_NOT_FOUND;
     *loaded = &image;
     return EFI_SUCCESS;
@@ -398,9 +400,9 @@ EFI_SYSTEM_TABLE *fake_begin(const char *given)
     for (size_t at = 0; at < OTHERS; at++)
         others[at][0] = '\0';
     /* What the partition of the second file system is. */
-    for (unsigned char at = 20; at < 12 + 42; at++)
+    for (unsigned char at = 20; at < FILE_SYSTEM; at++)
         paths[1][at] = at;
-    memcpy(paths[1] + 12 + 42, "\x7f\xff\x04", 4);
+    memcpy(paths[1] + FILE_SYSTEM, "\x7f\xff\x04", 4);
     keys = given;
     requests = sets = 0;
     was_memory_refused = was_set_refused = false;

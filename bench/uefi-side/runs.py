@@ -1,4 +1,6 @@
-"""Runs the menu under OVMF, and compares it with the command `bootvars`: `runs.py BOOTVARS CODE VARIABLES APPLICATIONS`.
+"""Runs the menu under OVMF, and compares it with the command `bootvars`.
+
+    runs.py BOOTVARS CODE VARIABLES APPLICATIONS
 
 Each run is a screen, what a key changed, or what a program that was started says. What differs is told, and the last
 line is `N runs, M differ`; the status is 1 if some do.
@@ -12,9 +14,9 @@ import subprocess
 import sys
 import tempfile
 from pathlib import Path
-from typing import Any, Dict, List, Optional
+from typing import Any, Dict, List, Optional, Tuple
 
-from console import COLUMNS, Ended, Machine
+from console import Ended, Machine
 
 Shown = Dict[str, Any]
 
@@ -31,7 +33,7 @@ DISK = "HD(1,MBR,0xbe1afdfa,0x3f,0xfbfc1)"
 
 LONG = "\\EFI\\" + "\\".join(f"a-folder-with-a-long-name-{at}" for at in range(6)) + "\\a.efi"
 
-ENTRIES = [
+ENTRIES: List[Tuple[str, str, str, List[str]]] = [
     ("00F0", "Menu", f"{DISK}/File(\\EFI\\menu.efi)", []),
     ("0101", "File alone", "File(\\EFI\\options.efi)", ["--optional-text", "by its file"]),
     ("0102", "Partition", f"{DISK}/File(\\EFI\\options.efi)", ["--optional-hex", "00ff7f80"]),
@@ -39,7 +41,12 @@ ENTRIES = [
     ("0104", "Inactive", "File(\\EFI\\options.efi)", ["--inactive", "--optional-text", "x"]),
     ("0105", "Application", "File(\\EFI\\options.efi)", ["--app"]),
     ("0106", "Network disk", "Uri(http://192.0.2.1/boot.efi)", []),
-    ("0107", "Nowhere", f"HD(7,GPT,5f2c1a9e-7d64-4b0e-9c3b-1e8f60a2d7c4,0x800,0x64000)/File({LONG})", []),
+    (
+        "0107",
+        "Nowhere",
+        f"HD(7,GPT,5f2c1a9e-7d64-4b0e-9c3b-1e8f60a2d7c4,0x800,0x64000)/File({LONG})",
+        [],
+    ),
     ("0108", "A description that is longer than its column", "File(\\NOTHING.EFI)", []),
     ("0109", "Hostile", "File(\\EFI\\setter.efi)", ["--optional-hex", "68"]),
     ("010A", "Fill", "File(\\EFI\\setter.efi)", ["--optional-hex", "66"]),
@@ -96,7 +103,6 @@ class Bench:
         assert isinstance(shown, dict)
         return shown
 
-
     def show_order(self, place: Path) -> List[str]:
         """The numbers of the order of a set."""
         order = json.loads(self.ask("show", "--json", str(place)))["order"]
@@ -131,11 +137,15 @@ class Row:
             return [""] * 4
         if self.entry["kind"] == "undecodable":
             size = len(self.entry["data"]) // 2
-            return [f"Boot{self.number}: {size} bytes, Option{self.entry['fault']['kind']}"] + [""] * 3
+            return [f"Boot{self.number}: {size} bytes, Option{self.entry['fault']['kind']}"] + [
+                ""
+            ] * 3
         size = len(self.entry["optional"] or "") // 2
         head = f"Boot{self.number}: attributes 0x{self.entry['attributes']:08X}, optional data {size} bytes, path"
         path = self.entry["named_paths"][0]
-        return [head] + [path[at * (WIDTH - 1) : (at + 1) * (WIDTH - 1)].rstrip() for at in range(3)]
+        return [head] + [
+            path[at * (WIDTH - 1) : (at + 1) * (WIDTH - 1)].rstrip() for at in range(3)
+        ]
 
 
 def rows_of(shown: Shown) -> List[Row]:
@@ -184,7 +194,9 @@ class Menu:
     def select(self, number: str, mark: str = "") -> None:
         """Moves to the line of an entry: the first one, or the one with this mark."""
         rows = rows_of(self.bench.show())
-        place = next(at for at, it in enumerate(rows) if it.number == number and mark in ("", it.mark))
+        place = next(
+            at for at, it in enumerate(rows) if it.number == number and mark in ("", it.mark)
+        )
         while self.selected != place:
             self.press("down" if self.selected < place else "up")
             self.selected += 1 if self.selected < place else -1
@@ -217,7 +229,9 @@ class Menu:
     def compare_changed(self, what: str, before: Path, wanted: Path, said: str = "done") -> None:
         """Compares what the machine has, and what the menu said, with the changes that lead to a set."""
         after = self.bench.read("after")
-        self.bench.compare(f"{what}: variables", self.bench.ask("diff", str(wanted), str(after)), "")
+        self.bench.compare(
+            f"{what}: variables", self.bench.ask("diff", str(wanted), str(after)), ""
+        )
         changes = self.bench.ask("diff", str(before), str(wanted)).splitlines()
         names = sorted(" ".join(it.split()[:2]) for it in changes if it[:1] in "+~-")
         messages = self.messages()
@@ -231,13 +245,14 @@ def set_order(bench: Bench, place: Path, order: List[str]) -> None:
     """Gives a set this order."""
     data = b"".join(int(it, 16).to_bytes(2, "little") for it in order)
     put = [sys.executable, str(Path(__file__).resolve().parent.parent / "ovmf_store.py"), "put"]
-    made = subprocess.run([*put, str(place), "BootOrder", data.hex()], capture_output=True, check=True)
+    made = subprocess.run(
+        [*put, str(place), "BootOrder", data.hex()], capture_output=True, check=True
+    )
     place.write_bytes(made.stdout)
 
 
 def try_list(menu: Menu) -> None:
-    """Every line of the list, and each entry's own lines, before and after there is something in BootOrder and BootNext that
-    isn't tried."""
+    """Each line, and each entry's own lines, before and after BootOrder and BootNext name what isn't tried."""
     walk(menu)
     start(menu, "010F", None, ": Success")
     while menu.selected > 0:
@@ -258,7 +273,7 @@ def walk(menu: Menu) -> None:
 def try_keys(menu: Menu) -> None:
     """Each key that changes something, and a question that is answered by no."""
     bench = menu.bench
-    for key, number, command in [
+    changes: List[Tuple[str, str, List[str]]] = [
         ("n", "0102", ["next", "0102"]),
         ("n", "0104", ["next", "0104"]),
         ("a", "0103", ["deactivate", "0103"]),
@@ -267,7 +282,8 @@ def try_keys(menu: Menu) -> None:
         ("d", "0108", ["remove", "0108"]),
         ("d", "0104", ["remove", "0104"]),
         ("d", "0177", []),
-    ]:
+    ]
+    for key, number, command in changes:
         before = menu.change(key, number, asks=key == "d")
         wanted = shutil.copy(before, bench.work / "wanted")
         if command:
@@ -279,7 +295,9 @@ def try_keys(menu: Menu) -> None:
     before = bench.read("before")
     menu.press("d")
     menu.press("x")
-    bench.compare("d without y: variables", bench.ask("diff", str(before), str(bench.read("after"))), "")
+    bench.compare(
+        "d without y: variables", bench.ask("diff", str(before), str(bench.read("after"))), ""
+    )
     menu.compare_shown("d without y")
 
 
@@ -336,7 +354,9 @@ def try_full(menu: Menu) -> None:
     start(menu, "010A", None, ": Success")
     before = menu.change("n", "0103")
     what = "n in a full store"
-    menu.bench.compare(f"{what}: variables", menu.bench.ask("diff", str(before), str(menu.bench.read("after"))), "")
+    menu.bench.compare(
+        f"{what}: variables", menu.bench.ask("diff", str(before), str(menu.bench.read("after"))), ""
+    )
     said = "the firmware refused BootNext: Out of Resources; nothing is changed"
     menu.bench.compare(f"{what}: what is said", menu.messages()[-1:], [said])
     menu.compare_shown(what)
@@ -352,7 +372,9 @@ def try_refused(menu: Menu) -> None:
     start(menu, "010C", None, ": Success")
     before = menu.change("d", "0103", asks=True)
     what = "d that is refused"
-    menu.bench.compare(f"{what}: variables", menu.bench.ask("diff", str(before), str(menu.bench.read("after"))), "")
+    menu.bench.compare(
+        f"{what}: variables", menu.bench.ask("diff", str(before), str(menu.bench.read("after"))), ""
+    )
     said = "the firmware refused Boot0103: Write Protected; nothing is changed"
     menu.bench.compare(f"{what}: what is said", menu.messages()[-1:], [said])
     menu.compare_shown(what)
@@ -364,7 +386,9 @@ def try_hostile(menu: Menu) -> None:
     menu.select(start_hostile)
     menu.press("enter")
     said = menu.messages()
-    menu.bench.compare("hostile variables: what is said", said[-1:], ["what is tried can't be told: VarsBadOrder"])
+    menu.bench.compare(
+        "hostile variables: what is said", said[-1:], ["what is tried can't be told: VarsBadOrder"]
+    )
     for _ in range(len(rows_of(menu.bench.show()))):
         menu.compare_shown("hostile variables")
         menu.press("down")
@@ -390,7 +414,15 @@ def main(words: List[str]) -> int:
         try:
             machine.await_text(KEYS_LINE)
             menu = Menu(bench, machine)
-            for part in (try_list, try_starts, try_keys, try_moves, try_full, try_refused, try_hostile):
+            for part in (
+                try_list,
+                try_starts,
+                try_keys,
+                try_moves,
+                try_full,
+                try_refused,
+                try_hostile,
+            ):
                 menu.find()
                 part(menu)
         except Ended as why:

@@ -9,6 +9,8 @@ enum {
     KEPT = EFI_VARIABLE_NON_VOLATILE | EFI_VARIABLE_BOOTSERVICE_ACCESS | EFI_VARIABLE_RUNTIME_ACCESS,
     FILLS = 64,
     FILL = 16384,
+    /* A record of edk2's has a header, its name with a zero, and data, and ends at a place that 4 divides. */
+    RECORD = 60 + 7 * sizeof(CHAR16) + 4,
 };
 
 static EFI_GUID standard = EFI_GLOBAL_VARIABLE;
@@ -53,17 +55,25 @@ static void set_hostile(void)
     set(L"Boot0BA4", 14, "\x01\x00\x00\x00\x04\x00\x1b\x5b\x00\x00\x7f\xff\x04\x00");
 }
 
-/* Has variables take all of the store, down to the least one. */
-static void fill(UINTN least)
+/* How many bytes of records the store has room for. */
+static UINT64 room(void)
+{
+    UINT64 most, left = 0, largest;
+
+    return EFI_ERROR(RT->QueryVariableInfo(KEPT, &most, &left, &largest)) ? 0 : left;
+}
+
+/* Has variables take all of the store, but for less than a record has. */
+static void fill(void)
 {
     static UINT8 data[FILL];
     CHAR16 name[16];
-    UINTN size = FILL;
 
-    for (UINTN at = 0; at < FILLS && size >= least; at++) {
-        SPrint(name, sizeof name, L"Fill%d", at);
-        while (size >= least && EFI_ERROR(RT->SetVariable(name, &own, KEPT, size, data)))
-            size /= 2;
+    for (UINTN at = 0; at < FILLS && room() >= RECORD; at++) {
+        UINTN size = (UINTN)(room() - RECORD + 1);
+        SPrint(name, sizeof name, L"Fill%02d", at);
+        if (EFI_ERROR(RT->SetVariable(name, &own, KEPT, size < FILL ? size : FILL, data)))
+            return;
     }
 }
 
@@ -72,7 +82,7 @@ static void empty(void)
     CHAR16 name[16];
 
     for (UINTN at = 0; at < FILLS; at++) {
-        SPrint(name, sizeof name, L"Fill%d", at);
+        SPrint(name, sizeof name, L"Fill%02d", at);
         RT->SetVariable(name, &own, KEPT, 0, NULL);
     }
 }
@@ -89,7 +99,7 @@ EFI_STATUS efi_main(EFI_HANDLE image, EFI_SYSTEM_TABLE *table)
     switch (*(char *)loaded->LoadOptions) {
     case 's': set_stale(); break;
     case 'h': set_hostile(); break;
-    case 'f': fill(1); break;
+    case 'f': fill(); break;
     case 'e': empty(); break;
     default: return EFI_INVALID_PARAMETER;
     }
