@@ -116,6 +116,11 @@ def digits(data: bytes) -> str:
     return data.hex() or "-"
 
 
+def taken_of(given: bytes, told: str) -> int:
+    """How many of these bytes the path takes of which the command tells this."""
+    return len(given) - int(re.search(r"^rest (\d+)$", told, re.M)[1])
+
+
 def damage(chance: random.Random, data: bytes) -> bytes:
     """The bytes with some changed, cut off, put in or doubled."""
     held = bytearray(data)
@@ -251,7 +256,7 @@ class Cases:
         lines = f"path_text {digits(data)}\npath_check {digits(data)}"
         if status:
             return lines, [self.side.refusal("path", told)] * 2
-        taken = len(data) - int(re.search(r"^rest (\d+)$", out, re.M)[1])
+        taken = taken_of(data, out)
         text = out.partition("text ")[2].rstrip("\n").encode()
         return lines, [f"done {digits(text)} {taken}", f"done {taken}"]
 
@@ -263,8 +268,9 @@ class Cases:
             if status:
                 return f"path_names {digits(data)}", [self.side.refusal("path", told)]
         data, text = self.chance.choice(self.names)
-        rest = self.chance.randbytes(self.chance.randrange(5))
-        return f"path_names {digits(data + rest)}", [f"done {digits(text.encode())} {len(data)}"]
+        data += self.chance.randbytes(self.chance.randrange(5))
+        taken = taken_of(data, self.side.ask("path", data.hex())[1])
+        return f"path_names {digits(data)}", [f"done {digits(text.encode())} {taken}"]
 
     def word_case(self) -> tuple[str, list[str]]:
         """The word of a status, of a refusal or of an outcome."""
@@ -455,7 +461,7 @@ class Cases:
             if status:
                 inner = self.side.refusal("path", told).split()
                 return f"refused {self.side.kinds['OPTION_PATH']} {inner[1]} {at} {inner[3]}"
-            at = len(paths) - int(re.search(r"^rest (\d+)$", out, re.M)[1])
+            at += taken_of(paths[at:], out)
         return ""
 
     def frame_make_case(self) -> tuple[str, list[str]]:
