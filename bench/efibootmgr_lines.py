@@ -140,8 +140,8 @@ NO_PART = "177"
 VERBOSE = {"-v", "--verb"}
 """The words by which paths and optional data are listed."""
 
-MORE = {"more": "more words", "root=/dev/x": "root=/dev/x ro"}
-"""The optional data of entries with several other words, as text, by the first of these."""
+OTHERS = {"more", "words", "quiet", "root=/dev/x", "ro"}
+"""The words that belong to no option: optional data."""
 
 
 def drawn_new(draw: random.Random) -> List[str]:
@@ -283,14 +283,14 @@ def expected(words: List[str], before: Dict[str, bytes], theirs: Run) -> Run:
     variables = dict(variables)
     stdout = in_order(stdout) if status == 0 else ""
     # Several other words have a blank between two, and no zeros.
-    for first, text in MORE.items():
-        if first in words:
-            optional = text.encode("utf-16-le" if "-u" in words else "ascii")
-            variables = {
-                name: data if name in before else with_optional(data, optional)
-                for name, data in variables.items()
-            }
-            stdout = "?" if stdout else ""
+    others = [word for word in words if word in OTHERS]
+    if len(others) > 1:
+        optional = " ".join(others).encode("utf-16-le" if "-u" in words else "ascii")
+        variables = {
+            name: data if name in before else with_optional(data, optional)
+            for name, data in variables.items()
+        }
+        stdout = "?" if stdout else ""
     # Optional data are listed as bytes, also by -u.
     if "-u" in words and VERBOSE.intersection(words):
         stdout = "?" if stdout else ""
