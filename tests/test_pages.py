@@ -15,7 +15,7 @@ MOST_WORDS = 47_000
 MOST_WORDS_OF = {"docs/promises.md": 6_000, "docs/DECISIONS.md": 4_000}
 
 FILE = re.compile(
-    r"`((?:bench|crates|docs|examples|include|man|python|rust|tests|tools)/[\w./-]+)`"
+    r"`((?:bench|crates|docs|examples|fleet|include|man|python|rust|tests|tools)/[\w./-]+)`"
 )
 SECTION = re.compile(r'`([\w/]+\.md)`, "([^"]+)"|"([^"]+)" in\s+`([\w/]+\.md)`')
 
