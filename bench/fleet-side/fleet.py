@@ -26,8 +26,13 @@ PATIENCE = 200
 KILLING = 40
 """For how many seconds processes are killed."""
 
+KILLED_EVERY = 120
+"""After how many seconds of that each agent was killed once, on average."""
+
 MOST_TIMES = 3
 """How many times as long as the calm part the wild one may take."""
+
+OTHER_SENDER = "other"
 
 LOOK_PAUSE = 3
 """For how many seconds an agent waits at most before it looks unasked."""
@@ -82,6 +87,7 @@ class Fleet:
         )
         self.bootfleet("enroll", *self.names, "x1", "x2", relays.NAME)
         self.bootfleet("forget", "--yes", "x1", "x2", relays.NAME)
+        self.bootfleet("enroll-sender", OTHER_SENDER)
         say(f"certificates of {len(self.names)} machines: {time.monotonic() - began:.1f} s")
         with (self.certs / "acl").open("a") as acl:
             acl.write(f"\nuser {relays.NAME}\ntopic readwrite bootkeep/#\n")
@@ -89,7 +95,7 @@ class Fleet:
         first = f"listener {self.ports[0]} "
         other = configuration.replace(first, f"listener {self.ports[1]} ")
         (self.certs / "other.conf").write_text(other)
-        for name in ("option", *"abcdefgh"):
+        for name in ("option", *"abcdefghij"):
             self.options[name] = make_option(self.work, name)
         for name in self.names:
             make_machine(
@@ -131,9 +137,10 @@ class Fleet:
         ]
         self.processes.start(name, list(map(str, words)))
 
-    def start_sender(self) -> None:
+    def start_sender(self, name: str = "sender") -> None:
+        """Starts a sender, by the certificate of this name."""
         words = [ROOT / "fleet/bootfleet", "--ledger", self.ledger, "run", "--until-done"]
-        self.processes.start("sender", list(map(str, words)))
+        self.processes.start(name, [*map(str, words), "--as", name])
 
     def await_agents(self) -> None:
         """Waits until the broker has each agent, and until those that look on connecting have done so."""
@@ -187,7 +194,7 @@ class Fleet:
             (self.processes.kill if is_alone else self.processes.kill_group)(name)
             kills["agents" if is_alone else "updates"] += 1
             self.start_agent(name)
-            due["agent"] = now + 0.6
+            due["agent"] = now + KILLED_EVERY / len(self.names)
         if now > due["sender"]:
             self.processes.kill("sender")
             self.start_sender()
@@ -226,6 +233,23 @@ class Fleet:
         share = times[1] / times[0]
         say(f"the wild part took {share:.2f} times as long as the calm one")
         self.check(share <= MOST_TIMES, f"the wild part took {share:.2f} times as long")
+
+    def two_senders(self) -> None:
+        """Two senders over one ledger, of which each machine is one's at a time. The one that is first is killed, and the
+        other one goes on when its lease has ended."""
+        self.relay.weather = FAIR
+        self.add_goal("first", "i")
+        self.add_goal("next", "j")
+        began = time.monotonic()
+        self.start_sender()
+        time.sleep(1.5)
+        self.start_sender(OTHER_SENDER)
+        time.sleep(1)
+        self.processes.kill("sender")
+        status = self.processes.running[OTHER_SENDER].wait(PATIENCE)
+        say(f"two senders, of which one is killed: {time.monotonic() - began:.1f} s")
+        self.check(status == 0, f"the other sender has the status {status}")
+        self.compare("two senders")
 
     def fair(self) -> None:
         """The same without losses and kills, by which the sender's time is measured."""
