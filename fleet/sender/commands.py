@@ -8,6 +8,7 @@ import os
 import re
 import shutil
 import signal
+import sqlite3
 import sys
 import time
 from pathlib import Path
@@ -48,7 +49,7 @@ def main(words: List[str]) -> int:
     except bootkeep.Error as refused:
         print(f"bootfleet: refused: {refused}", file=sys.stderr)
         return FAILED
-    except (Problem, LedgerError, CertificateError, ValueError, OSError) as problem:
+    except (Problem, LedgerError, CertificateError, ValueError, OSError, sqlite3.Error) as problem:
         print(f"bootfleet: {problem}", file=sys.stderr)
         return FAILED
 
@@ -195,6 +196,7 @@ def do_enroll_sender(options: argparse.Namespace) -> int:
         if name == certificates.BROKER or ledger.has_machine(name):
             raise Problem(f"{name}: this name isn't a sender's")
         certificates.make_sender(_certs(ledger), name)
+    print("let the broker read its acl anew (SIGHUP), and then `run --as NAME`")
     return 0
 
 
