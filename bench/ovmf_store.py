@@ -9,6 +9,8 @@ VariableFormat.h, and that of docs/formats.md for set files.
     ovmf_store.py compare BEFORE AFTER SET  says what isn't as it has to be once SET was written to BEFORE
     ovmf_store.py gone BEFORE AFTER         the names of the variables of BEFORE that AFTER doesn't have
     ovmf_store.py put SET NAME HEX          writes the set with these data under the name to standard output
+    ovmf_store.py fill FILE LEFT            writes the file to standard output, with variables of a vendor of its own, so
+                                            that so many bytes of the store are left, or a few more
 
 The status is 0 if nothing is wrong, and 1 otherwise.
 """
@@ -21,6 +23,10 @@ from collections import namedtuple
 VOLUME_GUID = uuid.UUID("fff12b8d-7696-4c8b-a985-2747075b4f50").bytes_le
 STORE_GUID = uuid.UUID("aaf32c78-947b-439a-a180-2e144ec37792").bytes_le
 GLOBAL_GUID = uuid.UUID("8be4df61-93ca-11d2-aa0d-00e098032b8c").bytes_le
+
+# Whose variables fill a store, and how many bytes each has at most.
+FILL_GUID = uuid.UUID("5f2c1a9e-7d64-4b0e-9c3b-1e8f60a2d7c5").bytes_le
+FILL_MAX = 32000
 
 # The volume's header up to its block map: a vector of zeros, the GUID, the length, the signature, attributes, the
 # length of the header, its checksum, the place of a second header, a byte that isn't used, and the revision.
@@ -247,8 +253,25 @@ def print_with(set_file, name, digits):
     sys.stdout.buffer.write(write_set(read_set(read_file(set_file)) | {name: bytes.fromhex(digits)}))
 
 
+def print_filled(file, left):
+    """Writes the file with variables that fill the store but for so many bytes to standard output."""
+    data = bytearray(read_file(file))
+    store = check(data)
+    place, end = store.free_place, store.start + store.size - int(left)
+    for name in (f"Full{number}\0".encode("utf-16-le") for number in range(10)):
+        size = min(FILL_MAX, end - place - RECORD_HEADER.size - len(name)) // 4 * 4
+        if size <= 0:
+            break
+        head = RECORD_HEADER.pack(RECORD_START, ADDED, 0, 7, 0, bytes(16), 0, len(name), size, FILL_GUID)
+        record = head + name + bytes(size)
+        data[place:place + len(record)] = record
+        place += len(record)
+    check(data)
+    sys.stdout.buffer.write(data)
+
+
 COMMANDS = {"vars": print_vars, "check": print_count, "used": print_used, "compare": compare_files,
-            "gone": print_gone, "put": print_with}
+            "gone": print_gone, "put": print_with, "fill": print_filled}
 
 
 if __name__ == "__main__":

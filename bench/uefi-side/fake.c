@@ -356,7 +356,8 @@ static EFI_STATUS EFIAPI start_image(EFI_HANDLE handle, UINTN *size, CHAR16 **da
     started++;
     current_while_started = current->len == 2 ? *(UINT16 *)current->data : 0x10000;
     options_len = image.LoadOptionsSize;
-    memcpy(options, image.LoadOptions, options_len < sizeof options ? options_len : sizeof options);
+    if (options_len > 0)
+        memcpy(options, image.LoadOptions, options_len < sizeof options ? options_len : sizeof options);
     return EFI_SUCCESS;
 }
 

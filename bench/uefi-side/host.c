@@ -151,10 +151,10 @@ static void try_starts(void)
     expect(started == 1 && current_while_started == 1 && options_len == 2 && memcmp(options, "\x07\x08", 2) == 0,
            "the first entry isn't started with its data");
     expect(strstr(shown, "Boot0001: Success") != NULL, "the end of what was started isn't told");
-    run(begin("vvvvv\r"));
+    run(begin("vvv\r"));
     expect(started == 0 && strstr(shown, "Boot0009: Not Found") != NULL, "an absent entry is started");
-    run(begin("vvvvvv\r"));
-    expect(strstr(shown, "Boot0003 can't be started here") != NULL || started == 0, "a short form is started");
+    run(begin("vvvv\r"));
+    expect(started == 0 && strstr(shown, "Boot0003 can't be started here") != NULL, "a short form is started");
     for (unsigned long at = 1;; at++) {
         EFI_SYSTEM_TABLE *table = begin("v\r");
         fake.refused_memory = at;
@@ -249,14 +249,14 @@ int main(void)
     } changing[] = {{"vn", 1}, {"v+", 0}, {"vv+", 1}, {"v-", 1}, {"va", 1}, {"dy", 3}, {"vdy", 2}, {"vvvvvvvdy", 1}};
 
     setvbuf(stdout, NULL, _IOLBF, 0);
+    try_starts();
+    try_firmware();
+    try_many();
     for (size_t at = 0; at < sizeof changing / sizeof *changing; at++) {
         try_memory(changing[at].keys);
         try_sets(changing[at].keys, changing[at].changes);
     }
     try_memory("dn");
-    try_starts();
-    try_firmware();
-    try_many();
     printf("%lu tried, %lu differ\n", tried, differ);
     return differ > 0;
 }

@@ -28,6 +28,10 @@ BEHIND_LIST = 10
 
 KEYS_LINE = "Enter start  n next  +/- move  a active or not  d delete  Esc leave"
 
+LEFT = 45000
+"""How many bytes of the store are left at first. With less than 33,792 the firmware moves its records at each start, and
+more takes the program that fills the rest its time."""
+
 DISK = "HD(1,MBR,0xbe1afdfa,0x3f,0xfbfc1)"
 """The partition that qemu makes of a folder."""
 
@@ -241,14 +245,17 @@ class Menu:
         self.compare_shown(what)
 
 
-def set_order(bench: Bench, place: Path, order: List[str]) -> None:
+def rewrite(command: str, place: Path, *words: str) -> None:
+    """Puts what the writer of variable files and sets that is no part of Bootkeep makes of a file in its place."""
+    store = [sys.executable, str(Path(__file__).resolve().parent.parent / "ovmf_store.py")]
+    made = subprocess.run([*store, command, str(place), *words], capture_output=True, check=True)
+    place.write_bytes(made.stdout)
+
+
+def set_order(place: Path, order: List[str]) -> None:
     """Gives a set this order."""
     data = b"".join(int(it, 16).to_bytes(2, "little") for it in order)
-    put = [sys.executable, str(Path(__file__).resolve().parent.parent / "ovmf_store.py"), "put"]
-    made = subprocess.run(
-        [*put, str(place), "BootOrder", data.hex()], capture_output=True, check=True
-    )
-    place.write_bytes(made.stdout)
+    rewrite("put", place, "BootOrder", data.hex())
 
 
 def try_list(menu: Menu) -> None:
@@ -289,7 +296,7 @@ def try_keys(menu: Menu) -> None:
         if command:
             bench.edit(command[0], wanted, *command[1:])
         else:
-            set_order(bench, wanted, [it for it in bench.show_order(before) if it != number])
+            set_order(wanted, [it for it in bench.show_order(before) if it != number])
         menu.compare_changed(f"{key} on {number}", before, wanted)
     menu.select("0107")
     before = bench.read("before")
@@ -311,7 +318,7 @@ def try_moves(menu: Menu) -> None:
         other = at - 1 if key == "+" else at + 1
         order[at], order[other] = order[other], order[at]
         wanted = shutil.copy(before, bench.work / "wanted")
-        set_order(bench, wanted, order)
+        set_order(wanted, order)
         menu.compare_changed(f"{key} on {number}", before, wanted)
     order = bench.show_order(bench.read("before"))
     last = str(len(bench.show()["plan"]["normal"]))
@@ -395,10 +402,11 @@ def try_hostile(menu: Menu) -> None:
 
 
 def make_variables(bench: Bench) -> None:
-    """Gives the variable file the entries."""
+    """Gives the variable file the entries, and fills most of its store."""
     for number, description, path, words in ENTRIES:
         made = ["--description", description, "--path", path, "--entry", number, "--again", *words]
         bench.edit("add", bench.file, *made)
+    rewrite("fill", bench.file, str(LEFT))
 
 
 def main(words: List[str]) -> int:
