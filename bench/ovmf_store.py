@@ -256,7 +256,7 @@ def print_with(set_file, name, digits):
 def print_filled(file, left):
     """Writes the file with variables that fill the store but for so many bytes to standard output."""
     data = bytearray(read_file(file))
-    store = check(data)
+    store = check(bytes(data))
     place, end = store.free_place, store.start + store.size - int(left)
     for name in (f"Full{number}\0".encode("utf-16-le") for number in range(10)):
         size = min(FILL_MAX, end - place - RECORD_HEADER.size - len(name)) // 4 * 4
@@ -266,7 +266,7 @@ def print_filled(file, left):
         record = head + name + bytes(size)
         data[place:place + len(record)] = record
         place += len(record)
-    check(data)
+    check(bytes(data))
     sys.stdout.buffer.write(data)
 
 

@@ -28,7 +28,7 @@ BEHIND_LIST = 10
 
 KEYS_LINE = "Enter start  n next  +/- move  a active or not  d delete  Esc leave"
 
-LEFT = 45000
+LEFT = 60000
 """How many bytes of the store are left at first. With less than 33,792 the firmware moves its records at each start, and
 more takes the program that fills the rest its time."""
 
