@@ -57,8 +57,8 @@
  *   - A `struct bootkeep_keeper` is opened, or zeroed, before any other call is handed it, and is never written, copied
  *     or moved by value after that: it has one owner. `at` is nobody's but the library's. One that is open is closed
  *     before it is opened again: what it holds is lost otherwise.
- *   - The program's malloc, realloc and free are one allocator, whose blocks have the usual alignment. What malloc
- *     refuses is answered by BOOTKEEP_NO_MEMORY.
+ *   - The program's malloc, realloc and free are one allocator, whose blocks have the usual alignment; in firmware its
+ *     bootkeep_allocate, bootkeep_grow and bootkeep_free are. What these refuse is answered by BOOTKEEP_NO_MEMORY.
  *   - No call is made from a signal's handler, or in the child of a fork of a process with several threads before it
  *     has called exec.
  *   - The declarations here are those of the library that is linked: bootkeep_version() == BOOTKEEP_VERSION or more.

@@ -268,23 +268,36 @@ static uint32_t move(struct variables *to, const struct row *row, bool is_up)
     return edit_order(to, row->place, is_up ? row->place - 1 : row->place + 1);
 }
 
+/* Makes the change that a key stands for in these variables. */
+static uint32_t edit(struct variables *to, const struct row *row, CHAR16 key)
+{
+    switch (key) {
+    case 'n': return edit_next(to, row->number);
+    case 'a': return edit_active(to, row->number);
+    case 'd': return edit_delete(to, row->number);
+    default: return move(to, row, key == '+');
+    }
+}
+
 /* Changes the entry that is selected as a key says. */
 static void change(CHAR16 key)
 {
     struct row row = rows.at[selected];
+    struct bootkeep_option_parts parts;
     struct bootkeep_refusal refusal = {0};
-    bool is_option = row.state != BOOTKEEP_ENTRY_ABSENT && row.state != BOOTKEEP_ENTRY_UNDECODABLE;
     struct variables to;
-    uint32_t status = variables_copy(&machine, &to);
+    const uint8_t *option;
+    size_t len;
+    uint32_t status;
 
-    if (status == BOOTKEEP_DONE && key == 'n')
-        status = edit_next(&to, row.number);
-    else if (status == BOOTKEEP_DONE && key == 'a' && is_option)
-        status = edit_active(&to, row.number);
-    else if (status == BOOTKEEP_DONE && key == 'd')
-        status = edit_delete(&to, row.number);
-    else if (status == BOOTKEEP_DONE && (key == '+' || key == '-'))
-        status = move(&to, &row, key == '+');
+    if ((key == 'n' || key == 'a') && option_of(&row, &option, &len, &parts, &refusal) != BOOTKEEP_DONE) {
+        add(L"nothing is changed: %s", reason(option == NULL ? BOOTKEEP_ENTRY_ABSENT : BOOTKEEP_ENTRY_UNDECODABLE));
+        say_line();
+        return;
+    }
+    status = variables_copy(&machine, &to);
+    if (status == BOOTKEEP_DONE)
+        status = edit(&to, &row, key);
     if (status == BOOTKEEP_DONE)
         make(&to, key == 'd');
     else
@@ -303,13 +316,16 @@ static void start(void)
     size_t len;
     EFI_STATUS status = EFI_NOT_FOUND;
 
-    if (option_of(&row, &option, &len, &parts, &refusal) == BOOTKEEP_DONE)
+    add(L"Boot%04x", row.number);
+    if (option_of(&row, &option, &len, &parts, &refusal) != BOOTKEEP_DONE) {
+        add(L": %r", status);
+    } else if (!is_startable(option, &parts)) {
+        add(L" can't be started here: only the boot manager expands such a path");
+    } else {
         status = start_entry(this_image, (uint16_t)row.number, option, &parts);
-    screen_begin();
-    if (status == EFI_UNSUPPORTED)
-        add(L"Boot%04x can't be started here: only the boot manager expands such a path", row.number);
-    else
-        add(L"Boot%04x: %r", row.number, status);
+        screen_begin();
+        add(L": %r", status);
+    }
     say_line();
     read_machine(row.number, row.place);
 }

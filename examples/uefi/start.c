@@ -1,7 +1,6 @@
 #include "start.h"
 
 #include <efilib.h>
-#include <stdbool.h>
 
 /* For how many seconds what is started may do nothing, before the firmware starts the machine again (UEFI 2.10, 7.5).
  */
@@ -55,20 +54,31 @@ static EFI_STATUS load_file(EFI_HANDLE parent, const uint8_t *node, size_t node_
     return status;
 }
 
-/* Loads what the first path of an option leads to. */
-static EFI_STATUS load_entry(EFI_HANDLE parent, const uint8_t *path, size_t path_len, EFI_HANDLE *image)
+/* Whether a node has this type and sub-type. */
+static bool is_node(const uint8_t *node, uint8_t type, uint8_t sub_type)
+{
+    return node[0] == type && node[1] == sub_type;
+}
+
+bool is_startable(const uint8_t *option, const struct bootkeep_option_parts *parts)
+{
+    const uint8_t *node = option + parts->list;
+    bool is_volume = is_node(node, MEDIA_DEVICE_PATH, IN_VOLUME) || is_node(node, MEDIA_DEVICE_PATH, VOLUME);
+
+    return node[0] == HARDWARE_DEVICE_PATH || node[0] == ACPI_DEVICE_PATH || is_volume ||
+           is_node(node, MEDIA_DEVICE_PATH, MEDIA_HARDDRIVE_DP) || is_node(node, MEDIA_DEVICE_PATH, MEDIA_FILEPATH_DP);
+}
+
+/* Loads what a path leads to. */
+static EFI_STATUS load_path(EFI_HANDLE parent, const uint8_t *path, size_t path_len, EFI_HANDLE *image)
 {
     size_t node_len = path[2] | (size_t)path[3] << 8;
-    bool is_media = path[0] == MEDIA_DEVICE_PATH;
 
-    if (is_media && path[1] == MEDIA_HARDDRIVE_DP)
+    if (is_node(path, MEDIA_DEVICE_PATH, MEDIA_HARDDRIVE_DP))
         return load_file(parent, path, node_len, path + node_len, path_len - node_len, image);
-    if (is_media && path[1] == MEDIA_FILEPATH_DP)
+    if (is_node(path, MEDIA_DEVICE_PATH, MEDIA_FILEPATH_DP))
         return load_file(parent, NULL, 0, path, path_len, image);
-    if (path[0] == HARDWARE_DEVICE_PATH || path[0] == ACPI_DEVICE_PATH ||
-        (is_media && (path[1] == IN_VOLUME || path[1] == VOLUME)))
-        return load(parent, NULL, 0, path, path_len, image);
-    return EFI_UNSUPPORTED;
+    return load(parent, NULL, 0, path, path_len, image);
 }
 
 /* Starts an image as the boot manager does: BootCurrent tells the entry, and is gone when the image comes back. */
@@ -109,7 +119,7 @@ EFI_STATUS start_entry(EFI_HANDLE parent, uint16_t number, const uint8_t *option
         return EFI_OUT_OF_RESOURCES;
     CopyMem(options, (void *)(option + parts->optional), parts->optional_len);
     if (bootkeep_path_check(option + parts->list, parts->list_len, &path_len, &refusal) == BOOTKEEP_DONE)
-        status = load_entry(parent, option + parts->list, path_len, &image);
+        status = load_path(parent, option + parts->list, path_len, &image);
     if (!EFI_ERROR(status))
         status = run(image, number, parts->optional_len > 0 ? options : NULL, parts->optional_len);
     bootkeep_free(options);
