@@ -174,12 +174,29 @@ class Unproved(Clone):
         self.assertEqual(Path(called.stdout.rstrip()).read_text(), "proved calls_c\n")
         self.assertEqual(self.proofs(), ["lib calls_c"])
         self.assertEqual(self.build("calls_c").stderr, "")
-        self.assertEqual(self.build("calls_c", "refuse-lib").returncode, 0)
+        self.assertEqual(self.build("calls_c", modes="refuse-lib").returncode, 0)
 
-    def build(self, crate: str, modes: str = "") -> "subprocess.CompletedProcess[str]":
+    def test_a_static_library_by_rattle(self) -> None:
+        called = self.build("--rattle", "calls_c")
+        tree = self.root / "out" / "rattle"
+        self.assertEqual(called.stdout, f"{tree / 'out' / 'proved' / 'libcalls_c.a'}\n")
+        self.assertEqual(
+            (tree / "crates.txt").read_text(),
+            "low: thiserror\ncalls_c staticlib backend=rattle: low\n",
+        )
+        self.assertEqual(self.proofs(), ["lib calls_c", "lib calls_c"])
+        self.assertEqual(self.build("--rattle", "calls_c", modes="refuse-lib").returncode, 0)
+        (self.root / "crates" / "low" / "src" / "lib.rt").write_text("pub fn two() {}\n")
+        self.assertEqual(self.build("--rattle", "calls_c", modes="refuse-lib").returncode, 70)
+        self.assertEqual(self.build("--rattle", "calls_c").returncode, 0)
+        self.assertEqual(
+            (tree / "crates" / "low" / "src" / "lib.rt").read_text(), "pub fn two() {}\n"
+        )
+
+    def build(self, *words: str, modes: str = "") -> "subprocess.CompletedProcess[str]":
         """Proves and builds a crate, as the script of the library for C does."""
         return subprocess.run(
-            [sys.executable, self.root / "tools" / "build.py", crate],
+            [sys.executable, self.root / "tools" / "build.py", *words],
             env=self.environment(modes),
             capture_output=True,
             text=True,

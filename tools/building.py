@@ -94,9 +94,9 @@ def _plant_for_rattle(name: str, root: Path, tree: Path) -> None:
             if (root / "crates" / crate / part).is_dir():
                 shutil.copytree(root / "crates" / crate / part, tree / "crates" / crate / part)
         kept, copy = root / "crates" / crate / "out", tree / "crates" / crate / "out"
-        if crate == name:
+        if crate == name and kept.is_dir():
             shutil.copytree(kept, copy)
-        else:
+        elif crate != name and (kept / "rlib").is_dir():
             # Nothing writes to a library that is built, and links take no room.
             shutil.copytree(kept / "rlib", copy / "rlib", copy_function=os.link)
     shutil.copy(root / "HANDLES", tree)

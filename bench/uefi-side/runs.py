@@ -28,9 +28,12 @@ BEHIND_LIST = 10
 
 KEYS_LINE = "Enter start  n next  +/- move  a active or not  d delete  Esc leave"
 
-LEFT = 60000
-"""How many bytes of the store are left at first. With less than 33,792 the firmware moves its records at each start, and
-more takes the program that fills the rest its time."""
+SMALL = 200_000
+"""A variable file with fewer bytes has a small store."""
+
+LEFT = {True: 25_000, False: 60_000}
+"""How many bytes of a store are left at first, of a small one and of a large one. With less than the largest variable has,
+8,192 or 33,792, the firmware moves its records at each start, and with more the program that fills the rest takes long."""
 
 DISK = "HD(1,MBR,0xbe1afdfa,0x3f,0xfbfc1)"
 """The partition that qemu makes of a folder."""
@@ -406,7 +409,7 @@ def make_variables(bench: Bench) -> None:
     for number, description, path, words in ENTRIES:
         made = ["--description", description, "--path", path, "--entry", number, "--again", *words]
         bench.edit("add", bench.file, *made)
-    rewrite("fill", bench.file, str(LEFT))
+    rewrite("fill", bench.file, str(LEFT[bench.file.stat().st_size < SMALL]))
 
 
 def main(words: List[str]) -> int:

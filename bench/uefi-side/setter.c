@@ -8,7 +8,7 @@
 enum {
     KEPT = EFI_VARIABLE_NON_VOLATILE | EFI_VARIABLE_BOOTSERVICE_ACCESS | EFI_VARIABLE_RUNTIME_ACCESS,
     FILLS = 64,
-    FILL = 16384,
+    FILL = 4096,
     /* A record of edk2's has a header, its name with a zero, and data, and ends at a place that 4 divides. */
     RECORD = 60 + 7 * sizeof(CHAR16) + 4,
 };
