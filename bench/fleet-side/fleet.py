@@ -235,8 +235,8 @@ class Fleet:
         self.check(share <= MOST_TIMES, f"the wild part took {share:.2f} times as long")
 
     def two_senders(self) -> None:
-        """Two senders over one ledger, of which each machine is one's at a time. The one that is first is killed, and the
-        other one goes on when its lease has ended."""
+        """Two senders over one ledger, of which each machine is one's at a time. The one that is first is killed, and
+        the other one goes on when its lease has ended."""
         self.relay.weather = FAIR
         self.add_goal("first", "i")
         self.add_goal("next", "j")

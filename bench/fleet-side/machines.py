@@ -12,8 +12,8 @@ ATTRIBUTES = b"\7\0\0\0"
 
 
 class Model:
-    """A machine as plain values: its entries, BootOrder and BootNext. Each goal is made at once, as docs/requests.md and
-    `bootfleet --help` say it."""
+    """A machine as plain values: its entries, BootOrder and BootNext. Each goal is made at once, as docs/requests.md
+    and `bootfleet --help` say it."""
 
     def __init__(
         self, entries: Dict[int, bytes], order: List[int], following: Optional[int]

@@ -1,8 +1,8 @@
 """What TLS needs: an authority of the fleet's own, and certificates of the broker, of senders and of machines.
 
 Each has a folder of its own below the folder of certificates, to be copied to where it is used: `ca.pem`, `own.pem` and
-`own.key`. The authority's key, `ca.key`, stays where `bootfleet enroll` is called. The name in a certificate is what the
-broker takes for the user and for the identity of the client, so it decides which topics its owner can use.
+`own.key`. The authority's key, `ca.key`, stays where `bootfleet enroll` is called. The name in a certificate is what
+the broker takes for the user and for the identity of the client, so it decides which topics its owner can use.
 """
 
 from __future__ import annotations
@@ -85,8 +85,8 @@ def make_authority(folder: Path) -> None:
 
 
 def make_certificate(folder: Path, name: str, addresses: str = "") -> Path:
-    """Makes the folder of somebody with this name, unless it is there, and gives its path. A broker has its addresses in
-    its certificate."""
+    """Makes the folder of somebody with this name, unless it is there, and gives its path. A broker has its addresses
+    in its certificate."""
     made = folder / name
     if made.exists():
         return made

@@ -4,8 +4,8 @@
 
 - `first`: the entry is there, and first in BootOrder. If it isn't there, `add-first` of its option; if it isn't first,
   `first`.
-- `order`: several entries are the first ones of BootOrder, in their sequence. The last one is put first that isn't where
-  it is to be, so that the others come before it one by one.
+- `order`: several entries are the first ones of BootOrder, in their sequence. The last one is put first that isn't
+  where it is to be, so that the others come before it one by one.
 - `next`: the entry is there, and is the next one, once: BootNext is set once at most, since a boot uses it.
 - `remove`: no such entry is there. `remove` of one after the other.
 - `send`: requests that somebody made, each once.

@@ -1,8 +1,8 @@
 """The ledger: what was asked of each machine, and what came of it, in a file of SQLite.
 
-A **job** is what somebody asked for; a **goal** is a job for one machine. A machine's goals are gone after one by one, in
-the order of their jobs. A **request** is one number of a machine: its frame is stored with it before it is sent. Each
-time that a machine's numbers are taken up anew, by `adopt`, its `era` is one higher.
+A **job** is what somebody asked for; a **goal** is a job for one machine. A machine's goals are gone after one by one,
+in the order of their jobs. A **request** is one number of a machine: its frame is stored with it before it is sent.
+Each time that a machine's numbers are taken up anew, by `adopt`, its `era` is one higher.
 
 A goal, and in it the requests:
 
@@ -16,7 +16,8 @@ A goal, and in it the requests:
             ->  dropped        `adopt`: nobody knows, and it is never sent again
     done, refused -> a look, which the same reply has
 
-A machine with **trouble** is sent nothing. Only `resend`, `adopt`, `forget`, and `cancel` of the goal that failed end it.
+A machine with **trouble** is sent nothing. Only `resend`, `adopt`, `forget`, and `cancel` of the goal that failed end
+it.
 
 A machine has a **holder** up to a time, its lease: the sender which alone goes after its goals.
 

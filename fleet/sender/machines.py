@@ -1,7 +1,7 @@
 """What is done about a machine: by what it says, and by what the ledger has of it.
 
-`take` takes a reply to what the machine was asked last. It writes to the ledger which requests were applied, whether the
-goal is reached, and the next request, if there is one; or that the machine is in trouble.
+`take` takes a reply to what the machine was asked last. It writes to the ledger which requests were applied, whether
+the goal is reached, and the next request, if there is one; or that the machine is in trouble.
 """
 
 from __future__ import annotations

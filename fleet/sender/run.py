@@ -29,8 +29,8 @@ FIRST_PAUSE, LONGEST_PAUSE, GROWTH = 1.0, 8.0, 1.4
 """After how many seconds a message is sent again for the first time, and at most, and how that grows."""
 
 SILENT_AFTER, SILENT_PAUSE = 20, 300.0
-"""After how many messages a machine counts as silent, so that the pauses grow again, and up to how many seconds. One that
-comes back says so."""
+"""After how many messages a machine counts as silent, so that the pauses grow again, and up to how many seconds. One
+that comes back says so."""
 
 MOST_SENT = 8
 """After how many messages without an answer a machine is left for a while, if others may wait."""
@@ -172,8 +172,8 @@ class Sender:
             self._next(came.name, now)
 
     def _pass_over(self, name: str, held: Optional[Held], answer: Answer, now: float) -> None:
-        """Takes a reply to something else: one that is late, or doubled, or of a machine that has just come and is asked
-        at once."""
+        """Takes a reply to something else: one that is late, or doubled, or of a machine that has just come and is
+        asked at once."""
         self.counts.passed_over += 1
         if held is not None and answer.to == UNASKED:
             held.sent = 0
