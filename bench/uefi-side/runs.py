@@ -9,6 +9,7 @@ line is `N runs, M differ`; the status is 1 if some do.
 from __future__ import annotations
 
 import json
+import re
 import shutil
 import subprocess
 import sys
@@ -55,7 +56,7 @@ ENTRIES: List[Tuple[str, str, str, List[str]]] = [
         [],
     ),
     ("0108", "A description that is longer than its column", "File(\\NOTHING.EFI)", []),
-    ("0109", "Hostile", "File(\\EFI\\setter.efi)", ["--optional-hex", "68"]),
+    ("0109", "Löwe", "File(\\EFI\\options.efi)", []),
     ("010A", "Fill", "File(\\EFI\\setter.efi)", ["--optional-hex", "66"]),
     ("010B", "Empty", "File(\\EFI\\setter.efi)", ["--optional-hex", "65"]),
     ("010C", "Refuse", "File(\\EFI\\refuse.efi)", []),
@@ -63,6 +64,21 @@ ENTRIES: List[Tuple[str, str, str, List[str]]] = [
     ("010F", "Stale", "File(\\EFI\\setter.efi)", ["--optional-hex", "73"]),
     ("010E", "In no order", "File(\\EFI\\options.efi)", ["--no-order"]),
 ]
+
+
+HOSTILE = {
+    "Boot0BA0": "01",
+    "Boot0BA1": "0100000046004200",
+    "Boot0BA2": "01000000ffff460000007fff",
+    "Boot0BA3": "010000000400460000007f020400",
+    "Boot0BA4": "0100000004001b5b00007fff0400",
+    "Boot000a": "01000000",
+    "boot0001": "01000000",
+    "BootABCDE": "01000000",
+    "Boot0": "01",
+}
+"""What no boot manager wrote: entries that are no load options, one with an empty path, and names that are none of
+entries. A BootOrder of an odd length is tried on the host: OVMF stores none."""
 
 
 class Bench:
@@ -106,8 +122,12 @@ class Bench:
 
     def show(self) -> Shown:
         """What `bootvars show` tells of the machine now."""
-        shown = json.loads(self.ask("show", "--json", str(self.copy())))
+        copy = str(self.copy())
+        shown = json.loads(self.ask("show", "--json", copy))
         assert isinstance(shown, dict)
+        told = dict(re.findall(r"(?m)^Boot(\w{4}) (?:normal|other) (.*)$", self.ask("show", copy)))
+        for entry in shown["entries"]:
+            entry["description"] = told.get(entry["entry"], "")
         return shown
 
     def show_order(self, place: Path) -> List[str]:
@@ -144,7 +164,7 @@ class Row:
             return [""] * 4
         if self.entry["kind"] == "undecodable":
             size = len(self.entry["data"]) // 2
-            return [f"Boot{self.number}: {size} bytes, Option{self.entry['fault']['kind']}"] + [
+            return [f"Boot{self.number}: {size} bytes, Option{self.entry['fault'].split()[0]}"] + [
                 ""
             ] * 3
         size = len(self.entry["optional"] or "") // 2
@@ -390,25 +410,16 @@ def try_refused(menu: Menu) -> None:
     menu.compare_shown(what)
 
 
-def try_hostile(menu: Menu) -> None:
-    """Variables that no boot manager wrote."""
-    start_hostile = "0109"
-    menu.select(start_hostile)
-    menu.press("enter")
-    said = menu.messages()
-    menu.bench.compare(
-        "hostile variables: what is said", said[-1:], ["what is tried can't be told: VarsBadOrder"]
-    )
-    for _ in range(len(rows_of(menu.bench.show()))):
-        menu.compare_shown("hostile variables")
-        menu.press("down")
-
-
 def make_variables(bench: Bench) -> None:
     """Gives the variable file the entries, and fills most of its store."""
     for number, description, path, words in ENTRIES:
         made = ["--description", description, "--path", path, "--entry", number, "--again", *words]
         bench.edit("add", bench.file, *made)
+    made_set = bench.work / "set"
+    bench.ask("read", str(bench.file), "--out", str(made_set))
+    for name, data in HOSTILE.items():
+        rewrite("put", made_set, name, data)
+    bench.edit("write", made_set, str(bench.file))
     rewrite("fill", bench.file, str(LEFT[bench.file.stat().st_size < SMALL]))
 
 
@@ -432,7 +443,6 @@ def main(words: List[str]) -> int:
                 try_moves,
                 try_full,
                 try_refused,
-                try_hostile,
             ):
                 menu.find()
                 part(menu)

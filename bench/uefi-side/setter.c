@@ -1,6 +1,6 @@
 /*
- * Sets variables as its load options say, one byte: `h` for hostile ones, `f` so that the store of variables is full,
- * and `e` so that it isn't any more.
+ * Sets variables as its load options say, one byte: `s` for an order that names what isn't there, `f` so that the store
+ * of variables is full, and `e` so that it isn't any more.
  */
 #include <efi.h>
 #include <efilib.h>
@@ -35,24 +35,8 @@ static void set_stale(void)
         return;
     CopyMem(order + size, "\x77\x01\xa0\x0b", 4);
     CopyMem(order + size + 4, order, 2);
-    set(L"Boot0BA0", 1, "\x01");
     set(L"BootOrder", size + 6, (const char *)order);
     set(L"BootNext", 2, "\x78\x01");
-}
-
-/* What a machine may have that no boot manager wrote. */
-static void set_hostile(void)
-{
-    set(L"BootOrder", 5, "\x01\x01\x77\x01\x03");
-    set(L"BootNext", 3, "\x01\x01\x00");
-    set(L"Boot000a", 4, "\x01\x00\x00\x00");
-    set(L"boot0001", 4, "\x01\x00\x00\x00");
-    set(L"BootABCDE", 4, "\x01\x00\x00\x00");
-    set(L"Boot0BA0", 1, "\x01");
-    set(L"Boot0BA1", 8, "\x01\x00\x00\x00\x46\x00\x42\x00");
-    set(L"Boot0BA2", 12, "\x01\x00\x00\x00\xff\xff\x46\x00\x00\x00\x7f\xff");
-    set(L"Boot0BA3", 12, "\x01\x00\x00\x00\x04\x00\x46\x00\x00\x00\x7f\x02");
-    set(L"Boot0BA4", 14, "\x01\x00\x00\x00\x04\x00\x1b\x5b\x00\x00\x7f\xff\x04\x00");
 }
 
 /* How many bytes of records the store has room for. */
@@ -98,7 +82,6 @@ EFI_STATUS efi_main(EFI_HANDLE image, EFI_SYSTEM_TABLE *table)
         return EFI_INVALID_PARAMETER;
     switch (*(char *)loaded->LoadOptions) {
     case 's': set_stale(); break;
-    case 'h': set_hostile(); break;
     case 'f': fill(); break;
     case 'e': empty(); break;
     default: return EFI_INVALID_PARAMETER;
