@@ -1,4 +1,4 @@
-"""Tests of what tools/firmware.py sees in the instructions of a library for firmware, over small ones that are compiled."""
+"""Tests of what tools/firmware.py sees in the instructions of a library for firmware, over small ones."""
 
 from __future__ import annotations
 

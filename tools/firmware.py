@@ -38,9 +38,9 @@ DEPTHS = {
     "std_collections::btree::node::Node::fill_last": 12,
 }
 """How often functions of the toolchain's libraries are in themselves, for 65,536 numbers, of which no call sorts more:
-a quicksort twice the binary logarithm of how many there are, and once more, before it leaves the rest to another sort; a
-merge sort for each halving; the choice of a pivot for each time that there are eight times as many; a merge of runs for
-each depth of the tree of merges; and what goes down a tree of numbers as often as that is high at most."""
+a quicksort twice the binary logarithm of how many there are, and once more, before it leaves the rest to another sort;
+a merge sort for each halving; the choice of a pivot for each time that there are eight times as many; a merge of runs
+for each depth of the tree of merges; and what goes down a tree of numbers as often as that is high at most."""
 
 STACK_MAX = re.compile(r"^#define BOOTKEEP_STACK_MAX (\d+)$", re.M)
 DECLARED = re.compile(r"^uint32_t (bootkeep_\w+)\(", re.M)

@@ -33,8 +33,8 @@ SMALL = 200_000
 """A variable file with fewer bytes has a small store."""
 
 LEFT = {True: 25_000, False: 60_000}
-"""How many bytes of a store are left at first, of a small one and of a large one. With less than the largest variable has,
-8,192 or 33,792, the firmware moves its records at each start, and with more the program that fills the rest takes long."""
+"""How many bytes of a store are left at first, of a small one and of a large one. With less than the largest variable
+has, 8,192 or 33,792, the firmware moves its records at each start, and with more it takes long to fill the rest."""
 
 DISK = "HD(1,MBR,0xbe1afdfa,0x3f,0xfbfc1)"
 """The partition that qemu makes of a folder."""
