@@ -105,7 +105,7 @@ class Machine:
         self.process.stdin.flush()
 
     def await_text(self, text: str, times: int = 1, since: int = 0) -> None:
-        """Waits until the text came so many times behind a place of what was said.
+        """Waits until the text came so many times after a place of what was said.
 
         Raises Ended if it doesn't come."""
         until = time.monotonic() + PATIENCE

@@ -49,7 +49,7 @@ void *bootkeep_allocate(size_t len)
     return block;
 }
 
-/* Always another block, whose bytes behind the kept ones are marks. */
+/* Always another block, whose bytes after the kept ones are marks. */
 void *bootkeep_grow(void *block, size_t kept, size_t len)
 {
     void *grown = refuse_memory() ? NULL : malloc(len);
@@ -176,7 +176,7 @@ static EFI_STATUS EFIAPI set_variable(CHAR16 *wide, EFI_GUID *vendor, UINT32 att
     return EFI_SUCCESS;
 }
 
-/* Tells the name behind one, in the order of the entries and then of the others. */
+/* Tells the name after one, in the order of the entries and then of the others. */
 static EFI_STATUS EFIAPI next_name(UINTN *size, CHAR16 *wide, EFI_GUID *vendor)
 {
     char name[NAME];

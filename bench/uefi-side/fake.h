@@ -12,7 +12,7 @@
 struct fake {
     /* Which request for memory is refused, and which call that sets a variable, counted from 1; 0 if none is. */
     unsigned long refused_memory, refused_set;
-    /* Whether all calls behind that one are refused too. */
+    /* Whether all calls after that one are refused too. */
     bool refuses_on;
     /* Names without an end, a name that is longer than said, and what is told of the variable Boot0BAD. */
     bool is_endless, has_bad_name;

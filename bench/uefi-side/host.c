@@ -110,7 +110,7 @@ static void try_memory(const char *keys)
     expect(at > 10, "%s takes memory %lu times", keys, at);
 }
 
-/* Each key with each call that sets a variable refused, alone and with all behind it. */
+/* Each key with each call that sets a variable refused, alone and with all after it. */
 static void try_sets(const char *keys, unsigned long least)
 {
     static char before[LIST], after[LIST], now[LIST];

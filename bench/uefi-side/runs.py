@@ -149,14 +149,14 @@ def reason(entry: Optional[Shown]) -> str:
 class Row:
     """A line of the menu, as it has to be."""
 
-    def __init__(self, mark: str, number: str, entry: Optional[Shown], behind: str) -> None:
-        self.mark, self.number, self.entry, self.behind = mark, number, entry, behind
+    def __init__(self, mark: str, number: str, entry: Optional[Shown], detail: str) -> None:
+        self.mark, self.number, self.entry, self.detail = mark, number, entry, detail
 
     def line(self, is_selected: bool) -> str:
         """The line."""
         head = f"{'>' if is_selected else ' '} {self.mark:>4} {self.number}".ljust(12)
         head += (self.entry or {}).get("description") or ""
-        return (head[:39].ljust(40) + self.behind)[: WIDTH - 1].rstrip()
+        return (head[:39].ljust(40) + self.detail)[: WIDTH - 1].rstrip()
 
     def details(self) -> List[str]:
         """The lines of the entry if it is selected."""
@@ -379,17 +379,24 @@ def try_starts(menu: Menu) -> None:
     start(menu, "010D", f"plan status 0 next {after} normal{numbers} free 1.", ": Success")
 
 
+def compare_refused(menu: Menu, what: str, before: Path, said: str) -> None:
+    """Compares what the firmware refused: the variables are as before, and the menu says why."""
+    after = menu.bench.read("after")
+    menu.bench.compare(f"{what}: variables", menu.bench.ask("diff", str(before), str(after)), "")
+    menu.bench.compare(f"{what}: what is said", menu.messages()[-1:], [said])
+    menu.compare_shown(what)
+
+
 def try_full(menu: Menu) -> None:
     """A store of variables that is full: nothing that takes more room is stored."""
     start(menu, "010A", None, ": Success")
     before = menu.change("n", "0103")
-    what = "n in a full store"
-    menu.bench.compare(
-        f"{what}: variables", menu.bench.ask("diff", str(before), str(menu.bench.read("after"))), ""
+    compare_refused(
+        menu,
+        "n in a full store",
+        before,
+        "the firmware refused BootNext: Out of Resources; nothing is changed",
     )
-    said = "the firmware refused BootNext: Out of Resources; nothing is changed"
-    menu.bench.compare(f"{what}: what is said", menu.messages()[-1:], [said])
-    menu.compare_shown(what)
     start(menu, "010B", None, ": Success")
     before = menu.change("n", "0103")
     wanted = shutil.copy(before, menu.bench.work / "wanted")
@@ -401,13 +408,12 @@ def try_refused(menu: Menu) -> None:
     """Firmware that refuses a change after it made others."""
     start(menu, "010C", None, ": Success")
     before = menu.change("d", "0103", asks=True)
-    what = "d that is refused"
-    menu.bench.compare(
-        f"{what}: variables", menu.bench.ask("diff", str(before), str(menu.bench.read("after"))), ""
+    compare_refused(
+        menu,
+        "d that is refused",
+        before,
+        "the firmware refused Boot0103: Write Protected; nothing is changed",
     )
-    said = "the firmware refused Boot0103: Write Protected; nothing is changed"
-    menu.bench.compare(f"{what}: what is said", menu.messages()[-1:], [said])
-    menu.compare_shown(what)
 
 
 def make_variables(bench: Bench) -> None:

@@ -5,7 +5,7 @@
 
 /*
  * The block is pieces without gaps, each a header and room. Whoever looks for room begins where the last piece was
- * taken or freed, goes round once, and joins the free pieces that it comes to with those behind them.
+ * taken or freed, goes round once, and joins the free pieces that it comes to with those after them.
  */
 struct piece {
     /* How many bytes it has with this header, a multiple of the header's. */
@@ -15,15 +15,15 @@ struct piece {
 
 static struct piece *first, *rover, *end;
 
-static struct piece *behind(struct piece *piece)
+static struct piece *following(struct piece *piece)
 {
     return (struct piece *)(void *)((uint8_t *)piece + piece->len);
 }
 
-/* Joins the free pieces behind a free one with it. */
+/* Joins the free pieces after a free one with it. */
 static void join(struct piece *piece)
 {
-    for (struct piece *next = behind(piece); next != end && !next->is_taken; next = behind(piece)) {
+    for (struct piece *next = following(piece); next != end && !next->is_taken; next = following(piece)) {
         piece->len += next->len;
         if (rover == next)
             rover = piece;
@@ -39,8 +39,8 @@ static void take(struct piece *piece, size_t len)
     if (rest == 0)
         return;
     piece->len = len;
-    behind(piece)->len = rest;
-    behind(piece)->is_taken = false;
+    following(piece)->len = rest;
+    following(piece)->is_taken = false;
 }
 
 /* The length of a piece with this much room, or 0 if there is none in any block. */
@@ -61,7 +61,7 @@ void arena_give(void *memory, size_t len)
     first = rover = (struct piece *)(void *)((uint8_t *)memory + skipped);
     first->len = (len - skipped) / unit * unit;
     first->is_taken = false;
-    end = behind(first);
+    end = following(first);
 }
 
 bool arena_is_free(void)
@@ -69,7 +69,7 @@ bool arena_is_free(void)
     if (first == NULL || first->is_taken)
         return true;
     join(first);
-    return behind(first) == end;
+    return following(first) == end;
 }
 
 void *bootkeep_allocate(size_t room)
@@ -84,10 +84,10 @@ void *bootkeep_allocate(size_t room)
             join(piece);
         if (!piece->is_taken && piece->len >= len) {
             take(piece, len);
-            rover = behind(piece) == end ? first : behind(piece);
+            rover = following(piece) == end ? first : following(piece);
             return piece + 1;
         }
-        piece = behind(piece) == end ? first : behind(piece);
+        piece = following(piece) == end ? first : following(piece);
     } while (piece != rover);
     return NULL;
 }

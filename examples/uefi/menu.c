@@ -17,8 +17,8 @@
 /* The lines above the list and below it, and among these those of a path. */
 enum { ABOVE = 1, PATH_LINES = 3, BELOW = 1 + PATH_LINES + MESSAGES + 1 };
 
-/* In which column of a line an entry's description begins, and where what is behind it. */
-enum { DESCRIPTION = 12, BEHIND = 40 };
+/* In which column of a line an entry's description begins, and where what comes after it. */
+enum { DESCRIPTION = 12, DETAIL = 40 };
 
 /* The most changes of variables that a key makes. */
 enum { CHANGES = 3 };
@@ -103,8 +103,8 @@ static void show_row(UINTN line, size_t at)
     end_in(DESCRIPTION);
     if (is_option)
         add_text(option, len, NULL, 0);
-    end_in(BEHIND - 1);
-    end_in(BEHIND);
+    end_in(DETAIL - 1);
+    end_in(DETAIL);
     if (!row->is_tried)
         add(reason(row->state));
     else if (is_option)

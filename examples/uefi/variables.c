@@ -7,7 +7,7 @@ enum { KEPT = EFI_VARIABLE_NON_VOLATILE | EFI_VARIABLE_BOOTSERVICE_ACCESS | EFI_
 
 /*
  * The most names that are asked for, so that firmware whose list has no end costs no more than that; the most entries;
- * the bytes that a record of a set has before and behind its name; and the least room for names and for a set.
+ * the bytes that a record of a set has before and after its name; and the least room for names and for a set.
  */
 enum { NAMES_MAX = 1 << 20, ENTRIES = 65536, BEFORE_NAME = 1, BEHIND_NAME = 4, NAMES_ROOM = 512, SET_ROOM = 65536 };
 

@@ -8,7 +8,7 @@
 #include <efi.h>
 #include <stdbool.h>
 
-/* Room for the name of a variable: `Boot` and four digits, `BootNext` or `BootOrder`, and the zero behind it. */
+/* Room for the name of a variable: `Boot` and four digits, `BootNext` or `BootOrder`, and the zero after it. */
 enum { NAME_ROOM = 10 };
 
 /* Boot####, BootNext and BootOrder. A variable is named as in a struct bootkeep_change. */
@@ -51,7 +51,7 @@ uint32_t variables_put(struct variables *variables, uint32_t variable, const uin
 /* The number of the entry that a variable of the set is, or BOOTKEEP_NO_ENTRY. */
 uint32_t variables_entry(const struct variables *variables, size_t at);
 
-/* The name of a variable, with a zero behind it, and its length. */
+/* The name of a variable, with a zero after it, and its length. */
 size_t variables_name(uint32_t variable, char name[NAME_ROOM]);
 
 /*
