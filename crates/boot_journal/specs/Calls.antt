@@ -28,6 +28,7 @@ pub data Ending : Type 0 where
   -- it says something else, or is cut off
   Open : Ending
 
+-- what a caller or firmware does
 pub data Call : Type 0 where
   -- a command that runs these events
   Runs : List Event → Ending → Call
@@ -67,6 +68,7 @@ abbrev pub world_after : World → List Step → World
 world_after w [] = w
 world_after w (step ∷ before) = step.after
 
+-- calls one after the other, the newest first, each leading to the world after it
 abbrev pub AreSteps : World → List Step → Type 0
 AreSteps w [] = Unit {0}
 AreSteps w (step ∷ before) = CallLeads (world_after w before) step.call step.after × AreSteps w before

@@ -23,6 +23,7 @@ IfNothingDone update.OutOfMemory Is = Is
 IfNothingDone (update.TakenBack _) Is = Unit {0}
 IfNothingDone (update.Unsettled _ _) Is = Unit {0}
 
+-- if the error says that the update was taken back, this is so
 abbrev pub IfTakenBack : {E : Type 0} → UpdateError E → Type 0 → Type 0
 IfTakenBack update.OutOfMemory Is = Unit {0}
 IfTakenBack (update.TakenBack _) Is = Is

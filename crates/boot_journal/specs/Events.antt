@@ -11,6 +11,7 @@ use Rattle.boot_journal.specs.Journal.{PendingParts, BeganUnderAnother}
 use Rattle.boot_journal.specs.Store.{Store, seen, journal_to}
 use Rattle.boot_journal.specs.Moves.{cut_carrying, cut_settling, cut_undoing, cut_failing, settled}
 
+-- what may happen to a machine
 pub data Event : Type 0 where
   -- a settling, cut off after so many moves
   Settles : ℕ → Event
@@ -46,6 +47,7 @@ updating boot to moves s = cut_carrying boot (journal_to boot s to) moves s
 abbrev pub failing : List ℕ → Variables → ℕ → ℕ → Store → Store
 failing boot to moves back s = cut_failing boot (journal_to boot s to) moves back s
 
+-- what an event makes of a world, and events one after the other
 abbrev pub happens : World → Event → World
 happens w (Settles moves) = record { boot = w.boot; store = cut_settling w.boot moves w.store }
 happens w (Undoes moves back) = record { boot = w.boot; store = cut_undoing w.boot moves back w.store }

@@ -25,6 +25,7 @@ abbrev pub cut_settling_by : Option PendingParts → List ℕ → ℕ → Store 
 cut_settling_by None boot moves s = s
 cut_settling_by (Some pending) boot moves s = cut_making moves (due boot (Some pending)) (idle s.journal.state) s
 
+-- a settling, cut off after so many moves
 abbrev pub cut_settling : List ℕ → ℕ → Store → Store
 cut_settling boot moves s = cut_settling_by s.journal.pending boot moves s
 
@@ -36,6 +37,7 @@ cut_undoing_by (Some (Makes former changes began)) boot moves back s =
     cut_carrying boot (turned s.journal) back (cut_settling boot moves s)
 cut_undoing_by (Some (TakesBack changes began)) boot moves back s = cut_settling boot moves s
 
+-- a settling that fails after so many moves, and whose taking back is cut off after so many
 abbrev pub cut_undoing : List ℕ → ℕ → ℕ → Store → Store
 cut_undoing boot moves back s = cut_undoing_by s.journal.pending boot moves back s
 
@@ -55,6 +57,8 @@ settled boot s = settled_by s.journal.pending boot s
 
 -- ---- as relations
 
+-- the second store is one after some number of moves: of changes, of changes with their journal, of a settling, of an
+-- update
 abbrev pub IsMaking : List ChangeParts → JournalParts → Store → Store → Type 0
 IsMaking changes last s c = (moves : ℕ) × (c ≡ cut_making moves changes last s)
 

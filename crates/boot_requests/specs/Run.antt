@@ -77,6 +77,7 @@ new_changes first before Prepare = if is_armed before then [] else Boots ∷ []
 new_changes first before Hand = []
 new_changes first before Restart = []
 
+-- all that is done to the state in a run, oldest first
 abbrev pub history : ℕ → List Seen → List Change
 history first [] = []
 history first (seen ∷ before) = history first before ++ new_changes first before seen

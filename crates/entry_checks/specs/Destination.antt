@@ -14,7 +14,8 @@ abbrev pub id_bytes : PartitionId → List ℕ
 id_bytes (Gpt guid) = 0 ∷ guid.0
 id_bytes (Mbr signature number) = 1 ∷ (to_le_bytes w32 signature ++ to_le_bytes w32 number)
 
--- The partition, the name in small letters, which has no zero, a zero, and the data. So two of them are equal exactly if the
--- partitions and the data are, and the names but for the case of letters.
+-- Bytes that tell where an entry leads from elsewhere: the partition, the name in small letters, which has no zero, a
+-- zero, and the data. So two of them are equal exactly if the partitions and the data are, and the names but for the case
+-- of letters.
 abbrev pub destination_of : PartitionId → List ℕ → List ℕ → List ℕ
 destination_of id name optional = ((id_bytes id ++ units_bytes (map lower_of name)) ++ units_bytes (0 ∷ [])) ++ optional

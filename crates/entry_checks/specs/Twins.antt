@@ -29,6 +29,7 @@ abbrev pub twins_from : List Known → List Known → List (Option ℕ)
 twins_from before [] = []
 twins_from before (entry ∷ others) = twin_among before entry.destination ∷ twins_from (before ++ entry ∷ []) others
 
+-- of each entry the first before it that leads to the same place
 abbrev pub twins_of : List Known → List (Option ℕ)
 twins_of entries = twins_from [] entries
 

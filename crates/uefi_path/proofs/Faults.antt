@@ -21,7 +21,9 @@ header_len rest kind sub len header =
 -- the fault at an offset where no row begins, by how many bytes remain and the length that the first four state
 fault_by : ℕ → ℕ → ℕ → PathFault
 fault_by offset size len =
-    cond (eqb size 0) (NoEnd offset) (cond (ltb size 4) (ShortHeader offset) (cond (ltb len 4) (BadLength offset) (cond (ltb size len) (PastEnd offset) (BadEnd offset))))
+    cond (eqb size 0) (NoEnd offset)
+    (cond (ltb size 4) (ShortHeader offset)
+    (cond (ltb len 4) (BadLength offset) (cond (ltb size len) (PastEnd offset) (BadEnd offset))))
 
 by_short : (offset size len : ℕ) → 0 < size → size < 4 → fault_by offset size len ≡ ShortHeader offset
 unfolding fault_by
@@ -51,17 +53,23 @@ unfolding fault_at fault_by
 fault_is (NoEnd at) offset rest (at-is, empty) = rw (eq-eqb (length rest) 0 (ap length empty), at-is) refl
 fault_is (ShortHeader at) offset rest (at-is, some, short) = by_short offset (length rest) _ some short ∙ ap (λ (o : ℕ). ShortHeader o) (sym at-is)
 fault_is (BadLength at) offset rest (at-is, len, (kind, sub, header), below) =
-    at_header offset rest kind sub len header ∙ by_length offset (length rest) len (header_len rest kind sub len header).1 below ∙ ap (λ (o : ℕ). BadLength o) (sym at-is)
+    at_header offset rest kind sub len header ∙ by_length offset (length rest) len
+    (header_len rest kind sub len header).1 below ∙ ap (λ (o : ℕ). BadLength o) (sym at-is)
 fault_is (PastEnd at) offset rest (at-is, len, (kind, sub, header), least, past) =
-    at_header offset rest kind sub len header ∙ by_past offset (length rest) len (header_len rest kind sub len header).1 least past ∙ ap (λ (o : ℕ). PastEnd o) (sym at-is)
+    at_header offset rest kind sub len header ∙ by_past offset (length rest) len
+    (header_len rest kind sub len header).1 least past ∙ ap (λ (o : ℕ). PastEnd o) (sym at-is)
 fault_is (BadEnd at) offset rest (at-is, sub, len, header, least, within, no_end) =
-    at_header offset rest 127 sub len header ∙ by_end offset (length rest) len (header_len rest 127 sub len header).1 least within ∙ ap (λ (o : ℕ). BadEnd o) (sym at-is)
+    at_header offset rest 127 sub len header ∙ by_end offset (length rest) len (header_len rest 127 sub len header).1
+    least within ∙ ap (λ (o : ℕ). BadEnd o) (sym at-is)
 fault_is OutOfMemory offset rest h = absurd h
 
 -- the header of a row
-row_header : (r : Row) (behind rest : List ℕ) (kind sub len : ℕ) → IsRow r → HasHeader rest kind sub len → rest ≡ row_bytes r ++ behind → (kind ≡ r.kind) × (sub ≡ r.sub) × (len ≡ 4 + length r.body) × (length rest ≡ 4 + (length r.body + length behind))
+row_header : (r : Row) (behind rest : List ℕ) (kind sub len : ℕ) → IsRow r → HasHeader rest kind sub len →
+    rest ≡ row_bytes r ++ behind → (kind ≡ r.kind) × (sub ≡ r.sub) × (len ≡ 4 + length r.body)
+    × (length rest ≡ 4 + (length r.body + length behind))
 row_header r behind rest kind sub len is header e =
-    let same = same_header kind sub len r.kind r.sub (4 + length r.body) header.behind (r.body ++ behind) header.two_bytes (omega (arith, is.len)) (sym header.is ∙ e) in
+    let same = same_header kind sub len r.kind r.sub (4 + length r.body) header.behind
+    (r.body ++ behind) header.two_bytes (omega (arith, is.len)) (sym header.is ∙ e) in
     (same.kind, same.sub, same.len, ap length e ∙ omega (arith, length-append r.body behind))
 
 -- where there is a fault no row begins
@@ -113,7 +121,8 @@ same_fault input f g first second =
     let stops-f = fault_stops f (length (flat_map row_bytes first.before)) first.rest first.fault_at in
     let stops-g = fault_stops g (length (flat_map row_bytes second.before)) second.rest second.fault_at in
     let same = same_rows first.before second.before first.rest second.rest first.inner second.inner stops-f stops-g (sym first.parts ∙ second.parts) in
-    let place : length (flat_map row_bytes first.before) ≡ length (flat_map row_bytes second.before) = ap (λ (rows : List Row). length (flat_map row_bytes rows)) same.0 in
+    let place : length (flat_map row_bytes first.before) ≡ length (flat_map row_bytes second.before) =
+    ap (λ (rows : List Row). length (flat_map row_bytes rows)) same.0 in
     sym (fault_is f (length (flat_map row_bytes first.before)) first.rest first.fault_at) ∙ ap (λ (o : ℕ). fault_at o first.rest) place
     ∙ ap (fault_at (length (flat_map row_bytes second.before))) same.1 ∙ fault_is g (length (flat_map row_bytes second.before)) second.rest second.fault_at
 

@@ -1,5 +1,31 @@
 -- The table of nodes has an inverse, and its listed rows are those that the inverse finds.
-use Rattle.std.proofs.Common.{◌<◌, ◌≤◌, leb, take, drop, ◌≡◌, ◌≢◌, ℕ, true, false, eqb, ◌&&◌, List, [], ◌∷◌, length, Option, Some, None, refl, sym, ap, subst, ◌∙◌, arith}
+use Rattle.std.proofs.Common.{
+  ◌<◌,
+  ◌≤◌,
+  leb,
+  take,
+  drop,
+  ◌≡◌,
+  ◌≢◌,
+  ℕ,
+  true,
+  false,
+  eqb,
+  ◌&&◌,
+  List,
+  [],
+  ◌∷◌,
+  length,
+  Option,
+  Some,
+  None,
+  refl,
+  sym,
+  ap,
+  subst,
+  ◌∙◌,
+  arith,
+}
 use Rattle.std.specs.Prelude.{is_some, IsSome, IfSome, unwrap_or}
 use Rattle.std.specs.Option.{option_map, option_or}
 use Rattle.std.specs.List.{concat}
@@ -7,14 +33,99 @@ use Rattle.std.specs.Int.{w8, w16, w32, w64, to_le_bytes}
 use Rattle.std.proofs.lemmas.List.{length-append, length-drop, take_at, drop_at, take-append-drop}
 use Rattle.std.proofs.lemmas.Bool.{leb-true, le-leb, eqb-true, eq-eqb, and_parts, cond_both, false≢true}
 use Rattle.uefi_path.specs.declared.node.Node.{Node}
-use Rattle.uefi_path.specs.declared.node.Node.TheVariants.{Pci, VendorHw, Acpi, Usb, VendorMsg, Mac, Ipv4, Sata, Vlan, Nvme, Uri, HardDrive, Cdrom, VendorMedia, FilePath, Other}
-use Rattle.uefi_path.specs.Row.{IsByte, Row, row, IsRow, IsListed, IsOther, pci, acpi, usb, mac, ipv4, sata, vlan, nvme, uri, vendor_hw, vendor_msg, vendor_media, hard_drive, cdrom, file_path}
+use Rattle.uefi_path.specs.declared.node.Node.TheVariants.{
+  Pci,
+  VendorHw,
+  Acpi,
+  Usb,
+  VendorMsg,
+  Mac,
+  Ipv4,
+  Sata,
+  Vlan,
+  Nvme,
+  Uri,
+  HardDrive,
+  Cdrom,
+  VendorMedia,
+  FilePath,
+  Other,
+}
+use Rattle.uefi_path.specs.Row.{
+  IsByte,
+  Row,
+  row,
+  IsRow,
+  IsListed,
+  IsOther,
+  pci,
+  acpi,
+  usb,
+  mac,
+  ipv4,
+  sata,
+  vlan,
+  nvme,
+  uri,
+  vendor_hw,
+  vendor_msg,
+  vendor_media,
+  hard_drive,
+  cdrom,
+  file_path,
+}
 use Rattle.uefi_path.specs.Node.{row_of, IsNode, IsTyped, HasTypedNode}
-use Rattle.uefi_path.specs.Parts.{VendorParts, vendor_parts, vendor_bytes, vendor_of, IsVendor, name_bytes, Ipv4Parts, AreIpv4Parts, ipv4_fields, HardDriveParts, AreHardDriveParts, hard_drive_fields}
-use Rattle.uefi_path.specs.Reader.{has_shape, has_type, number_at, bytes_at, ipv4_at, hard_drive_at, fixed_node_of, list_node_of, typed_node_of, name_of, node_of}
+use Rattle.uefi_path.specs.Parts.{
+  VendorParts,
+  vendor_parts,
+  vendor_bytes,
+  vendor_of,
+  IsVendor,
+  name_bytes,
+  Ipv4Parts,
+  AreIpv4Parts,
+  ipv4_fields,
+  HardDriveParts,
+  AreHardDriveParts,
+  hard_drive_fields,
+}
+use Rattle.uefi_path.specs.Reader.{
+  has_shape,
+  has_type,
+  number_at,
+  bytes_at,
+  ipv4_at,
+  hard_drive_at,
+  fixed_node_of,
+  list_node_of,
+  typed_node_of,
+  name_of,
+  node_of,
+}
 use Rattle.uefi_path.proofs.Bytes.{bytes_from_recursion, recursion_from_bytes, AllByRecursion-append}
 use Rattle.uefi_path.proofs.Names.{IsNamed, name_found, name_listed, name_again, name_length, name_of_bytes, name_closed}
-use Rattle.uefi_path.proofs.Numbers.{IsBytes-drop, wide_8, wide_16, wide_32, wide_64, FieldsFrom, behind, array_again, number_again, HasLength, no_length, then_length, no_field, then_field, no_bytes, then_bytes, then_octets, then_array, array_bytes, number_below}
+use Rattle.uefi_path.proofs.Numbers.{
+  IsBytes-drop,
+  wide_8,
+  wide_16,
+  wide_32,
+  wide_64,
+  FieldsFrom,
+  behind,
+  array_again,
+  number_again,
+  HasLength,
+  no_length,
+  then_length,
+  no_field,
+  then_field,
+  no_bytes,
+  then_bytes,
+  then_octets,
+  then_array,
+  array_bytes,
+  number_below,
+}
 
 -- the row has this type, sub-type and length of the data
 record HasShape (kind sub len : ℕ) (r : Row) : Type 0 where
@@ -41,7 +152,8 @@ pub record IsFound (r : Row) (node : Node) : Type 0 where
 
 -- a node whose row is these fields
 fixed_found : (kind sub len : ℕ) (r : Row) → HasShape kind sub len r → ((body : List ℕ) → length body ≡ len → IsListed (row kind sub body))
-    → (node : Node) (fields : List (List ℕ)) → row_of node ≡ row kind sub (concat fields) → FieldsFrom 0 r.body fields → IsNode node → IsTyped node → IsFound r node
+    → (node : Node) (fields : List (List ℕ)) → row_of node ≡ row kind sub (concat fields) →
+    FieldsFrom 0 r.body fields → IsNode node → IsTyped node → IsFound r node
 fixed_found kind sub len r shape listed node fields rows all valid own = record {
   listed = subst IsListed (row_is r kind sub len r.body shape refl) (listed r.body shape.len-is);
   valid = valid;
@@ -87,7 +199,8 @@ ipv4_found r is shape =
     let long : length r.body ≡ 23 = shape.len-is in
     fixed_found 3 12 23 r shape (λ body len. ipv4 len) _ (ipv4_fields (ipv4_at r.body)) refl
     (then_array 4 0 r.body (then_array 4 4 r.body (
-    then_field w16 _ wide_16 8 r.body fits (omega arith) (then_field w16 _ wide_16 10 r.body fits (omega arith) (then_field w16 _ wide_16 12 r.body fits (omega arith) (
+    then_field w16 _ wide_16 8 r.body fits (omega arith)
+    (then_field w16 _ wide_16 10 r.body fits (omega arith) (then_field w16 _ wide_16 12 r.body fits (omega arith) (
     then_field w8 _ wide_8 14 r.body fits (omega arith) (then_array 4 15 r.body (then_array 4 19 r.body (no_field 23 r.body (omega arith))))))))))
     (record {
       local = array_bytes 4 0 r.body fits (omega arith);
@@ -105,8 +218,13 @@ sata_found r is shape =
     let fits = bytes_from_recursion r.body is.body in
     let long : length r.body ≡ 6 = shape.len-is in
     fixed_found 3 18 6 r shape (λ body len. sata len) _ _ refl
-    (then_field w16 _ wide_16 0 r.body fits (omega arith) (then_field w16 _ wide_16 2 r.body fits (omega arith) (then_field w16 _ wide_16 4 r.body fits (omega arith) (no_field 6 r.body (omega arith)))))
-    (number_below w16 _ wide_16 0 r.body fits (omega arith), number_below w16 _ wide_16 2 r.body fits (omega arith), number_below w16 _ wide_16 4 r.body fits (omega arith)) tt
+    (then_field w16 _ wide_16 0 r.body fits (omega arith)
+    (then_field w16 _ wide_16 2 r.body fits (omega arith)
+    (then_field w16 _ wide_16 4 r.body fits (omega arith) (no_field 6 r.body (omega arith))))) (
+      number_below w16 _ wide_16 0 r.body fits (omega arith),
+      number_below w16 _ wide_16 2 r.body fits (omega arith),
+      number_below w16 _ wide_16 4 r.body fits (omega arith),
+    ) tt
 
 vlan_found : (r : Row) → IsRow r → HasShape 3 20 2 r → IsFound r (Vlan (number_at w16 0 r.body))
 vlan_found r is shape =
@@ -129,8 +247,10 @@ hard_drive_found r is shape =
     let fits = bytes_from_recursion r.body is.body in
     let long : length r.body ≡ 38 = shape.len-is in
     fixed_found 4 1 38 r shape (λ body len. hard_drive len) _ (hard_drive_fields (hard_drive_at r.body)) refl
-    (then_field w32 _ wide_32 0 r.body fits (omega arith) (then_field w64 _ wide_64 4 r.body fits (omega arith) (then_field w64 _ wide_64 12 r.body fits (omega arith) (
-    then_array 16 20 r.body (then_field w8 _ wide_8 36 r.body fits (omega arith) (then_field w8 _ wide_8 37 r.body fits (omega arith) (no_field 38 r.body (omega arith))))))))
+    (then_field w32 _ wide_32 0 r.body fits (omega arith)
+    (then_field w64 _ wide_64 4 r.body fits (omega arith) (then_field w64 _ wide_64 12 r.body fits (omega arith) (
+    then_array 16 20 r.body (then_field w8 _ wide_8 36 r.body fits (omega arith)
+    (then_field w8 _ wide_8 37 r.body fits (omega arith) (no_field 38 r.body (omega arith))))))))
     (record {
       partition = number_below w32 _ wide_32 0 r.body fits (omega arith);
       start = number_below w64 _ wide_64 4 r.body fits (omega arith);
@@ -145,8 +265,13 @@ cdrom_found r is shape =
     let fits = bytes_from_recursion r.body is.body in
     let long : length r.body ≡ 20 = shape.len-is in
     fixed_found 4 2 20 r shape (λ body len. cdrom len) _ _ refl
-    (then_field w32 _ wide_32 0 r.body fits (omega arith) (then_field w64 _ wide_64 4 r.body fits (omega arith) (then_field w64 _ wide_64 12 r.body fits (omega arith) (no_field 20 r.body (omega arith)))))
-    (number_below w32 _ wide_32 0 r.body fits (omega arith), number_below w64 _ wide_64 4 r.body fits (omega arith), number_below w64 _ wide_64 12 r.body fits (omega arith)) tt
+    (then_field w32 _ wide_32 0 r.body fits (omega arith)
+    (then_field w64 _ wide_64 4 r.body fits (omega arith)
+    (then_field w64 _ wide_64 12 r.body fits (omega arith) (no_field 20 r.body (omega arith))))) (
+      number_below w32 _ wide_32 0 r.body fits (omega arith),
+      number_below w64 _ wide_64 4 r.body fits (omega arith),
+      number_below w64 _ wide_64 12 r.body fits (omega arith),
+    ) tt
 
 -- the row has this type and sub-type
 type_is : (kind sub : ℕ) (r : Row) → has_type kind sub r ≡ true → row kind sub r.body ≡ r
@@ -154,8 +279,11 @@ type_is kind sub r e =
     let parts = and_parts (eqb r.kind kind) (eqb r.sub sub) e in
     ap (λ (k : ℕ). row k sub r.body) (sym (eqb-true _ _ parts.0)) ∙ ap (λ (s : ℕ). row r.kind s r.body) (sym (eqb-true _ _ parts.1))
 
-vendor_found : (V : VendorParts → Node) (kind sub : ℕ) (r : Row) → IsRow r → has_type kind sub r ≡ true → ((body : List ℕ) → 16 ≤ length body → IsListed (row kind sub body))
-    → ((p : VendorParts) → IsVendor p → IsNode (V p)) → ((p : VendorParts) → row_of (V p) ≡ row kind sub (vendor_bytes p)) → ((p : VendorParts) → IsTyped (V p)) → IfSome (option_map V (vendor_of r.body)) (IsFound r)
+vendor_found : (V : VendorParts → Node) (kind sub : ℕ) (r : Row) → IsRow r → has_type kind sub r ≡ true →
+    ((body : List ℕ) → 16 ≤ length body → IsListed (row kind sub body))
+    → ((p : VendorParts) → IsVendor p → IsNode (V p)) →
+    ((p : VendorParts) → row_of (V p) ≡ row kind sub (vendor_bytes p)) → ((p : VendorParts) → IsTyped (V p)) →
+    IfSome (option_map V (vendor_of r.body)) (IsFound r)
 vendor_found V kind sub r is e listed valid rows own =
     cond_both (leb 16 (length r.body)) _ _ (λ (found : Option VendorParts). IfSome (option_map V found) (IsFound r)) (λ enough.
     let long : 16 ≤ length r.body = leb-true 16 (length r.body) enough in
@@ -164,7 +292,12 @@ vendor_found V kind sub r is e listed valid rows own =
     let parts = vendor_parts (take 16 r.body) (drop 16 r.body) in
     record {
       listed = subst IsListed same (listed r.body long);
-      valid = valid parts (record { guid = array_bytes 16 0 r.body fits long; body = recursion_from_bytes (drop 16 r.body) (IsBytes-drop 16 r.body fits); len = omega (arith, length-drop 16 r.body, is.len) });
+      valid = valid parts (record {
+        guid = array_bytes 16 0 r.body fits long;
+        body = recursion_from_bytes
+            (drop 16 r.body) (IsBytes-drop 16 r.body fits);
+        len = omega (arith, length-drop 16 r.body, is.len);
+      });
       same = rows parts ∙ ap (λ (b : List ℕ). row kind sub b) (take-append-drop 16 r.body) ∙ same;
       own = own parts;
     }) (λ _. tt)
@@ -174,11 +307,18 @@ uri_found r is e =
     let same = type_is 3 24 r e in
     record { listed = subst IsListed same uri; valid = (is.body, is.len); same = same; own = tt }
 
-file_of_named : (r : Row) → IsRow r → has_type 4 4 r ≡ true → (found : Option (List ℕ)) → IfSome found (IsNamed r.body) → IfSome (option_map (λ units. FilePath units) found) (IsFound r)
+file_of_named : (r : Row) → IsRow r → has_type 4 4 r ≡ true → (found : Option (List ℕ)) →
+    IfSome found (IsNamed r.body) → IfSome (option_map (λ units. FilePath units) found) (IsFound r)
 file_of_named r is e None named = tt
 file_of_named r is e (Some units) named =
     let same = type_is 4 4 r e in
-    record { listed = subst IsListed same (file_path named.closed); valid = (named.valid, omega (arith, named.len, is.len)); same = ap (λ (b : List ℕ). row 4 4 b) named.same ∙ same; own = tt }
+    record {
+      listed = subst IsListed same (file_path named.closed);
+      valid = (named.valid, omega (arith, named.len, is.len));
+      same = ap (λ (b : List ℕ). row 4 4 b) named.same
+          ∙ same;
+      own = tt;
+    }
 
 file_found : (r : Row) → IsRow r → has_type 4 4 r ≡ true → IfSome (option_map (λ units. FilePath units) (name_of r.body)) (IsFound r)
 file_found r is e = file_of_named r is e (name_of r.body) (name_found r.body (bytes_from_recursion r.body is.body))
@@ -251,7 +391,8 @@ none_listed r fixed list = λ listed.
     false≢true (subst (λ (found : Option Node). IsSome found) none (typed_node_listed r listed))
 
 -- the node of a row has the row
-from_found : (r : Row) (found : Option Node) → IsRow r → r.kind ≢ 127 → IfSome found (IsFound r) → (IsListed r → IsSome found) → IsNode (unwrap_or found (Other r)) × (row_of (unwrap_or found (Other r)) ≡ r)
+from_found : (r : Row) (found : Option Node) → IsRow r → r.kind ≢ 127 → IfSome found (IsFound r) →
+    (IsListed r → IsSome found) → IsNode (unwrap_or found (Other r)) × (row_of (unwrap_or found (Other r)) ≡ r)
 from_found r (Some node) is inner typed listed = (typed.valid, typed.same)
 from_found r None is inner typed listed =
     (record { row = is; no_end = inner; unlisted = λ l. false≢true (listed l) }, refl)
@@ -308,11 +449,16 @@ ipv4_again body p valid all =
       array_again 4 19 body valid.mask.0 at_19,
     ) refl
 
-sata_again : (body : List ℕ) (hba multiplier lun : ℕ) → IsNode (Sata hba multiplier lun) → FieldsFrom 0 body (to_le_bytes w16 hba ∷ to_le_bytes w16 multiplier ∷ to_le_bytes w16 lun ∷ [])
+sata_again : (body : List ℕ) (hba multiplier lun : ℕ) → IsNode (Sata hba multiplier lun) →
+    FieldsFrom 0 body (to_le_bytes w16 hba ∷ to_le_bytes w16 multiplier ∷ to_le_bytes w16 lun ∷ [])
     → Sata (number_at w16 0 body) (number_at w16 2 body) (number_at w16 4 body) ≡ Sata hba multiplier lun
 sata_again body hba multiplier lun valid all =
     let at_2 = behind 2 0 body refl all in
-    rw (number_again w16 _ wide_16 0 body valid.0 all, number_again w16 _ wide_16 2 body valid.1 at_2, number_again w16 _ wide_16 4 body valid.2 (behind 2 2 body refl at_2)) refl
+    rw (
+      number_again w16 _ wide_16 0 body valid.0 all,
+      number_again w16 _ wide_16 2 body valid.1 at_2,
+      number_again w16 _ wide_16 4 body valid.2 (behind 2 2 body refl at_2),
+    ) refl
 
 vlan_again : (body : List ℕ) (id : ℕ) → IsNode (Vlan id) → FieldsFrom 0 body (to_le_bytes w16 id ∷ []) → Vlan (number_at w16 0 body) ≡ Vlan id
 vlan_again body id valid all = rw (number_again w16 _ wide_16 0 body valid all) refl
@@ -338,11 +484,16 @@ hard_drive_again body p valid all =
       number_again w8 _ wide_8 37 body valid.signature_kind at_37,
     ) refl
 
-cdrom_again : (body : List ℕ) (entry start size : ℕ) → IsNode (Cdrom entry start size) → FieldsFrom 0 body (to_le_bytes w32 entry ∷ to_le_bytes w64 start ∷ to_le_bytes w64 size ∷ [])
+cdrom_again : (body : List ℕ) (entry start size : ℕ) → IsNode (Cdrom entry start size) →
+    FieldsFrom 0 body (to_le_bytes w32 entry ∷ to_le_bytes w64 start ∷ to_le_bytes w64 size ∷ [])
     → Cdrom (number_at w32 0 body) (number_at w64 4 body) (number_at w64 12 body) ≡ Cdrom entry start size
 cdrom_again body entry start size valid all =
     let at_4 = behind 4 0 body refl all in
-    rw (number_again w32 _ wide_32 0 body valid.0 all, number_again w64 _ wide_64 4 body valid.1 at_4, number_again w64 _ wide_64 12 body valid.2 (behind 8 4 body refl at_4)) refl
+    rw (
+      number_again w32 _ wide_32 0 body valid.0 all,
+      number_again w64 _ wide_64 4 body valid.1 at_4,
+      number_again w64 _ wide_64 12 body valid.2 (behind 8 4 body refl at_4),
+    ) refl
 
 mac_length : (address : List ℕ) (if_kind : ℕ) → length address ≡ 32 → HasLength (address ∷ to_le_bytes w8 if_kind ∷ []) 33
 mac_length address if_kind long = then_length 32 address long (then_length 1 (to_le_bytes w8 if_kind) refl no_length)
@@ -359,17 +510,27 @@ nvme_length namespace eui long = then_length 4 (to_le_bytes w32 namespace) refl 
 hard_drive_length : (p : HardDriveParts) → AreHardDriveParts p → HasLength (hard_drive_fields p) 38
 hard_drive_length p valid =
     then_length 4 (to_le_bytes w32 p.partition) refl (then_length 8 (to_le_bytes w64 p.start) refl (then_length 8 (to_le_bytes w64 p.size) refl (
-    then_length 16 p.signature valid.signature.0 (then_length 1 (to_le_bytes w8 p.format) refl (then_length 1 (to_le_bytes w8 p.signature_kind) refl no_length)))))
+    then_length 16 p.signature valid.signature.0
+    (then_length 1 (to_le_bytes w8 p.format) refl (then_length 1 (to_le_bytes w8 p.signature_kind) refl no_length)))))
 
 vendor_long : (p : VendorParts) → IsVendor p → 16 ≤ length (vendor_bytes p)
 vendor_long p valid = omega (arith, valid.guid.0, length-append p.guid p.body)
 
 vendor_again : (p : VendorParts) → IsVendor p → vendor_of (vendor_bytes p) ≡ Some p
-vendor_again p valid = rw (le-leb 16 (length (vendor_bytes p)) (vendor_long p valid), take_at p.guid p.body 16 valid.guid.0, drop_at p.guid p.body 16 valid.guid.0) refl
+vendor_again p valid = rw (
+  le-leb 16 (length (vendor_bytes p)) (vendor_long p valid),
+  take_at p.guid p.body 16 valid.guid.0,
+  drop_at p.guid p.body 16 valid.guid.0,
+) refl
 
 vendor_row : (kind sub : ℕ) (p : VendorParts) → IsVendor p → kind < 256 → sub < 256 → IsRow (row kind sub (vendor_bytes p))
 vendor_row kind sub p valid k s =
-    record { kind = k; sub = s; body = AllByRecursion-append IsByte p.guid p.body valid.guid.1 valid.body; len = omega (arith, valid.guid.0, valid.len, length-append p.guid p.body) }
+    record {
+      kind = k;
+      sub = s;
+      body = AllByRecursion-append IsByte p.guid p.body valid.guid.1 valid.body;
+      len = omega (arith, valid.guid.0, valid.len, length-append p.guid p.body);
+    }
 
 -- a row of the right length is read as a node with a case of its own
 as_typed : (r : Row) (node : Node) → typed_node_of r ≡ Some node → node_of r ≡ node
@@ -379,11 +540,13 @@ as_typed r node e = ap (λ (found : Option Node). unwrap_or found (Other r)) e
 pub node_of-row_of : (node : Node) → IsNode node → node_of (row_of node) ≡ node
 node_of-row_of (Pci function device) valid = pci_again (row_of (Pci function device)).body function device valid (record { are = refl })
 node_of-row_of (VendorHw p) valid =
-    ap (λ (found : Option VendorParts). unwrap_or (option_map (λ (q : VendorParts). VendorHw q) found) (Other (row 1 4 (vendor_bytes p)))) (vendor_again p valid)
+    ap (λ (found : Option VendorParts). unwrap_or (option_map (λ (q : VendorParts). VendorHw q) found)
+    (Other (row 1 4 (vendor_bytes p)))) (vendor_again p valid)
 node_of-row_of (Acpi hid uid) valid = acpi_again (row_of (Acpi hid uid)).body hid uid valid (record { are = refl })
 node_of-row_of (Usb port interface) valid = usb_again (row_of (Usb port interface)).body port interface valid (record { are = refl })
 node_of-row_of (VendorMsg p) valid =
-    ap (λ (found : Option VendorParts). unwrap_or (option_map (λ (q : VendorParts). VendorMsg q) found) (Other (row 3 10 (vendor_bytes p)))) (vendor_again p valid)
+    ap (λ (found : Option VendorParts). unwrap_or (option_map (λ (q : VendorParts). VendorMsg q) found)
+    (Other (row 3 10 (vendor_bytes p)))) (vendor_again p valid)
 node_of-row_of (Mac address if_kind) valid =
     let body = (row_of (Mac address if_kind)).body in
     as_typed (row 3 11 body) (Mac (bytes_at 0 32 body) (number_at w8 32 body)) (rw (eq-eqb (length body) 33 (mac_length address if_kind valid.0.0).is) refl)
@@ -405,9 +568,11 @@ node_of-row_of (HardDrive parts) valid =
     ∙ ap (λ (p : HardDriveParts). HardDrive p) (hard_drive_again body parts valid (record { are = refl }))
 node_of-row_of (Cdrom entry start size) valid = cdrom_again (row_of (Cdrom entry start size)).body entry start size valid (record { are = refl })
 node_of-row_of (VendorMedia p) valid =
-    ap (λ (found : Option VendorParts). unwrap_or (option_map (λ (q : VendorParts). VendorMedia q) found) (Other (row 4 3 (vendor_bytes p)))) (vendor_again p valid)
+    ap (λ (found : Option VendorParts). unwrap_or (option_map (λ (q : VendorParts). VendorMedia q) found)
+    (Other (row 4 3 (vendor_bytes p)))) (vendor_again p valid)
 node_of-row_of (FilePath units) valid =
-    ap (λ (found : Option (List ℕ)). unwrap_or (option_map (λ (name : List ℕ). FilePath name) found) (Other (row 4 4 (name_bytes units)))) (name_again units valid.0)
+    ap (λ (found : Option (List ℕ)). unwrap_or (option_map (λ (name : List ℕ). FilePath name) found)
+    (Other (row 4 4 (name_bytes units)))) (name_again units valid.0)
 node_of-row_of (Other other) valid =
     ap (λ (found : Option Node). unwrap_or found (Other other)) (none_unlisted other (typed_node_of other) (typed_node_found other valid.row) valid.unlisted)
 
@@ -454,7 +619,15 @@ row_of_is_row (Cdrom entry start size) valid =
     let fields = then_bytes w32 _ wide_32 entry (then_bytes w64 _ wide_64 start (then_bytes w64 _ wide_64 size no_bytes)) in
     (record { kind = omega arith; sub = omega arith; body = fields.bytes; len = omega arith }, omega arith)
 row_of_is_row (VendorMedia p) valid = (vendor_row 4 3 p valid (omega arith) (omega arith), omega arith)
-row_of_is_row (FilePath units) valid = (record { kind = omega arith; sub = omega arith; body = name_of_bytes units; len = omega (arith, valid.1, name_length units) }, omega arith)
+row_of_is_row (FilePath units) valid = (
+  record {
+    kind = omega arith;
+    sub = omega arith;
+    body = name_of_bytes units;
+    len = omega (arith, valid.1, name_length units);
+  },
+  omega arith,
+)
 row_of_is_row (Other other) valid = (valid.row, valid.no_end)
 
 -- ---- the listed rows

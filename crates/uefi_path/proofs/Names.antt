@@ -1,5 +1,39 @@
 -- The units of a name, and the bytes of one.
-use Rattle.std.proofs.Common.{◌≡◌, ◌≢◌, ℕ, suc, ◌+◌, ◌-◌, ◌*◌, ◌^◌, ◌<◌, ◌≤◌, List, [], ◌∷◌, ◌++◌, length, take, drop, get_or, eqb, Option, Some, None, Result, Ok, Err, refl, sym, ap, subst, ◌∙◌, arith, inl, inr}
+use Rattle.std.proofs.Common.{
+  ◌≡◌,
+  ◌≢◌,
+  ℕ,
+  suc,
+  ◌+◌,
+  ◌-◌,
+  ◌*◌,
+  ◌^◌,
+  ◌<◌,
+  ◌≤◌,
+  List,
+  [],
+  ◌∷◌,
+  ◌++◌,
+  length,
+  take,
+  drop,
+  get_or,
+  eqb,
+  Option,
+  Some,
+  None,
+  Result,
+  Ok,
+  Err,
+  refl,
+  sym,
+  ap,
+  subst,
+  ◌∙◌,
+  arith,
+  inl,
+  inr,
+}
 use Rattle.std.specs.Prelude.{◌==◌, is_some, IsSome, IfSome}
 use Rattle.std.specs.Option.{option_map}
 use Rattle.std.specs.Int.{w16, to_le_bytes, from_le_bytes}
@@ -40,7 +74,8 @@ no_earlier : (units : List ℕ) → position (λ (u : ℕ). u == 0) units ≡ No
 no_earlier units none =
     let first = position_or_len (λ (u : ℕ). u == 0) units in
     elim (cases_lt first (length units)) [
-      | inl lt ↦ let some : position (λ (u : ℕ). u == 0) units ≡ Some first = rw (lt-ltb first (length units) lt) refl in absurd (none-some first (sym none ∙ some))
+      | inl lt ↦ let some : position (λ (u : ℕ). u == 0) units ≡ Some first =
+          rw (lt-ltb first (length units) lt) refl in absurd (none-some first (sym none ∙ some))
       | inr le ↦ le
     ]
 
@@ -73,7 +108,8 @@ zero_alone low high none =
     let high-is : high ≡ 0 = omega arith in
     rw (low-is, high-is) (record { closed = last_zero; valid = tt; len = refl; same = refl })
 
-unit_before : (low high : ℕ) (rest : List ℕ) → IsBytes (low ∷ high ∷ rest) → from_le_bytes w16 (low ∷ high ∷ []) ≢ 0 → (found : Option (List ℕ)) → IfSome found (IsNamed rest)
+unit_before : (low high : ℕ) (rest : List ℕ) → IsBytes (low ∷ high ∷ rest) → from_le_bytes w16 (low ∷ high ∷ []) ≢ 0 →
+    (found : Option (List ℕ)) → IfSome found (IsNamed rest)
     → IfSome (option_map (λ (name : List ℕ). from_le_bytes w16 (low ∷ high ∷ []) ∷ name) found) (IsNamed (low ∷ high ∷ rest))
 unit_before low high rest fits nonzero None named = tt
 unit_before low high rest fits nonzero (Some name) named =
@@ -106,7 +142,8 @@ two_bytes_each (unit ∷ units) valid = (valid.0.1, two_bytes_each units valid.1
 named_units : (bytes units : List ℕ) → IsNamed bytes units → units_of (take (length bytes - 2) bytes) ≡ units
 named_units bytes units named =
     let size : length (units_bytes units) ≡ length bytes - 2 = omega (arith, named.len, units_length units) in
-    let front : take (length bytes - 2) bytes ≡ units_bytes units = ap (λ (t : List ℕ). take (length bytes - 2) t) (sym named.same) ∙ take_at (units_bytes units) (to_le_bytes w16 0) (length bytes - 2) size in
+    let front : take (length bytes - 2) bytes ≡ units_bytes units = ap (λ (t : List ℕ). take (length bytes - 2) t)
+    (sym named.same) ∙ take_at (units_bytes units) (to_le_bytes w16 0) (length bytes - 2) size in
     ap units_of front ∙ units_again units (two_bytes_each units named.valid)
 
 pub record AreUnitsOf (bytes units : List ℕ) : Type 0 where
@@ -114,9 +151,11 @@ pub record AreUnitsOf (bytes units : List ℕ) : Type 0 where
   pub valid : AllByRecursion IsUnit units
   pub len : length bytes ≡ 2 * length units + 2
 
-units_found : (bytes : List ℕ) (found : Option (List ℕ)) → found ≡ name_of bytes → IsSome found → IfSome found (IsNamed bytes) → AreUnitsOf bytes (units_of (take (length bytes - 2) bytes))
+units_found : (bytes : List ℕ) (found : Option (List ℕ)) → found ≡ name_of bytes → IsSome found →
+    IfSome found (IsNamed bytes) → AreUnitsOf bytes (units_of (take (length bytes - 2) bytes))
 units_found bytes None e some named = absurd (false≢true some)
-units_found bytes (Some units) e some named = subst (λ (us : List ℕ). AreUnitsOf bytes us) (sym (named_units bytes units named)) (record { is = e; valid = named.valid; len = named.len })
+units_found bytes (Some units) e some named = subst (λ (us : List ℕ). AreUnitsOf bytes us)
+    (sym (named_units bytes units named)) (record { is = e; valid = named.valid; len = named.len })
 
 pub units_of_name : (bytes : List ℕ) → IsBytes bytes → IsSome (name_of bytes) → AreUnitsOf bytes (units_of (take (length bytes - 2) bytes))
 units_of_name bytes fits some = units_found bytes (name_of bytes) refl some (name_found bytes fits)
@@ -127,7 +166,8 @@ closed_rest unit (Some name) some = some
 
 pub name_listed : (bytes : List ℕ) → IsClosed bytes → IsSome (name_of bytes)
 name_listed _ last_zero = refl
-name_listed _ (another_unit {low} {high} {rest} nonzero others) = rw (ne_eqb (from_le_bytes w16 (low ∷ high ∷ [])) 0 nonzero) (closed_rest _ (name_of rest) (name_listed rest others))
+name_listed _ (another_unit {low} {high} {rest} nonzero others) =
+    rw (ne_eqb (from_le_bytes w16 (low ∷ high ∷ [])) 0 nonzero) (closed_rest _ (name_of rest) (name_listed rest others))
 
 -- ---- what is written
 

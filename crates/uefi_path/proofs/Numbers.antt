@@ -2,7 +2,19 @@
 use Rattle.std.proofs.Common.{◌≡◌, ℕ, ◌+◌, ◌<◌, ◌≤◌, ◌^◌, List, [], ◌∷◌, length, take, drop, refl, sym, ap, ◌∙◌, arith, inl, inr, ◌%◌}
 use Rattle.std.specs.Int.{Width, w8, w16, w32, w64, byte_len, to_le_bytes, from_le_bytes}
 use Rattle.std.specs.List.{concat, AllByRecursion}
-use Rattle.std.proofs.lemmas.List.{take-append-drop, take_at, drop_at, length-append, drop-drop, drop_all, get_or-drop, get_or-take, get_or_past, length-drop, length-take}
+use Rattle.std.proofs.lemmas.List.{
+  take-append-drop,
+  take_at,
+  drop_at,
+  length-append,
+  drop-drop,
+  drop_all,
+  get_or-drop,
+  get_or-take,
+  get_or_past,
+  length-drop,
+  length-take,
+}
 use Rattle.std.proofs.lemmas.Bool.{cases_lt}
 use Rattle.std.proofs.lemmas.Nat.{le_bytes_2, le_bytes_4, le_bytes_8, from_le_bytes-to_le_bytes_2, from_le_bytes-to_le_bytes_4, from_le_bytes-to_le_bytes_8}
 use Rattle.uefi_path.specs.Row.{IsByte, AreBytes}
@@ -83,24 +95,29 @@ pub record FieldsFrom (at : ℕ) (body : List ℕ) (fields : List (List ℕ)) : 
 pub no_field : (at : ℕ) (body : List ℕ) → length body ≤ at → FieldsFrom at body []
 no_field at body past = record { are = drop_all at body past }
 
-pub then_array : (count at : ℕ) (body : List ℕ) {fields : List (List ℕ)} → FieldsFrom (at + count) body fields → FieldsFrom at body (bytes_at at count body ∷ fields)
+pub then_array : (count at : ℕ) (body : List ℕ) {fields : List (List ℕ)} → FieldsFrom (at + count) body fields →
+    FieldsFrom at body (bytes_at at count body ∷ fields)
 then_array count at body {fields} others =
     let behind : drop count (drop at body) ≡ concat fields = drop-drop count at body ∙ others.are in
     record { are = rw (← behind) (sym (take-append-drop count (drop at body))) }
 
 -- the bytes of an array of the data
 pub array_bytes : (count at : ℕ) (body : List ℕ) → IsBytes body → at + count ≤ length body → AreBytes count (bytes_at at count body)
-array_bytes count at body fits within =
-    (omega (arith, length-take count (drop at body), length-drop at body), recursion_from_bytes (bytes_at at count body) (IsBytes-take count (drop at body) (IsBytes-drop at body fits)))
+array_bytes count at body fits within = (
+  omega (arith, length-take count (drop at body), length-drop at body),
+  recursion_from_bytes (bytes_at at count body) (IsBytes-take count (drop at body) (IsBytes-drop at body fits)),
+)
 
 pub then_field : (w : Width) (limit : ℕ) → IsWide w limit → (at : ℕ) (body : List ℕ) {fields : List (List ℕ)} → IsBytes body → at + byte_len w ≤ length body
     → FieldsFrom (at + byte_len w) body fields → FieldsFrom at body (to_le_bytes w (number_at w at body) ∷ fields)
 then_field w limit wide at body {fields} fits within others =
-    let here : to_le_bytes w (number_at w at body) ≡ bytes_at at (byte_len w) body = wide.same (bytes_at at (byte_len w) body) (array_bytes (byte_len w) at body fits within) in
+    let here : to_le_bytes w (number_at w at body) ≡ bytes_at at (byte_len w) body =
+    wide.same (bytes_at at (byte_len w) body) (array_bytes (byte_len w) at body fits within) in
     rw here (then_array (byte_len w) at body others)
 
 -- the number of a field is below its width's limit
-pub number_below : (w : Width) (limit : ℕ) → IsWide w limit → (at : ℕ) (body : List ℕ) → IsBytes body → at + byte_len w ≤ length body → number_at w at body < limit
+pub number_below : (w : Width) (limit : ℕ) → IsWide w limit → (at : ℕ) (body : List ℕ) → IsBytes body →
+    at + byte_len w ≤ length body → number_at w at body < limit
 number_below w limit wide at body fits within = wide.below (bytes_at at (byte_len w) body) (array_bytes (byte_len w) at body fits within)
 
 -- fields of bytes alone
@@ -118,15 +135,20 @@ then_octets count octets {fields} are h = record { bytes = AllByRecursion-append
 
 -- ---- what was written is read again
 
-pub behind : (count at : ℕ) (body : List ℕ) {field : List ℕ} {fields : List (List ℕ)} → length field ≡ count → FieldsFrom at body (field ∷ fields) → FieldsFrom (at + count) body fields
+pub behind : (count at : ℕ) (body : List ℕ) {field : List ℕ} {fields : List (List ℕ)} → length field ≡ count →
+    FieldsFrom at body (field ∷ fields) → FieldsFrom (at + count) body fields
 behind count at body {field} {fields} long all =
     record { are = sym (drop-drop count at body) ∙ ap (λ (t : List ℕ). drop count t) all.are ∙ drop_at field (concat fields) count long }
 
-pub array_again : (count at : ℕ) (body : List ℕ) {octets : List ℕ} {fields : List (List ℕ)} → length octets ≡ count → FieldsFrom at body (octets ∷ fields) → bytes_at at count body ≡ octets
+pub array_again : (count at : ℕ) (body : List ℕ) {octets : List ℕ} {fields : List (List ℕ)} → length octets ≡ count →
+    FieldsFrom at body (octets ∷ fields) → bytes_at at count body ≡ octets
 array_again count at body {octets} {fields} long all = ap (λ (t : List ℕ). take count t) all.are ∙ take_at octets (concat fields) count long
 
-pub number_again : (w : Width) (limit : ℕ) → IsWide w limit → (at : ℕ) (body : List ℕ) {n : ℕ} {fields : List (List ℕ)} → n < limit → FieldsFrom at body (to_le_bytes w n ∷ fields) → number_at w at body ≡ n
-number_again w limit wide at body {n} {fields} lt all = ap (λ (t : List ℕ). from_le_bytes w t) (array_again (byte_len w) at body (wide.len n) all) ∙ wide.again n lt
+pub number_again : (w : Width) (limit : ℕ) → IsWide w limit →
+    (at : ℕ) (body : List ℕ) {n : ℕ} {fields : List (List ℕ)} → n < limit →
+    FieldsFrom at body (to_le_bytes w n ∷ fields) → number_at w at body ≡ n
+number_again w limit wide at body {n} {fields} lt all = ap (λ (t : List ℕ). from_le_bytes w t)
+    (array_again (byte_len w) at body (wide.len n) all) ∙ wide.again n lt
 
 -- how many bytes fields take
 pub record HasLength (fields : List (List ℕ)) (total : ℕ) : Type 0 where
@@ -135,5 +157,6 @@ pub record HasLength (fields : List (List ℕ)) (total : ℕ) : Type 0 where
 pub no_length : HasLength [] 0
 no_length = record { is = refl }
 
-pub then_length : (count : ℕ) (field : List ℕ) {fields : List (List ℕ)} {total : ℕ} → length field ≡ count → HasLength fields total → HasLength (field ∷ fields) (count + total)
+pub then_length : (count : ℕ) (field : List ℕ) {fields : List (List ℕ)} {total : ℕ} → length field ≡ count →
+    HasLength fields total → HasLength (field ∷ fields) (count + total)
 then_length count field {fields} long others = record { is = omega (arith, long, others.is, length-append field (concat fields)) }

@@ -41,11 +41,13 @@ before_or_end rest r behind split more =
 pub one_row : (bytes rest behind : List ℕ) (r : Row) → HasRows bytes rest → SplitsRow rest r behind → ((r.kind ≢ 127) ⊎ (r.sub ≢ 255)) → HasRows bytes behind
 one_row bytes rest behind r h split more =
     let front = flat_map row_bytes h.rows in
-    let cut : flat_map row_bytes (h.rows ++ r ∷ []) ≡ front ++ row_bytes r = flat_map-append row_bytes h.rows (r ∷ []) ∙ ap (λ (t : List ℕ). front ++ t) (append-nil (row_bytes r)) in
+    let cut : flat_map row_bytes (h.rows ++ r ∷ []) ≡ front ++ row_bytes r = flat_map-append row_bytes h.rows (r ∷ [])
+    ∙ ap (λ (t : List ℕ). front ++ t) (append-nil (row_bytes r)) in
     record {
       rows = h.rows ++ r ∷ [];
       inner = AllByRecursion-append IsBeforeEnd h.rows (r ∷ []) h.inner (before_or_end rest r behind split more, tt);
-      parts = h.parts ∙ ap (λ (t : List ℕ). front ++ t) split.parts ∙ sym (append_assoc front (row_bytes r) behind) ∙ ap (λ (t : List ℕ). t ++ behind) (sym cut);
+      parts = h.parts ∙ ap (λ (t : List ℕ). front ++ t) split.parts ∙ sym (append_assoc front (row_bytes r) behind)
+          ∙ ap (λ (t : List ℕ). t ++ behind) (sym cut);
     }
 
 -- the row that was split off is the end of the whole path
@@ -68,8 +70,17 @@ path_ends bytes rest behind r h split kind sub =
     let whole : bytes ≡ path_bytes path ++ behind =
     h.parts ∙ ap (λ (t : List ℕ). flat_map row_bytes h.rows ++ t) (split.parts ∙ ap (λ (q : Row). row_bytes q ++ behind) ends)
     ∙ sym (rows_of_path path behind p.1 ∙ ap (λ (rs : List Row). flat_map row_bytes rs ++ (row_bytes end_entire ++ behind)) p.2) in
-    let size : length bytes ≡ length (path_bytes path) + length behind = ap length whole ∙ length-append (path_bytes path) behind in
-    (path, record { within = omega arith; spelled = (p.1, ap (take (length bytes - length behind)) whole ∙ take_at (path_bytes path) behind (length bytes - length behind) (omega arith)) })
+    let size : length bytes ≡ length (path_bytes path) + length behind = ap length whole ∙ length-append (path_bytes path) behind in (
+      path,
+      record {
+        within = omega arith;
+        spelled = (
+          p.1,
+          ap (take (length bytes - length behind)) whole ∙ take_at (path_bytes path) behind
+              (length bytes - length behind) (omega arith),
+        );
+      },
+    )
 
 pub fault_stands : (bytes rest : List ℕ) (fault : PathFault) → HasRows bytes rest → IsFaultAt fault (length bytes - length rest) rest → IsFirstFault bytes fault
 fault_stands bytes rest fault h at =

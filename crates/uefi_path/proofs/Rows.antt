@@ -25,7 +25,8 @@ pub record SameHeader (k s l k' s' l' : ℕ) (t t' : List ℕ) : Type 0 where
   pub len : l ≡ l'
   pub behind : t ≡ t'
 
-pub same_header : (k s l k' s' l' : ℕ) (t t' : List ℕ) → l < 2 ^ 16 → l' < 2 ^ 16 → header_bytes k s l ++ t ≡ header_bytes k' s' l' ++ t' → SameHeader k s l k' s' l' t t'
+pub same_header : (k s l k' s' l' : ℕ) (t t' : List ℕ) → l < 2 ^ 16 → l' < 2 ^ 16 →
+    header_bytes k s l ++ t ≡ header_bytes k' s' l' ++ t' → SameHeader k s l k' s' l' t t'
 same_header k s l k' s' l' t t' fits fits' e =
     let cells : to_le_bytes w16 l ≡ to_le_bytes w16 l' = cc in
     let len : l ≡ l' = sym (wide_16.again l fits) ∙ ap (from_le_bytes w16) cells ∙ wide_16.again l' fits' in
@@ -34,7 +35,8 @@ same_header k s l k' s' l' t t' fits fits' e =
 -- one row and the bytes after it
 pub same_row : (r s : Row) (x y : List ℕ) → IsRow r → IsRow s → row_bytes r ++ x ≡ row_bytes s ++ y → (r ≡ s) × (x ≡ y)
 same_row r s x y is-r is-s e =
-    let header = same_header r.kind r.sub (4 + length r.body) s.kind s.sub (4 + length s.body) (r.body ++ x) (s.body ++ y) (omega (arith, is-r.len)) (omega (arith, is-s.len)) e in
+    let header = same_header r.kind r.sub (4 + length r.body) s.kind s.sub (4 + length s.body) (r.body ++ x)
+    (s.body ++ y) (omega (arith, is-r.len)) (omega (arith, is-s.len)) e in
     let parts = same_parts r.body s.body x y (omega (arith, header.len)) header.behind in
     (ap (λ (k : ℕ). row k r.sub r.body) header.kind ∙ ap (λ (n : ℕ). row s.kind n r.body) header.sub ∙ ap (λ (b : List ℕ). row s.kind s.sub b) parts.0, parts.1)
 
@@ -42,14 +44,16 @@ same_row r s x y is-r is-s e =
 abbrev pub Stops : List ℕ → Type 0
 Stops rest = (r : Row) (behind : List ℕ) → IsBeforeEnd r → rest ≡ row_bytes r ++ behind → ⊥
 
-pub same_rows : (rs ss : List Row) (x y : List ℕ) → AllByRecursion IsBeforeEnd rs → AllByRecursion IsBeforeEnd ss → Stops x → Stops y → flat_map row_bytes rs ++ x ≡ flat_map row_bytes ss ++ y → (rs ≡ ss) × (x ≡ y)
+pub same_rows : (rs ss : List Row) (x y : List ℕ) → AllByRecursion IsBeforeEnd rs → AllByRecursion IsBeforeEnd ss →
+    Stops x → Stops y → flat_map row_bytes rs ++ x ≡ flat_map row_bytes ss ++ y → (rs ≡ ss) × (x ≡ y)
 same_rows [] [] x y inner-r inner-s stops-x stops-y e = (refl, e)
 same_rows [] (s ∷ ss) x y inner-r inner-s stops-x stops-y e =
     absurd (stops-x s (flat_map row_bytes ss ++ y) inner-s.0 (e ∙ append_assoc (row_bytes s) (flat_map row_bytes ss) y))
 same_rows (r ∷ rs) [] x y inner-r inner-s stops-x stops-y e =
     absurd (stops-y r (flat_map row_bytes rs ++ x) inner-r.0 (sym e ∙ append_assoc (row_bytes r) (flat_map row_bytes rs) x))
 same_rows (r ∷ rs) (s ∷ ss) x y inner-r inner-s stops-x stops-y e =
-    let regrouped : row_bytes r ++ (flat_map row_bytes rs ++ x) ≡ row_bytes s ++ (flat_map row_bytes ss ++ y) = sym (append_assoc (row_bytes r) (flat_map row_bytes rs) x) ∙ e ∙ append_assoc (row_bytes s) (flat_map row_bytes ss) y in
+    let regrouped : row_bytes r ++ (flat_map row_bytes rs ++ x) ≡ row_bytes s ++ (flat_map row_bytes ss ++ y) =
+    sym (append_assoc (row_bytes r) (flat_map row_bytes rs) x) ∙ e ∙ append_assoc (row_bytes s) (flat_map row_bytes ss) y in
     let first = same_row r s (flat_map row_bytes rs ++ x) (flat_map row_bytes ss ++ y) inner-r.0.row inner-s.0.row regrouped in
     let others = same_rows rs ss x y inner-r.1 inner-s.1 stops-x stops-y first.1 in
     (ap (λ (h : Row). h ∷ rs) first.0 ∙ ap (λ (t : List Row). s ∷ t) others.0, others.1)

@@ -53,13 +53,19 @@ pub record IsOver (old bytes room : List ℕ) (start count behind : ℕ) : Type 
 abbrev written_over : List ℕ → List ℕ → ℕ → ℕ → List ℕ
 written_over bytes room start count = take start room ++ (bytes ++ drop count (drop start room))
 
-over_zeros : (old bytes room : List ℕ) (start count behind : ℕ) → IsOver old bytes room start count behind → written_over bytes room start count ≡ old ++ (bytes ++ replicate behind 0)
+over_zeros : (old bytes room : List ℕ) (start count behind : ℕ) → IsOver old bytes room start count behind →
+    written_over bytes room start count ≡ old ++ (bytes ++ replicate behind 0)
 over_zeros old bytes room start count behind over =
     let zeros = replicate {A = ℕ} (count + behind) 0 in
-    let whole : room ≡ old ++ zeros = over.room-is ∙ ap (λ (n : ℕ). take (start + count + behind) old ++ replicate n 0) over.zeros-is ∙ ap (λ (t : List ℕ). t ++ zeros) (take_all (start + count + behind) old (omega (arith, over.start-is))) in
+    let whole : room ≡ old ++ zeros = over.room-is
+    ∙ ap (λ (n : ℕ). take (start + count + behind) old ++ replicate n 0) over.zeros-is
+    ∙ ap (λ (t : List ℕ). t ++ zeros) (take_all (start + count + behind) old (omega (arith, over.start-is))) in
     let front : take start room ≡ old = ap (take start) whole ∙ take_at old zeros start (sym over.start-is) in
     let left : count + behind - count ≡ behind = omega arith in
-    let back : drop count (drop start room) ≡ replicate behind 0 = ap (λ (t : List ℕ). drop count (drop start t)) whole ∙ ap (drop count) (drop_at old zeros start (sym over.start-is)) ∙ drop-replicate count (count + behind) 0 ∙ ap (λ (n : ℕ). replicate {A = ℕ} n 0) left in
+    let back : drop count (drop start room) ≡ replicate behind 0 =
+    ap (λ (t : List ℕ). drop count (drop start t)) whole ∙ ap (drop count)
+    (drop_at old zeros start (sym over.start-is)) ∙ drop-replicate count (count + behind) 0
+    ∙ ap (λ (n : ℕ). replicate {A = ℕ} n 0) left in
     rw (front, back) refl
 
 -- the same, if a list of that length is cut out of it and what follows it
@@ -68,5 +74,13 @@ pub over_zeros_whole : (old bytes room : List ℕ) (start count behind len : ℕ
 over_zeros_whole old bytes room start count behind len over long =
     let is = over_zeros old bytes room start count behind over in
     let here = old ++ (bytes ++ replicate {A = ℕ} behind 0) in
-    let size : length here ≡ len = omega (arith, long, over.len, over.start-is, length-append old (bytes ++ replicate {A = ℕ} behind 0), length-append bytes (replicate {A = ℕ} behind 0), length-replicate {A = ℕ} behind 0) in
+    let size : length here ≡ len = omega (
+      arith,
+      long,
+      over.len,
+      over.start-is,
+      length-append old (bytes ++ replicate {A = ℕ} behind 0),
+      length-append bytes (replicate {A = ℕ} behind 0),
+      length-replicate {A = ℕ} behind 0,
+    ) in
     rw is (ap (λ (n : ℕ). take n (here ++ drop (length here) room)) (sym size) ∙ take_at here (drop (length here) room) (length here) refl)

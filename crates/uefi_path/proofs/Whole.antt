@@ -32,9 +32,13 @@ end_or sub len = elim (cases_eq len 4) [
   | inr other ↦ inr (λ e. other e.1)
 ]
 
-cut : (bytes : List ℕ) (kind sub len : ℕ) → AllByRecursion IsByte bytes → kind < 256 → sub < 256 → HasHeader bytes kind sub len → IsHeader kind sub len (length bytes) → (r : Row) × (behind : List ℕ) × SplitsRow bytes r behind
-cut bytes kind sub len fits k s header is =
-    (row kind sub (take (length (take len bytes) - 4) (drop 4 (take len bytes))), drop len bytes, splits_row bytes kind sub len (take len bytes) (drop len bytes) (bytes_from_recursion bytes fits) k s header is refl refl)
+cut : (bytes : List ℕ) (kind sub len : ℕ) → AllByRecursion IsByte bytes → kind < 256 → sub < 256 →
+    HasHeader bytes kind sub len → IsHeader kind sub len (length bytes) → (r : Row) × (behind : List ℕ) × SplitsRow bytes r behind
+cut bytes kind sub len fits k s header is = (
+  row kind sub (take (length (take len bytes) - 4) (drop 4 (take len bytes))),
+  drop len bytes,
+  splits_row bytes kind sub len (take len bytes) (drop len bytes) (bytes_from_recursion bytes fits) k s header is refl refl,
+)
 
 step : (offset : ℕ) (rest : List ℕ) → AllByRecursion IsByte rest → Step offset rest
 step offset [] fits = inl (NoEnd offset, (refl, refl))

@@ -45,6 +45,7 @@ abbrev pub ReadsAs : {X Y : Type 0} → (X → Y) → Result X SegmentFault → 
 ReadsAs view (Ok x) read = read ≡ Some (view x)
 ReadsAs view (Err fault) read = Tells fault (read ≡ None) ⊥
 
+-- the answer is what is read, or a fault if nothing is
 abbrev pub Reads : {X : Type 0} → Result X SegmentFault → Option X → Type 0
 Reads = ReadsAs (λ x. x)
 

@@ -149,7 +149,9 @@ module _ (from to : Variables) (no_order : IsNoEntry order_text) (no_next : IsNo
     stays = λ q entry is. elim (or_cases (list_any (same_name q) (put_names from to))
         (same_name q order_text && differs from to order_text) (sym (with_order q) ∙ is)) [
           | inl put ↦ puts_before_order.stays q entry put
-          | inr order ↦ absurd (true≢false (sym (and_parts (same_name q order_text) (differs from to order_text) order).0 ∙ no_entry order_text q no_order entry))
+          | inr order ↦ absurd (true≢false
+              (sym (and_parts (same_name q order_text) (differs from to order_text) order).0
+              ∙ no_entry order_text q no_order entry))
         ];
     puts = λ q entry there d. with_order q ∙ or_left _ (same_name q order_text && differs from to order_text) (puts_before_order.puts q entry there d);
     apart = with_order next_text ∙ or_from _ _

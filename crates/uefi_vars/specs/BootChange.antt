@@ -44,6 +44,7 @@ is_boot_name name = is_entry_name name || (same_name name order_text || same_nam
 
 -- ---- the changes
 
+-- two are equal, or there are no data of either
 abbrev pub same_data : Option (List ℕ) → Option (List ℕ) → Bool
 same_data = option_eq (pointwise ◌==◌)
 

@@ -49,6 +49,7 @@ abbrev pub is_unfinished : ℕ → List ℕ → Bool
 is_unfinished state header =
     (state == 255) || ((attributes_in header == blank) || ((name_size_in header == blank) || (value_size_in header == blank)))
 
+-- what the header states of the name and the value, or 0 if it wasn't written to its end
 abbrev pub name_len : ℕ → List ℕ → ℕ
 name_len state header = if is_unfinished state header then 0 else name_size_in header
 

@@ -108,6 +108,7 @@ pub record SpellsStore (file : List ℕ) (store : StoreParts) : Type 0 where
 
 -- ---- faults
 
+-- it passed all tests before those of the store
 abbrev pub HasVolume : List ℕ → Type 0
 HasVolume file = IsVolume file × HasGoodHeader file
 

@@ -1,4 +1,12 @@
 -- The requests that follow one without a gap: each of their outcomes is kept.
+--
+-- The state keeps the outcomes of its newest numbers, at most `kept_max` of them, in the order of the numbers. Three
+-- steps lead to `turn_there`. First counting (`grown`): over each list of changes as many outcomes more are kept as
+-- requests are applied, up to that most, so that each number near enough below the next one has its outcome (`is_kept`).
+-- Then the reply: only a request with the next number, under which nothing waited, is answered with Applied and the next
+-- number after it. Last, these two together: what is applied in the same turn after the event's own request are the
+-- requests that waited, fewer than `kept_max`, so the outcomes of their numbers are all there. `outcomes_last` makes the
+-- list that a caller collects them in longer, one at a time.
 use Rattle.std.proofs.Common.{◌≡◌, ◌≢◌, ◌⊎◌, inl, inr, ℕ, zero, suc, ◌+◌, ◌-◌, ◌<◌, ◌≤◌, min, ltb, leb, eqb, true, false, List, [], ◌∷◌}
 use Rattle.std.proofs.Common.{◌++◌, map, length, Option, Some, None, refl, sym, ap, subst, ◌∙◌, arith}
 use Rattle.std.specs.Prelude.{MatchBool, MatchOption, IfSome, IsSome, is_some, slice_get, nat_lt, if◌then◌else◌}

@@ -1,4 +1,12 @@
 -- A turn leads from a plain state that a keeper can be in to such a one.
+--
+-- Such a state is one that its bytes can spell, and each request that waits in it was read off a frame, has a number
+-- above the next one and is within the window. A boot, a hand-over and a restart change nothing of that, or take the
+-- requests away. A delivery is the case with work in it: it may put a request among those that wait (`after_delivery`),
+-- after which each of them is at the next number or above it, within the window (`AreNear`). Then all up to the gap are
+-- applied, one after the other, by which the state stays one that can be spelled (`after_changes_valid`, along the number
+-- of steps), and those above the gap wait on (`settled_state_plain`). That requests can be spelled comes from a lemma that
+-- this file takes as an argument, since the crate's options are spelled in another one.
 use Rattle.std.proofs.Common.{◌≡◌, ℕ, zero, suc, ltb, ◌+◌, ◌-◌, ◌<◌, ◌≤◌, true, false, cond, List, [], ◌∷◌, Option, Some, None, IfSome, refl, sym, subst, ◌∙◌}
 use Rattle.std.proofs.Common.{arith, inl, inr}
 use Rattle.std.specs.Prelude.{if◌then◌else◌}

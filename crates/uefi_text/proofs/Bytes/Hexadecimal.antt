@@ -1,5 +1,29 @@
 -- The digits of bytes, in the words of the crate `hex` and of std.
-use Rattle.std.proofs.Common.{◌≡◌, ◌<◌, ◌≤◌, ◌/◌, ◌%◌, ℕ, zero, suc, false, List, [], ◌∷◌, ◌++◌, length, append_assoc, get_or, take, drop, refl, ap, sym, ◌∙◌, arith}
+use Rattle.std.proofs.Common.{
+  ◌≡◌,
+  ◌<◌,
+  ◌≤◌,
+  ◌/◌,
+  ◌%◌,
+  ℕ,
+  zero,
+  suc,
+  false,
+  List,
+  [],
+  ◌∷◌,
+  ◌++◌,
+  length,
+  append_assoc,
+  get_or,
+  take,
+  drop,
+  refl,
+  ap,
+  sym,
+  ◌∙◌,
+  arith,
+}
 use Rattle.std.proofs.lemmas.Grind.{flat_map-append}
 use Rattle.std.proofs.lemmas.List.{take-append-drop, take_all}
 use Rattle.std.specs.List.{AllByRecursion, flat_map}
@@ -51,7 +75,9 @@ hex_text-more done i rest front behind all f b e =
 
 -- the printed text of an address, by its bytes
 pub address_cells : (bytes : List ℕ) → length bytes ≡ 4
-    → decimal (get_or bytes 0 0) ++ (46 ∷ (decimal (get_or bytes 1 0) ++ (46 ∷ (decimal (get_or bytes 2 0) ++ (46 ∷ (decimal (get_or bytes 3 0))))))) ≡ address_text bytes
+    → decimal (get_or bytes 0 0) ++
+    (46 ∷ (decimal (get_or bytes 1 0)
+    ++ (46 ∷ (decimal (get_or bytes 2 0) ++ (46 ∷ (decimal (get_or bytes 3 0))))))) ≡ address_text bytes
 address_cells (a ∷ b ∷ c ∷ d ∷ []) len = refl
 address_cells [] len = absurd (omega (arith, len))
 address_cells (_ ∷ []) len = absurd (omega (arith, len))
@@ -61,7 +87,13 @@ address_cells (_ ∷ _ ∷ _ ∷ _ ∷ _ ∷ more) len = absurd (omega (arith, l
 
 -- and of an EUI-64
 pub eui_cells : (bytes : List ℕ) → length bytes ≡ 8
-    → pair_text false (get_or bytes 0 0) ++ (45 ∷ (pair_text false (get_or bytes 1 0) ++ (45 ∷ (pair_text false (get_or bytes 2 0) ++ (45 ∷ (pair_text false (get_or bytes 3 0) ++ (45 ∷ (pair_text false (get_or bytes 4 0) ++ (45 ∷ (pair_text false (get_or bytes 5 0) ++ (45 ∷ (pair_text false (get_or bytes 6 0) ++ (45 ∷ (pair_text false (get_or bytes 7 0))))))))))))))) ≡ eui_text bytes
+    → pair_text false (get_or bytes 0 0)
+    ++ (45 ∷ (pair_text false (get_or bytes 1 0)
+    ++ (45 ∷ (pair_text false (get_or bytes 2 0)
+    ++ (45 ∷ (pair_text false (get_or bytes 3 0)
+    ++ (45 ∷ (pair_text false (get_or bytes 4 0)
+    ++ (45 ∷ (pair_text false (get_or bytes 5 0)
+    ++ (45 ∷ (pair_text false (get_or bytes 6 0) ++ (45 ∷ (pair_text false (get_or bytes 7 0))))))))))))))) ≡ eui_text bytes
 eui_cells (a ∷ b ∷ c ∷ d ∷ e ∷ f ∷ g ∷ h ∷ []) len = refl
 eui_cells [] len = absurd (omega (arith, len))
 eui_cells (_ ∷ []) len = absurd (omega (arith, len))

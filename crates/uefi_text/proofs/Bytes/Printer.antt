@@ -1,5 +1,30 @@
 -- The printed text of a node, as the code writes it.
-use Rattle.std.proofs.Common.{◌≡◌, ◌<◌, ◌≤◌, take, ◌/◌, ◌%◌, ℕ, false, true, List, [], ◌∷◌, ◌++◌, map, length, length-append, append_assoc, append-nil, get_or, refl, ap, sym, ◌∙◌, arith}
+use Rattle.std.proofs.Common.{
+  ◌≡◌,
+  ◌<◌,
+  ◌≤◌,
+  take,
+  ◌/◌,
+  ◌%◌,
+  ℕ,
+  false,
+  true,
+  List,
+  [],
+  ◌∷◌,
+  ◌++◌,
+  map,
+  length,
+  length-append,
+  append_assoc,
+  append-nil,
+  get_or,
+  refl,
+  ap,
+  sym,
+  ◌∙◌,
+  arith,
+}
 use Rattle.std.specs.Prelude.{codes, flat_map}
 use Rattle.std.specs.Fmt.{digits}
 use Rattle.std.specs.List.{concat, join_with_byte}
@@ -20,7 +45,9 @@ pub pnp_text : (hid : ℕ) (bytes : List ℕ) → hid % 0x10000 ≡ 0x41D0 → b
 pnp_text hid bytes e b = rw (e, b) refl
 
 pub generic_text : (kind sub : ℕ) (body : List ℕ) → 0 < length body
-    → codes "Path(0x" ++ (digits 16 false kind ++ (codes ",0x" ++ (digits 16 false sub ++ (codes "," ++ (hex_text body ++ codes ")"))))) ≡ segment_text (generic_segment (row kind sub body))
+    → codes "Path(0x" ++ (digits 16 false kind
+    ++ (codes ",0x" ++ (digits 16 false sub ++ (codes "," ++ (hex_text body ++ codes ")"))))) ≡ segment_text
+    (generic_segment (row kind sub body))
 generic_text kind sub [] h = absurd (omega arith)
 generic_text kind sub (byte ∷ bytes) h =
     let behind = codes "," ++ hex_text (byte ∷ bytes) in
@@ -42,7 +69,10 @@ five_fields a b c d e behind = rw (hex_text-concat (a ∷ b ∷ c ∷ d ∷ e �
 pub drive_text : (node : HardDriveParts) (partition start size signature kinds : List ℕ)
     → partition ≡ to_le_bytes w32 node.partition → start ≡ to_le_bytes w64 node.start → size ≡ to_le_bytes w64 node.size → signature ≡ node.signature
     → kinds ≡ to_le_bytes w8 node.format ++ to_le_bytes w8 node.signature_kind
-    → codes "Path(0x" ++ (digits 16 false 4 ++ (codes ",0x" ++ (digits 16 false 1 ++ (codes "," ++ (hex_text partition ++ (hex_text start ++ (hex_text size ++ (hex_text signature ++ (hex_text kinds ++ codes ")")))))))))
+    → codes "Path(0x" ++ (digits 16 false 4
+    ++ (codes ",0x" ++ (digits 16 false 1
+    ++ (codes "," ++ (hex_text partition
+    ++ (hex_text start ++ (hex_text size ++ (hex_text signature ++ (hex_text kinds ++ codes ")")))))))))
     ≡ segment_text (generic_segment (row_of (HardDrive node)))
 drive_text node partition start size signature kinds p st si sg k =
     let written = concat (partition ∷ start ∷ size ∷ signature ∷ kinds ∷ []) in

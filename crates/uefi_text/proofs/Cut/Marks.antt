@@ -9,7 +9,8 @@ StopsAt P [] = Unit {0}
 StopsAt P (x ∷ _) = P x → ⊥
 
 -- lists of what the property holds of, before what it does not hold of
-pub same_fronts : {X : Type 0} (P : X → Type 0) (a b x y : List X) → AllByRecursion P a → AllByRecursion P b → StopsAt P x → StopsAt P y → a ++ x ≡ b ++ y → (a ≡ b) × (x ≡ y)
+pub same_fronts : {X : Type 0} (P : X → Type 0) (a b x y : List X) → AllByRecursion P a → AllByRecursion P b →
+    StopsAt P x → StopsAt P y → a ++ x ≡ b ++ y → (a ≡ b) × (x ≡ y)
 same_fronts P [] [] x y all-a all-b stops-x stops-y e = (refl, e)
 same_fronts P [] (b ∷ bs) [] y all-a all-b stops-x stops-y e = absurd (cc)
 same_fronts P [] (b ∷ bs) (c ∷ x) y all-a all-b stops-x stops-y e =
@@ -38,7 +39,8 @@ no_mark mark a b x lacks-a lacks-b e =
     cc
 
 -- lists that are joined by a mark, if none has the mark
-pub same_joined : (mark : ℕ) (as' bs : List (List ℕ)) → AllByRecursion (Lacks mark) as' → AllByRecursion (Lacks mark) bs → as' ≢ [] → bs ≢ [] → join_with_byte mark as' ≡ join_with_byte mark bs → as' ≡ bs
+pub same_joined : (mark : ℕ) (as' bs : List (List ℕ)) → AllByRecursion (Lacks mark) as' →
+    AllByRecursion (Lacks mark) bs → as' ≢ [] → bs ≢ [] → join_with_byte mark as' ≡ join_with_byte mark bs → as' ≡ bs
 same_joined mark [] bs lacks-a lacks-b some-a some-b e = absurd (some-a refl)
 same_joined mark (a ∷ as') [] lacks-a lacks-b some-a some-b e = absurd (some-b refl)
 same_joined mark (a ∷ []) (b ∷ []) lacks-a lacks-b some-a some-b e = ap (λ (x : List ℕ). x ∷ []) e
@@ -59,7 +61,9 @@ joined_some mark (c ∷ b) [] some e = cc
 joined_some mark (c ∷ b) (d ∷ bs) some e = cc
 
 -- lists that are joined by a mark, if none has the mark or is empty
-pub same_parted : (mark : ℕ) (as' bs : List (List ℕ)) → AllByRecursion (Lacks mark) as' → AllByRecursion (Lacks mark) bs → AllByRecursion (λ part. part ≢ []) as' → AllByRecursion (λ part. part ≢ []) bs → join_with_byte mark as' ≡ join_with_byte mark bs → as' ≡ bs
+pub same_parted : (mark : ℕ) (as' bs : List (List ℕ)) → AllByRecursion (Lacks mark) as' →
+    AllByRecursion (Lacks mark) bs → AllByRecursion (λ part. part ≢ []) as' → AllByRecursion (λ part. part ≢ []) bs →
+    join_with_byte mark as' ≡ join_with_byte mark bs → as' ≡ bs
 same_parted mark [] [] lacks-a lacks-b some-a some-b e = refl
 same_parted mark [] (b ∷ bs) lacks-a lacks-b some-a some-b e = absurd (joined_some mark b bs some-b.0 (sym e))
 same_parted mark (a ∷ as') [] lacks-a lacks-b some-a some-b e = absurd (joined_some mark a as' some-a.0 e)

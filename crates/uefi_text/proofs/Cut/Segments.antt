@@ -1,5 +1,29 @@
 -- A text is cut into segments in one way.
-use Rattle.std.proofs.Common.{◌≡◌, ◌≢◌, ℕ, ◌==◌, ◌||◌, Bool, true, false, List, [], ◌∷◌, ◌++◌, length, refl, sym, ap, subst, ◌∙◌, append_assoc, inl, inr, codes, arith}
+use Rattle.std.proofs.Common.{
+  ◌≡◌,
+  ◌≢◌,
+  ℕ,
+  ◌==◌,
+  ◌||◌,
+  Bool,
+  true,
+  false,
+  List,
+  [],
+  ◌∷◌,
+  ◌++◌,
+  length,
+  refl,
+  sym,
+  ap,
+  subst,
+  ◌∙◌,
+  append_assoc,
+  inl,
+  inr,
+  codes,
+  arith,
+}
 use Rattle.std.specs.Cmp.Lexicographic.{pointwise}
 use Rattle.std.specs.List.{AllByRecursion, join_with_byte}
 use Rattle.uefi_text.specs.Segment.{Segment, named, bare, comma, slash, segment_text}
@@ -51,14 +75,16 @@ all_append P [] ys p q = q
 all_append P (x ∷ xs) ys p q = (p.0, all_append P xs ys p.1 q)
 
 -- joined lists have a property that each of them and the mark have
-pub all_joined : (P : ℕ → Type 0) (mark : ℕ) (parts : List (List ℕ)) → P mark → AllByRecursion (AllByRecursion P) parts → AllByRecursion P (join_with_byte mark parts)
+pub all_joined : (P : ℕ → Type 0) (mark : ℕ) (parts : List (List ℕ)) → P mark →
+    AllByRecursion (AllByRecursion P) parts → AllByRecursion P (join_with_byte mark parts)
 all_joined P mark [] p h = tt
 all_joined P mark (x ∷ []) p h = h.0
 all_joined P mark (x ∷ y ∷ xs) p h =
     all_append P x (mark ∷ join_with_byte mark (y ∷ xs)) h.0 (p, all_joined P mark (y ∷ xs) p h.1)
 
 -- the text of a named segment before something
-pub named_text : (name : List ℕ) (arguments : List (List ℕ)) (x : List ℕ) → segment_text (named name arguments) ++ x ≡ name ++ (0x28 ∷ (join_with_byte comma arguments ++ (0x29 ∷ x)))
+pub named_text : (name : List ℕ) (arguments : List (List ℕ)) (x : List ℕ) →
+    segment_text (named name arguments) ++ x ≡ name ++ (0x28 ∷ (join_with_byte comma arguments ++ (0x29 ∷ x)))
 named_text name arguments x = simp append_assoc
 
 arguments_lack_close : (arguments : List (List ℕ)) → AllByRecursion (AllByRecursion IsArgumentByte) arguments → Lacks 0x29 (join_with_byte comma arguments)
@@ -71,7 +97,8 @@ one_of_length [] h = absurd (omega (arith, h))
 one_of_length (a ∷ []) h = (a, refl)
 one_of_length (a ∷ b ∷ as') h = absurd (omega (arith, h))
 
-pub same_arguments : (whole : Bool) (as' bs : List (List ℕ)) → AreParted whole as' → AreParted whole bs → as' ≢ [] → bs ≢ [] → join_with_byte comma as' ≡ join_with_byte comma bs → as' ≡ bs
+pub same_arguments : (whole : Bool) (as' bs : List (List ℕ)) → AreParted whole as' → AreParted whole bs → as' ≢ [] →
+    bs ≢ [] → join_with_byte comma as' ≡ join_with_byte comma bs → as' ≡ bs
 same_arguments true as' bs parted-a parted-b some-a some-b e =
     let a = one_of_length as' parted-a in
     let b = one_of_length bs parted-b in
@@ -82,10 +109,15 @@ same_arguments false as' bs parted-a parted-b some-a some-b e = same_joined comm
 pub same_named : (name name' : List ℕ) (arguments arguments' : List (List ℕ)) (x y : List ℕ) → IsPlainNamed name arguments → IsPlainNamed name' arguments'
     → segment_text (named name arguments) ++ x ≡ segment_text (named name' arguments') ++ y → (named name arguments ≡ named name' arguments') × (x ≡ y)
 same_named name name' arguments arguments' x y plain plain' e =
-    let spelled : name ++ (0x28 ∷ (join_with_byte comma arguments ++ (0x29 ∷ x))) ≡ name' ++ (0x28 ∷ (join_with_byte comma arguments' ++ (0x29 ∷ y))) = sym (named_text name arguments x) ∙ e ∙ named_text name' arguments' y in
+    let spelled : name ++ (0x28 ∷ (join_with_byte comma arguments ++ (0x29 ∷ x))) ≡ name'
+    ++ (0x28 ∷ (join_with_byte comma arguments' ++ (0x29 ∷ y))) = sym (named_text name arguments x) ∙ e
+    ∙ named_text name' arguments' y in
     let lacks_open = λ (n : List ℕ). all_from IsNameByte (λ c. c ≢ 0x28) (λ c is. is.no_open) n in
-    let outer = same_before_mark 0x28 name name' (join_with_byte comma arguments ++ (0x29 ∷ x)) (join_with_byte comma arguments' ++ (0x29 ∷ y)) (lacks_open name plain.name_bytes) (lacks_open name' plain'.name_bytes) spelled in
-    let inner = same_before_mark 0x29 (join_with_byte comma arguments) (join_with_byte comma arguments') x y (arguments_lack_close arguments plain.argument_bytes) (arguments_lack_close arguments' plain'.argument_bytes) outer.1 in
+    let outer = same_before_mark 0x28 name name' (join_with_byte comma arguments ++ (0x29 ∷ x))
+    (join_with_byte comma arguments' ++ (0x29 ∷ y)) (lacks_open name plain.name_bytes)
+    (lacks_open name' plain'.name_bytes) spelled in
+    let inner = same_before_mark 0x29 (join_with_byte comma arguments) (join_with_byte comma arguments') x y
+    (arguments_lack_close arguments plain.argument_bytes) (arguments_lack_close arguments' plain'.argument_bytes) outer.1 in
     let parted' : AreParted (takes_all name) arguments' = subst (λ (n : List ℕ). AreParted (takes_all n) arguments') (sym outer.0) plain'.parted in
     let same = same_arguments (takes_all name) arguments arguments' plain.parted parted' plain.some plain'.some inner.0 in
     (ap (λ (n : List ℕ). named n arguments) outer.0 ∙ ap (λ (as' : List (List ℕ)). named name' as') same, inner.1)
@@ -107,7 +139,8 @@ same_bare (a ∷ as') (b ∷ bs) x y plain-a plain-b closed-x closed-y e =
     (cc, parts.1)
 
 -- a named segment isn't a bare one
-named_is_not_bare : (name : List ℕ) (arguments : List (List ℕ)) (path_name x y : List ℕ) → IsPlainNamed name arguments → IsBareName path_name → segment_text (named name arguments) ++ x ≡ path_name ++ y → ⊥
+named_is_not_bare : (name : List ℕ) (arguments : List (List ℕ)) (path_name x y : List ℕ) →
+    IsPlainNamed name arguments → IsBareName path_name → segment_text (named name arguments) ++ x ≡ path_name ++ y → ⊥
 named_is_not_bare name arguments [] x y plain is-bare e = absurd is-bare
 named_is_not_bare [] arguments (b ∷ bs) x y plain is-bare e =
     let spelled : 0x28 ∷ (join_with_byte comma arguments ++ (0x29 ∷ x)) ≡ b ∷ (bs ++ y) = sym (named_text [] arguments x) ∙ e in
@@ -119,10 +152,14 @@ named_is_not_bare (n ∷ name) arguments (b ∷ bs) x y plain is-bare e =
     absurd (plain.name_bytes.0.no_backslash (head ∙ is-bare.0))
 
 -- a segment before what closes it is cut off in one way
-pub same_segment : (s t : Segment) (x y : List ℕ) → IsPlainSegment s → IsPlainSegment t → ClosesSegment x → ClosesSegment y → segment_text s ++ x ≡ segment_text t ++ y → (s ≡ t) × (x ≡ y)
-same_segment (named name arguments) (named name' arguments') x y plain-s plain-t closed-x closed-y e = same_named name name' arguments arguments' x y plain-s plain-t e
-same_segment (named name arguments) (bare path_name) x y plain-s plain-t closed-x closed-y e = absurd (named_is_not_bare name arguments path_name x y plain-s plain-t e)
-same_segment (bare path_name) (named name arguments) x y plain-s plain-t closed-x closed-y e = absurd (named_is_not_bare name arguments path_name y x plain-t plain-s (sym e))
+pub same_segment : (s t : Segment) (x y : List ℕ) → IsPlainSegment s → IsPlainSegment t → ClosesSegment x →
+    ClosesSegment y → segment_text s ++ x ≡ segment_text t ++ y → (s ≡ t) × (x ≡ y)
+same_segment (named name arguments) (named name' arguments') x y plain-s plain-t closed-x closed-y e =
+    same_named name name' arguments arguments' x y plain-s plain-t e
+same_segment (named name arguments) (bare path_name) x y plain-s plain-t closed-x closed-y e =
+    absurd (named_is_not_bare name arguments path_name x y plain-s plain-t e)
+same_segment (bare path_name) (named name arguments) x y plain-s plain-t closed-x closed-y e =
+    absurd (named_is_not_bare name arguments path_name y x plain-t plain-s (sym e))
 same_segment (bare a) (bare b) x y plain-s plain-t closed-x closed-y e =
     let parts = same_bare a b x y plain-s plain-t closed-x closed-y e in
     (ap (λ (p : List ℕ). bare p) parts.0, parts.1)
@@ -139,7 +176,13 @@ pub begins_plain : (s : Segment) → IsPlainSegment s → BeginsPlain (segment_t
 begins_plain (named [] arguments) plain =
     record { first = 0x28; others = join_with_byte comma arguments ++ codes ")"; is = refl; no_comma = (λ e. omega arith); no_slash = (λ e. omega arith) }
 begins_plain (named (n ∷ name) arguments) plain =
-    record { first = n; others = name ++ codes "(" ++ join_with_byte comma arguments ++ codes ")"; is = refl; no_comma = plain.name_bytes.0.no_comma; no_slash = plain.name_bytes.0.no_slash }
+    record {
+      first = n;
+      others = name ++ codes "(" ++ join_with_byte comma arguments ++ codes ")";
+      is = refl;
+      no_comma = plain.name_bytes.0.no_comma;
+      no_slash = plain.name_bytes.0.no_slash;
+    }
 begins_plain (bare []) plain = absurd plain
 begins_plain (bare (b ∷ bs)) plain =
     record { first = b; others = bs; is = refl; no_comma = (λ e. omega (arith, plain.0)); no_slash = (λ e. omega (arith, plain.0)) }

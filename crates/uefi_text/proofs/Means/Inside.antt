@@ -17,7 +17,8 @@ pub record IsInside (name inner : List ℕ) (node : Node) : Type 0 where
   pub means : IsNodeText (named name arguments) node
 
 -- arguments that are cut at each comma
-pub arguments_lack_comma : (name : List ℕ) (arguments : List (List ℕ)) (node : Node) → takes_all name ≡ false → IsNodeText (named name arguments) node → AllByRecursion (Lacks comma) arguments
+pub arguments_lack_comma : (name : List ℕ) (arguments : List (List ℕ)) (node : Node) → takes_all name ≡ false →
+    IsNodeText (named name arguments) node → AllByRecursion (Lacks comma) arguments
 arguments_lack_comma name arguments node cut means =
     let plain : IsPlainNamed name arguments = plain_of_text (named name arguments) node means in
     subst (λ w. AreParted w arguments) cut plain.parted
@@ -26,9 +27,12 @@ arguments_some : (name : List ℕ) (arguments : List (List ℕ)) (node : Node) �
 arguments_some name arguments node means = let plain : IsPlainNamed name arguments = plain_of_text (named name arguments) node means in plain.some
 
 -- the inner text that is cut at each comma is the arguments
-pub inside_parts : (name inner : List ℕ) (parts : List (List ℕ)) (node : Node) → takes_all name ≡ false → parts ≢ [] → AllByRecursion (Lacks comma) parts → inner ≡ join_with_byte comma parts → IsInside name inner node → IsNodeText (named name parts) node
+pub inside_parts : (name inner : List ℕ) (parts : List (List ℕ)) (node : Node) → takes_all name ≡ false → parts ≢ [] →
+    AllByRecursion (Lacks comma) parts → inner ≡ join_with_byte comma parts → IsInside name inner node →
+    IsNodeText (named name parts) node
 inside_parts name inner parts node cut some lacks joined is =
-    let same = same_joined comma is.arguments parts (arguments_lack_comma name is.arguments node cut is.means) lacks (arguments_some name is.arguments node is.means) some (sym is.joined ∙ joined) in
+    let same = same_joined comma is.arguments parts (arguments_lack_comma name is.arguments node cut is.means) lacks
+    (arguments_some name is.arguments node is.means) some (sym is.joined ∙ joined) in
     subst (λ (as' : List (List ℕ)). IsNodeText (named name as') node) same is.means
 
 -- the inner text of a name whose one argument may have commas
@@ -39,7 +43,8 @@ inside_whole name inner node whole is =
     let inner-is : inner ≡ one.0 = is.joined ∙ ap (join_with_byte comma) one.1 in
     subst (λ (as' : List (List ℕ)). IsNodeText (named name as') node) (one.1 ∙ ap (λ (a : List ℕ). a ∷ []) (sym inner-is)) is.means
 
-same_inside : (name inner : List ℕ) (m n : Node) (whole : Bool) → takes_all name ≡ whole → (p : IsInside name inner m) → IsInside name inner n → IsNodeText (named name p.arguments) n
+same_inside : (name inner : List ℕ) (m n : Node) (whole : Bool) → takes_all name ≡ whole →
+    (p : IsInside name inner m) → IsInside name inner n → IsNodeText (named name p.arguments) n
 same_inside name inner m n true e p q =
     let plain : IsPlainNamed name p.arguments = plain_of_text (named name p.arguments) m p.means in
     let one = one_of_length p.arguments (subst (λ w. AreParted w p.arguments) e plain.parted) in
@@ -49,5 +54,6 @@ same_inside name inner m n false e p q =
     inside_parts name inner p.arguments n e (arguments_some name p.arguments m p.means) (arguments_lack_comma name p.arguments m e p.means) p.joined q
 
 -- a named segment is read by the form of its name
-pub reads_named : (name : List ℕ) (arguments : List (List ℕ)) (node : Node) (form : Form) → form_of name ≡ form → IsNodeText (named name arguments) node → ReadsAs form arguments node
+pub reads_named : (name : List ℕ) (arguments : List (List ℕ)) (node : Node) (form : Form) → form_of name ≡ form →
+    IsNodeText (named name arguments) node → ReadsAs form arguments node
 reads_named name arguments node form e means = subst (λ f. ReadsAs f arguments node) e (reads_of (named name arguments) node means.means)

@@ -1,7 +1,23 @@
 -- A segment means at most one node.
 use Rattle.std.proofs.Common.{◌≡◌, ℕ, List, [], ◌∷◌, get_or, refl, sym, ap, subst, ◌∙◌, inl, inr, codes, arith}
 use Rattle.uefi_path.specs.declared.node.Node.{Node}
-use Rattle.uefi_path.specs.declared.node.Node.TheVariants.{Pci, VendorHw, Acpi, Usb, VendorMsg, Mac, Ipv4, Sata, Vlan, Nvme, Uri, HardDrive, Cdrom, VendorMedia, FilePath}
+use Rattle.uefi_path.specs.declared.node.Node.TheVariants.{
+  Pci,
+  VendorHw,
+  Acpi,
+  Usb,
+  VendorMsg,
+  Mac,
+  Ipv4,
+  Sata,
+  Vlan,
+  Nvme,
+  Uri,
+  HardDrive,
+  Cdrom,
+  VendorMedia,
+  FilePath,
+}
 use Rattle.uefi_path.specs.Parts.{VendorParts, vendor_parts, ipv4_parts, hard_drive_parts}
 use Rattle.uefi_path.specs.Row.{row, row_bytes}
 use Rattle.uefi_path.specs.Node.{row_of, IsNode, SpellsNode}
@@ -9,8 +25,62 @@ use Rattle.uefi_text.specs.Segment.{Segment, named, bare}
 use Rattle.uefi_path.specs.Standard.{pci_root_hid, pcie_root_hid}
 use Rattle.uefi_text.specs.Node.{IsOptionalData, IsVendorText}
 use Rattle.uefi_text.specs.Path.{IsNodeText}
-use Rattle.uefi_text.proofs.Means.Texts.{first_code, number_one, hex_one, address_one, eui_one, guid_one, pnp_one, pnp_is_no_number, mac_address_one, mbr_signature_one, origin_one}
-use Rattle.uefi_text.proofs.Means.Reads.{Form, pci_form, usb_form, sata_form, nvme_form, pci_root_form, pcie_root_form, acpi_form, mac_form, ipv4_form, vlan_form, uri_form, file_form, hard_drive_form, cdrom_form, vendor_hw_form, vendor_msg_form, vendor_media_form, generic_form, no_form, form_of, ReadsPci, ReadsUsb, ReadsSata, ReadsNvme, ReadsRoot, IsHid, ReadsAcpi, ReadsMac, ReadsIpv4, ReadsVlan, ReadsUri, ReadsFile, IsSignature, ReadsHardDrive, ReadsCdrom, ReadsVendor, ReadsGeneric, ReadsAs, ReadsSegment, reads_of}
+use Rattle.uefi_text.proofs.Means.Texts.{
+  first_code,
+  number_one,
+  hex_one,
+  address_one,
+  eui_one,
+  guid_one,
+  pnp_one,
+  pnp_is_no_number,
+  mac_address_one,
+  mbr_signature_one,
+  origin_one,
+}
+use Rattle.uefi_text.proofs.Means.Reads.{
+  Form,
+  pci_form,
+  usb_form,
+  sata_form,
+  nvme_form,
+  pci_root_form,
+  pcie_root_form,
+  acpi_form,
+  mac_form,
+  ipv4_form,
+  vlan_form,
+  uri_form,
+  file_form,
+  hard_drive_form,
+  cdrom_form,
+  vendor_hw_form,
+  vendor_msg_form,
+  vendor_media_form,
+  generic_form,
+  no_form,
+  form_of,
+  ReadsPci,
+  ReadsUsb,
+  ReadsSata,
+  ReadsNvme,
+  ReadsRoot,
+  IsHid,
+  ReadsAcpi,
+  ReadsMac,
+  ReadsIpv4,
+  ReadsVlan,
+  ReadsUri,
+  ReadsFile,
+  IsSignature,
+  ReadsHardDrive,
+  ReadsCdrom,
+  ReadsVendor,
+  ReadsGeneric,
+  ReadsAs,
+  ReadsSegment,
+  reads_of,
+}
 
 -- what the crate of paths proves as a law: bytes spell at most one node
 abbrev pub BytesSpellOneNode : Type 0
@@ -118,13 +188,15 @@ pub signature_one : (f f' s t : List ℕ) (k l : ℕ) (g h : List ℕ) → f ≡
 signature_one f f' s t k l g h format same (inl (is, guid, kind)) (inl (is', guid', kind')) = (kind ∙ sym kind', guid_one s t g h same guid guid')
 signature_one f f' s t k l g h format same (inl (is, guid, kind)) (inr (is', number, kind')) = absurd (gpt_is_not_mbr f f' format is is')
 signature_one f f' s t k l g h format same (inr (is, number, kind)) (inl (is', guid, kind')) = absurd (gpt_is_not_mbr f' f (sym format) is' is)
-signature_one f f' s t k l g h format same (inr (is, number, kind)) (inr (is', number', kind')) = (kind ∙ sym kind', mbr_signature_one s t g h same number number')
+signature_one f f' s t k l g h format same (inr (is, number, kind)) (inr (is', number', kind')) =
+    (kind ∙ sym kind', mbr_signature_one s t g h same number number')
 
 hard_drive_one : (arguments : List (List ℕ)) (m n : Node) → ReadsHardDrive arguments m → ReadsHardDrive arguments n → m ≡ n
 hard_drive_one arguments m n p q =
     let are = sym p.are ∙ q.are in
     let ps : p.p ≡ q.p = number_one p.partition q.partition p.p q.p (same_argument 0 _ _ are) p.partition_is q.partition_is in
-    let signatures = signature_one p.format q.format p.signature q.signature p.kind q.kind p.g q.g (same_argument 1 _ _ are) (same_argument 2 _ _ are) p.signature_is q.signature_is in
+    let signatures = signature_one p.format q.format p.signature q.signature p.kind q.kind p.g q.g
+    (same_argument 1 _ _ are) (same_argument 2 _ _ are) p.signature_is q.signature_is in
     let sts : p.st ≡ q.st = number_one p.start q.start p.st q.st (same_argument 3 _ _ are) p.start_is q.start_is in
     let sis : p.si ≡ q.si = number_one p.size q.size p.si q.si (same_argument 4 _ _ are) p.size_is q.size_is in
     p.is ∙ ap (λ x. HardDrive (hard_drive_parts x p.st p.si p.g p.kind p.kind)) ps
@@ -166,7 +238,8 @@ generic_one law arguments m n valid valid' p q =
     let bs : p.body ≡ q.body = optional_data_one p.more q.more p.body q.body (ap behind_two are) p.body_is q.body_is in
     node_of_row law m n valid valid' (p.is ∙ ap (λ x. row x p.s p.body) ks ∙ ap (λ x. row q.k x p.body) ss ∙ ap (λ (x : List ℕ). row q.k q.s x) bs ∙ sym q.is)
 
-reads_one : BytesSpellOneNode → (form : Form) (arguments : List (List ℕ)) (m n : Node) → IsNode m → IsNode n → ReadsAs form arguments m → ReadsAs form arguments n → m ≡ n
+reads_one : BytesSpellOneNode → (form : Form) (arguments : List (List ℕ)) (m n : Node) → IsNode m → IsNode n →
+    ReadsAs form arguments m → ReadsAs form arguments n → m ≡ n
 reads_one law pci_form arguments m n valid valid' p q = pci_one arguments m n p q
 reads_one law usb_form arguments m n valid valid' p q = usb_one arguments m n p q
 reads_one law sata_form arguments m n valid valid' p q = sata_one arguments m n p q

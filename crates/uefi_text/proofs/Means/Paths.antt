@@ -28,7 +28,8 @@ each_some R (x ∷ xs) ys h some e = cc
 pub nodes_one : BytesSpellOneNode → (segments : List Segment) (m n : List Node) → Each IsNodeText segments m → Each IsNodeText segments n → m ≡ n
 nodes_one law segments m n p q = each_one IsNodeText (node_text_one law) segments m n p q
 
-pub instances_one : BytesSpellOneNode → (cut : List (List Segment)) (p q : List (List Node)) → Each (Each IsNodeText) cut p → Each (Each IsNodeText) cut q → p ≡ q
+pub instances_one : BytesSpellOneNode → (cut : List (List Segment)) (p q : List (List Node)) →
+    Each (Each IsNodeText) cut p → Each (Each IsNodeText) cut q → p ≡ q
 instances_one law cut p q h g = each_one (Each IsNodeText) (nodes_one law) cut p q h g
 
 -- the cut of a text that stands for a path
@@ -50,11 +51,14 @@ some_nodes_is_plain : (s : Segment) → IsSomeNodes s → IsPlainSegment s
 some_nodes_is_plain s is = plain_of_text s is.0 is.1
 
 -- after whole instances and segments a text of a path goes on with a segment, or an empty instance closes
-pub path_goes_on : (text : List ℕ) (path : List (List Node)) (instances : List (List Segment)) (segments : List Segment) (rest : List ℕ) → IsPathText text path → AllByRecursion IsPlainInstance instances → IsPlainInstance segments → text ≡ closed_text instances segments ++ rest
+pub path_goes_on : (text : List ℕ) (path : List (List Node)) (instances : List (List Segment))
+    (segments : List Segment) (rest : List ℕ) → IsPathText text path → AllByRecursion IsPlainInstance instances →
+    IsPlainInstance segments → text ≡ closed_text instances segments ++ rest
     → BeginsWith IsSomeNodes rest ⊎ ((segments ≡ []) × EndsOr comma rest)
 path_goes_on text path instances segments rest is plain-i plain-s parts =
     text_goes_on IsSomeNodes some_nodes_is_plain instances segments rest is.cut plain-i plain-s
-    (all_from_each (Each IsNodeText) (AllByRecursion IsSomeNodes) (λ ss ns h. all_from_each IsNodeText IsSomeNodes (λ s n is-node. (n, is-node)) ss ns h) is.cut path is.nodes)
+    (all_from_each (Each IsNodeText) (AllByRecursion IsSomeNodes)
+    (λ ss ns h. all_from_each IsNodeText IsSomeNodes (λ s n is-node. (n, is-node)) ss ns h) is.cut path is.nodes)
     (each_some (Each IsNodeText) is.cut path is.nodes is.valid.some) (sym parts ∙ is.is)
 
 pub begins_with_node : (rest : List ℕ) → BeginsWith IsSomeNodes rest → BeginsWithNode rest
@@ -63,7 +67,9 @@ begins_with_node rest b =
 
 pub stuck_is_no_path : (text : List ℕ) (place : ℕ) (path : List (List Node)) → IsStuckAt text place → IsPathText text path → ⊥
 stuck_is_no_path text place path stuck is =
-    elim (path_goes_on text path stuck.instances stuck.segments stuck.rest is (cut_is_plain stuck.instances stuck.path stuck.whole_instances) (instance_is_plain stuck.segments stuck.nodes stuck.whole_segments) stuck.parts) [
+    elim (path_goes_on text path stuck.instances stuck.segments stuck.rest is
+    (cut_is_plain stuck.instances stuck.path stuck.whole_instances)
+    (instance_is_plain stuck.segments stuck.nodes stuck.whole_segments) stuck.parts) [
       | inl begins ↦ stuck.no_node (begins_with_node stuck.rest begins)
       | inr empty ↦ stuck.no_empty empty.0 empty.1
     ]

@@ -48,7 +48,8 @@ digits_are_plain base (c ∷ text) low h = (digit_is_plain base c low h.0, digit
 
 pub number_is_plain : (text : List ℕ) (n : ℕ) → IsNumber text n → ArePlain text
 number_is_plain text n (inl (tail, is, digits)) =
-    subst ArePlain (sym is) (all_append IsPlainByte (codes "0x") tail (words_are_plain (codes "0x") refl) (digits_are_plain 16 tail (omega arith) digits.numeral.1))
+    subst ArePlain (sym is) (all_append IsPlainByte (codes "0x") tail (words_are_plain (codes "0x") refl)
+    (digits_are_plain 16 tail (omega arith) digits.numeral.1))
 number_is_plain text n (inr digits) = digits_are_plain 10 text (omega arith) digits.numeral.1
 
 pub hex_is_plain : (text bytes : List ℕ) → IsHexData text bytes → ArePlain text
@@ -66,19 +67,23 @@ hyphen_is_plain = plain_by_test hyphen refl
 
 pub address_is_plain : (text bytes : List ℕ) → IsAddress text bytes → ArePlain text
 address_is_plain text bytes (parts, is, read) =
-    subst ArePlain (sym is) (all_joined IsPlainByte dot parts dot_is_plain (all_from_each IsOctet ArePlain (λ x y octet. digits_are_plain 10 x (omega arith) octet.0.numeral.1) parts bytes read))
+    subst ArePlain (sym is) (all_joined IsPlainByte dot parts dot_is_plain
+    (all_from_each IsOctet ArePlain (λ x y octet. digits_are_plain 10 x (omega arith) octet.0.numeral.1) parts bytes read))
 
 pub eui_is_plain : (text bytes : List ℕ) → IsEui text bytes → ArePlain text
 eui_is_plain text bytes (pairs, is, read) =
-    subst ArePlain (sym is) (all_joined IsPlainByte hyphen pairs hyphen_is_plain (all_from_each IsByteText ArePlain (λ x y pair. hex_is_plain x (y ∷ []) pair) pairs bytes read))
+    subst ArePlain (sym is) (all_joined IsPlainByte hyphen pairs hyphen_is_plain
+    (all_from_each IsByteText ArePlain (λ x y pair. hex_is_plain x (y ∷ []) pair) pairs bytes read))
 
 pub guid_is_plain : (text guid : List ℕ) → IsGuid text guid → ArePlain text
 guid_is_plain text guid is =
-    subst ArePlain (sym is.joined) (all_joined IsPlainByte hyphen is.groups hyphen_is_plain (all_from_each IsHexData ArePlain hex_is_plain is.groups (guid_groups guid) is.read))
+    subst ArePlain (sym is.joined) (all_joined IsPlainByte hyphen is.groups hyphen_is_plain
+    (all_from_each IsHexData ArePlain hex_is_plain is.groups (guid_groups guid) is.read))
 
 pub pnp_is_plain : (text : List ℕ) (hid : ℕ) → means.IsPnp text hid → ArePlain text
 pnp_is_plain text hid is =
-    subst ArePlain (sym is.is) (all_append IsPlainByte (codes "PNP") is.four (words_are_plain (codes "PNP") refl) (digits_are_plain 16 is.four (omega arith) is.all))
+    subst ArePlain (sym is.is) (all_append IsPlainByte (codes "PNP") is.four (words_are_plain (codes "PNP") refl)
+    (digits_are_plain 16 is.four (omega arith) is.all))
 
 pub origin_is_plain : (text : List ℕ) (fixed : ℕ) → means.IsOrigin text fixed → ArePlain text
 origin_is_plain text fixed (inl (is, flag)) = subst ArePlain (sym is) (words_are_plain (codes "DHCP") refl)
@@ -121,10 +126,13 @@ argument_byte_of c plain = record { no_open = plain.no_open; no_close = plain.no
 
 parted_of : (whole : Bool) (arguments : List (List ℕ)) → whole ≡ false → ArePlainArguments arguments → AreParted whole arguments
 parted_of whole arguments e plain =
-    subst (λ w. AreParted w arguments) (sym e) (all_from ArePlain (Lacks comma) (λ text. all_from IsPlainByte (λ c. c ≢ comma) (λ c is. is.no_comma) text) arguments plain)
+    subst (λ w. AreParted w arguments) (sym e)
+    (all_from ArePlain (Lacks comma) (λ text. all_from IsPlainByte (λ c. c ≢ comma) (λ c is. is.no_comma) text)
+    arguments plain)
 
 -- a segment of a name other than `Uri` and `File`, of arguments without parentheses and commas
-pub plain_of_arguments : (name : List ℕ) (arguments : List (List ℕ)) → list_all is_name_byte name ≡ true → takes_all name ≡ false → arguments ≢ [] → ArePlainArguments arguments → IsPlainNamed name arguments
+pub plain_of_arguments : (name : List ℕ) (arguments : List (List ℕ)) → list_all is_name_byte name ≡ true →
+    takes_all name ≡ false → arguments ≢ [] → ArePlainArguments arguments → IsPlainNamed name arguments
 plain_of_arguments name arguments letters parted some plain =
     record {
       name_bytes = names_by_test name letters;
@@ -134,7 +142,8 @@ plain_of_arguments name arguments letters parted some plain =
     }
 
 -- a segment of one argument without parentheses
-pub plain_of_whole : (name argument : List ℕ) → list_all is_name_byte name ≡ true → takes_all name ≡ true → AllByRecursion IsArgumentByte argument → IsPlainNamed name (argument ∷ [])
+pub plain_of_whole : (name argument : List ℕ) → list_all is_name_byte name ≡ true → takes_all name ≡ true →
+    AllByRecursion IsArgumentByte argument → IsPlainNamed name (argument ∷ [])
 plain_of_whole name argument letters whole plain =
     record {
       name_bytes = names_by_test name letters;
@@ -153,25 +162,46 @@ name_units units h = all_from means.IsNameUnit IsArgumentByte (λ c is. record {
 pub plain_of_meaning : (s : Segment) (n : Node) → means.MeansNode s n → IsPlainSegment s
 plain_of_meaning s n (means.pci a b) = plain_of_arguments (codes "Pci") _ refl refl (λ no. cc) (number_is_plain _ _ a, (number_is_plain _ _ b, tt))
 plain_of_meaning s n (means.usb a b) = plain_of_arguments (codes "USB") _ refl refl (λ no. cc) (number_is_plain _ _ a, (number_is_plain _ _ b, tt))
-plain_of_meaning s n (means.sata a b c) = plain_of_arguments (codes "Sata") _ refl refl (λ no. cc) (number_is_plain _ _ a, (number_is_plain _ _ b, (number_is_plain _ _ c, tt)))
+plain_of_meaning s n (means.sata a b c) = plain_of_arguments (codes "Sata") _ refl refl (λ no. cc)
+    (number_is_plain _ _ a, (number_is_plain _ _ b, (number_is_plain _ _ c, tt)))
 plain_of_meaning s n (means.nvme a b) = plain_of_arguments (codes "NVMe") _ refl refl (λ no. cc) (number_is_plain _ _ a, (eui_is_plain _ _ b, tt))
 plain_of_meaning s n (means.pci_root a) = plain_of_arguments (codes "PciRoot") _ refl refl (λ no. cc) (number_is_plain _ _ a, tt)
 plain_of_meaning s n (means.pcie_root a) = plain_of_arguments (codes "PcieRoot") _ refl refl (λ no. cc) (number_is_plain _ _ a, tt)
 plain_of_meaning s n (means.acpi_pnp a b) = plain_of_arguments (codes "Acpi") _ refl refl (λ no. cc) (pnp_is_plain _ _ a, (number_is_plain _ _ b, tt))
 plain_of_meaning s n (means.acpi a b) = plain_of_arguments (codes "Acpi") _ refl refl (λ no. cc) (number_is_plain _ _ a, (number_is_plain _ _ b, tt))
 plain_of_meaning s n (means.mac a b c) = plain_of_arguments (codes "MAC") _ refl refl (λ no. cc) (hex_is_plain _ _ a.read, (number_is_plain _ _ b, tt))
-plain_of_meaning s n (means.ipv4 a b c d e f) = plain_of_arguments (codes "IPv4") _ refl refl (λ no. cc) (address_is_plain _ _ a, (number_is_plain _ _ b, (origin_is_plain _ _ c, (address_is_plain _ _ d, (address_is_plain _ _ e, (address_is_plain _ _ f, tt))))))
+plain_of_meaning s n (means.ipv4 a b c d e f) = plain_of_arguments (codes "IPv4") _ refl refl (λ no. cc) (
+  address_is_plain _ _ a,
+  (
+    number_is_plain _ _ b,
+    (origin_is_plain _ _ c, (address_is_plain _ _ d, (address_is_plain _ _ e, (address_is_plain _ _ f, tt)))),
+  ),
+)
 plain_of_meaning s n (means.vlan a) = plain_of_arguments (codes "Vlan") _ refl refl (λ no. cc) (number_is_plain _ _ a, tt)
 plain_of_meaning s n (means.uri a) = plain_of_whole (codes "Uri") _ refl refl (uri_bytes _ a)
 plain_of_meaning s n (means.file a) = plain_of_whole (codes "File") _ refl refl (name_units _ a)
 plain_of_meaning s n (means.bare_file a) = a
-plain_of_meaning s n (means.hd_gpt a b c d) = plain_of_arguments (codes "HD") _ refl refl (λ no. cc) (number_is_plain _ _ a, (words_are_plain (codes "GPT") refl, (guid_is_plain _ _ b, (number_is_plain _ _ c, (number_is_plain _ _ d, tt)))))
-plain_of_meaning s n (means.hd_mbr a b c d) = plain_of_arguments (codes "HD") _ refl refl (λ no. cc) (number_is_plain _ _ a, (words_are_plain (codes "MBR") refl, (number_is_plain _ _ b.read, (number_is_plain _ _ c, (number_is_plain _ _ d, tt)))))
-plain_of_meaning s n (means.cdrom a b c) = plain_of_arguments (codes "CDROM") _ refl refl (λ no. cc) (number_is_plain _ _ a, (number_is_plain _ _ b, (number_is_plain _ _ c, tt)))
+plain_of_meaning s n (means.hd_gpt a b c d) = plain_of_arguments (codes "HD") _ refl refl (λ no. cc) (
+  number_is_plain _ _ a,
+  (
+    words_are_plain (codes "GPT") refl,
+    (guid_is_plain _ _ b, (number_is_plain _ _ c, (number_is_plain _ _ d, tt))),
+  ),
+)
+plain_of_meaning s n (means.hd_mbr a b c d) = plain_of_arguments (codes "HD") _ refl refl (λ no. cc) (
+  number_is_plain _ _ a,
+  (
+    words_are_plain (codes "MBR") refl,
+    (number_is_plain _ _ b.read, (number_is_plain _ _ c, (number_is_plain _ _ d, tt))),
+  ),
+)
+plain_of_meaning s n (means.cdrom a b c) = plain_of_arguments (codes "CDROM") _ refl refl (λ no. cc)
+    (number_is_plain _ _ a, (number_is_plain _ _ b, (number_is_plain _ _ c, tt)))
 plain_of_meaning s n (means.vendor_hw a) = plain_of_arguments (codes "VenHw") _ refl refl (vendor_text_some _ _ a) (vendor_text_is_plain _ _ a)
 plain_of_meaning s n (means.vendor_msg a) = plain_of_arguments (codes "VenMsg") _ refl refl (vendor_text_some _ _ a) (vendor_text_is_plain _ _ a)
 plain_of_meaning s n (means.vendor_media a) = plain_of_arguments (codes "VenMedia") _ refl refl (vendor_text_some _ _ a) (vendor_text_is_plain _ _ a)
-plain_of_meaning s n (means.generic a b c e) = plain_of_arguments (codes "Path") _ refl refl (λ no. cc) (number_is_plain _ _ a, (number_is_plain _ _ b, optional_data_is_plain _ _ c))
+plain_of_meaning s n (means.generic a b c e) = plain_of_arguments (codes "Path") _ refl refl (λ no. cc)
+    (number_is_plain _ _ a, (number_is_plain _ _ b, optional_data_is_plain _ _ c))
 
 pub plain_of_text : (s : Segment) (n : Node) → IsNodeText s n → IsPlainSegment s
 plain_of_text s n is = plain_of_meaning s n is.means

@@ -1,5 +1,39 @@
 -- What is printed of a number, of bytes, of an address or of a GUID is read as it.
-use Rattle.std.proofs.Common.{◌≡◌, ◌<◌, ◌≤◌, ◌+◌, ◌*◌, ◌/◌, ◌%◌, ◌^◌, ℕ, zero, suc, Bool, true, false, ◌==◌, List, [], ◌∷◌, ◌++◌, length, map, take, drop, reverse, refl, sym, ◌∙◌, inl, inr, codes, arith, eq-eqb, ne_eqb}
+use Rattle.std.proofs.Common.{
+  ◌≡◌,
+  ◌<◌,
+  ◌≤◌,
+  ◌+◌,
+  ◌*◌,
+  ◌/◌,
+  ◌%◌,
+  ◌^◌,
+  ℕ,
+  zero,
+  suc,
+  Bool,
+  true,
+  false,
+  ◌==◌,
+  List,
+  [],
+  ◌∷◌,
+  ◌++◌,
+  length,
+  map,
+  take,
+  drop,
+  reverse,
+  refl,
+  sym,
+  ◌∙◌,
+  inl,
+  inr,
+  codes,
+  arith,
+  eq-eqb,
+  ne_eqb,
+}
 use mathlib.Core.List.{reverse_aux}
 use Rattle.std.proofs.Math.Nat.{pow-suc, div-lt_iff_lt-mul}
 use Rattle.std.proofs.lemmas.Bool.Decides.{nat_tests}
@@ -35,7 +69,9 @@ digits_length (suc j) (suc k) n upper acc h =
     let bound : n < 16 ^ suc j * 16 = rw (pow-suc 16 (suc j)) at h in
     let front : n / 16 < 16 ^ suc j = (div-lt_iff_lt-mul {k = 16} {x = n} {y = 16 ^ suc j} (omega arith)).1 bound in
     let more = digits_length j k (n / 16) upper (digit_glyph upper (n % 16) ∷ acc) front in
-    either_is_short (n / 16 == 0) (digit_glyph upper (n % 16) ∷ acc) (digits_onto k 16 upper (n / 16) (digit_glyph upper (n % 16) ∷ acc)) (suc (suc j) + length acc) (omega arith) (omega (arith, more))
+    either_is_short (n / 16 == 0) (digit_glyph upper (n % 16) ∷ acc)
+    (digits_onto k 16 upper (n / 16) (digit_glyph upper (n % 16) ∷ acc)) (suc (suc j) + length acc) (omega arith)
+    (omega (arith, more))
 
 pub number_text_length : (n : ℕ) → n < 2 ^ 64 → length (digits 16 false n) ≤ 16
 unfolding digits
@@ -89,7 +125,8 @@ value_of_two upper a b ha hb =
     let b1 = high_value upper b hb in let b0 = low_value upper b in
     rw (a1, a0, b1, b0) (omega arith)
 
-value_of_four : (upper : Bool) (a b c d : ℕ) → IsByte a → IsByte b → IsByte c → IsByte d → digits_value 16 (flat_map (pair_text upper) (a ∷ b ∷ c ∷ d ∷ [])) ≡ a * 16777216 + b * 65536 + c * 256 + d
+value_of_four : (upper : Bool) (a b c d : ℕ) → IsByte a → IsByte b → IsByte c → IsByte d →
+    digits_value 16 (flat_map (pair_text upper) (a ∷ b ∷ c ∷ d ∷ [])) ≡ a * 16777216 + b * 65536 + c * 256 + d
 value_of_four upper a b c d ha hb hc hd =
     let a1 = high_value upper a ha in let a0 = low_value upper a in
     let b1 = high_value upper b hb in let b0 = low_value upper b in
@@ -171,11 +208,18 @@ all_reverse P xs h = all_reverse_onto P xs [] h tt
 pub guid_printed_is : (guid : List ℕ) → AreBytes 16 guid → IsGuid (guid_text guid) guid
 guid_printed_is guid are =
     let front = λ (n : ℕ) (xs : List ℕ) (h : AllByRecursion IsByte xs). hex_printed (take n xs) (all_take IsByte n xs h) in
-    let turned = λ (n : ℕ) (xs : List ℕ) (h : AllByRecursion IsByte xs). hex_printed (reverse (take n xs)) (all_reverse IsByte (take n xs) (all_take IsByte n xs h)) in
+    let turned = λ (n : ℕ) (xs : List ℕ) (h : AllByRecursion IsByte xs). hex_printed (reverse (take n xs))
+    (all_reverse IsByte (take n xs) (all_take IsByte n xs h)) in
     let behind = λ (n : ℕ). all_drop IsByte n guid are.1 in
     record {
       groups = map hex_text (guid_groups guid);
       joined = refl;
-      read = (turned 4 guid are.1, (turned 2 (drop 4 guid) (behind 4), (turned 2 (drop 6 guid) (behind 6), (front 2 (drop 8 guid) (behind 8), (hex_printed (drop 10 guid) (behind 10), tt)))));
+      read = (
+        turned 4 guid are.1,
+        (
+          turned 2 (drop 4 guid) (behind 4),
+          (turned 2 (drop 6 guid) (behind 6), (front 2 (drop 8 guid) (behind 8), (hex_printed (drop 10 guid) (behind 10), tt))),
+        ),
+      );
       len = are.0;
     }

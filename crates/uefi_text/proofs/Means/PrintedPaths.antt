@@ -13,7 +13,8 @@ pub instance_printed : EachNodeIsSpelled → (nodes : List Node) → AllByRecurs
 instance_printed law [] valid = tt
 instance_printed law (node ∷ nodes) valid = (segment_stands law node valid.0, instance_printed law nodes valid.1)
 
-pub instances_printed : EachNodeIsSpelled → (path : List (List Node)) → AllByRecursion (AllByRecursion IsNode) path → Each (Each IsNodeText) (map (map segment_of) path) path
+pub instances_printed : EachNodeIsSpelled → (path : List (List Node)) → AllByRecursion (AllByRecursion IsNode) path →
+    Each (Each IsNodeText) (map (map segment_of) path) path
 instances_printed law [] valid = tt
 instances_printed law (nodes ∷ path) valid = (instance_printed law nodes valid.0, instances_printed law path valid.1)
 

@@ -3,7 +3,23 @@ use Rattle.std.proofs.Common.{◌≡◌, ◌≤◌, ◌⊎◌, ◌==◌, ℕ, Bo
 use Rattle.std.specs.Cmp.Lexicographic.{pointwise}
 use Rattle.std.specs.List.{AllByRecursion}
 use Rattle.uefi_path.specs.declared.node.Node.{Node}
-use Rattle.uefi_path.specs.declared.node.Node.TheVariants.{Pci, VendorHw, Acpi, Usb, VendorMsg, Mac, Ipv4, Sata, Vlan, Nvme, Uri, HardDrive, Cdrom, VendorMedia, FilePath}
+use Rattle.uefi_path.specs.declared.node.Node.TheVariants.{
+  Pci,
+  VendorHw,
+  Acpi,
+  Usb,
+  VendorMsg,
+  Mac,
+  Ipv4,
+  Sata,
+  Vlan,
+  Nvme,
+  Uri,
+  HardDrive,
+  Cdrom,
+  VendorMedia,
+  FilePath,
+}
 use Rattle.uefi_path.specs.Parts.{VendorParts, ipv4_parts, hard_drive_parts}
 use Rattle.uefi_path.specs.Row.{row}
 use Rattle.uefi_path.specs.Node.{row_of}
@@ -262,24 +278,149 @@ ReadsSegment (bare units) node = means.IsBareName units × (node ≡ FilePath un
 
 -- a segment that means a node is read as it
 pub reads_of : (s : Segment) (n : Node) → means.MeansNode s n → ReadsSegment s n
-reads_of s n (means.pci device_is function_is) = record { device = _; function = _; d = _; f = _; are = refl; device_is = device_is; function_is = function_is; is = refl }
-reads_of s n (means.usb port_is interface_is) = record { port = _; interface = _; p = _; i = _; are = refl; port_is = port_is; interface_is = interface_is; is = refl }
-reads_of s n (means.sata hba_is multiplier_is lun_is) = record { hba = _; multiplier = _; lun = _; h = _; m = _; l = _; are = refl; hba_is = hba_is; multiplier_is = multiplier_is; lun_is = lun_is; is = refl }
-reads_of s n (means.nvme namespace_is identifier_is) = record { namespace = _; identifier = _; n = _; eui = _; are = refl; namespace_is = namespace_is; identifier_is = identifier_is; is = refl }
+reads_of s n (means.pci device_is function_is) =
+    record { device = _; function = _; d = _; f = _; are = refl; device_is = device_is; function_is = function_is; is = refl }
+reads_of s n (means.usb port_is interface_is) =
+    record { port = _; interface = _; p = _; i = _; are = refl; port_is = port_is; interface_is = interface_is; is = refl }
+reads_of s n (means.sata hba_is multiplier_is lun_is) =
+    record {
+      hba = _;
+      multiplier = _;
+      lun = _;
+      h = _;
+      m = _;
+      l = _;
+      are = refl;
+      hba_is = hba_is;
+      multiplier_is =
+          multiplier_is;
+      lun_is = lun_is;
+      is = refl;
+    }
+reads_of s n (means.nvme namespace_is identifier_is) =
+    record {
+      namespace = _;
+      identifier = _;
+      n = _;
+      eui = _;
+      are = refl;
+      namespace_is = namespace_is;
+      identifier_is =
+          identifier_is;
+      is = refl;
+    }
 reads_of s n (means.pci_root uid_is) = record { uid = _; u = _; are = refl; uid_is = uid_is; is = refl }
 reads_of s n (means.pcie_root uid_is) = record { uid = _; u = _; are = refl; uid_is = uid_is; is = refl }
 reads_of s n (means.acpi_pnp hid_is uid_is) = record { hid = _; uid = _; h = _; u = _; are = refl; hid_is = inl hid_is; uid_is = uid_is; is = refl }
 reads_of s n (means.acpi hid_is uid_is) = record { hid = _; uid = _; h = _; u = _; are = refl; hid_is = inr hid_is; uid_is = uid_is; is = refl }
-reads_of s n (means.mac address_is if_kind_is plain) = record { address = _; if_kind = _; bytes = _; k = _; are = refl; address_is = address_is; if_kind_is = if_kind_is; plain = plain; is = refl }
-reads_of s n (means.ipv4 remote_is protocol_is origin_is local_is gateway_is mask_is) = record { remote = _; protocol = _; origin = _; local = _; gateway = _; mask = _; r = _; p = _; f = _; l = _; g = _; m = _; are = refl; remote_is = remote_is; protocol_is = protocol_is; origin_is = origin_is; local_is = local_is; gateway_is = gateway_is; mask_is = mask_is; is = refl }
+reads_of s n (means.mac address_is if_kind_is plain) =
+    record {
+      address = _;
+      if_kind = _;
+      bytes = _;
+      k = _;
+      are = refl;
+      address_is = address_is;
+      if_kind_is = if_kind_is;
+      plain = plain;
+      is = refl;
+    }
+reads_of s n (means.ipv4 remote_is protocol_is origin_is local_is gateway_is mask_is) =
+    record {
+      remote = _;
+      protocol = _;
+      origin = _;
+      local = _;
+      gateway = _;
+      mask = _;
+      r = _;
+      p = _;
+      f = _;
+      l = _;
+      g = _;
+      m = _;
+      are = refl;
+      remote_is = remote_is;
+      protocol_is = protocol_is;
+      origin_is = origin_is;
+      local_is =
+          local_is;
+      gateway_is = gateway_is;
+      mask_is = mask_is;
+      is = refl;
+    }
 reads_of s n (means.vlan id_is) = record { id = _; i = _; are = refl; id_is = id_is; is = refl }
 reads_of s n (means.uri plain) = record { bytes = _; are = refl; plain = plain; is = refl }
 reads_of s n (means.file plain) = record { units = _; are = refl; plain = plain; is = refl }
 reads_of s n (means.bare_file plain) = (plain, refl)
-reads_of s n (means.hd_gpt partition_is guid_is start_is size_is) = record { partition = _; format = _; signature = _; start = _; size = _; p = _; kind = 2; g = _; st = _; si = _; are = refl; partition_is = partition_is; signature_is = inl (refl, guid_is, refl); start_is = start_is; size_is = size_is; is = refl }
-reads_of s n (means.hd_mbr partition_is signature_is start_is size_is) = record { partition = _; format = _; signature = _; start = _; size = _; p = _; kind = 1; g = _; st = _; si = _; are = refl; partition_is = partition_is; signature_is = inr (refl, signature_is, refl); start_is = start_is; size_is = size_is; is = refl }
-reads_of s n (means.cdrom entry_is start_is size_is) = record { entry = _; start = _; size = _; e = _; st = _; si = _; are = refl; entry_is = entry_is; start_is = start_is; size_is = size_is; is = refl }
+reads_of s n (means.hd_gpt partition_is guid_is start_is size_is) =
+    record {
+      partition = _;
+      format = _;
+      signature = _;
+      start = _;
+      size = _;
+      p = _;
+      kind = 2;
+      g = _;
+      st = _;
+      si = _;
+      are = refl;
+      partition_is = partition_is;
+      signature_is = inl (refl, guid_is, refl);
+      start_is = start_is;
+      size_is =
+          size_is;
+      is = refl;
+    }
+reads_of s n (means.hd_mbr partition_is signature_is start_is size_is) =
+    record {
+      partition = _;
+      format = _;
+      signature = _;
+      start = _;
+      size = _;
+      p = _;
+      kind = 1;
+      g = _;
+      st = _;
+      si = _;
+      are = refl;
+      partition_is = partition_is;
+      signature_is = inr (refl, signature_is, refl);
+      start_is = start_is;
+      size_is = size_is;
+      is = refl;
+    }
+reads_of s n (means.cdrom entry_is start_is size_is) =
+    record {
+      entry = _;
+      start = _;
+      size = _;
+      e = _;
+      st = _;
+      si = _;
+      are = refl;
+      entry_is = entry_is;
+      start_is =
+          start_is;
+      size_is = size_is;
+      is = refl;
+    }
 reads_of s n (means.vendor_hw are) = record { vendor = _; are = are; is = refl }
 reads_of s n (means.vendor_msg are) = record { vendor = _; are = are; is = refl }
 reads_of s n (means.vendor_media are) = record { vendor = _; are = are; is = refl }
-reads_of s n (means.generic kind_is sub_is body_is is) = record { kind = _; sub = _; more = _; k = _; s = _; body = _; are = refl; kind_is = kind_is; sub_is = sub_is; body_is = body_is; is = is }
+reads_of s n (means.generic kind_is sub_is body_is is) =
+    record {
+      kind = _;
+      sub = _;
+      more = _;
+      k = _;
+      s = _;
+      body = _;
+      are = refl;
+      kind_is = kind_is;
+      sub_is = sub_is;
+      body_is = body_is;
+      is = is;
+    }

@@ -62,7 +62,8 @@ pub hex_one : (s t a b : List ℕ) → s ≡ t → IsHexData s a → IsHexData t
 hex_one s t a b same p q = hex_same t a b (subst (λ x. IsHexData x a) same p) q
 
 -- as many of one on either side
-pub each_one : {X Y : Type 0} (R : X → Y → Type 0) → ((x : X) (y z : Y) → R x y → R x z → y ≡ z) → (xs : List X) (ys zs : List Y) → Each R xs ys → Each R xs zs → ys ≡ zs
+pub each_one : {X Y : Type 0} (R : X → Y → Type 0) → ((x : X) (y z : Y) → R x y → R x z → y ≡ z) →
+    (xs : List X) (ys zs : List Y) → Each R xs ys → Each R xs zs → ys ≡ zs
 each_one R one [] [] [] p q = refl
 each_one R one [] [] (_ ∷ _) p q = absurd q
 each_one R one [] (_ ∷ _) zs p q = absurd p
@@ -74,7 +75,8 @@ each_one R one (x ∷ xs) (y ∷ ys) (z ∷ zs) p q =
     cc
 
 -- a property of those on the left side
-pub all_from_each : {X Y : Type 0} (R : X → Y → Type 0) (P : X → Type 0) → ((x : X) (y : Y) → R x y → P x) → (xs : List X) (ys : List Y) → Each R xs ys → AllByRecursion P xs
+pub all_from_each : {X Y : Type 0} (R : X → Y → Type 0) (P : X → Type 0) → ((x : X) (y : Y) → R x y → P x) →
+    (xs : List X) (ys : List Y) → Each R xs ys → AllByRecursion P xs
 all_from_each R P f [] ys h = tt
 all_from_each R P f (x ∷ xs) [] h = absurd h
 all_from_each R P f (x ∷ xs) (y ∷ ys) h = (f x y h.0, all_from_each R P f xs ys h.1)

@@ -7,7 +7,30 @@ use Rattle.uefi_path.specs.declared.node.Node.{Node}
 use Rattle.uefi_text.specs.declared.fault.SegmentFault.{SegmentFault}
 use Rattle.uefi_text.specs.Segment.{Segment, named, bare, comma}
 use Rattle.uefi_text.specs.Path.{IsNodeText}
-use Rattle.uefi_text.specs.Node.{MeansNode, pci, usb, sata, nvme, pci_root, pcie_root, acpi_pnp, acpi, mac, ipv4, vlan, uri, file, bare_file, hd_gpt, hd_mbr, cdrom, vendor_hw, vendor_msg, vendor_media, generic}
+use Rattle.uefi_text.specs.Node.{
+  MeansNode,
+  pci,
+  usb,
+  sata,
+  nvme,
+  pci_root,
+  pcie_root,
+  acpi_pnp,
+  acpi,
+  mac,
+  ipv4,
+  vlan,
+  uri,
+  file,
+  bare_file,
+  hd_gpt,
+  hd_mbr,
+  cdrom,
+  vendor_hw,
+  vendor_msg,
+  vendor_media,
+  generic,
+}
 use Rattle.uefi_text.specs.Reader.{Reads, Makes, arguments_of}
 use Rattle.uefi_text.specs.Answers.{MeansNamed, AnswersNamed}
 use Rattle.uefi_text.proofs.Read.Arguments.{split_joined}

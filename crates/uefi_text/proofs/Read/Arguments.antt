@@ -1,5 +1,36 @@
 -- What the reader's functions read of an argument is what the definitions say.
-use Rattle.std.proofs.Common.{◌≡◌, ◌≢◌, ◌<◌, ◌≤◌, ◌^◌, ◌==◌, ◌&&◌, ℕ, Bool, true, false, eqb, leb, List, [], ◌∷◌, ◌++◌, length, drop, refl, sym, ap, subst, ◌∙◌, inl, inr, codes, arith, eq-eqb, ne_eqb}
+use Rattle.std.proofs.Common.{
+  ◌≡◌,
+  ◌≢◌,
+  ◌<◌,
+  ◌≤◌,
+  ◌^◌,
+  ◌==◌,
+  ◌&&◌,
+  ℕ,
+  Bool,
+  true,
+  false,
+  eqb,
+  leb,
+  List,
+  [],
+  ◌∷◌,
+  ◌++◌,
+  length,
+  drop,
+  refl,
+  sym,
+  ap,
+  subst,
+  ◌∙◌,
+  inl,
+  inr,
+  codes,
+  arith,
+  eq-eqb,
+  ne_eqb,
+}
 use Rattle.std.specs.Prelude.{Option, Some, None, if◌then◌else◌, slice_index, replicate}
 use Rattle.std.proofs.lemmas.Bool.{and_parts, leb-true, le-leb, eqb-true}
 use Rattle.std.proofs.lemmas.Int.Digits.{digits_value-lt}
@@ -16,7 +47,23 @@ use Rattle.uefi_text.specs.Number.{AreDigits, IsNumber}
 use Rattle.uefi_text.specs.Bytes.{Each, IsOctet, IsAddress, dot}
 use Rattle.uefi_text.specs.Guid.{IsGuid}
 use Rattle.uefi_text.specs.Node.{IsOrigin, pnp_hid}
-use Rattle.uefi_text.specs.Reader.{◌>>=◌, numeral_of, number_up_to, parts_of, octet_of, address_of, two_of, first_two_of, guid_read, pnp_of, begins_pnp, hid_of, is_text, origin_of, signature_of}
+use Rattle.uefi_text.specs.Reader.{
+  ◌>>=◌,
+  numeral_of,
+  number_up_to,
+  parts_of,
+  octet_of,
+  address_of,
+  two_of,
+  first_two_of,
+  guid_read,
+  pnp_of,
+  begins_pnp,
+  hid_of,
+  is_text,
+  origin_of,
+  signature_of,
+}
 use Rattle.uefi_text.specs.Within.{Lacks}
 use Rattle.uefi_text.proofs.Bytes.Guids.{guid_found, guid_again, guid_length}
 use Rattle.uefi_text.proofs.Read.Hex.{mapped}
@@ -56,7 +103,8 @@ guid_read_again text guid is =
     (ap (λ o. option_map swap_fields o) (guid_again text guid is) ∙ ap (λ (x : List ℕ). Some x) (swap_twice guid is.len))
 
 -- how an address was got
-by_word : (text : List ℕ) (fixed : ℕ) (b c : Bool) → is_text text (codes "DHCP") ≡ b → is_text text (codes "Static") ≡ c → (if b then Some 0 else (if c then Some 1 else None)) ≡ Some fixed → IsOrigin text fixed
+by_word : (text : List ℕ) (fixed : ℕ) (b c : Bool) → is_text text (codes "DHCP") ≡ b →
+    is_text text (codes "Static") ≡ c → (if b then Some 0 else (if c then Some 1 else None)) ≡ Some fixed → IsOrigin text fixed
 by_word text fixed true c is also e = inl (same_text text (codes "DHCP") is, sym (some_same 0 fixed e))
 by_word text fixed false true is also e = inr (same_text text (codes "Static") also, sym (some_same 1 fixed e))
 by_word text fixed false false is also e = cc
@@ -86,7 +134,8 @@ pnp_again four hid all len value =
     let low : digits_value 16 four ≤ 0xFFFF = omega arith in
     chosen_again (length four == 4) _ hid (eq-eqb (length four) 4 len)
     (after_some (numeral_of 16 4 four) _ (digits_value 16 four) (numeral_again 16 4 four (digits_value 16 four) digits)
-    ∙ chosen_again (leb (digits_value 16 four) 0xFFFF) (Some (pnp_hid (digits_value 16 four))) hid (le-leb (digits_value 16 four) 0xFFFF low) (ap (λ x. Some x) (sym value)))
+    ∙ chosen_again (leb (digits_value 16 four) 0xFFFF) (Some (pnp_hid (digits_value 16 four))) hid
+    (le-leb (digits_value 16 four) 0xFFFF low) (ap (λ x. Some x) (sym value)))
 
 -- parts that are joined by a mark are those that a text is cut into at it
 pub split_joined : (mark : ℕ) (parts : List (List ℕ)) → AllByRecursion (Lacks mark) parts → parts ≢ [] → parts_of mark (join_with_byte mark parts) ≡ parts
@@ -147,7 +196,8 @@ address_parts_found (p ∷ q ∷ r ∷ s ∷ []) bytes e =
     ((octet_found p a.0 a.1, (octet_found q b.0 b.1, (octet_found r c.0 c.1, (octet_found s d.0 d.1, tt)))), refl)
 address_parts_found (_ ∷ _ ∷ _ ∷ _ ∷ _ ∷ _) bytes e = cc
 
-four_octets : (p q r s : List ℕ) (a b c d : ℕ) → Each IsOctet (p ∷ q ∷ r ∷ s ∷ []) (a ∷ b ∷ c ∷ d ∷ []) → address_of (p ∷ q ∷ r ∷ s ∷ []) ≡ Some (a ∷ b ∷ c ∷ d ∷ [])
+four_octets : (p q r s : List ℕ) (a b c d : ℕ) → Each IsOctet (p ∷ q ∷ r ∷ s ∷ []) (a ∷ b ∷ c ∷ d ∷ []) →
+    address_of (p ∷ q ∷ r ∷ s ∷ []) ≡ Some (a ∷ b ∷ c ∷ d ∷ [])
 unfolding address_of two_of first_two_of
 four_octets p q r s a b c d h =
     after_some (octet_of p) _ a (octet_again p a h.0)
@@ -201,7 +251,8 @@ number_begins (c ∷ cs) n (inr digits) e =
 number_begins_no_pnp : (text : List ℕ) (n : ℕ) → IsNumber text n → begins_pnp text ≡ false
 number_begins_no_pnp text n is = rw (ne_eqb (slice_index text 0) 80 (number_begins text n is)) refl
 
-either_is : (text : List ℕ) (hid : ℕ) (b : Bool) → begins_pnp text ≡ b → (if b then pnp_of (drop 3 text) else number_up_to 0xFFFFFFFF text) ≡ Some hid → IsHid text hid × (hid ≤ 0xFFFFFFFF)
+either_is : (text : List ℕ) (hid : ℕ) (b : Bool) → begins_pnp text ≡ b →
+    (if b then pnp_of (drop 3 text) else number_up_to 0xFFFFFFFF text) ≡ Some hid → IsHid text hid × (hid ≤ 0xFFFFFFFF)
 either_is text hid true starts e =
     let read = pnp_found (drop 3 text) hid e in
     let below : digits_value 16 (drop 3 text) < 16 ^ 4 = subst (λ k. digits_value 16 (drop 3 text) < 16 ^ k) read.1 (digits_value-lt 16 (drop 3 text) read.0) in
@@ -228,7 +279,9 @@ kind_in (Some pair) = pair.1
 
 -- a signature, and its kind
 by_format : (format text g : List ℕ) (kind : ℕ) (b c : Bool) → is_text format (codes "GPT") ≡ b → is_text format (codes "MBR") ≡ c
-    → (if b then ◌>>=◌ {B = List ℕ × ℕ} (guid_read text) (λ guid. Some (guid, 2)) else (if c then ◌>>=◌ {B = List ℕ × ℕ} (number_up_to 0xFFFFFFFF text) (λ number. Some (to_le_bytes w32 number ++ replicate 12 0, 1)) else None)) ≡ Some (g, kind)
+    → (if b then ◌>>=◌ {B = List ℕ × ℕ} (guid_read text) (λ guid. Some (guid, 2)) else
+    (if c then ◌>>=◌ {B = List ℕ × ℕ} (number_up_to 0xFFFFFFFF text)
+    (λ number. Some (to_le_bytes w32 number ++ replicate 12 0, 1)) else None)) ≡ Some (g, kind)
     → IsSignature format text kind g
 by_format format text g kind true c is also e =
     let read = bind_some {B = List ℕ × ℕ} (guid_read text) (λ guid. Some (guid, 2)) (g, kind) e in
@@ -253,5 +306,6 @@ signature_again format text g kind (inl (is, guid, two)) =
     rw (is, two) (after_some (guid_read text) (λ x. Some (x, 2)) g (guid_read_again text g guid))
 signature_again format text g kind (inr (is, number, one)) =
     let below : number.number ≤ 0xFFFFFFFF = omega (arith, number.range) in
-    rw (is, one) (after_some (number_up_to 0xFFFFFFFF text) (λ x. Some (to_le_bytes w32 x ++ replicate 12 0, 1)) number.number (up_to_again 0xFFFFFFFF text number.number number.read below)
+    rw (is, one) (after_some (number_up_to 0xFFFFFFFF text) (λ x. Some (to_le_bytes w32 x ++ replicate 12 0, 1))
+    number.number (up_to_again 0xFFFFFFFF text number.number number.read below)
     ∙ ap (λ (x : List ℕ). Some (x, 1)) (sym number.value))

@@ -1,5 +1,33 @@
 -- Where a text is cut: at the first byte of a kind.
-use Rattle.std.proofs.Common.{Bor, ◌≡◌, ◌≢◌, ◌<◌, ℕ, zero, suc, true, Option, Some, None, MatchOption, unwrap_or, List, [], ◌∷◌, ◌++◌, length, take, drop, eqb, refl, sym, subst, ◌∙◌, drop-cons, arith}
+use Rattle.std.proofs.Common.{
+  Bor,
+  ◌≡◌,
+  ◌≢◌,
+  ◌<◌,
+  ℕ,
+  zero,
+  suc,
+  true,
+  Option,
+  Some,
+  None,
+  MatchOption,
+  unwrap_or,
+  List,
+  [],
+  ◌∷◌,
+  ◌++◌,
+  length,
+  take,
+  drop,
+  eqb,
+  refl,
+  sym,
+  subst,
+  ◌∙◌,
+  drop-cons,
+  arith,
+}
 use Rattle.std.specs.List.{AllWithin, AllByRecursion, HoldsAt, list_any, join_with_byte}
 use Rattle.std.proofs.lemmas.List.{drop_all, take-append-drop}
 use Rattle.uefi_text.specs.declared.segment.Segment as code
@@ -28,7 +56,9 @@ IsBareLen text len =
 stops_at : (text : List ℕ) (i : ℕ) → i < length text → HoldsAt (λ unit. IsBareUnit unit → ⊥) text i → StopsBare (drop i text)
 stops_at text i lt stop = rw (drop-cons text i 0) (stop 0)
 
-pub bare_cut : (text before after : List ℕ) (len : Option ℕ) → IsBareLen text len → before ≡ take (unwrap_or len (length text)) text → after ≡ drop (unwrap_or len (length text)) text → IsBareCut text before after
+pub bare_cut : (text before after : List ℕ) (len : Option ℕ) → IsBareLen text len →
+    before ≡ take (unwrap_or len (length text)) text → after ≡ drop (unwrap_or len (length text)) text →
+    IsBareCut text before after
 bare_cut text before after (Some i) h is-before is-after = record {
   parts = rw (is-before, is-after) (sym (take-append-drop i text));
   units = rw is-before (first_of IsBareUnit text i h.2);
@@ -57,7 +87,9 @@ pub record AreParts (name inside behind before inner rest : List ℕ) : Type 0 w
   pub same_inside : inner ≡ inside
   pub same_rest : rest ≡ behind
 
-pub same_parts : (text name inside behind before middle inner rest : List ℕ) → IsNamedFront text name inside behind → IsAroundMark open_mark text before middle → IsAroundMark close_mark middle inner rest → AreParts name inside behind before inner rest
+pub same_parts : (text name inside behind before middle inner rest : List ℕ) → IsNamedFront text name inside behind →
+    IsAroundMark open_mark text before middle → IsAroundMark close_mark middle inner rest →
+    AreParts name inside behind before inner rest
 same_parts text name inside behind before middle inner rest front cut cut-inside =
     let outer = same_before_mark open_mark before name middle (inside ++ close_mark ∷ behind) cut.lacks front.name_bytes (sym cut.parts ∙ front.parts) in
     let inner-parts = same_before_mark close_mark inner inside rest behind cut-inside.lacks front.no_close (sym cut-inside.parts ∙ outer.1) in
@@ -67,7 +99,8 @@ pub has_open : (text name inside behind : List ℕ) → IsNamedFront text name i
 has_open text name inside behind front lacks =
     has_mark open_mark name (inside ++ close_mark ∷ behind) (subst (Lacks open_mark) front.parts lacks)
 
-pub has_close : (text name inside behind before middle : List ℕ) → IsNamedFront text name inside behind → IsAroundMark open_mark text before middle → Lacks close_mark middle → ⊥
+pub has_close : (text name inside behind before middle : List ℕ) → IsNamedFront text name inside behind →
+    IsAroundMark open_mark text before middle → Lacks close_mark middle → ⊥
 has_close text name inside behind before middle front cut lacks =
     let outer = same_before_mark open_mark before name middle (inside ++ close_mark ∷ behind) cut.lacks front.name_bytes (sym cut.parts ∙ front.parts) in
     has_mark close_mark inside behind (subst (Lacks close_mark) outer.1 lacks)
@@ -85,18 +118,24 @@ stops_bare [] stops = tt
 stops_bare (c ∷ rest) stops = stops
 
 -- the bare path name and the rest, as they are cut off
-pub same_bare_parts : (text path_name behind before rest : List ℕ) → IsBareFront text path_name behind → IsBareCut text before rest → (before ≡ path_name) × (rest ≡ behind)
+pub same_bare_parts : (text path_name behind before rest : List ℕ) → IsBareFront text path_name behind →
+    IsBareCut text before rest → (before ≡ path_name) × (rest ≡ behind)
 same_bare_parts text [] behind before rest front cut = absurd front.name
 same_bare_parts text (first ∷ others) behind before rest front cut =
-    same_fronts IsBareUnit before (first ∷ others) rest behind cut.units (first_is_bare first front.name.0, front.name.1) (stops_bare rest cut.stops) (closed_stops behind front.closed) (sym cut.parts ∙ front.parts)
+    same_fronts IsBareUnit before (first ∷ others) rest behind cut.units
+    (first_is_bare first front.name.0, front.name.1) (stops_bare rest cut.stops)
+    (closed_stops behind front.closed) (sym cut.parts ∙ front.parts)
 
-joined_lacks : (mark : ℕ) (arguments : List (List ℕ)) → ((c : ℕ) → IsArgumentByte c → c ≢ mark) → AllByRecursion (AllByRecursion IsArgumentByte) arguments → Lacks mark (join_with_byte comma arguments)
+joined_lacks : (mark : ℕ) (arguments : List (List ℕ)) → ((c : ℕ) → IsArgumentByte c → c ≢ mark) →
+    AllByRecursion (AllByRecursion IsArgumentByte) arguments → Lacks mark (join_with_byte comma arguments)
 joined_lacks mark arguments differs h =
     all_from IsArgumentByte (λ c. c ≢ mark) differs (join_with_byte comma arguments)
     (all_joined IsArgumentByte comma arguments (record { no_open = (λ e. omega arith); no_close = (λ e. omega arith) }) h)
 
 -- a plain segment at the start of a text that doesn't begin with a backslash is a named one, and its parts are plain
-pub named_front : (name : List ℕ) (arguments : List (List ℕ)) (text behind : List ℕ) → text ≡ segment_text (named name arguments) ++ behind → IsPlainNamed name arguments → ClosesSegment behind → IsNamedFront text name (join_with_byte comma arguments) behind
+pub named_front : (name : List ℕ) (arguments : List (List ℕ)) (text behind : List ℕ) →
+    text ≡ segment_text (named name arguments) ++ behind → IsPlainNamed name arguments → ClosesSegment behind →
+    IsNamedFront text name (join_with_byte comma arguments) behind
 named_front name arguments text behind e plain closed = record {
   parts = e ∙ named_text name arguments behind;
   name_bytes = all_from IsNameByte (λ c. c ≢ open_mark) (λ c is. is.no_open) name plain.name_bytes;
@@ -106,7 +145,8 @@ named_front name arguments text behind e plain closed = record {
 }
 
 -- a named segment doesn't begin with a backslash
-pub named_not_bare : (name : List ℕ) (arguments : List (List ℕ)) (text behind : List ℕ) → text ≡ segment_text (named name arguments) ++ behind → IsPlainNamed name arguments → BeginsBare text → ⊥
+pub named_not_bare : (name : List ℕ) (arguments : List (List ℕ)) (text behind : List ℕ) →
+    text ≡ segment_text (named name arguments) ++ behind → IsPlainNamed name arguments → BeginsBare text → ⊥
 named_not_bare name arguments [] behind e plain begins = begins
 named_not_bare [] arguments (t ∷ text) behind e plain begins =
     let whole : t ∷ text ≡ open_mark ∷ (join_with_byte comma arguments ++ close_mark ∷ behind) = e ∙ named_text [] arguments behind in
@@ -141,13 +181,17 @@ OnNamed text answer =
     (name inside behind : List ℕ) → IsNamedFront text name inside behind
     → MatchOption answer ⊥ (λ cut. IsNamed name inside cut.0 × (cut.1.now ≡ behind))
 
-pub bare_answer : (text : List ℕ) (segment : Segment) (behind : List ℕ) (answer : Answer) → text ≡ segment_text segment ++ behind → IsPlainSegment segment → ClosesSegment behind → BeginsBare text → OnBare text answer → IsAnswer segment behind answer
+pub bare_answer : (text : List ℕ) (segment : Segment) (behind : List ℕ) (answer : Answer) →
+    text ≡ segment_text segment ++ behind → IsPlainSegment segment → ClosesSegment behind → BeginsBare text →
+    OnBare text answer → IsAnswer segment behind answer
 bare_answer text (named name arguments) behind answer e plain closed begins only =
     absurd (named_not_bare name arguments text behind e plain begins)
 bare_answer text (bare path_name) behind answer e plain closed begins only =
     only path_name behind (record { parts = e; name = plain; closed = closed })
 
-pub named_answer : (text : List ℕ) (segment : Segment) (behind : List ℕ) (answer : Answer) → text ≡ segment_text segment ++ behind → IsPlainSegment segment → ClosesSegment behind → (BeginsBare text → ⊥) → OnNamed text answer → IsAnswer segment behind answer
+pub named_answer : (text : List ℕ) (segment : Segment) (behind : List ℕ) (answer : Answer) →
+    text ≡ segment_text segment ++ behind → IsPlainSegment segment → ClosesSegment behind → (BeginsBare text → ⊥) →
+    OnNamed text answer → IsAnswer segment behind answer
 named_answer text (named name arguments) behind answer e plain closed other only =
     only name (join_with_byte comma arguments) behind (named_front name arguments text behind e plain closed)
 named_answer text (bare path_name) behind answer e plain closed other only =

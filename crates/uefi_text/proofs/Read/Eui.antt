@@ -14,7 +14,11 @@ pair_of_found : (high low n : ℕ) → pair_of high low ≡ Some n → IsPair hi
 pair_of_found high low n e =
     let read = chosen_some (ltb (digit_value high) 16 && ltb (digit_value low) 16) (Some (digit_value high * 16 + digit_value low)) n e in
     let both = and_parts (ltb (digit_value high) 16) (ltb (digit_value low) 16) read.0 in
-    record { high_digit = ltb-true (digit_value high) 16 both.0; low_digit = ltb-true (digit_value low) 16 both.1; value = sym (some_same (digit_value high * 16 + digit_value low) n read.1) }
+    record {
+      high_digit = ltb-true (digit_value high) 16 both.0;
+      low_digit = ltb-true (digit_value low) 16 both.1;
+      value = sym (some_same (digit_value high * 16 + digit_value low) n read.1);
+    }
 
 pair_of_again : (high low n : ℕ) → IsPair high low n → pair_of high low ≡ Some n
 pair_of_again high low n is = rw (lt-ltb (digit_value high) 16 is.high_digit, lt-ltb (digit_value low) 16 is.low_digit) (ap (λ x. Some x) (sym is.value))
@@ -69,7 +73,8 @@ eui_parts_found (p0 ∷ p1 ∷ p2 ∷ p3 ∷ p4 ∷ p5 ∷ p6 ∷ p7 ∷ []) byt
     ((f.0, (f.1, (g.0, (g.1, (h.0, (h.1, (i.0, (i.1, tt)))))))), refl)
 eui_parts_found (_ ∷ _ ∷ _ ∷ _ ∷ _ ∷ _ ∷ _ ∷ _ ∷ _ ∷ _) bytes e = cc
 
-eight_pairs : (p0 p1 p2 p3 p4 p5 p6 p7 : List ℕ) (b0 b1 b2 b3 b4 b5 b6 b7 : ℕ) → Each IsByteText (p0 ∷ p1 ∷ p2 ∷ p3 ∷ p4 ∷ p5 ∷ p6 ∷ p7 ∷ []) (b0 ∷ b1 ∷ b2 ∷ b3 ∷ b4 ∷ b5 ∷ b6 ∷ b7 ∷ [])
+eight_pairs : (p0 p1 p2 p3 p4 p5 p6 p7 : List ℕ) (b0 b1 b2 b3 b4 b5 b6 b7 : ℕ) →
+    Each IsByteText (p0 ∷ p1 ∷ p2 ∷ p3 ∷ p4 ∷ p5 ∷ p6 ∷ p7 ∷ []) (b0 ∷ b1 ∷ b2 ∷ b3 ∷ b4 ∷ b5 ∷ b6 ∷ b7 ∷ [])
     → eui_of (p0 ∷ p1 ∷ p2 ∷ p3 ∷ p4 ∷ p5 ∷ p6 ∷ p7 ∷ []) ≡ Some (b0 ∷ b1 ∷ b2 ∷ b3 ∷ b4 ∷ b5 ∷ b6 ∷ b7 ∷ [])
 unfolding eui_of two_of first_two_of
 eight_pairs p0 p1 p2 p3 p4 p5 p6 p7 b0 b1 b2 b3 b4 b5 b6 b7 h =
@@ -93,7 +98,8 @@ eight_cells P p (_ ∷ _ ∷ _ ∷ _ ∷ _ ∷ _ ∷ _ ∷ _ ∷ _ ∷ _) len = 
 eui_parts_again : (parts : List (List ℕ)) (bytes : List ℕ) → Each IsByteText parts bytes → length bytes ≡ 8 → eui_of parts ≡ Some bytes
 eui_parts_again parts bytes h len =
     eight_cells (λ ps. Each IsByteText ps bytes → eui_of ps ≡ Some bytes)
-    (λ p0 p1 p2 p3 p4 p5 p6 p7. eight_cells (λ bs. Each IsByteText (p0 ∷ p1 ∷ p2 ∷ p3 ∷ p4 ∷ p5 ∷ p6 ∷ p7 ∷ []) bs → eui_of (p0 ∷ p1 ∷ p2 ∷ p3 ∷ p4 ∷ p5 ∷ p6 ∷ p7 ∷ []) ≡ Some bs)
+    (λ p0 p1 p2 p3 p4 p5 p6 p7. eight_cells (λ bs. Each IsByteText (p0 ∷ p1 ∷ p2 ∷ p3 ∷ p4 ∷ p5 ∷ p6 ∷ p7 ∷ []) bs →
+    eui_of (p0 ∷ p1 ∷ p2 ∷ p3 ∷ p4 ∷ p5 ∷ p6 ∷ p7 ∷ []) ≡ Some bs)
     (λ b0 b1 b2 b3 b4 b5 b6 b7 is. eight_pairs p0 p1 p2 p3 p4 p5 p6 p7 b0 b1 b2 b3 b4 b5 b6 b7 is) bytes len)
     parts (each_length IsByteText parts bytes h ∙ len) h
 
@@ -106,5 +112,6 @@ eui_found text bytes e =
 pub eui_again : (text bytes : List ℕ) → IsEui text bytes → length bytes ≡ 8 → eui_of (parts_of hyphen text) ≡ Some bytes
 eui_again text bytes (parts, is, read) len =
     let lacks = all_from_each IsByteText (Lacks hyphen) (λ x y pair. hex_lacks hyphen x (y ∷ []) (omega arith) pair) parts bytes read in
-    let cut : parts_of hyphen text ≡ parts = ap (parts_of hyphen) is ∙ split_joined hyphen parts lacks (each_not_empty IsByteText parts bytes read (omega arith)) in
+    let cut : parts_of hyphen text ≡ parts = ap (parts_of hyphen) is ∙ split_joined hyphen parts lacks
+    (each_not_empty IsByteText parts bytes read (omega arith)) in
     ap eui_of cut ∙ eui_parts_again parts bytes read len

@@ -13,14 +13,41 @@ use Rattle.uefi_text.specs.Guid.{IsGuid, guid_groups}
 use Rattle.uefi_text.specs.Segment.{named}
 use Rattle.uefi_text.specs.Node as means
 use Rattle.uefi_text.specs.Path.{IsNodeText}
-use Rattle.uefi_text.specs.Reader.{parts_of, two_of, first_two_of, three_of, number_up_to, address_of, eui_of, hid_of, mac_of, origin_of, signature_of, nvme_of, acpi_of, mac_node_of, ipv4_of, hard_drive_of}
+use Rattle.uefi_text.specs.Reader.{
+  parts_of,
+  two_of,
+  first_two_of,
+  three_of,
+  number_up_to,
+  address_of,
+  eui_of,
+  hid_of,
+  mac_of,
+  origin_of,
+  signature_of,
+  nvme_of,
+  acpi_of,
+  mac_node_of,
+  ipv4_of,
+  hard_drive_of,
+}
 use Rattle.uefi_text.proofs.Cut.Segments.{all_append}
 use Rattle.uefi_text.proofs.Bytes.Guids.{sixteen}
 use Rattle.uefi_text.proofs.Means.Forms as forms
 use Rattle.uefi_text.proofs.Means.Reads.{IsHid, IsSignature}
 use Rattle.uefi_text.proofs.Read.Numbers.{bind_some, some_same, up_to_found, up_to_again}
 use Rattle.uefi_text.proofs.Read.Hex.{mac_found, mac_again}
-use Rattle.uefi_text.proofs.Read.Arguments.{after_some, origin_found, origin_again, address_found, address_again, hid_found, hid_again, signature_found, signature_again}
+use Rattle.uefi_text.proofs.Read.Arguments.{
+  after_some,
+  origin_found,
+  origin_again,
+  address_found,
+  address_again,
+  hid_found,
+  hid_again,
+  signature_found,
+  signature_again,
+}
 use Rattle.uefi_text.proofs.Read.Eui.{eui_found, eui_again}
 
 -- what is read is bytes
@@ -31,7 +58,8 @@ hex_bytes (_ ∷ []) bytes h = absurd h
 hex_bytes (_ ∷ _ ∷ _) [] h = tt
 hex_bytes (_ ∷ _ ∷ text) (byte ∷ bytes) h = (omega (arith, h.0.high_digit, h.0.low_digit, h.0.value), hex_bytes text bytes h.1)
 
-all_right : {X Y : Type 0} (R : X → Y → Type 0) (P : Y → Type 0) → ((x : X) (y : Y) → R x y → P y) → (xs : List X) (ys : List Y) → Each R xs ys → AllByRecursion P ys
+all_right : {X Y : Type 0} (R : X → Y → Type 0) (P : Y → Type 0) → ((x : X) (y : Y) → R x y → P y) →
+    (xs : List X) (ys : List Y) → Each R xs ys → AllByRecursion P ys
 all_right R P f [] [] h = tt
 all_right R P f [] (_ ∷ _) h = absurd h
 all_right R P f (_ ∷ _) [] h = tt
@@ -63,7 +91,22 @@ guid_bytes text guid is = (
                     h.1.1.0.1.0,
                     (
                       h.1.1.0.0,
-                      (h.1.1.1.0.0, (h.1.1.1.0.1.0, (h.1.1.1.1.0.0, (h.1.1.1.1.0.1.0, (h.1.1.1.1.0.1.1.0, (h.1.1.1.1.0.1.1.1.0, (h.1.1.1.1.0.1.1.1.1.0, (h.1.1.1.1.0.1.1.1.1.1.0, tt)))))))),
+                      (
+                        h.1.1.1.0.0,
+                        (
+                          h.1.1.1.0.1.0,
+                          (
+                            h.1.1.1.1.0.0,
+                            (
+                              h.1.1.1.1.0.1.0,
+                              (
+                                h.1.1.1.1.0.1.1.0,
+                                (h.1.1.1.1.0.1.1.1.0, (h.1.1.1.1.0.1.1.1.1.0, (h.1.1.1.1.0.1.1.1.1.1.0, tt))),
+                              ),
+                            ),
+                          ),
+                        ),
+                      ),
                     ),
                   ),
                 ),
@@ -82,7 +125,10 @@ zeros_fit (suc n) = (omega arith, zeros_fit n)
 pub mac_bytes : (text address : List ℕ) → means.IsMacAddress text address → AreBytes 32 address
 mac_bytes text address is =
     let six = hex_bytes text is.six is.read in
-    subst (AreBytes 32) (sym is.value) (omega (arith, length-append is.six (replicate 26 0), is.len), all_append IsByte is.six (replicate 26 0) six (zeros_fit 26))
+    subst (AreBytes 32) (sym is.value) (
+      omega (arith, length-append is.six (replicate 26 0), is.len),
+      all_append IsByte is.six (replicate 26 0) six (zeros_fit 26),
+    )
 
 -- NVMe
 pub nvme_found : (arguments : List (List ℕ)) (node : Node) → nvme_of arguments ≡ Some node → IsNodeText (named (codes "NVMe") arguments) node
@@ -190,7 +236,8 @@ ipv4_found (remote ∷ protocol ∷ origin ∷ local ∷ gateway ∷ mask ∷ []
     let n4 = address_found gateway r4.0 r4.1 in
     let r5 = bind_some (address_of (parts_of dot mask)) _ node r4.2 in
     let n5 = address_found mask r5.0 r5.1 in
-    subst (IsNodeText (named (codes "IPv4") (remote ∷ protocol ∷ origin ∷ local ∷ gateway ∷ mask ∷ []))) (some_same (Ipv4 (ipv4_parts r3.0 r0.0 0 0 r1.0 r2.0 r4.0 r5.0)) node r5.2)
+    subst (IsNodeText (named (codes "IPv4") (remote ∷ protocol ∷ origin ∷ local ∷ gateway ∷ mask ∷ [])))
+    (some_same (Ipv4 (ipv4_parts r3.0 r0.0 0 0 r1.0 r2.0 r4.0 r5.0)) node r5.2)
     (record {
       valid = record {
         local = (n3.1, address_bytes local r3.0 n3.0);
@@ -205,7 +252,9 @@ ipv4_found (remote ∷ protocol ∷ origin ∷ local ∷ gateway ∷ mask ∷ []
       means = means.ipv4 n0.0 n1.0 n2 n3.0 n4.0 n5.0;
     })
 
-ipv4_again_of : (remote protocol origin local gateway mask : List ℕ) (node : Node) → IsNodeText (named (codes "IPv4") (remote ∷ protocol ∷ origin ∷ local ∷ gateway ∷ mask ∷ [])) node → ipv4_of (remote ∷ protocol ∷ origin ∷ local ∷ gateway ∷ mask ∷ []) ≡ Some node
+ipv4_again_of : (remote protocol origin local gateway mask : List ℕ) (node : Node) →
+    IsNodeText (named (codes "IPv4") (remote ∷ protocol ∷ origin ∷ local ∷ gateway ∷ mask ∷ [])) node →
+    ipv4_of (remote ∷ protocol ∷ origin ∷ local ∷ gateway ∷ mask ∷ []) ≡ Some node
 unfolding ipv4_of two_of first_two_of
 ipv4_again_of remote protocol origin local gateway mask node is =
     let p = forms.ipv4_arguments remote protocol origin local gateway mask node is in
@@ -233,14 +282,19 @@ signature_fits format text kind g (inl (is, guid, two)) = (guid_bytes text g gui
 signature_fits format text kind g (inr (is, number, one)) =
     (subst (AreBytes 16) (sym number.value) (refl, (omega arith, (omega arith, (omega arith, (omega arith, zeros_fit 12))))), omega (arith, one))
 
-hard_drive_means : (partition format signature start size : List ℕ) (p st si kind : ℕ) (g : List ℕ) → IsNumber partition p → IsSignature format signature kind g → IsNumber start st → IsNumber size si
+hard_drive_means : (partition format signature start size : List ℕ) (p st si kind : ℕ) (g : List ℕ) →
+    IsNumber partition p → IsSignature format signature kind g → IsNumber start st → IsNumber size si
     → means.MeansNode (named (codes "HD") (partition ∷ format ∷ signature ∷ start ∷ size ∷ [])) (HardDrive (hard_drive_parts p st si g kind kind))
 hard_drive_means partition format signature start size p st si kind g a (inl (is, guid, two)) b c =
-    subst (λ (f : List ℕ). means.MeansNode (named (codes "HD") (partition ∷ f ∷ signature ∷ start ∷ size ∷ [])) (HardDrive (hard_drive_parts p st si g kind kind))) (sym is)
-    (subst (λ k. means.MeansNode (named (codes "HD") (partition ∷ codes "GPT" ∷ signature ∷ start ∷ size ∷ [])) (HardDrive (hard_drive_parts p st si g k k))) (sym two) (means.hd_gpt a guid b c))
+    subst (λ (f : List ℕ). means.MeansNode (named (codes "HD") (partition ∷ f ∷ signature ∷ start ∷ size ∷ []))
+    (HardDrive (hard_drive_parts p st si g kind kind))) (sym is)
+    (subst (λ k. means.MeansNode (named (codes "HD") (partition ∷ codes "GPT" ∷ signature ∷ start ∷ size ∷ []))
+    (HardDrive (hard_drive_parts p st si g k k))) (sym two) (means.hd_gpt a guid b c))
 hard_drive_means partition format signature start size p st si kind g a (inr (is, number, one)) b c =
-    subst (λ (f : List ℕ). means.MeansNode (named (codes "HD") (partition ∷ f ∷ signature ∷ start ∷ size ∷ [])) (HardDrive (hard_drive_parts p st si g kind kind))) (sym is)
-    (subst (λ k. means.MeansNode (named (codes "HD") (partition ∷ codes "MBR" ∷ signature ∷ start ∷ size ∷ [])) (HardDrive (hard_drive_parts p st si g k k))) (sym one) (means.hd_mbr a number b c))
+    subst (λ (f : List ℕ). means.MeansNode (named (codes "HD") (partition ∷ f ∷ signature ∷ start ∷ size ∷ []))
+    (HardDrive (hard_drive_parts p st si g kind kind))) (sym is)
+    (subst (λ k. means.MeansNode (named (codes "HD") (partition ∷ codes "MBR" ∷ signature ∷ start ∷ size ∷ []))
+    (HardDrive (hard_drive_parts p st si g k k))) (sym one) (means.hd_mbr a number b c))
 
 pub hard_drive_found : (arguments : List (List ℕ)) (node : Node) → hard_drive_of arguments ≡ Some node → IsNodeText (named (codes "HD") arguments) node
 unfolding hard_drive_of three_of two_of first_two_of
@@ -260,13 +314,23 @@ hard_drive_found (partition ∷ format ∷ signature ∷ start ∷ size ∷ []) 
     let r3 = bind_some (number_up_to 0xFFFFFFFFFFFFFFFF size) _ node r2.2 in
     let n3 = up_to_found 0xFFFFFFFFFFFFFFFF size r3.0 r3.1 in
     let fits = signature_fits format signature r1.0.1 r1.0.0 n1 in
-    subst (IsNodeText (named (codes "HD") (partition ∷ format ∷ signature ∷ start ∷ size ∷ []))) (some_same (HardDrive (hard_drive_parts r0.0 r2.0 r3.0 r1.0.0 r1.0.1 r1.0.1)) node r3.2)
+    subst (IsNodeText (named (codes "HD") (partition ∷ format ∷ signature ∷ start ∷ size ∷ [])))
+    (some_same (HardDrive (hard_drive_parts r0.0 r2.0 r3.0 r1.0.0 r1.0.1 r1.0.1)) node r3.2)
     (record {
-      valid = record { partition = omega (arith, n0.1); start = omega (arith, n2.1); size = omega (arith, n3.1); signature = fits.0; format = fits.1; signature_kind = fits.1 };
+      valid = record {
+        partition = omega (arith, n0.1);
+        start = omega (arith, n2.1);
+        size = omega (arith, n3.1);
+        signature = fits.0;
+        format = fits.1;
+        signature_kind = fits.1;
+      };
       means = hard_drive_means partition format signature start size r0.0 r2.0 r3.0 r1.0.1 r1.0.0 n0.0 n1 n2.0 n3.0;
     })
 
-hard_drive_again_of : (partition format signature start size : List ℕ) (node : Node) → IsNodeText (named (codes "HD") (partition ∷ format ∷ signature ∷ start ∷ size ∷ [])) node → hard_drive_of (partition ∷ format ∷ signature ∷ start ∷ size ∷ []) ≡ Some node
+hard_drive_again_of : (partition format signature start size : List ℕ) (node : Node) →
+    IsNodeText (named (codes "HD") (partition ∷ format ∷ signature ∷ start ∷ size ∷ [])) node →
+    hard_drive_of (partition ∷ format ∷ signature ∷ start ∷ size ∷ []) ≡ Some node
 unfolding hard_drive_of three_of two_of first_two_of
 hard_drive_again_of partition format signature start size node is =
     let p = forms.hard_drive_arguments partition format signature start size node is in

@@ -1,5 +1,31 @@
 -- How a text is read, segment by segment and instance by instance.
-use Rattle.std.proofs.Common.{◌≡◌, ◌<◌, ◌≤◌, ◌-◌, ℕ, List, [], ◌∷◌, ◌++◌, length, flat_map, map, refl, sym, ap, subst, ◌∙◌, append_assoc, append-nil, length-append, take, drop, inl, inr, arith}
+use Rattle.std.proofs.Common.{
+  ◌≡◌,
+  ◌<◌,
+  ◌≤◌,
+  ◌-◌,
+  ℕ,
+  List,
+  [],
+  ◌∷◌,
+  ◌++◌,
+  length,
+  flat_map,
+  map,
+  refl,
+  sym,
+  ap,
+  subst,
+  ◌∙◌,
+  append_assoc,
+  append-nil,
+  length-append,
+  take,
+  drop,
+  inl,
+  inr,
+  arith,
+}
 use Rattle.std.specs.List.{join_with_byte}
 use Rattle.std.proofs.lemmas.List.{take_all, map-append}
 use Rattle.uefi_path.specs.declared.node.Node.{Node}
@@ -28,7 +54,8 @@ pushed_some [] x e = cc
 pushed_some (a ∷ xs) x e = cc
 
 -- what has its mark after it, and one more
-pub closed_more : {X : Type 0} (f : X → List ℕ) (mark : ℕ) (xs : List X) (x : X) (rest : List ℕ) → flat_map (λ x. f x ++ mark ∷ []) xs ++ (f x ++ mark ∷ rest) ≡ flat_map (λ x. f x ++ mark ∷ []) (xs ++ x ∷ []) ++ rest
+pub closed_more : {X : Type 0} (f : X → List ℕ) (mark : ℕ) (xs : List X) (x : X) (rest : List ℕ) →
+    flat_map (λ x. f x ++ mark ∷ []) xs ++ (f x ++ mark ∷ rest) ≡ flat_map (λ x. f x ++ mark ∷ []) (xs ++ x ∷ []) ++ rest
 closed_more f mark [] x rest = simp (append_assoc, append-nil)
 closed_more f mark (y ∷ xs) x rest =
     append_assoc (f y ++ mark ∷ []) (flat_map (λ x. f x ++ mark ∷ []) xs) (f x ++ mark ∷ rest)
@@ -36,7 +63,8 @@ closed_more f mark (y ∷ xs) x rest =
     ∙ sym (append_assoc (f y ++ mark ∷ []) (flat_map (λ x. f x ++ mark ∷ []) (xs ++ x ∷ [])) rest)
 
 -- what has its mark after it, and a last one, are joined by the mark
-pub joined_last : {X : Type 0} (f : X → List ℕ) (mark : ℕ) (xs : List X) (x : X) → flat_map (λ x. f x ++ mark ∷ []) xs ++ f x ≡ join_with_byte mark (map f (xs ++ x ∷ []))
+pub joined_last : {X : Type 0} (f : X → List ℕ) (mark : ℕ) (xs : List X) (x : X) →
+    flat_map (λ x. f x ++ mark ∷ []) xs ++ f x ≡ join_with_byte mark (map f (xs ++ x ∷ []))
 joined_last f mark [] x = refl
 joined_last f mark (y ∷ []) x = simp (append_assoc, append-nil)
 joined_last f mark (y ∷ z ∷ xs) x =
@@ -56,21 +84,29 @@ slash_first (c ∷ rest) (inl is) goes =
 slash_first (c ∷ rest) (inr is) goes = absurd (goes is)
 
 -- the text up to a segment that was read, and what follows it
-read_parts : (text rest behind : List ℕ) (segments : List Segment) (segment : Segment) → text ≡ closed_segments segments ++ rest → rest ≡ segment_text segment ++ behind → text ≡ closed_segments segments ++ (segment_text segment ++ behind)
+read_parts : (text rest behind : List ℕ) (segments : List Segment) (segment : Segment) →
+    text ≡ closed_segments segments ++ rest → rest ≡ segment_text segment ++ behind →
+    text ≡ closed_segments segments ++ (segment_text segment ++ behind)
 read_parts text rest behind segments segment e f = e ∙ ap (λ (t : List ℕ). closed_segments segments ++ t) f
 
-pub reading_more : (text : List ℕ) (nodes all : List Node) (rest : List ℕ) (node : Node) (behind : List ℕ) → IsReading text nodes rest → IsReadNode rest node behind → all ≡ nodes ++ node ∷ [] → (EndsOr comma behind → ⊥) → IsReading text all (behind_mark behind)
+pub reading_more : (text : List ℕ) (nodes all : List Node) (rest : List ℕ) (node : Node) (behind : List ℕ) →
+    IsReading text nodes rest → IsReadNode rest node behind → all ≡ nodes ++ node ∷ [] → (EndsOr comma behind → ⊥) →
+    IsReading text all (behind_mark behind)
 reading_more text nodes all rest node behind r read e goes =
     let others = behind_mark behind in
     let next : behind ≡ slash ∷ others = slash_first behind read.closed goes in
     record {
       segments = r.segments ++ read.segment ∷ [];
       means = rw e (each_push IsNodeText r.segments nodes read.segment node r.means read.means);
-      parts = read_parts text rest (slash ∷ others) r.segments read.segment r.parts (subst (λ (b : List ℕ). rest ≡ segment_text read.segment ++ b) next read.parts) ∙ closed_more segment_text slash r.segments read.segment others;
+      parts = read_parts text rest (slash ∷ others) r.segments read.segment r.parts
+          (subst (λ (b : List ℕ). rest ≡ segment_text read.segment ++ b) next read.parts)
+          ∙ closed_more segment_text slash r.segments read.segment others;
       no_empty = (λ none. absurd (pushed_some r.segments read.segment none));
     }
 
-pub reading_done : (text : List ℕ) (nodes all : List Node) (rest : List ℕ) (node : Node) (behind : List ℕ) → IsReading text nodes rest → IsReadNode rest node behind → all ≡ nodes ++ node ∷ [] → EndsOr comma behind → IsReadInstance text all behind
+pub reading_done : (text : List ℕ) (nodes all : List Node) (rest : List ℕ) (node : Node) (behind : List ℕ) →
+    IsReading text nodes rest → IsReadNode rest node behind → all ≡ nodes ++ node ∷ [] → EndsOr comma behind →
+    IsReadInstance text all behind
 reading_done text nodes all rest node behind r read e closed = record {
   segments = r.segments ++ read.segment ∷ [];
   means = rw e (each_push IsNodeText r.segments nodes read.segment node r.means read.means);
@@ -86,17 +122,24 @@ pub record IsReadingPath (text : List ℕ) (path : List (List Node)) (rest : Lis
   pub means : Each (Each IsNodeText) instances path
   pub parts : text ≡ closed_instances instances ++ rest
 
-path_parts : (text rest behind : List ℕ) (instances : List (List Segment)) (segments : List Segment) → text ≡ closed_instances instances ++ rest → rest ≡ instance_text segments ++ behind → text ≡ closed_instances instances ++ (instance_text segments ++ behind)
+path_parts : (text rest behind : List ℕ) (instances : List (List Segment)) (segments : List Segment) →
+    text ≡ closed_instances instances ++ rest → rest ≡ instance_text segments ++ behind →
+    text ≡ closed_instances instances ++ (instance_text segments ++ behind)
 path_parts text rest behind instances segments e f = e ∙ ap (λ (t : List ℕ). closed_instances instances ++ t) f
 
-pub path_more : (text : List ℕ) (path all : List (List Node)) (rest : List ℕ) (nodes : List Node) (behind others : List ℕ) → IsReadingPath text path rest → IsReadInstance rest nodes behind → all ≡ path ++ nodes ∷ [] → behind ≡ comma ∷ others → IsReadingPath text all others
+pub path_more : (text : List ℕ) (path all : List (List Node)) (rest : List ℕ) (nodes : List Node)
+    (behind others : List ℕ) → IsReadingPath text path rest → IsReadInstance rest nodes behind →
+    all ≡ path ++ nodes ∷ [] → behind ≡ comma ∷ others → IsReadingPath text all others
 path_more text path all rest nodes behind others r read e next = record {
   instances = r.instances ++ read.segments ∷ [];
   means = rw e (each_push (Each IsNodeText) r.instances path read.segments nodes r.means read.means);
-  parts = path_parts text rest (comma ∷ others) r.instances read.segments r.parts (subst (λ (b : List ℕ). rest ≡ instance_text read.segments ++ b) next read.parts) ∙ closed_more instance_text comma r.instances read.segments others;
+  parts = path_parts text rest (comma ∷ others) r.instances read.segments r.parts
+      (subst (λ (b : List ℕ). rest ≡ instance_text read.segments ++ b) next read.parts)
+      ∙ closed_more instance_text comma r.instances read.segments others;
 }
 
-pub path_done : (text : List ℕ) (path all : List (List Node)) (rest : List ℕ) (nodes : List Node) (behind : List ℕ) → IsReadingPath text path rest → IsReadInstance rest nodes behind → all ≡ path ++ nodes ∷ [] → behind ≡ [] → IsReadPath text all
+pub path_done : (text : List ℕ) (path all : List (List Node)) (rest : List ℕ) (nodes : List Node) (behind : List ℕ) →
+    IsReadingPath text path rest → IsReadInstance rest nodes behind → all ≡ path ++ nodes ∷ [] → behind ≡ [] → IsReadPath text all
 path_done text path all rest nodes behind r read e end = record {
   cut = r.instances ++ read.segments ∷ [];
   is = path_parts text rest [] r.instances read.segments r.parts (subst (λ (b : List ℕ). rest ≡ instance_text read.segments ++ b) end read.parts)
@@ -106,7 +149,8 @@ path_done text path all rest nodes behind r read e end = record {
   some = (λ none. pushed_some path nodes (sym e ∙ none));
 }
 
-pub path_refused : (text : List ℕ) (path : List (List Node)) (rest : List ℕ) (fault : TextFault) → IsReadingPath text path rest → IsRefusedInstance rest fault (length text) → IsTextFault text fault
+pub path_refused : (text : List ℕ) (path : List (List Node)) (rest : List ℕ) (fault : TextFault) →
+    IsReadingPath text path rest → IsRefusedInstance rest fault (length text) → IsTextFault text fault
 path_refused text path rest fault r refusal =
     let closed = closed_text r.instances refusal.segments in
     let whole : text ≡ closed ++ refusal.rest =

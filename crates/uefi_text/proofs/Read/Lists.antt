@@ -44,26 +44,35 @@ vendor_again (guid ∷ hex ∷ []) vendor is valid =
     rw (guid_read_again guid vendor.guid is.0, data_again 65515 hex vendor.body is.1 valid.len) refl
 
 -- VenHw, VenMsg and VenMedia
-pub vendor_hw_found : (arguments : List (List ℕ)) (vendor : VendorParts) → vendor_of arguments ≡ Some vendor → IsNodeText (named (codes "VenHw") arguments) (VendorHw vendor)
+pub vendor_hw_found : (arguments : List (List ℕ)) (vendor : VendorParts) → vendor_of arguments ≡ Some vendor →
+    IsNodeText (named (codes "VenHw") arguments) (VendorHw vendor)
 vendor_hw_found arguments vendor e = let is = vendor_found arguments vendor e in record { valid = is.1; means = vendor_hw is.0 }
 
-pub vendor_hw_again : (arguments : List (List ℕ)) (node : Node) → IsNodeText (named (codes "VenHw") arguments) node → (vendor : VendorParts) × (vendor_of arguments ≡ Some vendor) × (node ≡ VendorHw vendor)
+pub vendor_hw_again : (arguments : List (List ℕ)) (node : Node) → IsNodeText (named (codes "VenHw") arguments) node →
+    (vendor : VendorParts) × (vendor_of arguments ≡ Some vendor) × (node ≡ VendorHw vendor)
 vendor_hw_again arguments node is = let p = vendor_hw_arguments arguments node is in (p.0, vendor_again arguments p.0 p.1 p.2, p.3)
 
-pub vendor_msg_found : (arguments : List (List ℕ)) (vendor : VendorParts) → vendor_of arguments ≡ Some vendor → IsNodeText (named (codes "VenMsg") arguments) (VendorMsg vendor)
+pub vendor_msg_found : (arguments : List (List ℕ)) (vendor : VendorParts) → vendor_of arguments ≡ Some vendor →
+    IsNodeText (named (codes "VenMsg") arguments) (VendorMsg vendor)
 vendor_msg_found arguments vendor e = let is = vendor_found arguments vendor e in record { valid = is.1; means = vendor_msg is.0 }
 
-pub vendor_msg_again : (arguments : List (List ℕ)) (node : Node) → IsNodeText (named (codes "VenMsg") arguments) node → (vendor : VendorParts) × (vendor_of arguments ≡ Some vendor) × (node ≡ VendorMsg vendor)
+pub vendor_msg_again : (arguments : List (List ℕ)) (node : Node) →
+    IsNodeText (named (codes "VenMsg") arguments) node → (vendor : VendorParts) × (vendor_of arguments ≡ Some vendor)
+    × (node ≡ VendorMsg vendor)
 vendor_msg_again arguments node is = let p = vendor_msg_arguments arguments node is in (p.0, vendor_again arguments p.0 p.1 p.2, p.3)
 
-pub vendor_media_found : (arguments : List (List ℕ)) (vendor : VendorParts) → vendor_of arguments ≡ Some vendor → IsNodeText (named (codes "VenMedia") arguments) (VendorMedia vendor)
+pub vendor_media_found : (arguments : List (List ℕ)) (vendor : VendorParts) → vendor_of arguments ≡ Some vendor →
+    IsNodeText (named (codes "VenMedia") arguments) (VendorMedia vendor)
 vendor_media_found arguments vendor e = let is = vendor_found arguments vendor e in record { valid = is.1; means = vendor_media is.0 }
 
-pub vendor_media_again : (arguments : List (List ℕ)) (node : Node) → IsNodeText (named (codes "VenMedia") arguments) node → (vendor : VendorParts) × (vendor_of arguments ≡ Some vendor) × (node ≡ VendorMedia vendor)
+pub vendor_media_again : (arguments : List (List ℕ)) (node : Node) →
+    IsNodeText (named (codes "VenMedia") arguments) node → (vendor : VendorParts)
+    × (vendor_of arguments ≡ Some vendor) × (node ≡ VendorMedia vendor)
 vendor_media_again arguments node is = let p = vendor_media_arguments arguments node is in (p.0, vendor_again arguments p.0 p.1 p.2, p.3)
 
 -- Path
-pub generic_found : (arguments : List (List ℕ)) (r : Row) (node : Node) → generic_of arguments ≡ Some r → IsNode node → row_of node ≡ r → IsNodeText (named (codes "Path") arguments) node
+pub generic_found : (arguments : List (List ℕ)) (r : Row) (node : Node) → generic_of arguments ≡ Some r →
+    IsNode node → row_of node ≡ r → IsNodeText (named (codes "Path") arguments) node
 unfolding generic_of
 generic_found [] r node e valid is = cc
 generic_found (_ ∷ []) r node e valid is = cc
@@ -88,7 +97,8 @@ few_or_many : (n : ℕ) → n ≢ 2 → n ≢ 3 → (n ≡ 2) ⊎ (n ≡ 3) → 
 few_or_many n two three (inl e) = two e
 few_or_many n two three (inr e) = three e
 
-pub generic_again : EachNodeIsShort → (arguments : List (List ℕ)) (node : Node) → IsNodeText (named (codes "Path") arguments) node → generic_of arguments ≡ Some (row_of node)
+pub generic_again : EachNodeIsShort → (arguments : List (List ℕ)) (node : Node) →
+    IsNodeText (named (codes "Path") arguments) node → generic_of arguments ≡ Some (row_of node)
 unfolding generic_of
 generic_again law [] node is = absurd (few_or_many 0 (λ e. omega (arith, e)) (λ e. omega (arith, e)) (generic_count [] node is))
 generic_again law (a ∷ []) node is = absurd (few_or_many 1 (λ e. omega (arith, e)) (λ e. omega (arith, e)) (generic_count (a ∷ []) node is))

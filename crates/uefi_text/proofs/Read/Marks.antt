@@ -1,5 +1,33 @@
 -- A text is cut at its first byte of a kind.
-use Rattle.std.proofs.Common.{◌≡◌, ◌≢◌, ◌<◌, ◌≤◌, ◌+◌, ℕ, zero, suc, Bool, true, false, eqb, ltb, List, [], ◌∷◌, ◌++◌, length, length-append, get_or, take, drop, refl, ap, sym, ◌∙◌, arith}
+use Rattle.std.proofs.Common.{
+  ◌≡◌,
+  ◌≢◌,
+  ◌<◌,
+  ◌≤◌,
+  ◌+◌,
+  ℕ,
+  zero,
+  suc,
+  Bool,
+  true,
+  false,
+  eqb,
+  ltb,
+  List,
+  [],
+  ◌∷◌,
+  ◌++◌,
+  length,
+  length-append,
+  get_or,
+  take,
+  drop,
+  refl,
+  ap,
+  sym,
+  ◌∙◌,
+  arith,
+}
 use Rattle.std.specs.Prelude.{Some, None, position, if◌then◌else◌}
 use Rattle.std.specs.List.{AllByRecursion, list_all, onto_first, position_or_len}
 use Rattle.std.proofs.lemmas.Bool.{and_parts, eqb-true, eqb-false, ltb-false}
@@ -77,7 +105,8 @@ arguments_more mark (x ∷ xs) behind h =
     rw (other, arguments_more mark xs behind h.1) refl
 
 -- there is always an argument
-some_argument : (mark : ℕ) (P : List (List ℕ) → Type 0) → ((first : List ℕ) (others : List (List ℕ)) → P (first ∷ others)) → (xs : List ℕ) → P (parts_of mark xs)
+some_argument : (mark : ℕ) (P : List (List ℕ) → Type 0) →
+    ((first : List ℕ) (others : List (List ℕ)) → P (first ∷ others)) → (xs : List ℕ) → P (parts_of mark xs)
 some_argument mark P p [] = p [] []
 some_argument mark P p (x ∷ xs) = elim (eqb x mark) as (λ b. P (if b then [] ∷ parts_of mark xs else onto_first x (parts_of mark xs))) [
   | true ↦ p [] (parts_of mark xs)

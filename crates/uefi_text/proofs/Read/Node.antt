@@ -14,7 +14,28 @@ use Rattle.uefi_text.specs.declared.fault.SegmentFault.TheVariants.{BadSegment, 
 use Rattle.uefi_text.specs.declared.segment.Segment as code
 use Rattle.uefi_text.specs.declared.segment.Segment.TheVariants.{Named, Bare}
 use Rattle.uefi_text.specs.Segment.{Segment, named, bare, segment_text}
-use Rattle.uefi_text.specs.Node.{pci, usb, sata, nvme, pci_root, pcie_root, acpi_pnp, acpi, mac, ipv4, vlan, uri, file, hd_gpt, hd_mbr, cdrom, vendor_hw, vendor_msg, vendor_media, generic}
+use Rattle.uefi_text.specs.Node.{
+  pci,
+  usb,
+  sata,
+  nvme,
+  pci_root,
+  pcie_root,
+  acpi_pnp,
+  acpi,
+  mac,
+  ipv4,
+  vlan,
+  uri,
+  file,
+  hd_gpt,
+  hd_mbr,
+  cdrom,
+  vendor_hw,
+  vendor_msg,
+  vendor_media,
+  generic,
+}
 use Rattle.uefi_text.specs.Node.{MeansNode, bare_file, IsBareName, IsBareUnit, IsNameUnit}
 use Rattle.uefi_text.specs.Path.{IsNodeText}
 use Rattle.uefi_text.specs.Fault.{IsPlaceOf, BeginsWithNode}
@@ -39,7 +60,8 @@ named_none name inside none node (bare p) cut is = cut
 named_some : (name inside : Bor (List ℕ)) (node : Node) → MeansNamed name.now inside.now node → MeansCut (Named name inside) node
 named_some name inside node m = (named name.now m.0, (refl, m.1), m.2)
 
-pub named_segment : (name inside : Bor (List ℕ)) (result : Result Node SegmentFault) → AnswersNamed name.now inside.now result → AnswersSegment (Named name inside) result
+pub named_segment : (name inside : Bor (List ℕ)) (result : Result Node SegmentFault) →
+    AnswersNamed name.now inside.now result → AnswersSegment (Named name inside) result
 named_segment name inside (Ok node) m = named_some name inside node m
 named_segment name inside (Err fault) h =
     told_from fault (λ none. λ (node : Node) (cut : MeansCut (Named name inside) node). named_none name inside none node cut.0 cut.1 cut.2)
@@ -93,7 +115,8 @@ bare_none text none node (bare p) cut is =
 bare_some : (text : Bor (List ℕ)) (node : Node) → IsBareName text.now → file_of text.now ≡ Some node → MeansCut (Bare text) node
 bare_some text node name h = (bare text.now, refl, bare_found text.now node name h)
 
-pub bare_segment : (text : Bor (List ℕ)) (result : Result Node SegmentFault) → IsBareName text.now → Makes result (file_of text.now) → AnswersSegment (Bare text) result
+pub bare_segment : (text : Bor (List ℕ)) (result : Result Node SegmentFault) → IsBareName text.now →
+    Makes result (file_of text.now) → AnswersSegment (Bare text) result
 bare_segment text (Ok node) name h = bare_some text node name h
 bare_segment text (Err fault) name h =
     told_from fault (λ none. λ (node : Node) (cut : MeansCut (Bare text) node). bare_none text none node cut.0 cut.1 cut.2)
@@ -114,7 +137,8 @@ refused_node text cut told end len only within none is = record {
 }
 
 -- what a segment's fault says of the start of the text that the segment was cut off
-pub segment_refused : (text : List ℕ) (cut : code.Segment) (fault : SegmentFault) (told : TextFault) (end len : ℕ) → ((begins : BeginsWithNode text) → IsCutOf cut begins.segment)
+pub segment_refused : (text : List ℕ) (cut : code.Segment) (fault : SegmentFault) (told : TextFault) (end len : ℕ) →
+    ((begins : BeginsWithNode text) → IsCutOf cut begins.segment)
     → end ≤ len → AnswersSegment cut (Err fault) → IsFaultIn fault told (len - length text) end → told ≢ text_fault.OutOfMemory → IsRefusedNode text told len
 segment_refused text cut BadSegment told end len only within h is kept = refused_node text cut told end len only within h is
 segment_refused text cut (BadNumber at) told end len only within h is kept = refused_node text cut told end len only within h is
@@ -123,7 +147,8 @@ segment_refused text cut BadEnd told end len only within h is kept = refused_nod
 segment_refused text cut OutOfMemory told end len only within h is kept = absurd (kept is)
 
 -- out of memory says that the segment stands for a node
-pub segment_wanted : (cut : code.Segment) (fault : SegmentFault) (told : TextFault) (place end : ℕ) → AnswersSegment cut (Err fault) → IsFaultIn fault told place end
+pub segment_wanted : (cut : code.Segment) (fault : SegmentFault) (told : TextFault) (place end : ℕ) →
+    AnswersSegment cut (Err fault) → IsFaultIn fault told place end
     → told ≡ text_fault.OutOfMemory → (node : Node) × MeansCut cut node
 segment_wanted cut BadSegment told place end h is e = absurd (subst (λ f. IsPlaceOf f place end) e is)
 segment_wanted cut (BadNumber at) told place end h is e = absurd (subst (λ f. IsPlaceOf f place end) e is)

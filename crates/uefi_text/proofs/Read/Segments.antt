@@ -9,7 +9,22 @@ use Rattle.uefi_text.specs.Node.{pci, usb, sata, vlan, pci_root, pcie_root, cdro
 use Rattle.uefi_text.specs.Path.{IsNodeText}
 use Rattle.uefi_text.specs.Reader.{two_of, three_of, number_up_to, pci_of, usb_of, sata_of, vlan_of, root_of, cdrom_of}
 use Rattle.uefi_text.proofs.Read.Numbers.{bind_some, some_same, up_to_found, up_to_again}
-use Rattle.uefi_text.proofs.Means.Forms.{pci_count, pci_arguments, usb_count, usb_arguments, sata_count, sata_arguments, vlan_count, vlan_arguments, cdrom_count, cdrom_arguments, pci_root_count, pci_root_arguments, pcie_root_count, pcie_root_arguments}
+use Rattle.uefi_text.proofs.Means.Forms.{
+  pci_count,
+  pci_arguments,
+  usb_count,
+  usb_arguments,
+  sata_count,
+  sata_arguments,
+  vlan_count,
+  vlan_arguments,
+  cdrom_count,
+  cdrom_arguments,
+  pci_root_count,
+  pci_root_arguments,
+  pcie_root_count,
+  pcie_root_arguments,
+}
 
 pub pci_found : (arguments : List (List ℕ)) (node : Node) → pci_of arguments ≡ Some node → IsNodeText (named (codes "Pci") arguments) node
 unfolding pci_of two_of
@@ -23,7 +38,8 @@ pci_found (device ∷ function ∷ []) node e =
     let n1 = up_to_found 0xFF function r1.0 r1.1 in
     let under0 : r0.0 < 0xFF + 1 = let le = n0.1 in omega arith in
     let under1 : r1.0 < 0xFF + 1 = let le = n1.1 in omega arith in
-    subst (IsNodeText (named (codes "Pci") (device ∷ function ∷ []))) (some_same (Pci r1.0 r0.0) node r1.2) (record { valid = (under1, under0); means = pci n0.0 n1.0 })
+    subst (IsNodeText (named (codes "Pci") (device ∷ function ∷ []))) (some_same (Pci r1.0 r0.0) node r1.2)
+    (record { valid = (under1, under0); means = pci n0.0 n1.0 })
 
 pub pci_again : (arguments : List (List ℕ)) (node : Node) → IsNodeText (named (codes "Pci") arguments) node → pci_of arguments ≡ Some node
 unfolding pci_of two_of
@@ -48,7 +64,8 @@ usb_found (port ∷ interface ∷ []) node e =
     let n1 = up_to_found 0xFF interface r1.0 r1.1 in
     let under0 : r0.0 < 0xFF + 1 = let le = n0.1 in omega arith in
     let under1 : r1.0 < 0xFF + 1 = let le = n1.1 in omega arith in
-    subst (IsNodeText (named (codes "USB") (port ∷ interface ∷ []))) (some_same (Usb r0.0 r1.0) node r1.2) (record { valid = (under0, under1); means = usb n0.0 n1.0 })
+    subst (IsNodeText (named (codes "USB") (port ∷ interface ∷ []))) (some_same (Usb r0.0 r1.0) node r1.2)
+    (record { valid = (under0, under1); means = usb n0.0 n1.0 })
 
 pub usb_again : (arguments : List (List ℕ)) (node : Node) → IsNodeText (named (codes "USB") arguments) node → usb_of arguments ≡ Some node
 unfolding usb_of two_of
@@ -77,7 +94,8 @@ sata_found (hba ∷ multiplier ∷ lun ∷ []) node e =
     let under0 : r0.0 < 0xFFFF + 1 = let le = n0.1 in omega arith in
     let under1 : r1.0 < 0xFFFF + 1 = let le = n1.1 in omega arith in
     let under2 : r2.0 < 0xFFFF + 1 = let le = n2.1 in omega arith in
-    subst (IsNodeText (named (codes "Sata") (hba ∷ multiplier ∷ lun ∷ []))) (some_same (Sata r0.0 r1.0 r2.0) node r2.2) (record { valid = (under0, under1, under2); means = sata n0.0 n1.0 n2.0 })
+    subst (IsNodeText (named (codes "Sata") (hba ∷ multiplier ∷ lun ∷ [])))
+    (some_same (Sata r0.0 r1.0 r2.0) node r2.2) (record { valid = (under0, under1, under2); means = sata n0.0 n1.0 n2.0 })
 
 pub sata_again : (arguments : List (List ℕ)) (node : Node) → IsNodeText (named (codes "Sata") arguments) node → sata_of arguments ≡ Some node
 unfolding sata_of three_of two_of
@@ -119,7 +137,8 @@ root_found (uid ∷ []) node e =
     let r0 = bind_some (number_up_to 0xFFFFFFFF uid) _ node e in
     let n0 = up_to_found 0xFFFFFFFF uid r0.0 r0.1 in
     let under0 : r0.0 < 0xFFFFFFFF + 1 = let le = n0.1 in omega arith in
-    subst (IsNodeText (named (codes "PciRoot") (uid ∷ []))) (some_same (Acpi pci_root_hid r0.0) node r0.2) (record { valid = (lit< tt, under0); means = pci_root n0.0 })
+    subst (IsNodeText (named (codes "PciRoot") (uid ∷ []))) (some_same (Acpi pci_root_hid r0.0) node r0.2)
+    (record { valid = (lit< tt, under0); means = pci_root n0.0 })
 
 pub root_again : (arguments : List (List ℕ)) (node : Node) → IsNodeText (named (codes "PciRoot") arguments) node → root_of pci_root_hid arguments ≡ Some node
 unfolding root_of
@@ -138,7 +157,8 @@ pcie_found (uid ∷ []) node e =
     let r0 = bind_some (number_up_to 0xFFFFFFFF uid) _ node e in
     let n0 = up_to_found 0xFFFFFFFF uid r0.0 r0.1 in
     let under0 : r0.0 < 0xFFFFFFFF + 1 = let le = n0.1 in omega arith in
-    subst (IsNodeText (named (codes "PcieRoot") (uid ∷ []))) (some_same (Acpi pcie_root_hid r0.0) node r0.2) (record { valid = (lit< tt, under0); means = pcie_root n0.0 })
+    subst (IsNodeText (named (codes "PcieRoot") (uid ∷ []))) (some_same (Acpi pcie_root_hid r0.0) node r0.2)
+    (record { valid = (lit< tt, under0); means = pcie_root n0.0 })
 
 pub pcie_again : (arguments : List (List ℕ)) (node : Node) → IsNodeText (named (codes "PcieRoot") arguments) node → root_of pcie_root_hid arguments ≡ Some node
 unfolding root_of
@@ -165,7 +185,8 @@ cdrom_found (entry ∷ start ∷ size ∷ []) node e =
     let under0 : r0.0 < 0xFFFFFFFF + 1 = let le = n0.1 in omega arith in
     let under1 : r1.0 < 0xFFFFFFFFFFFFFFFF + 1 = let le = n1.1 in omega arith in
     let under2 : r2.0 < 0xFFFFFFFFFFFFFFFF + 1 = let le = n2.1 in omega arith in
-    subst (IsNodeText (named (codes "CDROM") (entry ∷ start ∷ size ∷ []))) (some_same (Cdrom r0.0 r1.0 r2.0) node r2.2) (record { valid = (under0, under1, under2); means = cdrom n0.0 n1.0 n2.0 })
+    subst (IsNodeText (named (codes "CDROM") (entry ∷ start ∷ size ∷ [])))
+    (some_same (Cdrom r0.0 r1.0 r2.0) node r2.2) (record { valid = (under0, under1, under2); means = cdrom n0.0 n1.0 n2.0 })
 
 pub cdrom_again : (arguments : List (List ℕ)) (node : Node) → IsNodeText (named (codes "CDROM") arguments) node → cdrom_of arguments ≡ Some node
 unfolding cdrom_of three_of two_of

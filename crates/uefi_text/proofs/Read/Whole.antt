@@ -26,7 +26,15 @@ uri_bytes (c ∷ cs) h =
     let p = and_parts (is_plain_from 0x21 c) (list_all (is_plain_from 0x21) cs) h in
     let plain = p.0 in
     let rest = uri_bytes cs p.1 in (
-      (record { low = grind (arith, nat_tests); high = grind (arith, nat_tests); no_open = grind (arith, nat_tests); no_close = grind (arith, nat_tests) }, rest.0),
+      (
+        record {
+          low = grind (arith, nat_tests);
+          high = grind (arith, nat_tests);
+          no_open = grind (arith, nat_tests);
+          no_close = grind (arith, nat_tests);
+        },
+        rest.0,
+      ),
       (grind (arith, nat_tests), rest.1),
     )
 
@@ -59,7 +67,15 @@ name_units (c ∷ cs) h =
     let p = and_parts (is_plain_from 0x20 c) (list_all (is_plain_from 0x20) cs) h in
     let plain = p.0 in
     let rest = name_units cs p.1 in (
-      (record { low = grind (arith, nat_tests); high = grind (arith, nat_tests); no_open = grind (arith, nat_tests); no_close = grind (arith, nat_tests) }, rest.0),
+      (
+        record {
+          low = grind (arith, nat_tests);
+          high = grind (arith, nat_tests);
+          no_open = grind (arith, nat_tests);
+          no_close = grind (arith, nat_tests);
+        },
+        rest.0,
+      ),
       ((grind (arith, nat_tests), grind (arith, nat_tests)), rest.1),
     )
 

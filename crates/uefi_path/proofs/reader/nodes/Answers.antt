@@ -16,7 +16,8 @@ returns-in_err-nodes-clause-only_fault c = λ fault first.
     rw (p.1, p.2) (ap (λ (f : PathFault). let err : Result NodeIter PathFault = Err f in err) same)
 
 pub returns-in_err-nodes-clause-only : goal.returns-in_err-nodes-clause-only
-returns-in_err-nodes-clause-only c = λ path n front. absurd (no_fault_at_front c.args.bytes.now c.in_err-nodes.field-0.0 path n front c.in_err-nodes.ensures.fault)
+returns-in_err-nodes-clause-only c = λ path n front. absurd
+    (no_fault_at_front c.args.bytes.now c.in_err-nodes.field-0.0 path n front c.in_err-nodes.ensures.fault)
 
 pub returns-clause-places : goal.returns-clause-places
 returns-clause-places c = λ before after r is.
@@ -31,4 +32,6 @@ returns-clause-only c = λ path n front.
     found.2 ∙ ap path_rows (same_front c.args.bytes.now found.0 path c.in_ok-nodes.field-0-1 n found.1 front).0
 
 pub returns-clause-only_fault : goal.returns-clause-only_fault
-returns-clause-only_fault c = λ fault first. absurd (no_fault_at_front c.args.bytes.now fault c.in_ok-nodes.ensures.found.0 c.in_ok-nodes.field-0-1 c.in_ok-nodes.ensures.found.1 first)
+returns-clause-only_fault c = λ fault first. absurd
+    (no_fault_at_front c.args.bytes.now fault c.in_ok-nodes.ensures.found.0 c.in_ok-nodes.field-0-1
+    c.in_ok-nodes.ensures.found.1 first)

@@ -12,11 +12,14 @@ loop-view-preserved-then-view-eq-END c =
     let all = rows_left c.args.views in
     let instances : List (List Node) = map (λ nodes. nodes.items) c.loop-view.instances.items in
     let made = subst (λ (rows : List Row). HasMade all instances c.loop-view.nodes.items rows) c.in-Some.ensures.steps c.loop-view.invariant in
-    rw (c.in_ok-push.ensures.items, map_push, c.new-nodes-then-view-eq-END.ensures.items) (one_instance all instances c.loop-view.nodes.items (row_seen c.in-Some.view) (rows_left c.next.new.self) made c.if-view-eq-END.true)
+    rw (c.in_ok-push.ensures.items, map_push, c.new-nodes-then-view-eq-END.ensures.items)
+    (one_instance all instances c.loop-view.nodes.items (row_seen c.in-Some.view)
+    (rows_left c.next.new.self) made c.if-view-eq-END.true)
 
 pub loop-view-preserved : goal.loop-view-preserved
 loop-view-preserved c =
     let all = rows_left c.args.views in
     let instances : List (List Node) = map (λ nodes. nodes.items) c.loop-view.instances.items in
     let made = subst (λ (rows : List Row). HasMade all instances c.loop-view.nodes.items rows) c.in-Some.ensures.steps c.loop-view.invariant in
-    rw c.in_ok-push_parts.ensures (one_node all instances c.loop-view.nodes.items (row_seen c.in-Some.view) (rows_left c.next.new.self) (node_of (row_seen c.in-Some.view)) made c.if-view-eq-END.false refl)
+    rw c.in_ok-push_parts.ensures (one_node all instances c.loop-view.nodes.items (row_seen c.in-Some.view)
+    (rows_left c.next.new.self) (node_of (row_seen c.in-Some.view)) made c.if-view-eq-END.false refl)

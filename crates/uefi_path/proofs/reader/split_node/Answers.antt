@@ -8,7 +8,8 @@ returns-in_err-check_header-clause-fault c =
     let bytes = c.args.bytes.now in
     let header = header_of_bytes bytes c.from.result c.in-len4-up.len_at_least (λ i. omega (arith, c.type_inv.bytes i)) cc in
     let p = err_from_is_err_and c.from_residual.result c.from_residual.ensures.1 in
-    rw (p.1, p.2) (fault_of_header c.in_err-check_header.field-0.0 bytes (get_or bytes 0 0) (get_or bytes 1 0) c.from.result c.args.offset header c.in_err-check_header.ensures.fault)
+    rw (p.1, p.2) (fault_of_header c.in_err-check_header.field-0.0 bytes (get_or bytes 0 0)
+    (get_or bytes 1 0) c.from.result c.args.offset header c.in_err-check_header.ensures.fault)
 
 pub returns-clause-found : goal.returns-clause-found
 returns-clause-found c =

@@ -15,5 +15,7 @@ returns-clause-ok c =
       room-is = c.in_ok-resize.ensures.items;
       len = ap length c.write_units.ensures ∙ units_length c.args.units.now;
     } in
-    rw (c.deref_mut.ensures.value, size) (over_zeros_whole c.args.out.now.items c.write_units.new.bytes c.resize.new.self.items start count behind c.resize.new.self.len over (omega (arith, c.in_ok-resize.ensures.len))
+    rw (c.deref_mut.ensures.value, size)
+    (over_zeros_whole c.args.out.now.items c.write_units.new.bytes c.resize.new.self.items start count behind
+    c.resize.new.self.len over (omega (arith, c.in_ok-resize.ensures.len))
     ∙ ap (λ (bytes : List ℕ). c.args.out.now.items ++ (bytes ++ replicate behind 0)) c.write_units.ensures)

@@ -8,5 +8,6 @@ returns-in-None c = lacks_from c.args.mark c.args.text.now (place_none _ c.args.
 
 pub returns-in-Some : goal.returns-in-Some
 returns-in-Some c =
-    let past : length (drop (c.in-Some.len + 1) c.args.text.now) ≤ length c.args.text.now - (c.in-Some.len + 1) = omega (arith, length-drop (c.in-Some.len + 1) c.args.text.now) in
+    let past : length (drop (c.in-Some.len + 1) c.args.text.now) ≤ length c.args.text.now - (c.in-Some.len + 1) =
+    omega (arith, length-drop (c.in-Some.len + 1) c.args.text.now) in
     around_found c.args.mark c.args.text.now c.in-Some.len _ _ (sym c.in-Some.ensures) refl (take_all _ _ past)

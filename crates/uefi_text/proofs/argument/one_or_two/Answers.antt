@@ -5,4 +5,5 @@ use Rattle.uefi_text.proofs.argument.one_or_two.Goals as goal
 
 pub returns-in-Err : goal.returns-in-Err
 returns-in-Err c =
-    told_from c.in-Err.fault (λ e. ap one_or_two_of c.in-Some.ensures ∙ two_more c.args.mark c.in-Some.first.now c.in-Some.others.now e) (λ no. no) c.in-Err.ensures
+    told_from c.in-Err.fault (λ e. ap one_or_two_of c.in-Some.ensures
+    ∙ two_more c.args.mark c.in-Some.first.now c.in-Some.others.now e) (λ no. no) c.in-Err.ensures

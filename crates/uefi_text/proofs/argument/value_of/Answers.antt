@@ -14,10 +14,12 @@ value_step base value digit digits i so_far under is =
 pub loop-digit-preserved : goal.loop-digit-preserved
 loop-digit-preserved c =
     c.in-Some.ensures.some
-    ∙ value_step c.args.base c.loop-digit.value c.digit_of.result c.args.digits.now c.loop-digit.digit-index c.loop-digit.invariant c.loop-digit-test.true c.digit_of.ensures
+    ∙ value_step c.args.base c.loop-digit.value c.digit_of.result c.args.digits.now c.loop-digit.digit-index
+    c.loop-digit.invariant c.loop-digit-test.true c.digit_of.ensures
 
 pub returns-in-None-clause-none : goal.returns-in-None-clause-none
 returns-in-None-clause-none c =
-    let step = value_step c.args.base c.loop-digit.value c.digit_of.result c.args.digits.now c.loop-digit.digit-index c.loop-digit.invariant c.loop-digit-test.true c.digit_of.ensures in
+    let step = value_step c.args.base c.loop-digit.value c.digit_of.result c.args.digits.now c.loop-digit.digit-index
+    c.loop-digit.invariant c.loop-digit-test.true c.digit_of.ensures in
     let least = digits_value-take-le c.args.base c.args.digits.now (c.loop-digit.digit-index + 1) c.requires in
     omega (arith, step, least, c.in-None.ensures.none)

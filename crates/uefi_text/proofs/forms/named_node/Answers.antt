@@ -1,13 +1,56 @@
 use Rattle.std.proofs.Common.{ℕ, List, sym, subst, refl, ◌∙◌, true≢false}
 use Rattle.std.specs.Prelude.{codes}
 use Rattle.uefi_path.specs.Standard.{pci_root_hid, pcie_root_hid}
-use Rattle.uefi_text.specs.Reader.{pci_of, usb_of, sata_of, vlan_of, root_of, acpi_of, nvme_of, mac_node_of, ipv4_of, hard_drive_of, cdrom_of, vendor_hw_of, vendor_msg_of, vendor_media_of, uri_of, file_of}
+use Rattle.uefi_text.specs.Reader.{
+  pci_of,
+  usb_of,
+  sata_of,
+  vlan_of,
+  root_of,
+  acpi_of,
+  nvme_of,
+  mac_node_of,
+  ipv4_of,
+  hard_drive_of,
+  cdrom_of,
+  vendor_hw_of,
+  vendor_msg_of,
+  vendor_media_of,
+  uri_of,
+  file_of,
+}
 use Rattle.uefi_text.specs.Answers.{AnswersNamed}
 use Rattle.uefi_text.proofs.Read.Answers.{cut_answers, whole_answers, makes, no_form}
-use Rattle.uefi_text.proofs.Read.Forms.{nvme_found, nvme_again, acpi_found, acpi_again, mac_node_found, mac_node_again, ipv4_found, ipv4_again, hard_drive_found, hard_drive_again}
+use Rattle.uefi_text.proofs.Read.Forms.{
+  nvme_found,
+  nvme_again,
+  acpi_found,
+  acpi_again,
+  mac_node_found,
+  mac_node_again,
+  ipv4_found,
+  ipv4_again,
+  hard_drive_found,
+  hard_drive_again,
+}
 use Rattle.uefi_text.proofs.Read.Whole.{uri_found, uri_again, file_found, file_again}
 use Rattle.uefi_text.proofs.Read.Generic.{hw_found, hw_again, msg_found, msg_again, media_found, media_again, generic_answers}
-use Rattle.uefi_text.proofs.Read.Segments.{pci_found, pci_again, usb_found, usb_again, sata_found, sata_again, vlan_found, vlan_again, cdrom_found, cdrom_again, root_found, root_again, pcie_found, pcie_again}
+use Rattle.uefi_text.proofs.Read.Segments.{
+  pci_found,
+  pci_again,
+  usb_found,
+  usb_again,
+  sata_found,
+  sata_again,
+  vlan_found,
+  vlan_again,
+  cdrom_found,
+  cdrom_again,
+  root_found,
+  root_again,
+  pcie_found,
+  pcie_again,
+}
 use Rattle.uefi_text.proofs.forms.named_node.Goals as goal
 
 pub returns-then-is_named : goal.returns-then-is_named
@@ -38,7 +81,8 @@ returns-then-is_named-5 c =
 pub returns-then-is_named-6 : goal.returns-then-is_named-6
 returns-then-is_named-6 c =
     subst (λ (n : List ℕ). AnswersNamed n c.args.inside.now c.root-then-is_named-6.result) (sym (c.is_named-6.ensures.0 c.if-is_named-6.true))
-    (cut_answers (codes "PcieRoot") c.args.inside.now c.root-then-is_named-6.result (root_of pcie_root_hid) refl pcie_found pcie_again (makes c.root-then-is_named-6.result _ c.root-then-is_named-6.ensures))
+    (cut_answers (codes "PcieRoot") c.args.inside.now c.root-then-is_named-6.result
+    (root_of pcie_root_hid) refl pcie_found pcie_again (makes c.root-then-is_named-6.result _ c.root-then-is_named-6.ensures))
 
 pub returns-then-is_named-7 : goal.returns-then-is_named-7
 returns-then-is_named-7 c =
@@ -48,7 +92,8 @@ returns-then-is_named-7 c =
 pub returns-then-is_named-8 : goal.returns-then-is_named-8
 returns-then-is_named-8 c =
     subst (λ (n : List ℕ). AnswersNamed n c.args.inside.now c.mac_node.result) (sym (c.is_named-8.ensures.0 c.if-is_named-8.true))
-    (cut_answers (codes "MAC") c.args.inside.now c.mac_node.result mac_node_of refl mac_node_found mac_node_again (makes c.mac_node.result _ c.mac_node.ensures))
+    (cut_answers (codes "MAC") c.args.inside.now c.mac_node.result mac_node_of refl mac_node_found mac_node_again
+    (makes c.mac_node.result _ c.mac_node.ensures))
 
 pub returns-then-is_named-9 : goal.returns-then-is_named-9
 returns-then-is_named-9 c =
@@ -73,7 +118,8 @@ returns-then-is_named-12 c =
 pub returns-then-is_named-13 : goal.returns-then-is_named-13
 returns-then-is_named-13 c =
     subst (λ (n : List ℕ). AnswersNamed n c.args.inside.now c.hard_drive.result) (sym (c.is_named-13.ensures.0 c.if-is_named-13.true))
-    (cut_answers (codes "HD") c.args.inside.now c.hard_drive.result hard_drive_of refl hard_drive_found hard_drive_again (makes c.hard_drive.result _ c.hard_drive.ensures))
+    (cut_answers (codes "HD") c.args.inside.now c.hard_drive.result hard_drive_of refl hard_drive_found
+    hard_drive_again (makes c.hard_drive.result _ c.hard_drive.ensures))
 
 pub returns-then-is_named-14 : goal.returns-then-is_named-14
 returns-then-is_named-14 c =

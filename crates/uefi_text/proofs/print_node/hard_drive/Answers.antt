@@ -9,7 +9,8 @@ returns-then-is_mbr g c = λ plain ok.
     let long = ap length signature ∙ c.signature-signature.ensures.valid.signature.0 in
     let four = first_four c.signature-signature.result.now (omega (arith, long)) in
     has_written_of_eq _ _ _ _ _
-    (mbr_segment c.args.node.now _ (sym c.is_gpt.ensures ∙ c.if-is_gpt.false) (sym c.is_mbr.ensures ∙ c.if-is_mbr.true) (four ∙ ap (λ (bytes : List ℕ). take 4 bytes) signature))
+    (mbr_segment c.args.node.now _ (sym c.is_gpt.ensures ∙ c.if-is_gpt.false)
+    (sym c.is_mbr.ensures ∙ c.if-is_mbr.true) (four ∙ ap (λ (bytes : List ℕ). take 4 bytes) signature))
     (c.mbr.ensures plain ok)
 
 pub returns : goal.returns

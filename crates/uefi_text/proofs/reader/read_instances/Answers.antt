@@ -10,7 +10,8 @@ returns-in_err-nodes-clause-fault c =
 
 pub returns-in-empty-clause-found : goal.returns-in-empty-clause-found
 returns-in-empty-clause-found c =
-    path_done c.args.text.now _ _ c.loop-instances.rest.now c.in_ok-nodes.nodes.items c.in_ok-nodes.behind.now c.loop-instances.invariant c.in_ok-nodes.ensures.found
+    path_done c.args.text.now _ _ c.loop-instances.rest.now c.in_ok-nodes.nodes.items c.in_ok-nodes.behind.now
+    c.loop-instances.invariant c.in_ok-nodes.ensures.found
     (map_more (λ nodes. nodes.items) c.loop-instances.instances.items _ c.in_ok-nodes.nodes c.in_ok-push.ensures.items)
     (none_left c.in_ok-nodes.behind.now c.in-empty.len_below)
 

@@ -21,7 +21,8 @@ returns-then-contains-clause-only c =
     let same = same_parts c.args.text.now name inside behind _ _ _ _ front c.in_ok-name.ensures c.in_ok-inside.ensures in
     elim c.then-contains.branch [
       | then-contains-via-then-contains w ↦
-          has_some open_mark c.in_ok-inside.inside.now (subst (Lacks open_mark) (sym same.same_inside) front.no_open) (sym c.contains.ensures.value ∙ w.if-contains.true)
+          has_some open_mark c.in_ok-inside.inside.now (subst (Lacks open_mark) (sym same.same_inside) front.no_open)
+          (sym c.contains.ensures.value ∙ w.if-contains.true)
       | then-contains-via-else-contains+then-not-ends_segment w ↦
           let closed = subst ClosesSegment (sym same.same_rest) front.closed in
           true≢false (sym (w.ends_segment.ensures.1 closed) ∙ w.if-not-ends_segment.true)

@@ -7,5 +7,7 @@ use Rattle.uefi_text.proofs.segment.split_bare.Goals as goal
 pub returns : goal.returns
 returns c =
     let text = c.args.text.now in
-    let len = IsFirst-from_position _ _ c.position.result (λ unit. IsBareUnit unit → ⊥) IsBareUnit c.position.ensures.ran (YieldsList-from_slice text cc) (λ x q k. search (rules, tests)) (λ x q k. search (rules, tests)) in
+    let len = IsFirst-from_position _ _ c.position.result (λ unit. IsBareUnit unit → ⊥) IsBareUnit
+    c.position.ensures.ran (YieldsList-from_slice text cc) (λ x q k. search (rules, tests))
+    (λ x q k. search (rules, tests)) in
     bare_cut text _ _ c.position.result len (cc) (cc)

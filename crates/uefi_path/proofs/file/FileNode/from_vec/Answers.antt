@@ -14,6 +14,10 @@ returns-in-Ok-clause-zero_unit c = λ at.
 
 pub returns-in-Err-clause-zero_unit : goal.returns-in-Err-clause-zero_unit
 returns-in-Err-clause-zero_unit c = λ at. (
-  λ e. rw (← c.deref.ensures.value) ((c.check_name.ensures.zero_unit at).0 (c.in-Err.is ∙ ap (λ (refused : NameRefused). Err refused.fault) (same_refusal _ _ e))),
-  λ some. ap (λ (fault : NameFault). Err (refusal fault c.args.units)) (same_refusal c.in-Err.fault (ZeroUnit at) (sym c.in-Err.is ∙ (c.check_name.ensures.zero_unit at).1 (rw c.deref.ensures.value some))),
+  λ e. rw (← c.deref.ensures.value)
+      ((c.check_name.ensures.zero_unit at).0
+      (c.in-Err.is ∙ ap (λ (refused : NameRefused). Err refused.fault) (same_refusal _ _ e))),
+  λ some. ap (λ (fault : NameFault). Err (refusal fault c.args.units))
+      (same_refusal c.in-Err.fault (ZeroUnit at)
+      (sym c.in-Err.is ∙ (c.check_name.ensures.zero_unit at).1 (rw c.deref.ensures.value some))),
 )

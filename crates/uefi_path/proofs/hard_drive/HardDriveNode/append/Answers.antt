@@ -8,9 +8,20 @@ use Rattle.uefi_path.proofs.hard_drive.HardDriveNode.append.Goals as goal
 
 pub returns-clause-ok : goal.returns-clause-ok
 returns-clause-ok c =
-    let given = c.to_le_bytes.result ∷ c.to_le_bytes-2.result ∷ c.to_le_bytes-3.result ∷ c.self.inside.signature ∷ c.to_le_bytes-4.result ∷ c.to_le_bytes-5.result ∷ [] in
+    let given = c.to_le_bytes.result ∷ c.to_le_bytes-2.result ∷ c.to_le_bytes-3.result ∷ c.self.inside.signature
+    ∷ c.to_le_bytes-4.result ∷ c.to_le_bytes-5.result ∷ [] in
     let put : c.put-6.new.self ≡ c.args.header ++ concat given =
     simp (c.put-6.ensures, c.put-5.ensures, c.put-4.ensures, c.put-3.ensures, c.put-2.ensures, c.put.ensures, c.new-node.ensures, append_assoc, append-nil) in
     let same : given ≡ hard_drive_fields c.args.self.now =
-    rw (← c.self.view_is, byte_alone _ c.self.invariant.format, byte_alone _ c.self.invariant.signature_kind, c.to_le_bytes.ensures, c.to_le_bytes-2.ensures, c.to_le_bytes-3.ensures, c.to_le_bytes-4.ensures, c.to_le_bytes-5.ensures) refl in
-    subst (λ (bytes : List ℕ). OnOk c.append_to.result (c.append_to.new.out.items ≡ c.args.out.now.items ++ bytes)) (put ∙ ap (λ (fields : List (List ℕ)). c.args.header ++ concat fields) same) c.append_to.ensures.ok
+    rw (
+      ← c.self.view_is,
+      byte_alone _ c.self.invariant.format,
+      byte_alone _ c.self.invariant.signature_kind,
+      c.to_le_bytes.ensures,
+      c.to_le_bytes-2.ensures,
+      c.to_le_bytes-3.ensures,
+      c.to_le_bytes-4.ensures,
+      c.to_le_bytes-5.ensures,
+    ) refl in
+    subst (λ (bytes : List ℕ). OnOk c.append_to.result (c.append_to.new.out.items ≡ c.args.out.now.items ++ bytes))
+    (put ∙ ap (λ (fields : List (List ℕ)). c.args.header ++ concat fields) same) c.append_to.ensures.ok

@@ -17,4 +17,5 @@ returns-in-Cdrom-clause-ok c =
     rw (c.to_le_bytes-in-Cdrom.ensures, c.to_le_bytes-in-Cdrom-2.ensures, c.to_le_bytes-in-Cdrom-3.ensures) refl in
     let row : concat fields ≡ (row_of c.args.self.now).body = ap (λ (node : Node). (row_of node).body) (sym c.in-Cdrom.is) in
     subst (λ (bytes : List ℕ). OnOk c.append_to-in-Cdrom.result (c.append_to-in-Cdrom.new.out.items ≡ c.args.out.now.items ++ bytes))
-    (put ∙ ap (λ (bytes : List (List ℕ)). c.args.header ++ concat bytes) same ∙ ap (λ (bytes : List ℕ). c.args.header ++ bytes) row) c.append_to-in-Cdrom.ensures.ok
+    (put ∙ ap (λ (bytes : List (List ℕ)). c.args.header ++ concat bytes) same
+    ∙ ap (λ (bytes : List ℕ). c.args.header ++ bytes) row) c.append_to-in-Cdrom.ensures.ok

@@ -5,7 +5,16 @@ use Rattle.uefi_path.specs.Row.{row}
 use Rattle.uefi_path.specs.Reader.{list_node_of, node_of}
 use Rattle.uefi_path.proofs.Bytes.{recursion_from_bytes}
 use Rattle.uefi_path.proofs.Inverse.{unlisted_name, none_listed, other_of_row}
-use Rattle.uefi_path.proofs.node.Node.push_of_no_length.Goals.{in_default-via-in-1-eq4+else-body-ge-GUID_LEN, in_default-via-in-1+in_default, in_default-via-in-3-eq10+else-body-ge-GUID_LEN-2, in_default-via-in-3+in_default, in_default-via-in-4-eq3+else-body-ge-GUID_LEN-3, in_default-via-in-4-eq4+else-is_path_name, in_default-via-in-4+in_default, in_default-via-in_default}
+use Rattle.uefi_path.proofs.node.Node.push_of_no_length.Goals.{
+  in_default-via-in-1-eq4+else-body-ge-GUID_LEN,
+  in_default-via-in-1+in_default,
+  in_default-via-in-3-eq10+else-body-ge-GUID_LEN-2,
+  in_default-via-in-3+in_default,
+  in_default-via-in-4-eq3+else-body-ge-GUID_LEN-3,
+  in_default-via-in-4-eq4+else-is_path_name,
+  in_default-via-in-4+in_default,
+  in_default-via-in_default,
+}
 use Rattle.uefi_path.proofs.node.Node.push_of_no_length.Goals as goal
 
 pub new-requires : goal.new-requires
@@ -17,12 +26,19 @@ new-requires c =
       | in_default-via-in-3-eq10+else-body-ge-GUID_LEN-2 w ↦ grind (arith, common_steps)
       | in_default-via-in-3+in_default w ↦ grind (arith, common_steps)
       | in_default-via-in-4-eq3+else-body-ge-GUID_LEN-3 w ↦ grind (arith, common_steps)
-      | in_default-via-in-4-eq4+else-is_path_name w ↦ rw (w.in-4-eq4.is-0, w.in-4-eq4.is-1) (unlisted_name c.args.body.now (sym w.is_path_name.ensures ∙ w.if-is_path_name.false))
+      | in_default-via-in-4-eq4+else-is_path_name w ↦ rw (w.in-4-eq4.is-0, w.in-4-eq4.is-1)
+          (unlisted_name c.args.body.now (sym w.is_path_name.ensures ∙ w.if-is_path_name.false))
       | in_default-via-in-4+in_default w ↦ grind (arith, common_steps)
       | in_default-via-in_default w ↦ grind (arith, common_steps)
     ] in
     record {
-      row = record { kind = omega arith; sub = omega arith; body = recursion_from_bytes c.args.body.now (λ i. omega (arith, c.type_inv.body i)); len = c.requires.len };
+      row = record {
+        kind = omega arith;
+        sub = omega arith;
+        body = recursion_from_bytes c.args.body.now
+            (λ i. omega (arith, c.type_inv.body i));
+        len = c.requires.len;
+      };
       no_end = c.requires.no_end;
       unlisted = none_listed r c.requires.no_length no_list;
     }

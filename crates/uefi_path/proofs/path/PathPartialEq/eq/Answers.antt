@@ -9,7 +9,8 @@ nodes_of nodes = nodes.items
 
 pub returns-clause-value : goal.returns-clause-value
 returns-clause-value c =
-    rw (← c.self.view_is, ← c.other.view_is) (c.eq.ensures ∙ pointwise-map (pointwise node_eq) nodes_of c.self.inside.instances.items c.other.inside.instances.items)
+    rw (← c.self.view_is, ← c.other.view_is)
+    (c.eq.ensures ∙ pointwise-map (pointwise node_eq) nodes_of c.self.inside.instances.items c.other.inside.instances.items)
 
 pub returns-clause-equal : goal.returns-clause-equal
 returns-clause-equal c = path_eq-Decides c.args.self.now c.args.other.now c.eq.result (returns-clause-value c)

@@ -5,4 +5,5 @@ use Rattle.uefi_text.proofs.print_parts.FieldsDisplay.fmt.Goals as goal
 
 pub returns-clause-writes : goal.returns-clause-writes
 returns-clause-writes g c = λ plain ok.
-    has_written_of_eq _ _ _ _ _ (hex_text-whole (λ (field : Bor (List ℕ)). field.now) c.args.self.now.0.now c.loop-field.field-index (omega arith)) (c.loop-field.invariant plain)
+    has_written_of_eq _ _ _ _ _ (hex_text-whole (λ (field : Bor (List ℕ)). field.now) c.args.self.now.0.now
+    c.loop-field.field-index (omega arith)) (c.loop-field.invariant plain)
