@@ -2,3 +2,12 @@
 mod Texts
 mod Left
 mod Standard
+mod Cuts
+mod Bodies
+mod Arguments
+mod Finds
+mod Pieces
+mod Exact
+mod Back
+mod StandardRead
+mod Only

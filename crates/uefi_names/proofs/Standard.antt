@@ -1,12 +1,9 @@
 -- What is printed by a table is printed by the same table wherever its parts lie in memory.
-use Rattle.std.proofs.Common.{◌≡◌, ℕ, Bool, true, false, cond, ◌&&◌, ◌==◌, List, [], ◌∷◌, ◌++◌, map, length, Option, Some, None, refl, sym, ap, ◌∙◌}
+use Rattle.std.proofs.Common.{◌≡◌, ℕ, Bool, true, false, cond, ◌&&◌, ◌==◌, List, [], ◌∷◌, ◌++◌, map, length, Option, Some, None, refl, ap, ◌∙◌}
 use Rattle.std.specs.Prelude.{codes, bit_and}
 use Rattle.std.specs.List.{find, join_with_byte}
-use Rattle.std.specs.Option.{option_map, option_and_then}
-use Rattle.uefi_path.specs.declared.node.Node.{Node}
-use Rattle.uefi_path.specs.declared.node.Node.TheVariants.{Other}
-use Rattle.uefi_path.specs.Row.{Row}
-use Rattle.uefi_text.specs.Segment.{comma, slash}
+use Rattle.std.specs.Option.{option_map}
+use Rattle.uefi_text.specs.Segment.{comma}
 use Rattle.uefi_names.specs.declared.table.NodeTable.{NodeTable}
 use Rattle.uefi_names.specs.declared.table.NodeRow.{NodeRow}
 use Rattle.uefi_names.specs.declared.table.Form.{Form}
@@ -14,13 +11,12 @@ use Rattle.uefi_names.specs.declared.table.Field.{Field}
 use Rattle.uefi_names.specs.declared.table.Word.{Word}
 use Rattle.uefi_names.specs.declared.table.Numeral.{Numeral}
 use Rattle.uefi_names.specs.declared.table.When.{When}
-use Rattle.uefi_names.specs.declared.table.When.TheVariants.{Always, Byte, Bytes}
+use Rattle.uefi_names.specs.declared.table.When.TheVariants.{Always, Byte, Unlike, Bytes}
 use Rattle.uefi_names.specs.declared.table.Show.{Show}
 use Rattle.uefi_names.specs.declared.table.Show.TheVariants as shows
-use Rattle.uefi_names.specs.Table.{allows, holds, fits, rows_of, form_for, part}
-use Rattle.uefi_names.specs.Standard.{plain_word, plain_show, plain_field, plain_when, plain_form, plain_row, plain_table, standard_table}
+use Rattle.uefi_names.specs.Table.{allows, holds, fits, rows_of, part}
+use Rattle.uefi_names.specs.Standard.{plain_word, plain_show, plain_field, plain_when, plain_form, plain_row, plain_table}
 use Rattle.uefi_names.specs.Shown.{number_in, word_for, word_text, shown_text, field_text, fields_text, form_text}
-use Rattle.uefi_names.specs.Named.{other_text, named_node, named_path}
 
 -- ---- lists whose items are changed so that nothing is seen of it
 
@@ -28,7 +24,7 @@ map-same : {X Y : Type 0} (text : X → Y) (change : X → X) → ((x : X) → t
 map-same text change same [] = refl
 map-same text change same (x ∷ xs) = ap (λ y. y ∷ map text (map change xs)) (same x) ∙ ap (λ ys. text x ∷ ys) (map-same text change same xs)
 
-find-same : {X : Type 0} (test : X → Bool) (change : X → X) → ((x : X) → test (change x) ≡ test x) → (xs : List X) → find test (map change xs) ≡ option_map change (find test xs)
+pub find-same : {X : Type 0} (test : X → Bool) (change : X → X) → ((x : X) → test (change x) ≡ test x) → (xs : List X) → find test (map change xs) ≡ option_map change (find test xs)
 find-same test change same [] = refl
 find-same test change same (x ∷ xs) = ap (λ b. cond b (Some (change x)) (find test (map change xs))) (same x) ∙ go (test x) (find-same test change same xs)
   where
@@ -58,6 +54,7 @@ shown-same shows.HardwareId bytes = refl
 shown-same shows.Ipv4 bytes = refl
 shown-same shows.Ipv6 bytes = refl
 shown-same (shows.Ascii before) bytes = refl
+shown-same shows.LoneAscii bytes = refl
 shown-same shows.Units bytes = refl
 shown-same (shows.Each len item) bytes = refl
 
@@ -67,15 +64,16 @@ fields-same fields body =
 
 -- ---- forms
 
-form-same : (form : Form) (body : List ℕ) → form_text (plain_form form) body ≡ form_text form body
+pub form-same : (form : Form) (body : List ℕ) → form_text (plain_form form) body ≡ form_text form body
 form-same form body = ap (λ (text : List ℕ). form.name.now ++ (codes "(" ++ (text ++ codes ")"))) (fields-same form.fields.now body)
 
 holds-same : (when : When) (body : List ℕ) → holds (plain_when when) body ≡ holds when body
 holds-same Always body = refl
 holds-same (Byte at mask is) body = refl
+holds-same (Unlike at is) body = refl
 holds-same (Bytes at are) body = refl
 
-fits-same : (body : List ℕ) (form : Form) → fits body (plain_form form) ≡ fits body form
+pub fits-same : (body : List ℕ) (form : Form) → fits body (plain_form form) ≡ fits body form
 fits-same body form = ap (λ b. allows form.len (length body) && b) (holds-same form.when body)
 
 -- the rows of a type, once they are changed, by whether the type is the first, the second and so on
@@ -83,7 +81,7 @@ abbrev chosen : (List NodeRow → List NodeRow) → NodeTable → Bool → Bool 
 chosen change table a b c d e =
     cond a (change table.hardware.now) (cond b (change table.acpi.now) (cond c (change table.messaging.now) (cond d (change table.media.now) (cond e (change table.bios_boot.now) []))))
 
-rows-same : (table : NodeTable) (kind : ℕ) → rows_of (plain_table table) kind ≡ map plain_row (rows_of table kind)
+pub rows-same : (table : NodeTable) (kind : ℕ) → rows_of (plain_table table) kind ≡ map plain_row (rows_of table kind)
 rows-same table kind = go (kind == 1) (kind == 2) (kind == 3) (kind == 4) (kind == 5)
   where
     go : (a b c d e : Bool) → chosen (map plain_row) table a b c d e ≡ map plain_row (chosen (λ rows. rows) table a b c d e)
@@ -93,36 +91,3 @@ rows-same table kind = go (kind == 1) (kind == 2) (kind == 3) (kind == 4) (kind 
     go false false false true e = refl
     go false false false false true = refl
     go false false false false false = refl
-
--- the form that fits data, of the row if there is one
-abbrev form_in : List ℕ → Option NodeRow → Option Form
-form_in body row = option_and_then (λ r. find (fits body) r.forms.now) row
-
-form_for-same : (table : NodeTable) (kind sub : ℕ) (body : List ℕ) → form_for (plain_table table) kind sub body ≡ option_map plain_form (form_for table kind sub body)
-form_for-same table kind sub body =
-    ap (λ (rows : List NodeRow). form_in body (find (λ row. row.sub == sub) rows)) (rows-same table kind)
-    ∙ ap (form_in body) (find-same (λ row. row.sub == sub) plain_row (λ row. refl) (rows_of table kind))
-    ∙ go (find (λ row. row.sub == sub) (rows_of table kind))
-  where
-    go : (row : Option NodeRow) → form_in body (option_map plain_row row) ≡ option_map plain_form (form_in body row)
-    go None = refl
-    go (Some row) = find-same (fits body) plain_form (fits-same body) row.forms.now
-
--- ---- nodes and paths
-
-other-same : (form : Option Form) (r : Row) → other_text (option_map plain_form form) r ≡ other_text form r
-other-same None r = refl
-other-same (Some form) r = form-same form r.body
-
-node-same : (table : NodeTable) (node : Node) → named_node (plain_table table) node ≡ named_node table node
-node-same table (Other r) = ap (λ (form : Option Form). other_text form r) (form_for-same table r.kind r.sub r.body) ∙ other-same (form_for table r.kind r.sub r.body) r
-node-same table node = refl
-
-path-same : (table : NodeTable) (path : List (List Node)) → named_path (plain_table table) path ≡ named_path table path
-path-same table path =
-    let same : named_node (plain_table table) ≡ named_node table = λ i node. node-same table node i in
-    ap (λ (text : Node → List ℕ). join_with_byte comma (map (λ nodes. join_with_byte slash (map text nodes)) path)) same
-
--- the text by a table that is the standard's
-pub standard-text : (table : NodeTable) → plain_table table ≡ standard_table → (path : List (List Node)) → named_path table path ≡ named_path standard_table path
-standard-text table is path = sym (path-same table path) ∙ ap (λ t. named_path t path) is

@@ -7,8 +7,6 @@ use Rattle.uefi_text.specs.Bytes.{hex_text}
 use Rattle.uefi_text.specs.Segment.{comma}
 use Rattle.uefi_path.specs.declared.node.Node.{Node}
 use Rattle.uefi_names.specs.declared.table.Item.{Item}
-use Rattle.uefi_names.specs.declared.table.NodeTable.{NodeTable}
-use Rattle.uefi_names.specs.Named.{named_instance, named_path}
 use Rattle.uefi_names.specs.Shown.{escaped, nth_text, units_in, in_twos, colon, ipv6_text, item_text, items_in, items_text, item_count}
 
 -- what is joined is the first, and each other after the mark
@@ -124,9 +122,9 @@ map-twice f h [] = refl
 map-twice f h (x ∷ xs) = ap (λ rest. f (h x) ∷ rest) (map-twice f h xs)
 
 -- the instances of a path, and those that the code goes over
-pub path-joined : {V : Type 0} (table : NodeTable) (items : V → List Node) (path : List (List Node)) (all : List V) (first : V) (others : List V) (i : ℕ)
+pub path-joined : {V : Type 0} (text : List Node → List ℕ) (items : V → List Node) (path : List (List Node)) (all : List V) (first : V) (others : List V) (i : ℕ)
     → map items all ≡ path → all ≡ first ∷ others → length others ≤ i
-    → named_instance table (items first) ++ flat_map (λ nodes. comma ∷ named_instance table (items nodes)) (take i others) ≡ named_path table path
-path-joined table items path all first others i same parts past =
-    joined comma (λ nodes. named_instance table (items nodes)) all first others i parts past
-    ∙ ap (join_with_byte comma) (sym (map-twice (named_instance table) items all) ∙ ap (map (named_instance table)) same)
+    → text (items first) ++ flat_map (λ nodes. comma ∷ text (items nodes)) (take i others) ≡ join_with_byte comma (map text path)
+path-joined text items path all first others i same parts past =
+    joined comma (λ nodes. text (items nodes)) all first others i parts past
+    ∙ ap (join_with_byte comma) (sym (map-twice text items all) ∙ ap (map text) same)

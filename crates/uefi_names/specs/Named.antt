@@ -1,15 +1,23 @@
 -- Paths as text, with each node by its name.
-use Rattle.std.specs.Prelude.{ℕ, Bool, true, false, List, [], map, Option, Some, None, codes}
+use Rattle.std.specs.Prelude.{ℕ, Bool, true, false, ◌==◌, ◌&&◌, List, [], ◌∷◌, map, Option, Some, None, is_none, unwrap_or, codes}
+use Rattle.std.specs.Prelude.{if◌then◌else◌}
 use Rattle.std.specs.List.{join_with_byte}
+use Rattle.std.specs.Option.{option_or}
 use Rattle.uefi_path.specs.declared.node.Node.{Node}
 use Rattle.uefi_path.specs.declared.node.Node.TheVariants.{Other}
 use Rattle.uefi_path.specs.Row.{Row}
+use Rattle.uefi_path.specs.Node.{row_of}
+use Rattle.uefi_path.specs.Equality.{row_eq}
 use Rattle.uefi_text.specs.Segment.{comma, slash}
 use Rattle.uefi_text.specs.Printed.{node_text}
 use Rattle.uefi_names.specs.declared.table.NodeTable.{NodeTable}
 use Rattle.uefi_names.specs.declared.table.Form.{Form}
-use Rattle.uefi_names.specs.Table.{form_for}
+use Rattle.uefi_names.specs.Table.{fits, form_for, forms_for}
 use Rattle.uefi_names.specs.Shown.{form_text}
+use Rattle.uefi_names.specs.Cut.{deeper, first_outside}
+use Rattle.uefi_names.specs.Reading.{segment_row}
+
+-- ---- in the forms of a table, whether or not the text can be read back
 
 -- a node that is kept as bytes: in a form, or without one as it is printed
 abbrev pub other_text : Option Form → Row → List ℕ
@@ -17,9 +25,58 @@ other_text (Some form) r = form_text form r.body
 other_text None r = node_text (Other r)
 
 -- a node in the form that the table has for it, and one with a case of its own as it is printed
+abbrev pub shown_node : NodeTable → Node → List ℕ
+shown_node table (Other r) = other_text (form_for table r.kind r.sub r.body) r
+shown_node table node = node_text node
+
+abbrev pub shown_instance : NodeTable → List Node → List ℕ
+shown_instance table nodes = join_with_byte slash (map (shown_node table) nodes)
+
+abbrev pub shown_path : NodeTable → List (List Node) → List ℕ
+shown_path table path = join_with_byte comma (map (shown_instance table) path)
+
+-- ---- so that the text is read as the path
+
+-- how many parentheses are open after a text
+abbrev pub depth_after : ℕ → List ℕ → ℕ
+depth_after depth [] = depth
+depth_after depth (byte ∷ text) = depth_after (deeper depth byte) text
+
+-- the text has no such mark outside parentheses, and closes those that it opens
+abbrev pub is_whole_for : ℕ → List ℕ → Bool
+is_whole_for mark text = is_none (first_outside mark 0 0 text) && (depth_after 0 text == 0)
+
+-- a text that is one segment wherever it stands
+abbrev pub is_segment : List ℕ → Bool
+is_segment text = is_whole_for comma text && is_whole_for slash text
+
+abbrev pub is_row : Option Row → Row → Bool
+is_row None r = false
+is_row (Some read) r = row_eq read r
+
+-- the text is a segment that is read as the node
+abbrev pub is_read_back : NodeTable → List ℕ → Row → Bool
+is_read_back table text r = is_segment text && is_row (segment_row table text) r
+
+abbrev pub if_read_back : NodeTable → Row → List ℕ → Option (List ℕ)
+if_read_back table r text = if is_read_back table text r then Some text else None
+
+-- the text of a node in a form, if its data fit and the text is read as the node
+abbrev pub text_in_form : NodeTable → Row → Form → Option (List ℕ)
+text_in_form table r form = if fits r.body form then if_read_back table r (form_text form r.body) else None
+
+-- the text in the first of these forms that has one
+abbrev pub text_in_forms : NodeTable → Row → List Form → Option (List ℕ)
+text_in_forms table r [] = None
+text_in_forms table r (form ∷ forms) = option_or (text_in_form table r form) (text_in_forms table r forms)
+
+-- the text of a node by the table
+abbrev pub table_text : NodeTable → Row → Option (List ℕ)
+table_text table r = text_in_forms table r (forms_for table r.kind r.sub)
+
+-- a node by its name if a form of the table has a text that is read as the node, otherwise as it is printed exactly
 abbrev pub named_node : NodeTable → Node → List ℕ
-named_node table (Other r) = other_text (form_for table r.kind r.sub r.body) r
-named_node table node = node_text node
+named_node table node = unwrap_or (table_text table (row_of node)) (node_text node)
 
 abbrev pub named_instance : NodeTable → List Node → List ℕ
 named_instance table nodes = join_with_byte slash (map (named_node table) nodes)

@@ -114,6 +114,7 @@ shown_text shows.HardwareId bytes = hardware_id_shown bytes
 shown_text shows.Ipv4 bytes = item_text items.Ipv4 bytes
 shown_text shows.Ipv6 bytes = item_text items.Ipv6 bytes
 shown_text (shows.Ascii number) bytes = flat_map escaped (nth_text number bytes)
+shown_text shows.LoneAscii bytes = flat_map escaped (nth_text 0 bytes)
 shown_text shows.Units bytes = codes "\"" ++ (flat_map escaped (units_in bytes) ++ codes "\"")
 shown_text (shows.Each len item) bytes = items_text item len bytes
 

@@ -7,7 +7,7 @@ use Rattle.uefi_names.specs.declared.table.Form.{Form}
 use Rattle.uefi_names.specs.declared.table.Field.{Field}
 use Rattle.uefi_names.specs.declared.table.Word.{Word}
 use Rattle.uefi_names.specs.declared.table.When.{When}
-use Rattle.uefi_names.specs.declared.table.When.TheVariants.{Always, Byte, Bytes}
+use Rattle.uefi_names.specs.declared.table.When.TheVariants.{Always, Byte, Unlike, Bytes}
 use Rattle.uefi_names.specs.declared.table.DataLen.{DataLen}
 use Rattle.uefi_names.specs.declared.table.DataLen.TheVariants.{Exactly, AtLeast, Items}
 use Rattle.uefi_names.specs.declared.table.Numeral.TheVariants.{Hexadecimal, Decimal}
@@ -109,6 +109,10 @@ hardware_id_at at = field_of at 4 shows.HardwareId
 abbrev pub text_at : ℕ → ℕ → Field
 text_at at before = field_of at to_end (shows.Ascii before)
 
+-- the first of two texts from there to the end, of which the other is empty
+abbrev pub lone_text_at : ℕ → Field
+lone_text_at at = field_of at to_end shows.LoneAscii
+
 -- items of one length from there to the end
 abbrev pub each_at : ℕ → ℕ → Item → Field
 each_at at len item = field_of at to_end (shows.Each len item)
@@ -125,12 +129,15 @@ row_of_forms sub all = record { sub = sub; forms = to all }
 abbrev pub row_of : ℕ → DataLen → List ℕ → List Field → NodeRow
 row_of sub len name all = row_of_forms sub (form_of Always len name all ∷ [])
 
--- the data have this byte at an offset, or a byte with these bits of a mask, or these bytes
+-- the data have this byte at an offset, or a byte with these bits of a mask, or another byte, or these bytes
 abbrev pub has_byte : ℕ → ℕ → When
 has_byte at byte = Byte at 0xFF byte
 
 abbrev pub has_bits : ℕ → ℕ → ℕ → When
 has_bits at mask bits = Byte at mask bits
+
+abbrev pub has_another_byte : ℕ → ℕ → When
+has_another_byte at byte = Unlike at byte
 
 abbrev pub has_bytes : ℕ → List ℕ → When
 has_bytes at bytes = Bytes at (to bytes)
@@ -146,13 +153,30 @@ hardware_rows =
     ∷ row_of 6 (Exactly 9) (codes "BMC") (number_at 0 1 ∷ number_at 1 8 ∷ [])
     ∷ []
 
+-- 10.3.3: the devices whose identifier is `PNP` and these two bytes
+abbrev pub acpi_device : ℕ → ℕ → List ℕ → Form
+acpi_device high low name = form_of (has_bytes 0 (0xD0 ∷ 0x41 ∷ low ∷ high ∷ [])) (Exactly 8) name (number_at 4 4 ∷ [])
+
+abbrev pub acpi_devices : List Form
+acpi_devices =
+    acpi_device 0x06 0x04 (codes "Floppy") ∷ acpi_device 0x03 0x01 (codes "Keyboard") ∷ acpi_device 0x05 0x01 (codes "Serial")
+    ∷ acpi_device 0x04 0x01 (codes "ParallelPort") ∷ []
+
+abbrev pub extended_acpi : List Form
+extended_acpi =
+    form_of Always (AtLeast 16) (codes "AcpiExp") (hardware_id_at 0 ∷ always_at 8 4 (codes "0") ∷ lone_text_at 13 ∷ [])
+    ∷ form_of Always (AtLeast 16) (codes "AcpiExp") (hardware_id_at 0 ∷ hardware_id_at 8 ∷ lone_text_at 13 ∷ [])
+    ∷ form_of Always (AtLeast 15) (codes "AcpiEx")
+    (hardware_id_at 0 ∷ hardware_id_at 8 ∷ number_at 4 4 ∷ text_at 12 0 ∷ text_at 12 2 ∷ text_at 12 1 ∷ [])
+    ∷ []
+
 -- 10.3.3
 abbrev pub acpi_rows : List NodeRow
 acpi_rows =
-    row_of 2 (AtLeast 15) (codes "AcpiEx")
-    (hardware_id_at 0 ∷ hardware_id_at 8 ∷ number_at 4 4 ∷ text_at 12 0 ∷ text_at 12 2 ∷ text_at 12 1 ∷ [])
+    row_of_forms 1 acpi_devices
+    ∷ row_of_forms 2 extended_acpi
     ∷ row_of 3 (Items 4 4) (codes "AcpiAdr") (each_at 0 4 items.Number ∷ [])
-    ∷ row_of 4 (Exactly 4) (codes "NVDIMM") (number_at 0 4 ∷ [])
+    ∷ row_of 4 (Exactly 4) (codes "AcpiNVDIMM") (number_at 0 4 ∷ [])
     ∷ []
 
 -- 10.3.4.5: the forms of USB devices of a class, and of a sub-class of the class 0xFE
@@ -211,6 +235,49 @@ sas_forms =
     ∷ sas_form Always (number_at 16 2 ∷ zero_at_topology ∷ zero_at_topology ∷ zero_at_topology ∷ [])
     ∷ []
 
+-- 10.3.4.17: the forms of vendors' nodes, by their GUIDs as these are stored
+abbrev pub vendor : List ℕ → ℕ → List ℕ → List Field → Form
+vendor guid len name all = form_of (has_bytes 0 guid) (Exactly len) name all
+
+abbrev pub vendor_forms : List Form
+vendor_forms =
+    vendor
+    (0x53 ∷ 0x47 ∷ 0xC1 ∷ 0xE0 ∷ 0xBE ∷ 0xF9 ∷ 0xD2 ∷ 0x11 ∷ 0x9A ∷ 0x0C ∷ 0x00 ∷ 0x90 ∷ 0x27 ∷ 0x3F ∷ 0xC1 ∷ 0x4D ∷ [])
+    16 (codes "VenPcAnsi") []
+    ∷ vendor
+    (0x65 ∷ 0x60 ∷ 0xA6 ∷ 0xDF ∷ 0x19 ∷ 0xB4 ∷ 0xD3 ∷ 0x11 ∷ 0x9A ∷ 0x2D ∷ 0x00 ∷ 0x90 ∷ 0x27 ∷ 0x3F ∷ 0xC1 ∷ 0x4D ∷ [])
+    16 (codes "VenVt100") []
+    ∷ vendor
+    (0x0B ∷ 0xC7 ∷ 0xAE ∷ 0x7B ∷ 0xE0 ∷ 0x57 ∷ 0x76 ∷ 0x4C ∷ 0x8E ∷ 0x87 ∷ 0x2F ∷ 0x9E ∷ 0x28 ∷ 0x08 ∷ 0x83 ∷ 0x43 ∷ [])
+    16 (codes "VenVt100Plus") []
+    ∷ vendor
+    (0xD6 ∷ 0xA0 ∷ 0x15 ∷ 0xAD ∷ 0xEC ∷ 0x8B ∷ 0xCF ∷ 0x4A ∷ 0xA0 ∷ 0x73 ∷ 0xD0 ∷ 0x1D ∷ 0xE7 ∷ 0x7E ∷ 0x2D ∷ 0x88 ∷ [])
+    16 (codes "VenUtf8") []
+    ∷ vendor
+    (0x9D ∷ 0x9A ∷ 0x49 ∷ 0x37 ∷ 0x2F ∷ 0x54 ∷ 0x89 ∷ 0x4C ∷ 0xA0 ∷ 0x26 ∷ 0x35 ∷ 0xDA ∷ 0x14 ∷ 0x20 ∷ 0x94 ∷ 0xE4 ∷ [])
+    20 (codes "UartFlowCtrl")
+    (word_at 16 4 all_bits (word 0 (codes "None") ∷ word 1 (codes "Hardware") ∷ word 2 (codes "XonXoff") ∷ []) ∷ [])
+    ∷ vendor
+    (0xD2 ∷ 0xE8 ∷ 0xA4 ∷ 0xEB ∷ 0x58 ∷ 0x38 ∷ 0xEC ∷ 0x41 ∷ 0xA2 ∷ 0x81 ∷ 0x26 ∷ 0x47 ∷ 0xBA ∷ 0x96 ∷ 0x60 ∷ 0xD0 ∷ [])
+    16 (codes "DebugPort") []
+    ∷ []
+
+-- 10.3.4.18, and its older form without the last two fields
+abbrev pub ipv6_protocol : Field
+ipv6_protocol = word_at 36 2 all_bits (word 6 (codes "TCP") ∷ word 17 (codes "UDP") ∷ [])
+
+abbrev pub ipv6_origin : Field
+ipv6_origin =
+    word_at 38 1 all_bits
+    (word 0 (codes "Static") ∷ word 1 (codes "StatelessAutoConfigure") ∷ word 2 (codes "StatefulAutoConfigure") ∷ [])
+
+abbrev pub ipv6_forms : List Form
+ipv6_forms =
+    form_of Always (Exactly 56) (codes "IPv6")
+    (ipv6_at 16 ∷ ipv6_protocol ∷ ipv6_origin ∷ ipv6_at 0 ∷ number_at 39 1 ∷ ipv6_at 40 ∷ [])
+    ∷ form_of Always (Exactly 39) (codes "IPv6") (ipv6_at 16 ∷ ipv6_protocol ∷ ipv6_origin ∷ ipv6_at 0 ∷ [])
+    ∷ []
+
 -- 10.3.4
 abbrev pub messaging_rows : List NodeRow
 messaging_rows =
@@ -223,11 +290,8 @@ messaging_rows =
     ∷ row_of 6 (Exactly 4) (codes "I2O") (number_at 0 4 ∷ [])
     ∷ row_of 9 (Exactly 44) (codes "Infiniband")
     (number_at 0 4 ∷ guid_at 4 ∷ number_at 20 8 ∷ number_at 28 8 ∷ number_at 36 8 ∷ [])
-    ∷ row_of 13 (Exactly 56) (codes "IPv6")
-    (ipv6_at 16 ∷ word_at 36 2 all_bits (word 6 (codes "TCP") ∷ word 17 (codes "UDP") ∷ [])
-    ∷ word_at 38 1 all_bits
-    (word 0 (codes "Static") ∷ word 1 (codes "StatelessAutoConfigure") ∷ word 2 (codes "StatefulAutoConfigure") ∷ [])
-    ∷ ipv6_at 0 ∷ number_at 39 1 ∷ ipv6_at 40 ∷ [])
+    ∷ row_of_forms 10 vendor_forms
+    ∷ row_of_forms 13 ipv6_forms
     ∷ row_of 14 (Exactly 15) (codes "Uart")
     (word_or_decimal_at 4 8 all_bits (word 0 (codes "DEFAULT") ∷ [])
     ∷ word_or_decimal_at 12 1 all_bits (word 0 (codes "DEFAULT") ∷ [])
@@ -264,7 +328,7 @@ messaging_rows =
     (form_of (has_byte 0 0xFF) (Exactly 18) (codes "RestService") (number_at 0 1 ∷ number_at 1 1 ∷ guid_at 2 ∷ [])
     ∷ form_of (has_byte 0 0xFF) (AtLeast 19) (codes "RestService")
     (number_at 0 1 ∷ number_at 1 1 ∷ guid_at 2 ∷ digits_at 18 to_end ∷ [])
-    ∷ form_of Always (Exactly 2) (codes "RestService") (number_at 0 1 ∷ number_at 1 1 ∷ []) ∷ [])
+    ∷ form_of (has_another_byte 0 0xFF) (Exactly 2) (codes "RestService") (number_at 0 1 ∷ number_at 1 1 ∷ []) ∷ [])
     ∷ row_of 34 (AtLeast 18) (codes "NVMEoF") (text_at 17 0 ∷ number_at 0 1 ∷ digits_at 1 16 ∷ [])
     ∷ []
 

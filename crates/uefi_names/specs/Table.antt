@@ -1,6 +1,6 @@
 -- A table of nodes: which row and which form of it a node has, and what each table is to keep to.
 use Rattle.std.specs.Prelude.{◌≡◌, ℕ, ◌+◌, ◌-◌, ◌%◌, Bool, true, ◌==◌, ◌&&◌, not, nat_le, List, [], ◌∷◌, length, take, drop, map}
-use Rattle.std.specs.Prelude.{Option, slice_index, bit_and, if◌then◌else◌}
+use Rattle.std.specs.Prelude.{Option, Some, None, slice_index, bit_and, if◌then◌else◌}
 use Rattle.std.specs.Cmp.Lexicographic.{pointwise}
 use Rattle.std.specs.List.{find, list_all, list_any}
 use Rattle.std.specs.Option.{option_and_then}
@@ -9,7 +9,7 @@ use Rattle.uefi_names.specs.declared.table.NodeRow.{NodeRow}
 use Rattle.uefi_names.specs.declared.table.Form.{Form}
 use Rattle.uefi_names.specs.declared.table.Field.{Field}
 use Rattle.uefi_names.specs.declared.table.When.{When}
-use Rattle.uefi_names.specs.declared.table.When.TheVariants.{Always, Byte, Bytes}
+use Rattle.uefi_names.specs.declared.table.When.TheVariants.{Always, Byte, Unlike, Bytes}
 use Rattle.uefi_names.specs.declared.table.DataLen.{DataLen}
 use Rattle.uefi_names.specs.declared.table.DataLen.TheVariants.{Exactly, AtLeast, Items}
 
@@ -27,6 +27,7 @@ allows (Items before each) len = nat_le before len && (not (each == 0) && (len -
 abbrev pub holds : When → List ℕ → Bool
 holds Always body = true
 holds (Byte at mask is) body = bit_and (slice_index body at) mask == is
+holds (Unlike at is) body = not (slice_index body at == is)
 holds (Bytes at are) body = pointwise ◌==◌ (part at (length are.now) body) are.now
 
 -- a node with these data has the form
@@ -47,6 +48,15 @@ rows_of table kind =
 abbrev pub form_for : NodeTable → ℕ → ℕ → List ℕ → Option Form
 form_for table kind sub body =
     option_and_then (λ row. find (fits body) row.forms.now) (find (λ row. row.sub == sub) (rows_of table kind))
+
+-- the forms of a row, if there is one
+abbrev pub forms_in : Option NodeRow → List Form
+forms_in None = []
+forms_in (Some row) = row.forms.now
+
+-- the forms of the nodes of a type and a sub-type
+abbrev pub forms_for : NodeTable → ℕ → ℕ → List Form
+forms_for table kind sub = forms_in (find (λ row. row.sub == sub) (rows_of table kind))
 
 -- no two of the numbers are the same
 abbrev pub are_distinct : List ℕ → Bool

@@ -2,12 +2,20 @@
 //! name and its fields.
 #![tactic(auto)]
 
+mod cut;
+mod fault;
+mod form_reader;
+pub mod laws;
 mod named;
+mod reading;
 mod rows;
 mod shown;
+mod spelled;
 mod table;
 mod views;
 
+pub use fault::NamedFault;
 pub use named::{NamedPath, named_text};
+pub use reading::read_named_text;
 pub use table::{DataLen, Field, Form, Item, NodeRow, NodeTable, Numeral, REST, Show, When, Word};
 pub use views::named_nodes_text;

@@ -32,6 +32,30 @@ macro_rules! row {
     };
 }
 
+/// The form of the devices whose identifier is `PNP` and these two bytes.
+macro_rules! acpi_device {
+    ($high:literal, $low:literal, $name:literal) => {
+        form!(
+            When::Bytes { at: 0, are: &[0xd0, 0x41, $low, $high] },
+            DataLen::Exactly(8),
+            $name,
+            [(4, 4, HEX)]
+        )
+    };
+}
+
+/// The form of the vendor's nodes with a GUID, these data behind it, and these arguments.
+macro_rules! vendor {
+    ($guid:expr, $len:literal, $name:literal, $fields:tt) => {
+        form!(
+            When::Bytes { at: 0, are: &$guid },
+            DataLen::Exactly($len),
+            $name,
+            $fields
+        )
+    };
+}
+
 /// The form of the USB devices of a class.
 macro_rules! usb_class {
     ($class:literal, $name:literal) => {
@@ -100,6 +124,18 @@ macro_rules! words {
 /// All bits of a number.
 const ALL: u64 = u64::MAX;
 
+const PROTOCOL: Show = words!(ALL, Numeral::Hexadecimal, [(6, "TCP"), (17, "UDP")]);
+
+const ORIGIN: Show = words!(
+    ALL,
+    Numeral::Hexadecimal,
+    [
+        (0, "Static"),
+        (1, "StatelessAutoConfigure"),
+        (2, "StatefulAutoConfigure")
+    ]
+);
+
 const DIGEST_HEADER: Show = words!(0x3, Numeral::Hexadecimal, [(0, "None"), (2, "CRC32C")]);
 
 const DIGEST_DATA: Show = words!(0xc, Numeral::Hexadecimal, [(0, "None"), (8, "CRC32C")]);
@@ -128,6 +164,31 @@ const SAS_CONNECTION: Show = words!(
     Numeral::Hexadecimal,
     [(0, "Direct"), (0x40, "Expanded")]
 );
+
+/// The GUIDs of vendors' nodes that have a name (10.3.4.17), in the order in which their bytes are stored.
+const PC_ANSI: [u8; 16] = [
+    0x53, 0x47, 0xc1, 0xe0, 0xbe, 0xf9, 0xd2, 0x11, 0x9a, 0x0c, 0x00, 0x90, 0x27, 0x3f, 0xc1, 0x4d,
+];
+
+const VT_100: [u8; 16] = [
+    0x65, 0x60, 0xa6, 0xdf, 0x19, 0xb4, 0xd3, 0x11, 0x9a, 0x2d, 0x00, 0x90, 0x27, 0x3f, 0xc1, 0x4d,
+];
+
+const VT_100_PLUS: [u8; 16] = [
+    0x0b, 0xc7, 0xae, 0x7b, 0xe0, 0x57, 0x76, 0x4c, 0x8e, 0x87, 0x2f, 0x9e, 0x28, 0x08, 0x83, 0x43,
+];
+
+const VT_UTF8: [u8; 16] = [
+    0xd6, 0xa0, 0x15, 0xad, 0xec, 0x8b, 0xcf, 0x4a, 0xa0, 0x73, 0xd0, 0x1d, 0xe7, 0x7e, 0x2d, 0x88,
+];
+
+const UART_FLOW_CONTROL: [u8; 16] = [
+    0x9d, 0x9a, 0x49, 0x37, 0x2f, 0x54, 0x89, 0x4c, 0xa0, 0x26, 0x35, 0xda, 0x14, 0x20, 0x94, 0xe4,
+];
+
+const DEBUG_PORT: [u8; 16] = [
+    0xd2, 0xe8, 0xa4, 0xeb, 0x58, 0x38, 0xec, 0x41, 0xa2, 0x81, 0x26, 0x47, 0xba, 0x96, 0x60, 0xd0,
+];
 
 /// The types of RAM disks, as GUIDs in the order in which their bytes are stored.
 const VIRTUAL_DISK: [u8; 16] = [
@@ -158,30 +219,64 @@ static HARDWARE: [NodeRow; 4] = [
     row!(6, DataLen::Exactly(9), "BMC", [(0, 1, HEX), (1, 8, HEX)]),
 ];
 
-static ACPI: [NodeRow; 3] = [
-    row!(
-        2,
-        DataLen::AtLeast(15),
-        "AcpiEx",
-        [
-            (0, 4, Show::HardwareId),
-            (8, 4, Show::HardwareId),
-            (4, 4, HEX),
-            (12, REST, Show::Ascii(0)),
-            (12, REST, Show::Ascii(2)),
-            (12, REST, Show::Ascii(1))
-        ]
-    ),
+static ACPI: [NodeRow; 4] = [
+    NodeRow {
+        sub: 1,
+        forms: &[
+            acpi_device!(0x06, 0x04, "Floppy"),
+            acpi_device!(0x03, 0x01, "Keyboard"),
+            acpi_device!(0x05, 0x01, "Serial"),
+            acpi_device!(0x04, 0x01, "ParallelPort"),
+        ],
+    },
+    NodeRow {
+        sub: 2,
+        forms: &[
+            form!(
+                When::Always,
+                DataLen::AtLeast(16),
+                "AcpiExp",
+                [
+                    (0, 4, Show::HardwareId),
+                    (8, 4, ZERO),
+                    (13, REST, Show::LoneAscii)
+                ]
+            ),
+            form!(
+                When::Always,
+                DataLen::AtLeast(16),
+                "AcpiExp",
+                [
+                    (0, 4, Show::HardwareId),
+                    (8, 4, Show::HardwareId),
+                    (13, REST, Show::LoneAscii)
+                ]
+            ),
+            form!(
+                When::Always,
+                DataLen::AtLeast(15),
+                "AcpiEx",
+                [
+                    (0, 4, Show::HardwareId),
+                    (8, 4, Show::HardwareId),
+                    (4, 4, HEX),
+                    (12, REST, Show::Ascii(0)),
+                    (12, REST, Show::Ascii(2)),
+                    (12, REST, Show::Ascii(1))
+                ]
+            ),
+        ],
+    },
     row!(
         3,
         DataLen::Items { before: 4, each: 4 },
         "AcpiAdr",
         [(0, REST, Show::Each(4, Item::Number))]
     ),
-    row!(4, DataLen::Exactly(4), "NVDIMM", [(0, 4, HEX)]),
+    row!(4, DataLen::Exactly(4), "AcpiNVDIMM", [(0, 4, HEX)]),
 ];
 
-static MESSAGING: [NodeRow; 24] = [
+static MESSAGING: [NodeRow; 25] = [
     row!(
         1,
         DataLen::Exactly(4),
@@ -225,35 +320,59 @@ static MESSAGING: [NodeRow; 24] = [
             (36, 8, HEX)
         ]
     ),
-    row!(
-        13,
-        DataLen::Exactly(56),
-        "IPv6",
-        [
-            (16, 16, Show::Ipv6),
-            (
-                36,
-                2,
-                words!(ALL, Numeral::Hexadecimal, [(6, "TCP"), (17, "UDP")])
+    NodeRow {
+        sub: 10,
+        forms: &[
+            vendor!(PC_ANSI, 16, "VenPcAnsi", []),
+            vendor!(VT_100, 16, "VenVt100", []),
+            vendor!(VT_100_PLUS, 16, "VenVt100Plus", []),
+            vendor!(VT_UTF8, 16, "VenUtf8", []),
+            vendor!(
+                UART_FLOW_CONTROL,
+                20,
+                "UartFlowCtrl",
+                [(
+                    16,
+                    4,
+                    words!(
+                        ALL,
+                        Numeral::Hexadecimal,
+                        [(0, "None"), (1, "Hardware"), (2, "XonXoff")]
+                    )
+                )]
             ),
-            (
-                38,
-                1,
-                words!(
-                    ALL,
-                    Numeral::Hexadecimal,
-                    [
-                        (0, "Static"),
-                        (1, "StatelessAutoConfigure"),
-                        (2, "StatefulAutoConfigure")
-                    ]
-                )
+            vendor!(DEBUG_PORT, 16, "DebugPort", []),
+        ],
+    },
+    NodeRow {
+        sub: 13,
+        forms: &[
+            form!(
+                When::Always,
+                DataLen::Exactly(56),
+                "IPv6",
+                [
+                    (16, 16, Show::Ipv6),
+                    (36, 2, PROTOCOL),
+                    (38, 1, ORIGIN),
+                    (0, 16, Show::Ipv6),
+                    (39, 1, HEX),
+                    (40, 16, Show::Ipv6)
+                ]
             ),
-            (0, 16, Show::Ipv6),
-            (39, 1, HEX),
-            (40, 16, Show::Ipv6)
-        ]
-    ),
+            form!(
+                When::Always,
+                DataLen::Exactly(39),
+                "IPv6",
+                [
+                    (16, 16, Show::Ipv6),
+                    (36, 2, PROTOCOL),
+                    (38, 1, ORIGIN),
+                    (0, 16, Show::Ipv6)
+                ]
+            ),
+        ],
+    },
     row!(
         14,
         DataLen::Exactly(15),
@@ -472,7 +591,7 @@ static MESSAGING: [NodeRow; 24] = [
                 ]
             ),
             form!(
-                When::Always,
+                When::Unlike { at: 0, is: 0xff },
                 DataLen::Exactly(2),
                 "RestService",
                 [(0, 1, HEX), (1, 1, HEX)]

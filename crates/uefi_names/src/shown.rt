@@ -109,6 +109,7 @@ impl fmt::Display for ShownText<'_> {
             Show::Ipv4 => write!(f, "{}", ItemText(Item::Ipv4, bytes)),
             Show::Ipv6 => write!(f, "{}", ItemText(Item::Ipv6, bytes)),
             Show::Ascii(number) => write!(f, "{}", AsciiText { number, bytes }),
+            Show::LoneAscii => write!(f, "{}", AsciiText { number: 0, bytes }),
             Show::Units => write!(f, "\"{}\"", UnitsText(bytes)),
             Show::Each(len, item) => write!(f, "{}", ItemsText { item, len, bytes }),
         }
@@ -268,7 +269,7 @@ fn item_count(len: usize, bytes: &[u8]) -> usize
 }
 
 /// So many bytes, or fewer if there are no more, and those behind them.
-fn cut(bytes: &[u8], len: usize) -> (&[u8], &[u8])
+pub(crate) fn cut(bytes: &[u8], len: usize) -> (&[u8], &[u8])
     ensures front { result.0.now ≡ take len bytes.now }
     ensures behind { result.1.now ≡ drop len bytes.now }
 {
@@ -349,7 +350,7 @@ impl fmt::Display for Escaped {
 }
 
 /// Whether a unit is shown as itself: a printing character of ASCII that closes or parts nothing in the text of a path.
-fn is_plain(unit: u16) -> bool
+pub(crate) fn is_plain(unit: u16) -> bool
     ensures { result ≡ is_plain unit }
 {
     (0x20..=0x7e).contains(&unit) && !matches!(unit, 0x22 | 0x28 | 0x29 | 0x2c | 0x5c)

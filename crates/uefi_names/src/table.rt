@@ -3,7 +3,7 @@
 ghost use Rattle.std.specs.Prelude.{◌≡◌, ◌==◌, slice_index};
 ghost use Rattle.std.specs.Option.{option_copied};
 ghost use Rattle.std.specs.List.{find};
-ghost use Rattle.uefi_names.specs.Table.{allows, holds, fits, rows_of, form_for, part};
+ghost use Rattle.uefi_names.specs.Table.{allows, holds, fits, rows_of, form_for, forms_for, part, least};
 
 /// The table of nodes, by their types (UEFI 2.10, 10.3).
 #[derive(Clone, Copy, Debug)]
@@ -54,6 +54,13 @@ pub enum When {
         /// The bits that count.
         mask: u8,
         /// What they must be.
+        is: u8,
+    },
+    /// A byte that is another one than this.
+    Unlike {
+        /// The byte's offset in the data.
+        at: usize,
+        /// What it must not be.
         is: u8,
     },
     /// These bytes.
@@ -130,6 +137,9 @@ pub enum Show {
     /// The text of this number, from 0, of those of ASCII that are each closed by a zero byte or the end: what isn't
     /// plain is escaped.
     Ascii(usize),
+    /// The first of two texts of ASCII that are each closed by a zero byte, of which the first isn't empty and the other
+    /// is: what isn't plain is escaped.
+    LoneAscii,
     /// Units of two bytes up to a zero unit or the end, between quotes: what isn't plain is escaped.
     Units,
     /// Items of so many bytes each, to the end, joined by commas.
@@ -178,6 +188,17 @@ impl DataLen {
             }
         }
     }
+
+    /// The fewest bytes that data may have.
+    pub(crate) fn least(self) -> usize
+        ensures { result ≡ least self }
+    {
+        match self {
+            DataLen::Exactly(wanted) => wanted,
+            DataLen::AtLeast(few) => few,
+            DataLen::Items { before, .. } => before,
+        }
+    }
 }
 
 impl When {
@@ -188,6 +209,7 @@ impl When {
         match self {
             When::Always => true,
             When::Byte { at, mask, is } => byte(body, at) & mask == is,
+            When::Unlike { at, is } => byte(body, at) != is,
             When::Bytes { at, are } => part(body, at, are.len()) == are,
         }
     }
@@ -195,7 +217,7 @@ impl When {
 
 impl Form {
     /// Whether a node with these data has this form.
-    fn fits(&self, body: &[u8]) -> bool
+    pub(crate) fn fits(&self, body: &[u8]) -> bool
         ensures { result ≡ fits body.now self.now }
     {
         self.len.allows(body.len()) && self.when.holds(body)
@@ -209,6 +231,16 @@ impl NodeTable {
     {
         let row = row_of(self.rows_of(kind), sub)?;
         first_fitting(row.forms, body)
+    }
+
+    /// The forms of the nodes of a type and a sub-type: none if the table has none.
+    pub(crate) fn forms_for(&self, kind: u8, sub: u8) -> &'static [Form]
+        ensures { result.now ≡ forms_for self.now kind sub }
+    {
+        match row_of(self.rows_of(kind), sub) {
+            Some(row) => row.forms,
+            None => &[],
+        }
     }
 
     /// The rows of a type: none if it has none.

@@ -9,11 +9,10 @@ ghost use Rattle.uefi_path.specs.Views.{row_seen, rows_left};
 ghost use Rattle.uefi_names.specs.Standard.{standard_table};
 ghost use Rattle.uefi_names.specs.Named.{named_node, named_path, slash_behind};
 
-use crate::named::NamedNode;
+use crate::named;
 use crate::table::NodeTable;
 use std::alloc::{AllocError, Global};
-use std::fmt::Write;
-use uefi_path::{NodeFault, NodeIter, NodeView};
+use uefi_path::{Node, NodeFault, NodeIter, NodeView};
 
 /// The type of the node between two instances (UEFI 2.10, 10.3.1).
 const END: u8 = 0x7f;
@@ -50,10 +49,30 @@ fn append_node(
     ensures { OnOk result ((node : Node) → IsNode node → row_of node ≡ row_seen view.now →
         string_bytes text.new ≡ string_bytes text.old ++ (slash_behind is_first ++ named_node table.now node)) }
 {
-    let mark = if is_first { "" } else { "/" };
     match view.to_node(alloc) {
-        Ok(node) => write!(text, "{mark}{}", NamedNode { node: &node, table }),
+        Ok(node) => append_marked(alloc, table, &node, is_first, text),
         Err(NodeFault::OutOfMemory) => Err(AllocError),
         Err(NodeFault::BadEnd | NodeFault::TooLong) => Ok(()),
     }
+}
+
+/// Appends a node, after a slash if it isn't the first of its instance.
+fn append_marked(
+    alloc: Global,
+    table: &NodeTable,
+    node: &Node,
+    is_first: bool,
+    text: &mut String,
+) -> Result<(), AllocError>
+    ensures { OnOk result (string_bytes text.new ≡ string_bytes text.old ++ (slash_behind is_first ++ named_node table.now node.now)) }
+{
+    text.push_str(mark_before(is_first))?;
+    named::append_node(alloc, table, node, text)
+}
+
+/// What comes before a node.
+fn mark_before(is_first: bool) -> &'static str
+    ensures { result.now ≡ slash_behind is_first }
+{
+    if is_first { "" } else { "/" }
 }

@@ -3,7 +3,7 @@ use Rattle.std.specs.String.{string_bytes}
 use Rattle.uefi_path.specs.Views.{row_seen, rows_left}
 use Rattle.uefi_text.specs.Segment.{comma}
 use Rattle.uefi_names.proofs.Left.{all-left, end-done, node-done, all-done}
-use Rattle.uefi_names.proofs.Standard.{standard-text}
+use Rattle.uefi_names.proofs.StandardRead.{standard-text}
 use Rattle.uefi_names.proofs.views.named_nodes_text.Goals as goal
 
 pub loop-view-init : goal.loop-view-init
