@@ -335,9 +335,8 @@ uint32_t bootkeep_path_text(const uint8_t *bytes, size_t bytes_len, uint8_t *out
     BOOTKEEP_CHECKED BOOTKEEP_NONNULL((5, 6, 7));
 
 /*
- * The text of the device path for a person, as `bootvars show` prints it: that of bootkeep_path_text, with a name and
- * its fields for each node of the standard that would be printed there as a `Path` of its bytes. It can't be read back,
- * and two paths may have the same. All else is as there.
+ * The text of the device path for a person, as `bootvars show` prints it: that of bootkeep_path_text, with its name and
+ * its fields for each node of the standard's table whose text can be read back as the node. All else is as there.
  *
  *     BOOTKEEP_DONE, BOOTKEEP_NO_ROOM, BOOTKEEP_NO_MEMORY
  *     BOOTKEEP_REFUSED   a number of paths

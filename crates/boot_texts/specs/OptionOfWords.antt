@@ -3,12 +3,13 @@ use Rattle.std.specs.Prelude.{◌≡◌, ℕ, List, map}
 use Rattle.uefi_path.specs.declared.node.Node.{Node}
 use Rattle.uefi_option.specs.LoadOption.{OptionParts}
 use Rattle.uefi_text.specs.Bytes.{Each}
-use Rattle.uefi_text.specs.Path.{IsPathText}
+use Rattle.uefi_names.specs.Standard.{standard_table}
+use Rattle.uefi_names.specs.Reading.{IsNamedText}
 use Rattle.boot_texts.specs.declared.option.OptionWords.{OptionWords}
 
 -- each text stands for the path at its place
 abbrev pub ArePathTexts : List (List ℕ) → List (List (List Node)) → Type 0
-ArePathTexts texts paths = Each IsPathText texts paths
+ArePathTexts texts paths = Each (IsNamedText standard_table) texts paths
 
 -- the option has the attributes and the optional data of the words, and the paths for which their texts stand
 pub record IsOptionOfWords (words : OptionWords) (option : OptionParts) : Type 0 where

@@ -2,18 +2,20 @@
 
 ghost use Rattle.std.specs.Prelude.{map, IfOk};
 ghost use Rattle.uefi_option.specs.LoadOption.{OptionParts, SpellsOption};
-ghost use Rattle.uefi_text.specs.Path.{IsPathText};
+ghost use Rattle.uefi_names.specs.Standard.{standard_table};
+ghost use Rattle.uefi_names.specs.Reading.{IsNamedText};
 ghost use Rattle.boot_texts.specs.OptionOfWords.{ArePathTexts, IsOptionOfWords};
 
 use crate::description::{DescriptionFault, append_text, description_units};
-use crate::reason::{option_words, text_reason};
+use crate::reason::{named_reason, option_words};
 use std::alloc::{AllocError, AllocFailed, Global};
 use thiserror::Error;
+use uefi_names::{NamedFault, read_named_text};
 use uefi_option::{
     ACTIVE, CATEGORY_APP, FORCE_RECONNECT, HIDDEN, OptionFault, make_option, write_option,
 };
 use uefi_path::{Node, Path, append_units, check_path};
-use uefi_text::{TextFault, read_text};
+use uefi_text::TextFault;
 
 /// What is said of a word in a path that is neither a node nor the name of a file.
 const PLAIN_NAME: &str =
@@ -64,7 +66,7 @@ pub enum OptionWordsFault {
         /// The number of the path.
         path: usize,
         /// The fault of its text, with the place.
-        fault: TextFault,
+        fault: NamedFault,
         /// The fault in plain words.
         reason: &'static str,
     },
@@ -119,7 +121,7 @@ pub fn attribute_bits(flags: Flags) -> u32 {
 }
 
 /// The bytes of the load option of these words (UEFI 2.10, 3.1.3). The description becomes units of UTF-16, and each
-/// path's text is read as `uefi_text` reads it. So the description of each option is had again from the one that its JSON
+/// path's text is read as `uefi_names` reads it. So the description of each option is had again from the one that its JSON
 /// has, unless that has `description_hex` beside it.
 ///
 /// # Errors
@@ -189,15 +191,15 @@ fn read_paths(alloc: Global, texts: &[&str]) -> Result<Vec<Path>, OptionWordsFau
 
 /// The path that a text stands for, which is the one of this number.
 fn read_path(alloc: Global, text: &str, number: usize) -> Result<Path, OptionWordsFault>
-    ensures { IfOk result (λ path. IsPathText text.now path) }
+    ensures { IfOk result (λ path. IsNamedText standard_table text.now path) }
 {
     if text.is_empty() {
         return Err(OptionWordsFault::EmptyPath(number));
     }
-    match read_text(alloc, text) {
+    match read_named_text(alloc, text) {
         Ok(path) if has_slashes(&path) => Err(OptionWordsFault::Slashes(number)),
         Ok(path) => Ok(path),
-        Err(TextFault::OutOfMemory) => Err(OptionWordsFault::OutOfMemory),
+        Err(NamedFault::OutOfMemory) => Err(OptionWordsFault::OutOfMemory),
         Err(fault) => Err(text_fault(alloc, text, number, fault)),
     }
 }
@@ -211,14 +213,14 @@ fn has_slashes(path: &Path) -> bool {
 }
 
 /// What is told of a text with this fault, of the path of this number.
-fn text_fault(alloc: Global, text: &str, number: usize, fault: TextFault) -> OptionWordsFault {
+fn text_fault(alloc: Global, text: &str, number: usize, fault: NamedFault) -> OptionWordsFault {
     if is_path_of_bytes(alloc, text) {
         return OptionWordsFault::PathOfBytes(number);
     }
     let reason = if is_plain_name(text, fault) {
         PLAIN_NAME
     } else {
-        text_reason(&fault)
+        named_reason(&fault)
     };
     OptionWordsFault::Path {
         path: number,
@@ -238,8 +240,9 @@ fn is_path_of_bytes(alloc: Global, text: &str) -> bool {
 
 /// Whether what is at the place of the fault has neither parentheses nor a backslash before it, as `EFI` in
 /// `HD(..)/EFI/BOOT/BOOTX64.EFI`. A slash may come before it.
-fn is_plain_name(text: &str, fault: TextFault) -> bool {
-    let TextFault::BadSegment(place) = fault else {
+fn is_plain_name(text: &str, fault: NamedFault) -> bool {
+    let (NamedFault::BadSegment(place) | NamedFault::Exact(TextFault::BadSegment(place))) = fault
+    else {
         return false;
     };
     let Some(rest) = text.get(place..) else {

@@ -4,6 +4,7 @@ use crate::sizes::{frame_sizes, option_sizes};
 use boot_requests::{FrameFault, OpenFault};
 use serde::{Described, Serialize, Serializer};
 use std::fmt;
+use uefi_names::{Field, Item, NamedFault, Show};
 use uefi_option::{OptionFault, check_option};
 use uefi_path::PathFault;
 use uefi_text::TextFault;
@@ -110,8 +111,51 @@ fn path_words(fault: &PathFault) -> &'static str {
     }
 }
 
+/// Why a text in which nodes have their names stands for no device path (UEFI 2.10, 10.6), after the words `at that
+/// character`.
+pub(crate) fn named_reason(fault: &NamedFault) -> &'static str {
+    match fault {
+        NamedFault::BadSegment(_) => "no node is written so",
+        NamedFault::UnknownName(_) => "no node has this name",
+        NamedFault::BadArgument(_, field) => argument_reason(field),
+        NamedFault::BadCount(_) => "the node has another number of arguments",
+        NamedFault::BadData(_) => "no node has these arguments together",
+        NamedFault::Exact(fault) => text_reason(fault),
+        NamedFault::OutOfMemory => "out of memory",
+    }
+}
+
+/// What is wanted in a field.
+fn argument_reason(field: &Field) -> &'static str {
+    match (field.show, field.len) {
+        (Show::Number(_) | Show::OneMore, 1) => "a number up to 0xff is wanted",
+        (Show::Number(_), 2) => "a number up to 0xffff is wanted",
+        (Show::Number(_), 4) => "a number up to 0xffffffff is wanted",
+        (Show::Number(_) | Show::OneMore, _) => "a number of 64 bits is wanted, such as 0x1",
+        (Show::AllDigits, _) => "up to sixteen hexadecimal digits are wanted",
+        (Show::Word { .. }, _) => "a word of this node is wanted, or its number",
+        (Show::Literal(_), _) => "this is always written the same",
+        (Show::Digits | Show::PrefixedDigits, _) => {
+            "two hexadecimal digits are wanted for each byte"
+        }
+        (Show::Guid, _) => "a GUID is wanted, as 5f2c1a9e-7d64-4b0e-9c3b-1e8f60a2d7c4",
+        (Show::HardwareId, _) => "an identifier is wanted, as PNP0A03 or 0x0a0341d0",
+        (Show::Ipv4, _) | (Show::Each(_, Item::Ipv4), _) => {
+            "an address of IPv4 is wanted, as 192.168.1.1"
+        }
+        (Show::Ipv6, _) | (Show::Each(_, Item::Ipv6), _) => {
+            "an address of IPv6 is wanted, of eight groups of digits"
+        }
+        (Show::Each(_, Item::Number), _) => "a number is wanted, such as 0x1",
+        (Show::Ascii(_) | Show::LoneAscii, _) => {
+            "a text is wanted, with a backslash and four digits for what isn't plain"
+        }
+        (Show::Units, _) => "a text between quotes is wanted",
+    }
+}
+
 /// Why a text stands for no device path (UEFI 2.10, 10.6), after the words `at that character`.
-pub(crate) fn text_reason(fault: &TextFault) -> &'static str {
+fn text_reason(fault: &TextFault) -> &'static str {
     match fault {
         TextFault::BadSegment(_) => "no node is written so",
         TextFault::BadNumber(_) => "a number is wanted, such as 0x1",

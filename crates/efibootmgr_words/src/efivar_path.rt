@@ -3,7 +3,7 @@
 use crate::efivar_rows::efivar_table;
 use std::alloc::{AllocError, Global};
 use std::fmt::{self, Display};
-use uefi_names::{NamedPath, NodeTable};
+use uefi_names::{NamedPath, NodeTable, named_text};
 use uefi_path::{FileNode, Node, OtherNode, PCI_ROOT_HID, PCIE_ROOT_HID, Path, make_path};
 use uefi_text::{DigitsText, NodeText, NumberText};
 
@@ -84,9 +84,8 @@ fn append_other(
     if table.form_of(kind, sub, body).is_some() {
         return append_named(alloc, node, &table, text);
     }
-    let table = NodeTable::standard();
-    if table.form_of(kind, sub, body).is_some() {
-        return append_named(alloc, node, &table, text);
+    if NodeTable::standard().form_of(kind, sub, body).is_some() {
+        return text.push_str(&named_text(alloc, &path_of(alloc, node)?)?);
     }
     match name_of_kind(kind) {
         Some(name) => write!(text, "{name}({sub},{})", DigitsText(body)),
@@ -113,15 +112,18 @@ fn append_named(
     table: &NodeTable,
     text: &mut String,
 ) -> Result<(), AllocError> {
+    let path = path_of(alloc, node)?;
+    write!(text, "{}", NamedPath { path: &path, table })
+}
+
+/// The path of a node alone.
+fn path_of(alloc: Global, node: &Node) -> Result<Path, AllocError> {
     let mut nodes = Vec::with_capacity(alloc, 1)?;
     nodes.push(node.copy(alloc)?)?;
     let mut instances = Vec::with_capacity(alloc, 1)?;
     instances.push(nodes)?;
-    match make_path(instances) {
-        Ok(path) => write!(text, "{}", NamedPath { path: &path, table }),
-        // It has an instance.
-        Err(_) => Err(AllocError),
-    }
+    // It has an instance.
+    make_path(instances).map_err(|_| AllocError)
 }
 
 /// A node with a case of its own.
