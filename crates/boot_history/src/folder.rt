@@ -51,7 +51,7 @@ pub(crate) fn history_path(alloc: Global, state: &str) -> Result<PathBuf, AllocE
 fn make_folder<R: Files + AllocGlobal>(rt: &R, path: &str, parent: &str) -> Result<(), Failure> {
     match create(rt, path, parent) {
         Err(error) if error.kind() != ErrorKind::AlreadyExists => {
-            Err(Failure::of_write(rt.alloc(), path, error))
+            Err(Failure::from_write(rt.alloc(), path, error))
         }
         _ => Ok(()),
     }

@@ -126,7 +126,7 @@ fn numbers<R: Files + AllocGlobal>(rt: &R, folder: Path<'_>) -> Result<Vec<u64>,
     match try_numbers(rt, folder) {
         Ok(numbers) => Ok(numbers),
         Err(error) if error.kind() == ErrorKind::NotFound => Ok(Vec::new(rt.alloc())),
-        Err(error) => Err(Failure::of_read(rt.alloc(), folder.as_str(), error)),
+        Err(error) => Err(Failure::from_read(rt.alloc(), folder.as_str(), error)),
     }
 }
 
@@ -155,7 +155,11 @@ fn next_number(alloc: Global, folder: Path<'_>, numbers: &[u64]) -> Result<u64, 
     match numbers.last() {
         None => Ok(1),
         Some(last) if *last < NUMBER_MAX => Ok(*last + 1),
-        Some(_) => Err(Failure::of_fault(alloc, folder.as_str(), "no number is left for a record")),
+        Some(_) => Err(Failure::from_fault(
+            alloc,
+            folder.as_str(),
+            "no number is left for a record",
+        )),
     }
 }
 
@@ -176,7 +180,7 @@ fn write<R: Files<File: OutputFile> + AllocGlobal>(
     };
     replace_file(rt, path, &bytes)
         .and_then(|_| sync_folder(rt, folder.as_str()))
-        .map_err(|error| Failure::of_write(alloc, path, error))
+        .map_err(|error| Failure::from_write(alloc, path, error))
 }
 
 /// Removes the oldest records of the machine of this name, of these numbers, which rise, so that with a new one as many as
@@ -216,7 +220,7 @@ fn remove_file<R: Files<File: OutputFile> + AllocGlobal>(
     let path = file_path(rt.alloc(), folder, number)?;
     fs::remove_file(rt, path.as_path())
         .and_then(|_| sync_folder(rt, folder.as_str()))
-        .map_err(|error| Failure::of_write(rt.alloc(), path.as_path().as_str(), error))
+        .map_err(|error| Failure::from_write(rt.alloc(), path.as_path().as_str(), error))
 }
 
 /// Whose record of this number is, for the machine of this name.
@@ -229,7 +233,7 @@ fn owner<R: Files + AllocGlobal>(
     let path = file_path(rt.alloc(), folder, number)?;
     match read_head(rt, path.as_path()) {
         Ok(head) => Ok(owner_of(&head, machine)),
-        Err(error) => Err(Failure::of_read(rt.alloc(), path.as_path().as_str(), error)),
+        Err(error) => Err(Failure::from_read(rt.alloc(), path.as_path().as_str(), error)),
     }
 }
 
@@ -258,7 +262,7 @@ fn own_record<R: Files + AllocGlobal>(
     match read_file(rt, path, LIMIT) {
         Ok(Some(bytes)) => Ok(Some(record_of(alloc, path, &bytes)?)),
         Ok(None) => Err(Failure::refused(alloc, path, Reason::TooMuch(LIMIT))),
-        Err(error) => Err(Failure::of_read(alloc, path, error)),
+        Err(error) => Err(Failure::from_read(alloc, path, error)),
     }
 }
 

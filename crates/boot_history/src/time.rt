@@ -13,7 +13,7 @@ use var_places::Failure;
 pub fn time_now<R: Clock + AllocGlobal>(rt: &R) -> Result<u64, Failure> {
     match rt.since_1970() {
         Ok(time) => Ok(time.as_secs()),
-        Err(error) => Err(Failure::of_read(rt.alloc(), "the clock", error)),
+        Err(error) => Err(Failure::from_read(rt.alloc(), "the clock", error)),
     }
 }
 

@@ -100,14 +100,14 @@ impl Content {
     /// [`AllocError`] if memory was refused.
     pub(crate) fn new(alloc: Global, name: &str, bytes: &[u8]) -> Result<Content, AllocError> {
         match name {
-            BOOT_ORDER => Content::of_order(alloc, bytes),
-            BOOT_NEXT => Content::of_next(alloc, bytes),
-            _ => Content::of_entry(alloc, bytes),
+            BOOT_ORDER => Content::from_order(alloc, bytes),
+            BOOT_NEXT => Content::from_next(alloc, bytes),
+            _ => Content::from_entry(alloc, bytes),
         }
     }
 
     /// The load option that the bytes are, or why they are none.
-    pub(crate) fn of_entry(alloc: Global, bytes: &[u8]) -> Result<Content, AllocError> {
+    pub(crate) fn from_entry(alloc: Global, bytes: &[u8]) -> Result<Content, AllocError> {
         match read_option(alloc, bytes) {
             Ok(option) => Ok(Content::LoadOption(ShownOption::new(alloc, &option)?)),
             Err(OptionFault::OutOfMemory) => Err(AllocError),
@@ -121,21 +121,21 @@ impl Content {
     }
 
     /// The numbers that the bytes of BootOrder are, or why they are none.
-    pub(crate) fn of_order(alloc: Global, bytes: &[u8]) -> Result<Content, AllocError> {
+    pub(crate) fn from_order(alloc: Global, bytes: &[u8]) -> Result<Content, AllocError> {
         if bytes.len() % 2 != 0 || bytes.len() / 2 > ORDER_MAX {
-            return Content::of_bad_numbers(alloc, bytes, VarFault::BadOrder);
+            return Content::from_bad_numbers(alloc, bytes, VarFault::BadOrder);
         }
         let entries = digits_of(alloc, &read_units(alloc, bytes)?)?;
         Ok(Content::Order { entries })
     }
 
     /// The number that the bytes of BootNext are, or why they are none.
-    pub(crate) fn of_next(alloc: Global, bytes: &[u8]) -> Result<Content, AllocError> {
+    pub(crate) fn from_next(alloc: Global, bytes: &[u8]) -> Result<Content, AllocError> {
         match bytes {
             [low, high] => Ok(Content::Next {
                 entry: EntryDigits(u16::from_le_bytes([*low, *high])),
             }),
-            _ => Content::of_bad_numbers(alloc, bytes, VarFault::BadNext),
+            _ => Content::from_bad_numbers(alloc, bytes, VarFault::BadNext),
         }
     }
 
@@ -150,7 +150,11 @@ impl Content {
     }
 
     /// Bytes that are no numbers of entries.
-    fn of_bad_numbers(alloc: Global, bytes: &[u8], fault: VarFault) -> Result<Content, AllocError> {
+    fn from_bad_numbers(
+        alloc: Global,
+        bytes: &[u8],
+        fault: VarFault,
+    ) -> Result<Content, AllocError> {
         Ok(Content::Undecodable(ShownFault {
             fault: fault.words(alloc)?,
             place: None,

@@ -205,7 +205,7 @@ fn steps_of(alloc: Global, format: InputFormat, list: &EventList) -> Result<Vec<
     for (event, at) in list.events.iter().zip(&list.places) {
         steps.push(Step {
             place: EventPosition::new(format, *at),
-            asks: Asks::of_event(alloc, event)?,
+            asks: Asks::from_event(alloc, event)?,
         })?;
     }
     Ok(steps)
@@ -250,9 +250,9 @@ fn format_word(format: InputFormat) -> &'static str {
 
 impl Asks {
     /// What an event of a script asks for.
-    fn of_event(alloc: Global, event: &Event) -> Result<Asks, AllocError> {
+    fn from_event(alloc: Global, event: &Event) -> Result<Asks, AllocError> {
         match event {
-            Event::Deliver(bytes) => Asks::of_frame(alloc, bytes.bytes()),
+            Event::Deliver(bytes) => Asks::from_frame(alloc, bytes.bytes()),
             Event::Prepare => Ok(Asks::Event("prepare")),
             Event::Hand => Ok(Asks::Event("hand")),
             Event::Restart => Ok(Asks::Event("restart")),
@@ -260,7 +260,7 @@ impl Asks {
     }
 
     /// What the bytes ask for, which may be a frame.
-    fn of_frame(alloc: Global, bytes: &[u8]) -> Result<Asks, AllocError> {
+    fn from_frame(alloc: Global, bytes: &[u8]) -> Result<Asks, AllocError> {
         match read_frame(alloc, bytes) {
             Ok((number, request)) => Ok(Asks::Request(ShownRequest::new(alloc, number, &request)?)),
             Err(FrameFault::OutOfMemory) => Err(AllocError),

@@ -173,13 +173,13 @@ impl<'a> ShownVars<'a> {
                 name,
                 entry: EntryDigits(number),
                 risk: at_risk.and_then(|at_risk| Risk::of(at_risk, number)),
-                content: Content::of_entry(alloc, data)?,
+                content: Content::from_entry(alloc, data)?,
             })?;
             return Ok(());
         }
         match name {
-            BOOT_ORDER => self.set_numbers(BOOT_ORDER, Content::of_order(alloc, data)?),
-            BOOT_NEXT => self.set_numbers(BOOT_NEXT, Content::of_next(alloc, data)?),
+            BOOT_ORDER => self.set_numbers(BOOT_ORDER, Content::from_order(alloc, data)?),
+            BOOT_NEXT => self.set_numbers(BOOT_NEXT, Content::from_next(alloc, data)?),
             _ => {
                 self.set_setting(alloc, name, data)?;
                 let length = data.len();

@@ -28,7 +28,7 @@ pub(crate) fn boot_id<R: Files + AllocGlobal>(
     match words.boot_id {
         Some(text) => boot_id_of(alloc, "--boot-id", text),
         None if is_folder => own_boot_id(rt),
-        None => Err(Failure::of_word(
+        None => Err(Failure::from_word(
             alloc,
             "--boot-id is needed for a variable file: a text that is another one after each start of its machine",
         )),
@@ -45,7 +45,7 @@ fn own_boot_id<R: Files + AllocGlobal>(rt: &R) -> Result<BootId, Failure> {
             str::from_utf8(&bytes).unwrap_or("").trim_end(),
         ),
         Ok(None) => Err(Failure::refused(alloc, BOOT_ID, Reason::TooMuch(BOOT_ID_LEN))),
-        Err(error) => Err(Failure::of_read(alloc, BOOT_ID, error)),
+        Err(error) => Err(Failure::from_read(alloc, BOOT_ID, error)),
     }
 }
 
@@ -55,7 +55,7 @@ fn boot_id_of(alloc: Global, from: &str, text: &str) -> Result<BootId, Failure> 
         Some(boot) => Ok(boot),
         None => {
             let text = Quoted(text);
-            Err(Failure::of_word(
+            Err(Failure::from_word(
                 alloc,
                 format_args!(
                     "{from} {text} is no identity of a start: one to 64 characters of ASCII that print, without blanks"

@@ -24,27 +24,27 @@ impl Display for Cause<'_> {
 }
 
 /// What it is to the program that a command failed.
-pub(crate) fn of_command(
+pub(crate) fn from_command(
     alloc: Global,
     words: &MachineWords<'_>,
     error: CommandError<Failure, KeptFault<RunFault>>,
 ) -> NotMade {
     match error {
         CommandError::OutOfMemory => NotMade::from(Failure::Memory),
-        CommandError::Run(KeptFault::Run(fault)) => of_run(alloc, words, fault),
+        CommandError::Run(KeptFault::Run(fault)) => from_run(alloc, words, fault),
         CommandError::Run(KeptFault::History(failure)) => NotMade::from(failure),
-        CommandError::Settling(error) => NotMade::from(of_settling(alloc, words, error)),
-        CommandError::Updating(error) => NotMade::from(of_updating(alloc, words, error)),
+        CommandError::Settling(error) => NotMade::from(from_settling(alloc, words, error)),
+        CommandError::Updating(error) => NotMade::from(from_updating(alloc, words, error)),
     }
 }
 
 /// What it is to the program that an update couldn't be made.
-pub fn of_updating(
+pub fn from_updating(
     alloc: Global,
     words: &MachineWords<'_>,
     error: UpdateError<Failure>,
 ) -> Failure {
-    of_error(
+    from_error(
         alloc,
         words,
         error,
@@ -53,15 +53,18 @@ pub fn of_updating(
 }
 
 /// What it is to the program that the variables of the place, or those that the requests lead to, are refused.
-pub(crate) fn of_run(alloc: Global, words: &MachineWords<'_>, fault: RunFault) -> NotMade {
+pub(crate) fn from_run(alloc: Global, words: &MachineWords<'_>, fault: RunFault) -> NotMade {
     match fault {
-        RunFault::Open(open) => NotMade::refused(Refused::Open(open), of_open(alloc, words, &open)),
-        RunFault::NoData => NotMade::from(Failure::of_fault(
+        RunFault::Open(open) => NotMade::refused(
+            Refused::Open(open),
+            from_open(alloc, words, &open),
+        ),
+        RunFault::NoData => NotMade::from(Failure::from_fault(
             alloc,
             words.place,
             "a boot variable has no value after its attributes",
         )),
-        RunFault::TooLong => NotMade::from(Failure::of_fault(
+        RunFault::TooLong => NotMade::from(Failure::from_fault(
             alloc,
             words.place,
             "a boot variable would have more than 1048576 bytes, with its four of attributes",
@@ -70,20 +73,20 @@ pub(crate) fn of_run(alloc: Global, words: &MachineWords<'_>, fault: RunFault) -
 }
 
 /// What it is to the program that the variables of the place can't be kept.
-fn of_open(alloc: Global, words: &MachineWords<'_>, fault: &OpenFault) -> Failure {
+fn from_open(alloc: Global, words: &MachineWords<'_>, fault: &OpenFault) -> Failure {
     match format!(in alloc; "{fault}: {}", open_reason(fault)) {
-        Ok(text) => Failure::of_run(alloc, words.place, text.as_str()),
+        Ok(text) => Failure::from_run(alloc, words.place, text.as_str()),
         Err(AllocError) => Failure::Memory,
     }
 }
 
 /// What it is to the program that what was left of an earlier update couldn't be made.
-pub fn of_settling(
+pub fn from_settling(
     alloc: Global,
     words: &MachineWords<'_>,
     error: UpdateError<Failure>,
 ) -> Failure {
-    of_error(
+    from_error(
         alloc,
         words,
         error,
@@ -92,7 +95,7 @@ pub fn of_settling(
 }
 
 /// What it is to the program that an update couldn't be made: if it is taken back, these words say so.
-fn of_error(
+fn from_error(
     alloc: Global,
     words: &MachineWords<'_>,
     error: UpdateError<Failure>,

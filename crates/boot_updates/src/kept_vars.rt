@@ -52,7 +52,7 @@ pub fn kept_of(
     let mut vars = match with_attributes(alloc, &vars, &attributes) {
         Ok(vars) => vars,
         Err(AttributesFault::OutOfMemory) => return Err(Failure::Memory),
-        Err(fault) => return Err(Failure::of_fault(alloc, place, fault)),
+        Err(fault) => return Err(Failure::from_fault(alloc, place, fault)),
     };
     take_numbers(&mut vars, &left_out)?;
     Ok(KeptVars {

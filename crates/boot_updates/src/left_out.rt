@@ -30,7 +30,7 @@ pub(crate) fn check_requests(
             )?;
             return Err(NotMade::refused(
                 Refused::LeftOut,
-                Failure::of_run(alloc, script.name, fault.as_str()),
+                Failure::from_run(alloc, script.name, fault.as_str()),
             ));
         }
     }

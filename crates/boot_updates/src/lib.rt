@@ -7,8 +7,8 @@
 //!
 //! Other changes of a place are made over the same [`Machine`]: [`lock_folder`] keeps others from its journal, [`open_place`]
 //! reads the variables, [`open_machine`] makes the machine of the two, and [`kept_command`] makes a change of it, before which
-//! a [`History`] keeps what was there. [`stands_for`] tells without any change what a machine stands for. [`of_settling`] and
-//! [`of_updating`] are what keeps a change from being made, in words.
+//! a [`History`] keeps what was there. [`stands_for`] tells without any change what a machine stands for. [`from_settling`] and
+//! [`from_updating`] are what keeps a change from being made, in words.
 #![tactic(auto)]
 
 mod boot_identity;
@@ -37,7 +37,7 @@ mod updates;
 mod values;
 mod variable_file;
 
-pub use failures::{of_settling, of_updating};
+pub use failures::{from_settling, from_updating};
 pub use history::History;
 pub use kept_run::{KeptFault, kept_command};
 pub use kept_vars::{KeptVars, kept_of};

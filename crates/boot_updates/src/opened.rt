@@ -189,7 +189,7 @@ fn open_file<R: Files<File: OutputFile> + Input + Eprint + AllocGlobal>(
     if path == STANDARD {
         return Err(Failure::refused(alloc, name_of(path), Reason::Standard));
     }
-    let lock = lock_file(rt, path).map_err(|error| Failure::of_write(alloc, path, error))?;
+    let lock = lock_file(rt, path).map_err(|error| Failure::from_write(alloc, path, error))?;
     let kept = kept_of_file(rt, words)?;
     let path = String::from_str(alloc, path)?;
     Ok(OpenedPlace {

@@ -26,7 +26,7 @@ pub fn name_of_machine<R: Files + AllocGlobal>(
     };
     match MachineName::new(Vec::from_slice(alloc, text.as_bytes())?) {
         Some(name) => Ok(name),
-        None => Err(Failure::of_word(
+        None => Err(Failure::from_word(
             alloc,
             "--machine is one to 4096 bytes: a text that no other machine has",
         )),
@@ -133,7 +133,7 @@ impl Owner<'_, '_> {
             .with_attributes(alloc, there)
             .map_err(|fault| match fault {
                 AttributesFault::OutOfMemory => Failure::Memory,
-                fault => Failure::of_fault(alloc, self.path, fault),
+                fault => Failure::from_fault(alloc, self.path, fault),
             })
     }
 
@@ -155,7 +155,7 @@ impl Owner<'_, '_> {
         };
         let theirs = Quoted(text_of(machine));
         let own = Quoted(text_of(self.machine));
-        Err(Failure::of_fault(
+        Err(Failure::from_fault(
             alloc,
             self.path,
             format_args!("it is the journal of machine {theirs}, and this is {own}: {why}"),

@@ -1,6 +1,6 @@
 //! What a script would do to a machine, told without any change.
 
-use crate::failures::of_run;
+use crate::failures::from_run;
 use crate::left_out::check_requests;
 use crate::machine_words::MachineWords;
 use crate::not_made::NotMade;
@@ -66,6 +66,6 @@ fn run_over(
     match run.run(alloc, vars) {
         Ok(led) => Ok(led),
         Err(CallError::OutOfMemory) => Err(NotMade::from(Failure::Memory)),
-        Err(CallError::Refused(fault)) => Err(of_run(alloc, words, fault)),
+        Err(CallError::Refused(fault)) => Err(from_run(alloc, words, fault)),
     }
 }

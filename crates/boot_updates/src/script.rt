@@ -57,7 +57,7 @@ pub(crate) fn read_events<'a, R: Files + Input + AllocGlobal>(
     match (fault, words) {
         (Some(fault), Some(words)) => Err(NotMade::refused(
             Refused::Script(fault),
-            Failure::of_run(alloc, name, words.as_str()),
+            Failure::from_run(alloc, name, words.as_str()),
         )),
         _ => Ok(Script {
             name,

@@ -42,7 +42,7 @@ pub fn lock_folder<R: Files<File: OutputFile> + AllocGlobal>(
         Err(error) if error.kind() == ErrorKind::NotADirectory => {
             Err(Failure::refused(alloc, path, Reason::NoFolder))
         }
-        Err(error) => Err(Failure::of_read(alloc, path, error)),
+        Err(error) => Err(Failure::from_read(alloc, path, error)),
     }
 }
 
@@ -110,7 +110,7 @@ pub(crate) fn stored_with_notes<R: Files + AllocGlobal>(
         Ok(Some(bytes)) => Ok(Some(journal_of(alloc, path, &bytes)?)),
         Ok(None) => Err(Failure::refused(alloc, path, Reason::TooMuch(LIMIT))),
         Err(error) if error.kind() == ErrorKind::NotFound => Ok(None),
-        Err(error) => Err(Failure::of_read(alloc, path, error)),
+        Err(error) => Err(Failure::from_read(alloc, path, error)),
     }
 }
 

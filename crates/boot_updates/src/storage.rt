@@ -81,7 +81,7 @@ impl<R: Files<File: OutputFile> + AllocGlobal> PlaceStorage<'_, R> {
         }
         match replace_file(self.rt, path, &bytes) {
             Ok(()) => Ok(()),
-            Err(error) => Err(Failure::of_write(alloc, path, error)),
+            Err(error) => Err(Failure::from_write(alloc, path, error)),
         }
     }
 
@@ -144,7 +144,7 @@ fn make_in<R: Files<File: OutputFile> + Input + Print + AllocGlobal>(
     match place {
         Place::Folder { path, folder } => match set_variable(rt, folder, path, name, kept) {
             Ok(()) => Ok(()),
-            Err(error) => Err(of_change(rt.alloc(), path, name, error)),
+            Err(error) => Err(from_change(rt.alloc(), path, name, error)),
         },
         Place::File { path, lock } => set_in_file(rt, path, lock, name, kept),
     }
@@ -167,7 +167,7 @@ fn is_made_in<R: Files + Input + AllocGlobal>(
 
 /// What it is to the program that the journal at this path would have so many bytes.
 fn too_long(alloc: Global, path: &str, len: usize) -> Failure {
-    Failure::of_fault(
+    Failure::from_fault(
         alloc,
         path,
         format_args!("the update takes a journal of {len} bytes, and at most {LIMIT} are read"),
@@ -183,9 +183,9 @@ fn call_error(failure: Failure) -> CallError<Failure> {
 }
 
 /// What it is to the program that the variable of this name can't be changed in the folder at this path.
-fn of_change(alloc: Global, path: &str, name: &str, error: io::Error) -> Failure {
+fn from_change(alloc: Global, path: &str, name: &str, error: io::Error) -> Failure {
     match format!(in alloc; "{path}: {name}") {
-        Ok(name) => Failure::of_write(alloc, name.as_str(), error),
+        Ok(name) => Failure::from_write(alloc, name.as_str(), error),
         Err(AllocError) => Failure::Memory,
     }
 }

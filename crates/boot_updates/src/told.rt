@@ -106,7 +106,7 @@ pub fn set_of(alloc: Global, place: &str, kept: &Vars) -> Result<Vars, Failure> 
     match without_attributes(alloc, kept) {
         Ok(set) => Ok(set),
         Err(AttributesFault::OutOfMemory) => Err(Failure::Memory),
-        Err(fault) => Err(Failure::of_fault(alloc, place, fault)),
+        Err(fault) => Err(Failure::from_fault(alloc, place, fault)),
     }
 }
 

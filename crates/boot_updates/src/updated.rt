@@ -1,6 +1,6 @@
 //! Updates that were made, and what is told of them.
 
-use crate::failures::of_command;
+use crate::failures::from_command;
 use crate::history::History;
 use crate::kept_run::kept_command;
 use crate::kept_vars::leave_out;
@@ -136,7 +136,7 @@ fn run_over<R: Files<File: OutputFile> + Clock + Input + Print + AllocGlobal>(
         },
         notes: &notes,
     };
-    kept_command(rt, machine, &run, history, boot).map_err(|error| of_command(
+    kept_command(rt, machine, &run, history, boot).map_err(|error| from_command(
         rt.alloc(),
         words,
         error,

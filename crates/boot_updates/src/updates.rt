@@ -1,6 +1,6 @@
 //! The command `update`.
 
-use crate::failures::of_settling;
+use crate::failures::from_settling;
 use crate::machine_words::MachineWords;
 use crate::not_made::NotMade;
 use crate::opened::{open_machine, open_place};
@@ -176,5 +176,5 @@ fn settle_locked<R: Files<File: OutputFile> + Input + Print + Eprint + AllocGlob
 ) -> Result<(), Failure> {
     let alloc = rt.alloc();
     let (mut machine, boot) = open_machine(rt, words, open_place(rt, words)?, journal_path)?;
-    settle(alloc, &mut machine, &boot).map_err(|error| of_settling(alloc, words, error))
+    settle(alloc, &mut machine, &boot).map_err(|error| from_settling(alloc, words, error))
 }

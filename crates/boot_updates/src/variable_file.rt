@@ -4,7 +4,7 @@ use crate::values::set_value;
 use std::alloc::Global;
 use std::rt::Files;
 use uefi_vars::{ATTRIBUTES_LEN, Vars};
-use var_places::{Failure, changed_variable_file, of_store, read};
+use var_places::{Failure, changed_variable_file, from_store, read};
 use var_stores::{read_store, store_attributes, store_vars};
 use whole_files::{FileLock, OutputFile, rewrite_file};
 
@@ -23,7 +23,7 @@ pub(crate) fn set_in_file<R: Files<File: OutputFile> + Input + Print + AllocGlob
     kept: Option<&[u8]>,
 ) -> Result<(), Failure> {
     match changed_file(rt, path, name, kept)? {
-        Some(bytes) => rewrite_file(rt, lock, &bytes).map_err(|error| Failure::of_write(
+        Some(bytes) => rewrite_file(rt, lock, &bytes).map_err(|error| Failure::from_write(
             rt.alloc(),
             path,
             error,
@@ -111,7 +111,7 @@ impl Stored {
 
 /// What is stored in the file with these bytes.
 fn read_stored(alloc: Global, path: &str, bytes: &[u8]) -> Result<Stored, Failure> {
-    let store = read_store(alloc, bytes).map_err(|fault| of_store(alloc, path, bytes, fault))?;
+    let store = read_store(alloc, bytes).map_err(|fault| from_store(alloc, path, bytes, fault))?;
     Ok(Stored {
         vars: store_vars(alloc, &store)?,
         attributes: store_attributes(alloc, &store)?,

@@ -50,7 +50,7 @@ impl Failure {
 
     /// What a fault of a script or a stream is to the program. If there is no memory for its words, it is
     /// [`Failure::Memory`].
-    pub fn of_script(alloc: Global, fault: ScriptRunFault) -> Failure
+    pub fn from_script(alloc: Global, fault: ScriptRunFault) -> Failure
         ensures fault { IsFailureOf fault result }
         ensures status { (result ≡ failure.Memory) ⊎ (status_of result ≡ script_status_of fault) }
     {

@@ -153,7 +153,7 @@ fn run_events<R: Source, W: Sink>(
 {
     match run_input(alloc, format, script, replies, vars) {
         Ok(vars) => Ok(vars),
-        Err(fault) => Err(Failure::of_script(alloc, fault)),
+        Err(fault) => Err(Failure::from_script(alloc, fault)),
     }
 }
 

@@ -48,7 +48,7 @@ pub enum EntryState {
 
 impl EntryState {
     /// The state of an option of these attributes.
-    fn of_attributes(attributes: u32) -> EntryState
+    fn from_attributes(attributes: u32) -> EntryState
         ensures { IsStateOf attributes result }
     {
         if is_normal(attributes) {
@@ -143,7 +143,7 @@ pub(crate) fn state_of(vars: &Vars, number: u16) -> EntryState
         return EntryState::Absent;
     };
     match check_option(bytes) {
-        Ok(view) => EntryState::of_attributes(view.attributes),
+        Ok(view) => EntryState::from_attributes(view.attributes),
         Err(_) => EntryState::Undecodable,
     }
 }

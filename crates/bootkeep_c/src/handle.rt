@@ -38,7 +38,7 @@ impl Seal {
     }
 
     /// The pointer that owns what these parts own.
-    fn of_parts(parts: Parts<Keeper, Global>) -> Seal
+    fn from_parts(parts: Parts<Keeper, Global>) -> Seal
         ensures { result.kept ≡ Some parts.value }
     {
         let Parts { ptr, alloc } = parts;
@@ -97,7 +97,7 @@ impl KeeperHandle {
     {
         KeeperHandle {
             is_open: 1,
-            seal: Seal::of_parts(Parts::of(keeper)),
+            seal: Seal::from_parts(Parts::of(keeper)),
         }
     }
 

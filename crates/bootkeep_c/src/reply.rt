@@ -119,8 +119,8 @@ impl ReplyNumbers {
         ensures { result ≡ reply_numbers size reply.now }
     {
         match reply {
-            Reply::Malformed(fault) => ReplyNumbers::of_fault(size, fault),
-            Reply::Repeat(outcome) => ReplyNumbers::of_outcome(
+            Reply::Malformed(fault) => ReplyNumbers::from_fault(size, fault),
+            Reply::Repeat(outcome) => ReplyNumbers::from_outcome(
                 size,
                 REPLY_REPEAT,
                 *outcome,
@@ -130,7 +130,7 @@ impl ReplyNumbers {
             Reply::Ahead(next) => ReplyNumbers::numbered(size, REPLY_AHEAD, *next),
             Reply::Conflict => ReplyNumbers::bare(size, REPLY_CONFLICT),
             Reply::Waiting(next) => ReplyNumbers::numbered(size, REPLY_WAITING, *next),
-            Reply::Applied(outcome, next) => ReplyNumbers::of_outcome(
+            Reply::Applied(outcome, next) => ReplyNumbers::from_outcome(
                 size,
                 REPLY_APPLIED,
                 *outcome,
@@ -138,7 +138,7 @@ impl ReplyNumbers {
             ),
             Reply::Prepared(count) => ReplyNumbers::counted(size, *count),
             Reply::AlreadyPrepared => ReplyNumbers::bare(size, REPLY_ALREADY_PREPARED),
-            Reply::Plan(plan) => ReplyNumbers::of_plan(size, plan),
+            Reply::Plan(plan) => ReplyNumbers::from_plan(size, plan),
             Reply::NothingPrepared => ReplyNumbers::bare(size, REPLY_NOTHING_PREPARED),
             Reply::Restarted(next) => ReplyNumbers::numbered(size, REPLY_RESTARTED, *next),
         }
@@ -172,7 +172,7 @@ impl ReplyNumbers {
     }
 
     /// A reply of this kind with an outcome and the next number.
-    fn of_outcome(size: usize, kind: u32, outcome: Outcome, next: u32) -> ReplyNumbers
+    fn from_outcome(size: usize, kind: u32, outcome: Outcome, next: u32) -> ReplyNumbers
         ensures { result ≡ outcome_reply size kind outcome next }
     {
         ReplyNumbers {
@@ -193,7 +193,7 @@ impl ReplyNumbers {
     }
 
     /// The reply that hands out a plan.
-    fn of_plan(size: usize, plan: &BootPlan) -> ReplyNumbers
+    fn from_plan(size: usize, plan: &BootPlan) -> ReplyNumbers
         ensures { result ≡ plan_reply size plan.now }
     {
         ReplyNumbers {
@@ -204,7 +204,7 @@ impl ReplyNumbers {
     }
 
     /// The reply to bytes that aren't a frame, for this.
-    fn of_fault(size: usize, fault: &FrameFault) -> ReplyNumbers
+    fn from_fault(size: usize, fault: &FrameFault) -> ReplyNumbers
         ensures { result ≡ fault_reply size fault.now }
     {
         ReplyNumbers {

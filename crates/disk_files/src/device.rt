@@ -75,7 +75,7 @@ impl<R: Files + AllocGlobal> System<'_, R> {
         let device = self.path(self.name)?;
         let whole = match resolved(self.rt, &device) {
             Ok(whole) => whole,
-            Err(error) => return Err(Failure::of_read(self.alloc(), self.name, error)),
+            Err(error) => return Err(Failure::from_read(self.alloc(), self.name, error)),
         };
         let Some(name) = whole.as_path().file_name() else {
             return Err(self.refused(DiskFault::NoDevice));
@@ -91,16 +91,16 @@ impl<R: Files + AllocGlobal> System<'_, R> {
     fn partition_of_disk(&self, disk: &str, part: u32) -> Result<Partition, Failure>
         ensures { IfOk result (λ partition. partition.number ≡ part) }
     {
-        let of_read = |error: io::Error| Failure::of_read(self.alloc(), disk, error);
+        let from_read = |error: io::Error| Failure::from_read(self.alloc(), disk, error);
         let entries = match fs::read_dir(&(self.rt, self.alloc()), disk) {
             Ok(entries) => entries,
             Err(error) if error.kind() == ErrorKind::NotFound => {
                 return Err(self.refused(DiskFault::NoDevice));
             }
-            Err(error) => return Err(of_read(error)),
+            Err(error) => return Err(from_read(error)),
         };
         for entry in entries {
-            let entry = entry.map_err(of_read)?;
+            let entry = entry.map_err(from_read)?;
             let folder = format!(in self.alloc(); "{disk}/{}", entry.file_name())?;
             if self.partition_number(&folder)? == Some(part) {
                 return self.partition(&folder, part);

@@ -54,7 +54,7 @@ pub fn find_partition<R: Files + AllocGlobal>(
     // What else it has, and that there is none, can't be said: the system's files are no value.
     ensures { IfOk result (λ found. IfSome found (λ one. id_of_node node.now ≡ Some one.partition.id)) }
 {
-    let Some(id) = PartitionId::of_node(node) else {
+    let Some(id) = PartitionId::from_node(node) else {
         return Ok(None);
     };
     System {
@@ -107,10 +107,10 @@ impl<R: Files + AllocGlobal> System<'_, R> {
         let entries = match fs::read_dir(&(self.rt, self.alloc()), devices.as_str()) {
             Ok(entries) => entries,
             Err(error) if error.kind() == ErrorKind::NotFound => return Ok(None),
-            Err(error) => return Err(Failure::of_read(self.alloc(), &devices, error)),
+            Err(error) => return Err(Failure::from_read(self.alloc(), &devices, error)),
         };
         for entry in entries {
-            let entry = entry.map_err(|error| Failure::of_read(self.alloc(), &devices, error))?;
+            let entry = entry.map_err(|error| Failure::from_read(self.alloc(), &devices, error))?;
             let link = format!(in self.alloc(); "{devices}/{}", entry.file_name())?;
             if let Some(found) = self.found_if(&link, entry.file_name(), id)? {
                 return Ok(Some(found));

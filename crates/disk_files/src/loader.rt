@@ -55,16 +55,16 @@ struct FoundFile {
 impl<R: Files + AllocGlobal> System<'_, R> {
     /// The file, which has to be a regular one. What is mounted there only once somebody looks is mounted by this.
     fn file(&self) -> Result<FoundFile, Failure> {
-        let of_read = |error| Failure::of_read(self.alloc(), self.name, error);
+        let from_read = |error| Failure::from_read(self.alloc(), self.name, error);
         let path = self.path_of_file()?;
-        let metadata = fs::metadata(self.rt, path.as_str()).map_err(of_read)?;
+        let metadata = fs::metadata(self.rt, path.as_str()).map_err(from_read)?;
         if metadata.is_dir() {
             return Err(self.refused(DiskFault::Folder));
         }
         if !metadata.is_file() {
             return Err(self.refused(DiskFault::Irregular));
         }
-        let whole = resolved(self.rt, &path).map_err(of_read)?;
+        let whole = resolved(self.rt, &path).map_err(from_read)?;
         Ok(FoundFile {
             path: String::from_str(self.alloc(), whole.as_path().as_str())?,
             metadata,
@@ -103,7 +103,7 @@ impl<R: Files + AllocGlobal> System<'_, R> {
         file: &FoundFile,
         mount: &Mount,
     ) -> Result<(), Failure> {
-        if !seen.are_own || DeviceNumber::of_stat(file.metadata.dev()) == mount.device {
+        if !seen.are_own || DeviceNumber::from_stat(file.metadata.dev()) == mount.device {
             return Ok(());
         }
         let point = String::from_utf8_lossy(self.alloc(), &mount.point)?;

@@ -32,13 +32,13 @@ impl<R: Files + AllocGlobal> System<'_, R> {
     pub(crate) fn mounts(&self) -> Result<SeenMounts, Failure> {
         let path = self.path(MOUNTS)?;
         let Some(text) = self.read_if_there(&path, LIMIT)? else {
-            return Err(Failure::of_read(self.alloc(), &path, ErrorKind::NotFound.into()));
+            return Err(Failure::from_read(self.alloc(), &path, ErrorKind::NotFound.into()));
         };
         let mounts = match read_mounts(self.alloc(), &text) {
             Ok(mounts) => mounts,
             Err(MountsFault::OutOfMemory) => return Err(Failure::Memory),
             Err(fault) => {
-                return Err(Failure::of_fault(self.alloc(), &path, DiskFault::Mounts(fault)));
+                return Err(Failure::from_fault(self.alloc(), &path, DiskFault::Mounts(fault)));
             }
         };
         let are_own = self.root.is_empty() || self.are_own(&mounts)?;
@@ -65,7 +65,7 @@ impl<R: Files + AllocGlobal> System<'_, R> {
         let root = match self.resolved_if_there(self.root)? {
             Some(root) => root,
             None => {
-                return Err(Failure::of_read(self.alloc(), self.root, ErrorKind::NotFound.into()));
+                return Err(Failure::from_read(self.alloc(), self.root, ErrorKind::NotFound.into()));
             }
         };
         let front = root.as_path().as_str().trim_end_matches('/');

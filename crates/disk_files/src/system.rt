@@ -31,7 +31,7 @@ impl<R: Files + AllocGlobal> System<'_, R> {
     pub(crate) fn refused(&self, fault: DiskFault) -> Failure {
         match fault {
             DiskFault::OutOfMemory => Failure::Memory,
-            fault => Failure::of_fault(self.alloc(), self.name, fault),
+            fault => Failure::from_fault(self.alloc(), self.name, fault),
         }
     }
 
@@ -46,7 +46,7 @@ impl<R: Files + AllocGlobal> System<'_, R> {
         match resolved(self.rt, path) {
             Ok(whole) => Ok(Some(whole)),
             Err(error) if error.kind() == ErrorKind::NotFound => Ok(None),
-            Err(error) => Err(Failure::of_read(self.alloc(), path, error)),
+            Err(error) => Err(Failure::from_read(self.alloc(), path, error)),
         }
     }
 
@@ -58,9 +58,9 @@ impl<R: Files + AllocGlobal> System<'_, R> {
     ) -> Result<Option<Vec<u8>>, Failure> {
         match read_file(self.rt, path, limit) {
             Ok(Some(bytes)) => Ok(Some(bytes)),
-            Ok(None) => Err(Failure::of_fault(self.alloc(), path, DiskFault::TooMuch(limit))),
+            Ok(None) => Err(Failure::from_fault(self.alloc(), path, DiskFault::TooMuch(limit))),
             Err(error) if is_missing(error.kind()) => Ok(None),
-            Err(error) => Err(Failure::of_read(self.alloc(), path, error)),
+            Err(error) => Err(Failure::from_read(self.alloc(), path, error)),
         }
     }
 
@@ -96,7 +96,7 @@ impl<R: Files + AllocGlobal> System<'_, R> {
     /// What it is to the program that a file of a folder of /sys has no number.
     pub(crate) fn without_number(&self, folder: &str, file: &str) -> Failure {
         match format!(in self.alloc(); "{folder}/{file}") {
-            Ok(path) => Failure::of_fault(self.alloc(), &path, DiskFault::NoNumber),
+            Ok(path) => Failure::from_fault(self.alloc(), &path, DiskFault::NoNumber),
             Err(AllocError) => Failure::Memory,
         }
     }
@@ -105,7 +105,7 @@ impl<R: Files + AllocGlobal> System<'_, R> {
     fn missing(&self, folder: &str, file: &str) -> Failure {
         match format!(in self.alloc(); "{folder}/{file}") {
             Ok(path) => {
-                Failure::of_read(self.alloc(), &path, io::Error::from(ErrorKind::NotFound))
+                Failure::from_read(self.alloc(), &path, io::Error::from(ErrorKind::NotFound))
             }
             Err(AllocError) => Failure::Memory,
         }

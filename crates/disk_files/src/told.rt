@@ -93,10 +93,10 @@ impl<R: Files + AllocGlobal> System<'_, R> {
         let links = match fs::read_dir(&(self.rt, self.alloc()), folder.as_str()) {
             Ok(links) => links,
             Err(error) if error.kind() == ErrorKind::NotFound => return Ok(None),
-            Err(error) => return Err(Failure::of_read(self.alloc(), &folder, error)),
+            Err(error) => return Err(Failure::from_read(self.alloc(), &folder, error)),
         };
         for link in links {
-            let link = link.map_err(|error| Failure::of_read(self.alloc(), &folder, error))?;
+            let link = link.map_err(|error| Failure::from_read(self.alloc(), &folder, error))?;
             if let Some(id) = read_partition_id(link.file_name())
                 && self.leads_to(&folder, link.file_name(), device)?
             {

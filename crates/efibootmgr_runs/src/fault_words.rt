@@ -21,13 +21,13 @@ impl fmt::Display for FaultWords<'_> {
             WordFault::NotDone(name) => write!(f, "--{name} isn't done here"),
             WordFault::NoneToDelete => f.write_str("-B needs an entry: name it by -b"),
             WordFault::NoneToActivate => f.write_str("-a and -A need an entry: name it by -b"),
-            fault => of_word(f, fault),
+            fault => write_word(f, fault),
         }
     }
 }
 
 /// Writes what is wrong with a word that is shown.
-fn of_word<W: fmt::Write>(f: &mut fmt::Formatter<W>, fault: &WordFault<'_>) -> fmt::Result {
+fn write_word<W: fmt::Write>(f: &mut fmt::Formatter<W>, fault: &WordFault<'_>) -> fmt::Result {
     let (before, word, after) = match fault {
         WordFault::UnknownName(name) => ("there is no option --", *name, ""),
         WordFault::Ambiguous(name) => ("more than one option begins with --", *name, ""),

@@ -21,7 +21,10 @@ pub(crate) fn place<R: Env + AllocGlobal>(rt: &R) -> Result<String, Failure> {
     match env::var(rt, PLACE_NAME) {
         Ok(path) => Ok(path),
         Err(VarError::NotPresent) => Ok(String::from_str(rt.alloc(), PLACE)?),
-        Err(VarError::NotUnicode) => Err(Failure::of_word(rt.alloc(), "EFIVARFS_PATH isn't UTF-8")),
+        Err(VarError::NotUnicode) => Err(Failure::from_word(
+            rt.alloc(),
+            "EFIVARFS_PATH isn't UTF-8",
+        )),
         Err(_) => Err(Failure::Memory),
     }
 }

@@ -40,7 +40,7 @@ fn bytes_of(
     match make_option(alloc, ACTIVE, description, paths, optional) {
         Ok(option) => Ok(write_option(alloc, &option)?),
         Err(OptionFault::OutOfMemory) => Err(Failure::Memory),
-        Err(fault) => Err(Failure::of_word(alloc, fault)),
+        Err(fault) => Err(Failure::from_word(alloc, fault)),
     }
 }
 

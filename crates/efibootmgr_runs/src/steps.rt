@@ -236,7 +236,7 @@ fn vars_at<R: Files + Eprint + AllocGlobal>(
 
 /// What it is to a run that the machine has something that this can't be done with.
 fn refused(alloc: Global, machine: &Machine<'_>, step: Step, fault: &str) -> Stopped {
-    Stopped::at(step, Failure::of_run(alloc, machine.place, fault))
+    Stopped::at(step, Failure::from_run(alloc, machine.place, fault))
 }
 
 /// Makes a change of boot entries.

@@ -32,7 +32,7 @@ pub(crate) fn set_timeout<R: Files + Eprint + AllocGlobal>(
         None => None,
     };
     set_variable(rt, &folder, machine.place, TIMEOUT, bytes.as_deref()).map_err(|error| {
-        Failure::of_write(alloc, TIMEOUT, error)
+        Failure::from_write(alloc, TIMEOUT, error)
     })
 }
 

@@ -18,7 +18,7 @@ pub struct DeviceNumber {
 impl DeviceNumber {
     /// The number that `stat` tells of a file's device, in Linux's form of 64 bits: of the major number the last 12
     /// bits at bit 8 and the others at bit 44, of the minor number the last 8 bits at bit 0 and the others at bit 20.
-    pub fn of_stat(device: u64) -> DeviceNumber
+    pub fn from_stat(device: u64) -> DeviceNumber
         ensures { result ≡ device_of_stat device }
     {
         DeviceNumber {

@@ -35,7 +35,7 @@ pub enum PartitionId {
 impl PartitionId {
     /// What the partition is known by that a node is of (UEFI 2.10, 10.3.5.1): the GUID that is its signature, or the first
     /// four bytes of the signature with the number of the partition. `None` if the node has neither.
-    pub fn of_node(node: &HardDriveNode) -> Option<PartitionId>
+    pub fn from_node(node: &HardDriveNode) -> Option<PartitionId>
         ensures { result ≡ id_of_node node.now }
     {
         let signature = *node.signature();

@@ -109,7 +109,7 @@ fn destination_of(
     let Target::File(partition, name) = path_target(path) else {
         return Ok(None);
     };
-    match PartitionId::of_node(partition) {
+    match PartitionId::from_node(partition) {
         Some(id) => Ok(Some(destination(alloc, id, name.units(), optional)?)),
         None => Ok(None),
     }

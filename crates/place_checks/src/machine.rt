@@ -85,7 +85,7 @@ impl<R: Files + AllocGlobal> Machine<'_, R> {
         ensures { IfOk result (λ seen. OfPartition seen.lead) }
     {
         let alloc = self.rt.alloc();
-        if PartitionId::of_node(partition).is_none() {
+        if PartitionId::from_node(partition).is_none() {
             return Ok(Seen::bare(alloc, Lead::Unsigned));
         }
         match find_partition(self.rt, self.root, partition)? {
@@ -99,7 +99,7 @@ impl<R: Files + AllocGlobal> Machine<'_, R> {
         ensures { IfOk result (λ seen. OfFile seen.lead) }
     {
         let alloc = self.rt.alloc();
-        if PartitionId::of_node(partition).is_none() {
+        if PartitionId::from_node(partition).is_none() {
             return Ok(Seen::bare(alloc, Lead::Unsigned));
         }
         match find_partition(self.rt, self.root, partition)? {
@@ -160,7 +160,7 @@ impl<R: Files + AllocGlobal> Machine<'_, R> {
         match fs::metadata(self.rt, path) {
             Ok(found) if found.is_dir() => Ok(Seen::at(alloc, Lead::Folder, path)?),
             Ok(_) => Ok(Seen::at(alloc, Lead::File, path)?),
-            Err(error) => Err(Failure::of_read(alloc, path, error)),
+            Err(error) => Err(Failure::from_read(alloc, path, error)),
         }
     }
 
@@ -172,7 +172,7 @@ impl<R: Files + AllocGlobal> Machine<'_, R> {
             Err(error) => match error.kind() {
                 ErrorKind::NotFound | ErrorKind::NotADirectory => Ok(Step::Nowhere),
                 ErrorKind::PermissionDenied => Ok(Step::Closed),
-                _ => Err(Failure::of_read(alloc, folder, error)),
+                _ => Err(Failure::from_read(alloc, folder, error)),
             },
         }
     }

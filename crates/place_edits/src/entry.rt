@@ -23,7 +23,7 @@ pub fn get_entry<R: Files<File: OutputFile> + Input + Print + Eprint + AllocGlob
         Some(bytes) => write(rt, output?, bytes),
         None => {
             let fault = format!(in rt.alloc(); "there is no {}", EntryName(entry))?;
-            Err(Failure::of_run(rt.alloc(), name_of(place), fault.as_str()))
+            Err(Failure::from_run(rt.alloc(), name_of(place), fault.as_str()))
         }
     }
 }

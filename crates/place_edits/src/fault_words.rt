@@ -7,21 +7,21 @@ use std::fmt;
 use var_places::Failure;
 
 /// What it is to the program that the change of the place of this name is refused for this fault.
-pub(crate) fn of_edit(alloc: Global, place: &str, fault: EditFault) -> Failure {
+pub(crate) fn from_edit(alloc: Global, place: &str, fault: EditFault) -> Failure {
     match fault {
         EditFault::OutOfMemory => Failure::Memory,
         fault => match format!(in alloc; "{}", FaultWords(fault)) {
-            Ok(words) => Failure::of_run(alloc, place, words.as_str()),
+            Ok(words) => Failure::from_run(alloc, place, words.as_str()),
             Err(AllocError) => Failure::Memory,
         },
     }
 }
 
 /// What it is to the program that what the machine in the place keeps is refused by a change.
-pub(crate) fn of_edit_run(alloc: Global, place: &str, fault: EditRunFault) -> Failure {
+pub(crate) fn from_edit_run(alloc: Global, place: &str, fault: EditRunFault) -> Failure {
     match fault {
-        EditRunFault::Edit(fault) => of_edit(alloc, place, fault),
-        EditRunFault::NoData | EditRunFault::TooLong => Failure::of_fault(alloc, place, fault),
+        EditRunFault::Edit(fault) => from_edit(alloc, place, fault),
+        EditRunFault::NoData | EditRunFault::TooLong => Failure::from_fault(alloc, place, fault),
     }
 }
 

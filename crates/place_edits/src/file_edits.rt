@@ -1,7 +1,7 @@
 //! Changes of boot entries in files, which are replaced as a whole.
 
 use crate::edits::EditWords;
-use crate::fault_words::of_edit;
+use crate::fault_words::from_edit;
 use crate::folder_edits::{run_over, without_attributes};
 use crate::history::{folder_if_any, keep_before};
 use crate::led::Led;
@@ -9,7 +9,7 @@ use crate::left_out::check_edit;
 use boot_edits::{EditAnswer, make_edit};
 use boot_journal::settle;
 use boot_updates::{
-    KeptVars, MachineWords, is_left_to, name_of_machine, of_settling, open_machine, open_place,
+    KeptVars, MachineWords, from_settling, is_left_to, name_of_machine, open_machine, open_place,
     read_kept, set_of, stored_journal,
 };
 use std::alloc::{AllocError, Global};
@@ -83,7 +83,7 @@ pub(crate) fn settle_left<R: Files<File: OutputFile> + Input + Print + Eprint + 
         return Ok(());
     }
     let (mut kept, boot) = open_machine(rt, machine, open_place(rt, machine)?, journal_path)?;
-    settle(alloc, &mut kept, &boot).map_err(|error| of_settling(alloc, machine, error))
+    settle(alloc, &mut kept, &boot).map_err(|error| from_settling(alloc, machine, error))
 }
 
 /// The bytes of the variable file after a change of what its machine keeps: `None` if it changes nothing.
@@ -153,6 +153,6 @@ fn edited_set<R: Files + Input + AllocGlobal>(
     let from = set_vars(alloc, place, &read(rt, place)?)?;
     match make_edit(alloc, &from, &words.edit) {
         Ok((to, answer)) => Ok(Led { from, to, answer }),
-        Err(fault) => Err(of_edit(alloc, place, fault)),
+        Err(fault) => Err(from_edit(alloc, place, fault)),
     }
 }

@@ -1,14 +1,14 @@
 //! Changes of a machine's boot entries by its journal.
 
 use crate::edits::EditWords;
-use crate::fault_words::of_edit_run;
+use crate::fault_words::from_edit_run;
 use crate::history::made_and_locked;
 use crate::led::{Led, LedRun};
 use crate::left_out::check_edit;
 use boot_edits::{EditAnswer, EditRun, EditRunFault};
 use boot_journal::{CallError, CommandError, Run};
 use boot_updates::{
-    History, KeptFault, SettledVars, kept_command, name_of_machine, of_settling, of_updating,
+    History, KeptFault, SettledVars, from_settling, from_updating, kept_command, name_of_machine,
     open_machine, open_place, read_kept, set_of, stands_for, tell_of_due,
 };
 use std::alloc::Global;
@@ -48,9 +48,9 @@ fn edit_machine<R: Files<File: OutputFile> + Clock + Input + Print + Eprint + Al
         command: words.command,
     };
     let edit = EditRun { edit: words.edit };
-    kept_command(rt, &mut kept, &LedRun { run: &edit }, history, &boot).map_err(|error| of_command(
-        alloc, words, error,
-    ))
+    kept_command(rt, &mut kept, &LedRun { run: &edit }, history, &boot).map_err(
+        |error| from_command(alloc, words, error),
+    )
 }
 
 /// What the change would be of the machine, in a folder or a variable file, once what is left of earlier updates is done.
@@ -88,7 +88,7 @@ pub(crate) fn run_over(
     match (LedRun { run: &run }).run(alloc, vars) {
         Ok((_to, led)) => Ok(led),
         Err(CallError::OutOfMemory) => Err(Failure::Memory),
-        Err(CallError::Refused(fault)) => Err(of_edit_run(alloc, words.machine.place, fault)),
+        Err(CallError::Refused(fault)) => Err(from_edit_run(alloc, words.machine.place, fault)),
     }
 }
 
@@ -111,7 +111,7 @@ pub(crate) fn without_attributes(
 }
 
 /// What it is to the program that a change couldn't be made.
-fn of_command(
+fn from_command(
     alloc: Global,
     words: &EditWords<'_>,
     error: CommandError<Failure, KeptFault<EditRunFault>>,
@@ -119,9 +119,9 @@ fn of_command(
     let machine = &words.machine;
     match error {
         CommandError::OutOfMemory => Failure::Memory,
-        CommandError::Run(KeptFault::Run(fault)) => of_edit_run(alloc, machine.place, fault),
+        CommandError::Run(KeptFault::Run(fault)) => from_edit_run(alloc, machine.place, fault),
         CommandError::Run(KeptFault::History(failure)) => failure,
-        CommandError::Settling(error) => of_settling(alloc, machine, error),
-        CommandError::Updating(error) => of_updating(alloc, machine, error),
+        CommandError::Settling(error) => from_settling(alloc, machine, error),
+        CommandError::Updating(error) => from_updating(alloc, machine, error),
     }
 }

@@ -21,7 +21,7 @@ pub(crate) fn check_edit(
         return Ok(());
     };
     let fault = format!(in alloc; "{variable} has no value or too long a one, and stays as it is")?;
-    Err(Failure::of_run(alloc, place, fault.as_str()))
+    Err(Failure::from_run(alloc, place, fault.as_str()))
 }
 
 /// The variable of these that the edit would change, or name. One that makes an entry passes their numbers over.

@@ -29,7 +29,7 @@ pub(crate) fn place_kind<R: Files + Input + AllocGlobal>(
     if path == STANDARD {
         return Err(Failure::refused(alloc, name_of(path), Reason::Standard));
     }
-    let found = fs::metadata(rt, path).map_err(|error| Failure::of_read(alloc, path, error))?;
+    let found = fs::metadata(rt, path).map_err(|error| Failure::from_read(alloc, path, error))?;
     if found.is_dir() {
         return Ok(PlaceKind::Folder);
     }

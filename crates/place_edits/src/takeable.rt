@@ -121,13 +121,13 @@ fn take_out_of_order(
     } else if rest.len() < order.len() {
         let mut data = Vec::new(alloc);
         append_units(&rest, &mut data)?;
-        changes.put(BOOT_ORDER, &data).map_err(of_put)?;
+        changes.put(BOOT_ORDER, &data).map_err(from_put)?;
     }
     Ok(())
 }
 
 /// What it is to the program that an order isn't gathered. It is shorter than one that is there, so only memory was refused.
-fn of_put(_fault: PutFault) -> Failure {
+fn from_put(_fault: PutFault) -> Failure {
     Failure::Memory
 }
 

@@ -7,8 +7,8 @@ use crate::written::Written;
 use boot_history::{records, remove, time_text};
 use boot_journal::{CallError, CommandError, Run, command, settle};
 use boot_updates::{
-    KeptVars, MachineWords, SettledVars, changes_text, lock_folder, name_of_machine, of_settling,
-    of_updating, open_machine, open_place, read_kept, stands_for, tell_of_due,
+    KeptVars, MachineWords, SettledVars, changes_text, from_settling, from_updating, lock_folder,
+    name_of_machine, open_machine, open_place, read_kept, stands_for, tell_of_due,
 };
 use std::rt::Files;
 use uefi_vars::Vars;
@@ -42,7 +42,7 @@ pub fn undo_change<R: Files<File: OutputFile> + Input + Print + Eprint + AllocGl
 ) -> Result<Written, Failure> {
     let place = words.machine.place;
     let undone = match place_kind(rt, place)? {
-        PlaceKind::Set => Err(Failure::of_fault(
+        PlaceKind::Set => Err(Failure::from_fault(
             rt.alloc(),
             place,
             "it is a set file, and nothing is kept of its changes",
@@ -99,7 +99,7 @@ fn undo_machine<R: Files<File: OutputFile> + Input + Print + Eprint + AllocGloba
     let opened = open_place(rt, machine)?;
     let left_out = opened.copy_left_out(alloc)?;
     let (mut kept, boot) = open_machine(rt, machine, opened, journal_path)?;
-    settle(alloc, &mut kept, &boot).map_err(|error| of_settling(alloc, machine, error))?;
+    settle(alloc, &mut kept, &boot).map_err(|error| from_settling(alloc, machine, error))?;
     let changes = records(rt, machine.state, &name)?;
     let run = UndoRun {
         rt,
@@ -110,9 +110,9 @@ fn undo_machine<R: Files<File: OutputFile> + Input + Print + Eprint + AllocGloba
     };
     command(alloc, &mut kept, &run, &boot).map_err(|error| match error {
         CommandError::OutOfMemory => Failure::Memory,
-        CommandError::Run(fault) => of_undo(rt, words, fault),
-        CommandError::Settling(error) => of_settling(alloc, machine, error),
-        CommandError::Updating(error) => of_updating(alloc, machine, error),
+        CommandError::Run(fault) => from_undo(rt, words, fault),
+        CommandError::Settling(error) => from_settling(alloc, machine, error),
+        CommandError::Updating(error) => from_updating(alloc, machine, error),
     })
 }
 
@@ -168,16 +168,20 @@ fn undone_over<R: Files<File: OutputFile> + Print + Eprint + AllocGlobal>(
     match run.run(rt.alloc(), vars) {
         Ok((_to, undone)) => Ok(undone),
         Err(CallError::OutOfMemory) => Err(Failure::Memory),
-        Err(CallError::Refused(fault)) => Err(of_undo(rt, words, fault)),
+        Err(CallError::Refused(fault)) => Err(from_undo(rt, words, fault)),
     }
 }
 
 /// What it is to the program that nothing is undone. If something else has changed since, that is printed.
-fn of_undo<R: Print + AllocGlobal>(rt: &R, words: &UndoWords<'_>, fault: UndoFault) -> Failure {
+fn from_undo<R: Print + AllocGlobal>(rt: &R, words: &UndoWords<'_>, fault: UndoFault) -> Failure {
     let alloc = rt.alloc();
     let place = words.machine.place;
     match fault {
-        UndoFault::Nothing => Failure::of_run(alloc, place, "nothing is kept that could be undone"),
+        UndoFault::Nothing => Failure::from_run(
+            alloc,
+            place,
+            "nothing is kept that could be undone",
+        ),
         UndoFault::Failure(failure) => failure,
         UndoFault::Changed(since) => match tell_of_change(rt, words, &since) {
             Ok(failure) | Err(failure) => failure,
@@ -199,5 +203,5 @@ fn tell_of_change<R: Print + AllocGlobal>(
     let fault = format!(in alloc;
         "something else has changed since the change of {time}, which is shown: --force undoes that all the same"
     )?;
-    Ok(Failure::of_run(alloc, place, fault.as_str()))
+    Ok(Failure::from_run(alloc, place, fault.as_str()))
 }

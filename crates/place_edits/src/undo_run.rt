@@ -240,7 +240,7 @@ impl<R: Files<File: OutputFile> + Eprint + AllocGlobal> UndoRun<'_, '_, R> {
         match with_attributes(alloc, &set, &wanted) {
             Ok(vars) => Ok(Takeable { vars, missing }),
             Err(AttributesFault::OutOfMemory) => Err(Failure::Memory),
-            Err(fault) => Err(Failure::of_fault(alloc, place, fault)),
+            Err(fault) => Err(Failure::from_fault(alloc, place, fault)),
         }
     }
 

@@ -90,7 +90,7 @@ fn keep<R: Files<File: OutputFile> + Clock + Eprint + AllocGlobal>(
     let mut after = match with_attributes(alloc, to, &kept.vars) {
         Ok(after) => after,
         Err(AttributesFault::OutOfMemory) => return Err(Failure::Memory),
-        Err(fault) => return Err(Failure::of_fault(alloc, name_of(words.set), fault)),
+        Err(fault) => return Err(Failure::from_fault(alloc, name_of(words.set), fault)),
     };
     kept.keep_left_out(&mut after)?;
     keep_before(
@@ -292,7 +292,7 @@ fn check_regular<R: Files + AllocGlobal>(rt: &R, path: &str) -> Result<(), Failu
     match fs::metadata(rt, path) {
         Ok(found) if found.is_file() => Ok(()),
         Ok(_) => Err(Failure::refused(rt.alloc(), path, Reason::Irregular)),
-        Err(error) => Err(Failure::of_read(rt.alloc(), path, error)),
+        Err(error) => Err(Failure::from_read(rt.alloc(), path, error)),
     }
 }
 

@@ -114,7 +114,7 @@ impl LoadOption {
             Ok(list_len) => list_len,
             Err(fault) => return Err(lists.refused(fault)),
         };
-        match LoadOption::of_lists(alloc, attributes, list_len, lists) {
+        match LoadOption::from_lists(alloc, attributes, list_len, lists) {
             Ok(option) => Ok(option),
             Err(refusal) => Err(refusal.value.refused(OptionFault::OutOfMemory)),
         }
@@ -155,7 +155,7 @@ impl LoadOption {
 
     /// The option of these attributes and lists, of which that of the paths has `list_len` bytes, if there is memory
     /// for it.
-    pub(crate) fn of_lists(
+    pub(crate) fn from_lists(
         alloc: Global,
         attributes: u32,
         list_len: u16,

@@ -42,7 +42,7 @@ pub fn make_option(
 {
     let list_len = check_parts(description, paths)?;
     let lists = Lists::from_slices(alloc, description, paths, optional)?;
-    Ok(LoadOption::of_lists(alloc, attributes, list_len, lists)?)
+    Ok(LoadOption::from_lists(alloc, attributes, list_len, lists)?)
 }
 
 /// How many bytes the list of these paths has, if the description and they are those of an option.

@@ -190,5 +190,5 @@ pub fn read_option(alloc: Global, bytes: &[u8]) -> Result<LoadOption, OptionFaul
         paths: read_paths(alloc, view.list)?,
         optional: Vec::from_slice(alloc, view.optional)?,
     };
-    Ok(LoadOption::of_lists(alloc, view.attributes, view.list.len() as u16, lists)?)
+    Ok(LoadOption::from_lists(alloc, view.attributes, view.list.len() as u16, lists)?)
 }

@@ -173,7 +173,7 @@ impl Node {
     }
 
     /// The node of these parts, if the table has a row for them with data of one length.
-    fn of_one_length(kind: u8, sub: u8, body: &[u8]) -> Option<Node>
+    fn from_one_length(kind: u8, sub: u8, body: &[u8]) -> Option<Node>
         ensures { result ≡ fixed_node_of (row kind sub body.now) }
     {
         match_one_length!((kind, sub, body), node => Some(node), None)
@@ -196,7 +196,7 @@ impl Node {
         requires { length body.now ≤ body_max }
         ensures { IsTrue result ↔ IsListed (row kind sub body.now) }
     {
-        Node::of_one_length(kind, sub, body).is_some() || Node::is_of_a_list(kind, sub, body)
+        Node::from_one_length(kind, sub, body).is_some() || Node::is_of_a_list(kind, sub, body)
     }
 
     /// The node that has these parts, if there is memory for it.
@@ -210,15 +210,15 @@ impl Node {
         requires len { length body.now ≤ body_max }
         ensures { IfOk result (λ node. node ≡ node_of (row kind sub body.now)) }
     {
-        match Node::of_one_length(kind, sub, body) {
+        match Node::from_one_length(kind, sub, body) {
             Some(node) => Ok(node),
-            None => Node::of_no_length(alloc, kind, sub, body),
+            None => Node::from_no_length(alloc, kind, sub, body),
         }
     }
 
     /// The node that has these parts, for which the table has no row with data of one length, if there is memory for
     /// it.
-    fn of_no_length(alloc: Global, kind: u8, sub: u8, body: &[u8]) -> Result<Node, AllocError>
+    fn from_no_length(alloc: Global, kind: u8, sub: u8, body: &[u8]) -> Result<Node, AllocError>
         requires no_end { kind ≢ 0x7F }
         requires len { length body.now ≤ body_max }
         requires no_length { fixed_node_of (row kind sub body.now) ≡ None }

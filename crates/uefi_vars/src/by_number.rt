@@ -39,7 +39,7 @@ fn repeated_numbers(alloc: Global, numbers: &[u16]) -> Result<Vec<u16>, AllocErr
 
 impl<T: Drop> ByNumber<T> {
     /// Room for what is kept under each number that this order repeats. Nothing is kept yet.
-    pub(crate) fn of_repeated(alloc: Global, order: &[u16]) -> Result<ByNumber<T>, AllocError>
+    pub(crate) fn from_repeated(alloc: Global, order: &[u16]) -> Result<ByNumber<T>, AllocError>
         ensures { IfOk result (λ table. All IsFree table.slots.items) }
     {
         let mut slots = Vec::new(alloc);

@@ -68,7 +68,7 @@ fn read_normal_choices(alloc: Global, vars: &Vars, order: &[u16]) -> Result<Vec<
     ensures { IfOk result (λ choices.
         AreNormalChoices (entry_of vars.now) order.now choices.items) }
 {
-    let mut known = ByNumber::of_repeated(alloc, order)?;
+    let mut known = ByNumber::from_repeated(alloc, order)?;
     let mut choices = Vec::new(alloc);
     for number in order {
         if let Some(choice) = read_once(alloc, vars, *number, &mut known)? {
@@ -83,7 +83,7 @@ fn normal_numbers(alloc: Global, vars: &Vars, order: &[u16]) -> Result<Vec<u16>,
     ensures { IfOk result (λ numbers.
         AreNormalNumbers (entry_of vars.now) order.now numbers.items) }
 {
-    let mut known = ByNumber::of_repeated(alloc, order)?;
+    let mut known = ByNumber::from_repeated(alloc, order)?;
     let mut numbers = Vec::new(alloc);
     for number in order {
         if look_once(vars, *number, &mut known) {

@@ -60,7 +60,7 @@ pub(crate) fn option_of_words<R: Files + Input + Eprint + AllocGlobal>(
     match made {
         Ok(bytes) => Ok(bytes),
         Err(OptionWordsFault::OutOfMemory) => Err(Failure::Memory),
-        Err(fault) => Err(Failure::of_word(alloc, fault)),
+        Err(fault) => Err(Failure::from_word(alloc, fault)),
     }
 }
 
@@ -101,7 +101,7 @@ fn part_of(alloc: Global, word: &str) -> Result<u32, Failure> {
         Ok(number) if number > 0 && is_decimal => Ok(number),
         _ => {
             let word = Quoted(word);
-            Err(Failure::of_word(
+            Err(Failure::from_word(
                 alloc,
                 format_args!("--part {word} is no number of a partition, which is 1 or more"),
             ))
@@ -149,7 +149,7 @@ fn note_doubled<R: Eprint>(rt: &R, number: usize) {
 fn attributes(alloc: Global, words: AttributeWords<'_>) -> Result<u32, Failure> {
     match words {
         AttributeWords::Number(text) => {
-            attributes_of_text(text).map_err(|fault| of_digits(alloc, text, fault))
+            attributes_of_text(text).map_err(|fault| from_digits(alloc, text, fault))
         }
         AttributeWords::Flags(flags) => Ok(attribute_bits(flags)),
     }
@@ -164,7 +164,7 @@ fn optional<R: Files + Input + AllocGlobal>(
     match words {
         OptionalWords::Nothing => Ok(Vec::new(alloc)),
         OptionalWords::Hex(digits) => {
-            hex::decode(alloc, digits).map_err(|fault| of_hex(alloc, digits, fault))
+            hex::decode(alloc, digits).map_err(|fault| from_hex(alloc, digits, fault))
         }
         OptionalWords::File(file) => read(rt, file),
         OptionalWords::Text(text) => Ok(optional_text(alloc, text)?),
@@ -172,11 +172,11 @@ fn optional<R: Files + Input + AllocGlobal>(
 }
 
 /// What it is to the program that these digits of optional data have this fault.
-fn of_hex(alloc: Global, digits: &str, fault: FromHexError) -> Failure {
+fn from_hex(alloc: Global, digits: &str, fault: FromHexError) -> Failure {
     let digits = Quoted(digits);
     match fault {
         FromHexError::OutOfMemory => Failure::Memory,
-        fault => Failure::of_word(
+        fault => Failure::from_word(
             alloc,
             format_args!("--optional-hex {digits}: {fault}; --optional-text takes a text"),
         ),
@@ -197,7 +197,7 @@ pub(crate) fn make_frame<R: Files + Input + Print + AllocGlobal>(
     raw: bool,
 ) -> Result<(), Failure> {
     let alloc = rt.alloc();
-    let number = number_of_digits(number).map_err(|fault| of_digits(alloc, number, fault))?;
+    let number = number_of_digits(number).map_err(|fault| from_digits(alloc, number, fault))?;
     let frame = frame(rt, number, request)?;
     if raw {
         print(rt, &frame)
@@ -268,12 +268,12 @@ fn frame_of_option(
     bytes: &[u8],
     words: FrameWords<'_>,
 ) -> Result<Vec<u8>, Failure> {
-    frame_bytes(alloc, number, words).map_err(|fault| of_option(alloc, file, bytes, fault))
+    frame_bytes(alloc, number, words).map_err(|fault| from_option(alloc, file, bytes, fault))
 }
 
 /// The bytes of the frame that asks for this, which has no load option.
 fn frame_of_words(alloc: Global, number: u32, words: FrameWords<'_>) -> Result<Vec<u8>, Failure> {
-    frame_bytes(alloc, number, words).map_err(|fault| of_words(alloc, fault))
+    frame_bytes(alloc, number, words).map_err(|fault| from_words(alloc, fault))
 }
 
 /// The numbers of the entries that the words name.
@@ -295,31 +295,31 @@ pub(crate) fn entries_of(alloc: Global, words: &[&str]) -> Result<Vec<u16>, Fail
 ///
 /// As of [`entries_of`].
 pub(crate) fn entry_of(alloc: Global, word: &str) -> Result<u16, Failure> {
-    entry_of_digits(word).map_err(|fault| of_digits(alloc, word, fault))
+    entry_of_digits(word).map_err(|fault| from_digits(alloc, word, fault))
 }
 
 /// What it is to the program that a word isn't the number that it is to be.
-fn of_digits(alloc: Global, word: &str, fault: DigitsFault) -> Failure {
+fn from_digits(alloc: Global, word: &str, fault: DigitsFault) -> Failure {
     let word = Quoted(word);
-    Failure::of_word(alloc, format_args!("{word} is {fault}"))
+    Failure::from_word(alloc, format_args!("{word} is {fault}"))
 }
 
 /// What it is to the program that no frame is made of the load option in the file at this path, which has these bytes.
-fn of_option(alloc: Global, file: &str, bytes: &[u8], fault: FrameWordsFault) -> Failure {
+fn from_option(alloc: Global, file: &str, bytes: &[u8], fault: FrameWordsFault) -> Failure {
     match (fault, no_option(bytes)) {
         (FrameWordsFault::OutOfMemory, _) => Failure::Memory,
         (FrameWordsFault::Option { .. }, Some(kind)) => {
             Failure::refused(alloc, name_of(file), Reason::NoOption(kind))
         }
-        (fault, _) => Failure::of_fault(alloc, name_of(file), fault),
+        (fault, _) => Failure::from_fault(alloc, name_of(file), fault),
     }
 }
 
 /// What it is to the program that no frame is made of words.
-fn of_words(alloc: Global, fault: FrameWordsFault) -> Failure {
+fn from_words(alloc: Global, fault: FrameWordsFault) -> Failure {
     match fault {
         FrameWordsFault::OutOfMemory => Failure::Memory,
-        fault => Failure::of_word(alloc, fault),
+        fault => Failure::from_word(alloc, fault),
     }
 }
 

@@ -108,7 +108,7 @@ fn answer<R: Files<File: OutputFile> + Clock + Input + Print + Eprint + AllocGlo
     match read_words(alloc, words) {
         Ok(matches) => match action_of(&matches) {
             Some(action) => act(rt, action, words.get(1..).unwrap_or(&[])),
-            None => Err(Failure::of_word(alloc, "no command is named")),
+            None => Err(Failure::from_word(alloc, "no command is named")),
         },
         Err(error) => end_without_action(rt, words, &error),
     }
@@ -135,7 +135,7 @@ fn end_without_action<R: Print + AllocGlobal>(
 fn words<R: Env + AllocGlobal>(rt: &R) -> Result<Vec<String>, Failure> {
     let given = env::args(rt).map_err(|error| match error.kind() {
         io::ErrorKind::OutOfMemory => Failure::Memory,
-        _ => Failure::of_word(rt.alloc(), "a word of the command line isn't UTF-8"),
+        _ => Failure::from_word(rt.alloc(), "a word of the command line isn't UTF-8"),
     })?;
     let mut words = Vec::new(rt.alloc());
     for word in given {

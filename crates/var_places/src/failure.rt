@@ -103,7 +103,7 @@ impl Failure {
     }
 
     /// What it is to the program that something of this name can't be read.
-    pub fn of_read(alloc: Global, name: &str, error: io::Error) -> Failure {
+    pub fn from_read(alloc: Global, name: &str, error: io::Error) -> Failure {
         match shown_unless_memory(alloc, name, &error) {
             Ok(name) => Failure::Read { name, error },
             Err(AllocError) => Failure::Memory,
@@ -111,7 +111,7 @@ impl Failure {
     }
 
     /// What it is to the program that something of this name can't be written.
-    pub fn of_write(alloc: Global, name: &str, error: io::Error) -> Failure {
+    pub fn from_write(alloc: Global, name: &str, error: io::Error) -> Failure {
         match shown_unless_memory(alloc, name, &error) {
             Ok(name) => Failure::Write { name, error },
             Err(AllocError) => Failure::Memory,
@@ -119,10 +119,10 @@ impl Failure {
     }
 
     /// What it is to the program that standard output doesn't take what is printed.
-    pub fn of_print(alloc: Global, error: io::Error) -> Failure {
+    pub fn from_print(alloc: Global, error: io::Error) -> Failure {
         match error.kind() {
             ErrorKind::BrokenPipe => Failure::Closed,
-            _ => Failure::of_write(alloc, "standard output", error),
+            _ => Failure::from_write(alloc, "standard output", error),
         }
     }
 
@@ -135,7 +135,7 @@ impl Failure {
     }
 
     /// What it is to the program that something of this name is refused for a fault.
-    pub fn of_fault<D: Display + Drop>(alloc: Global, name: &str, fault: D) -> Failure {
+    pub fn from_fault<D: Display + Drop>(alloc: Global, name: &str, fault: D) -> Failure {
         match format!(in alloc; "{fault}") {
             Ok(text) => Failure::refused(alloc, name, Reason::Fault(text)),
             Err(AllocError) => Failure::Memory,
@@ -143,8 +143,8 @@ impl Failure {
     }
 
     /// What it is to the program that a script or variables of this name are refused for this fault, in words.
-    pub fn of_run(alloc: Global, name: &str, fault: &str) -> Failure {
-        match of_run(alloc, name, fault) {
+    pub fn from_run(alloc: Global, name: &str, fault: &str) -> Failure {
+        match run_refused(alloc, name, fault) {
             Ok(failure) => failure,
             Err(AllocError) => Failure::Memory,
         }
@@ -167,7 +167,7 @@ impl Failure {
     }
 
     /// What it is to the program that a word of the command line has a fault, which names the word.
-    pub fn of_word<D: Display + Drop>(alloc: Global, fault: D) -> Failure {
+    pub fn from_word<D: Display + Drop>(alloc: Global, fault: D) -> Failure {
         match format!(in alloc; "{fault}") {
             Ok(text) => Failure::Words(text),
             Err(AllocError) => Failure::Memory,
@@ -177,7 +177,7 @@ impl Failure {
 
 /// What it is to the program that a script or variables of this name are refused for this fault. This fails only when out
 /// of memory.
-fn of_run(alloc: Global, name: &str, fault: &str) -> Result<Failure, AllocError> {
+fn run_refused(alloc: Global, name: &str, fault: &str) -> Result<Failure, AllocError> {
     Ok(Failure::Run {
         name: shown(alloc, name)?,
         fault: String::from_str(alloc, fault)?,

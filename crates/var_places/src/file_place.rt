@@ -53,7 +53,7 @@ pub fn no_place(alloc: Global, name: &str, bytes: &[u8]) -> Failure {
 ///
 /// [`Failure::Refused`] if it is damaged, and [`Failure::Memory`] if memory was refused.
 pub fn set_vars(alloc: Global, name: &str, bytes: &[u8]) -> Result<Vars, Failure> {
-    read_set(alloc, bytes).map_err(|fault| match Reason::of_set(bytes, fault) {
+    read_set(alloc, bytes).map_err(|fault| match Reason::from_set(bytes, fault) {
         Some(reason) => Failure::refused(alloc, name, reason),
         None => Failure::Memory,
     })
@@ -167,12 +167,12 @@ pub fn check_damage(alloc: Global, name: &str, bytes: &[u8]) -> Result<(), Failu
 
 /// The store of the emulator's variable file of this name, which has these bytes.
 fn store_of<'a>(alloc: Global, name: &str, bytes: &'a [u8]) -> Result<VariableStore<'a>, Failure> {
-    read_store(alloc, bytes).map_err(|fault| of_store(alloc, name, bytes, fault))
+    read_store(alloc, bytes).map_err(|fault| from_store(alloc, name, bytes, fault))
 }
 
 /// What it is to the program that the variable file of this name, which has these bytes, has this fault.
-pub fn of_store(alloc: Global, name: &str, bytes: &[u8], fault: StoreFault) -> Failure {
-    match Reason::of_store(bytes, fault) {
+pub fn from_store(alloc: Global, name: &str, bytes: &[u8], fault: StoreFault) -> Failure {
+    match Reason::from_store(bytes, fault) {
         Some(reason) => Failure::refused(alloc, name, reason),
         None => Failure::Memory,
     }
@@ -216,7 +216,7 @@ fn gathered(alloc: Global, changes: &[BootChange<'_>]) -> Result<Changes, Failur
     let mut gathered = Changes::new(alloc);
     for change in changes {
         match change.after {
-            Some(data) => gathered.put(change.name, data).map_err(of_put)?,
+            Some(data) => gathered.put(change.name, data).map_err(from_put)?,
             None => gathered.remove(change.name)?,
         }
     }
@@ -225,7 +225,7 @@ fn gathered(alloc: Global, changes: &[BootChange<'_>]) -> Result<Changes, Failur
 
 /// What it is to the program that a variable of a set isn't put into another set. The other set can hold it too, so only
 /// memory was refused.
-fn of_put(_fault: PutFault) -> Failure {
+fn from_put(_fault: PutFault) -> Failure {
     Failure::Memory
 }
 
@@ -245,7 +245,7 @@ pub fn changed_variable_file(
     attributes: &Vars,
 ) -> Result<Vec<u8>, Failure> {
     write_boot_vars(alloc, bytes, to, attributes).map_err(|fault| match fault {
-        WriteFault::Store(fault) => of_store(alloc, name, bytes, fault),
+        WriteFault::Store(fault) => from_store(alloc, name, bytes, fault),
         WriteFault::Full => Failure::refused(alloc, name, Reason::Full),
         WriteFault::OutOfMemory => Failure::Memory,
     })

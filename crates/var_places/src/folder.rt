@@ -78,15 +78,15 @@ pub fn read_folder<R: Files + Eprint + AllocGlobal>(rt: &R, path: &str) -> Resul
 /// The names of the files in the folder, in the order of their bytes.
 fn file_names<R: Files + Eprint + AllocGlobal>(rt: &R, path: &str) -> Result<Vec<String>, Failure> {
     let alloc = rt.alloc();
-    let of_read = |error| Failure::of_read(alloc, path, error);
+    let from_read = |error| Failure::from_read(alloc, path, error);
     let mut names = Vec::new(alloc);
-    for entry in fs::read_dir(&(rt, alloc), path).map_err(of_read)? {
+    for entry in fs::read_dir(&(rt, alloc), path).map_err(from_read)? {
         match entry {
             Ok(entry) => names.push(String::from_str(alloc, entry.file_name())?)?,
             Err(error) if error.kind() == ErrorKind::InvalidFilename => {
                 note(rt, path, "a file is left out: its name isn't UTF-8");
             }
-            Err(error) => return Err(of_read(error)),
+            Err(error) => return Err(from_read(error)),
         }
     }
     names.sort()?;
@@ -137,15 +137,15 @@ fn file_of<R: Files + AllocGlobal>(
 ) -> Result<Option<Vec<u8>>, Failure> {
     let alloc = rt.alloc();
     let whole = Path::new(path).join(alloc, file)?;
-    read_file(rt, whole.as_path().as_str(), ATTRIBUTES_LEN + DATA_MAX).map_err(|error| of_file(
+    read_file(rt, whole.as_path().as_str(), ATTRIBUTES_LEN + DATA_MAX).map_err(|error| from_file(
         alloc, path, file, error,
     ))
 }
 
 /// What it is to the program that the file of this name in the folder at this path can't be read.
-fn of_file(alloc: Global, path: &str, file: &str, error: io::Error) -> Failure {
+fn from_file(alloc: Global, path: &str, file: &str, error: io::Error) -> Failure {
     match path_with_front(alloc, path, file) {
-        Ok(name) => Failure::of_read(alloc, name.as_path().as_str(), error),
+        Ok(name) => Failure::from_read(alloc, name.as_path().as_str(), error),
         Err(AllocError) => Failure::Memory,
     }
 }

@@ -33,6 +33,6 @@ pub fn read<R: Files + Input + AllocGlobal>(rt: &R, path: &str) -> Result<Vec<u8
     match read {
         Ok(Some(bytes)) => Ok(bytes),
         Ok(None) => Err(Failure::refused(alloc, name_of(path), Reason::TooMuch(LIMIT))),
-        Err(error) => Err(Failure::of_read(alloc, name_of(path), error)),
+        Err(error) => Err(Failure::from_read(alloc, name_of(path), error)),
     }
 }

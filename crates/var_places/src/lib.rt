@@ -27,8 +27,8 @@ mod reason;
 pub use failure::Failure;
 pub use file_kinds::{FileKind, NoOption, OtherKind, file_kind, no_option, other_kind};
 pub use file_place::{
-    changed_set, changed_variable_file, check_damage, file_vars, has_keep_state, no_place,
-    of_store, set_vars, variable_file,
+    changed_set, changed_variable_file, check_damage, file_vars, from_store, has_keep_state,
+    no_place, set_vars, variable_file,
 };
 pub use folder::{Folder, LeftOut, read_folder};
 pub use folder_change::{has_value, make_change, set_variable};

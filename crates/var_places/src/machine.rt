@@ -77,7 +77,7 @@ fn is_blank(guid: &Guid) -> bool
 /// The path from the root on, without links.
 fn path_from_root<R: Files + AllocGlobal>(rt: &R, path: &str) -> Result<String, Failure> {
     let alloc = rt.alloc();
-    let resolved = resolved(rt, path).map_err(|error| Failure::of_read(alloc, path, error))?;
+    let resolved = resolved(rt, path).map_err(|error| Failure::from_read(alloc, path, error))?;
     let text = resolved.as_path().as_str();
     if text.len() > PATH_MAX {
         return Err(Failure::refused(alloc, path, Reason::LongPath(PATH_MAX)));

@@ -28,7 +28,7 @@ pub fn lock<'a, R: Files<File: OutputFile> + AllocGlobal>(
     }
     match lock_file(rt, path) {
         Ok(lock) => Ok(Output::File(path, lock)),
-        Err(error) => Err(Failure::of_write(rt.alloc(), path, error)),
+        Err(error) => Err(Failure::from_write(rt.alloc(), path, error)),
     }
 }
 
@@ -44,7 +44,7 @@ pub fn write<R: Files<File: OutputFile> + Print + AllocGlobal>(
 ) -> Result<(), Failure> {
     match output {
         Output::Standard => print(rt, bytes),
-        Output::File(path, lock) => write_file(rt, lock, bytes).map_err(|error| Failure::of_write(
+        Output::File(path, lock) => write_file(rt, lock, bytes).map_err(|error| Failure::from_write(
             rt.alloc(),
             path,
             error,
@@ -60,5 +60,5 @@ pub fn write<R: Files<File: OutputFile> + Print + AllocGlobal>(
 /// [`Failure::Memory`] if memory was refused.
 pub fn print<R: Print + AllocGlobal>(rt: &R, bytes: &[u8]) -> Result<(), Failure> {
     rt.write_all(bytes)
-        .map_err(|error| Failure::of_print(rt.alloc(), error))
+        .map_err(|error| Failure::from_print(rt.alloc(), error))
 }

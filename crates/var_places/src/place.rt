@@ -19,7 +19,7 @@ pub fn is_folder<R: Files + AllocGlobal>(rt: &R, path: &str) -> Result<bool, Fai
     }
     match fs::metadata(rt, path) {
         Ok(found) => Ok(found.is_dir()),
-        Err(error) => Err(Failure::of_read(rt.alloc(), path, error)),
+        Err(error) => Err(Failure::from_read(rt.alloc(), path, error)),
     }
 }
 

@@ -125,7 +125,7 @@ pub enum Reason {
 
 impl Reason {
     /// Why a set file with these bytes is refused: `None` if only memory was.
-    pub(crate) fn of_set(bytes: &[u8], fault: SetFault) -> Option<Reason> {
+    pub(crate) fn from_set(bytes: &[u8], fault: SetFault) -> Option<Reason> {
         match fault {
             SetFault::BadMagic(_) => Some(Reason::NoPlace(OtherKind::Unknown)),
             SetFault::Truncated(place) => Some(Reason::SetCut {
@@ -141,7 +141,7 @@ impl Reason {
     }
 
     /// Why a variable file with these bytes is refused: `None` if only memory was.
-    pub(crate) fn of_store(bytes: &[u8], fault: StoreFault) -> Option<Reason> {
+    pub(crate) fn from_store(bytes: &[u8], fault: StoreFault) -> Option<Reason> {
         match fault {
             StoreFault::NoVolume => Some(Reason::NoVolume),
             StoreFault::BadHeader => Some(bad_header(bytes)),

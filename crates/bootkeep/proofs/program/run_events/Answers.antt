@@ -21,14 +21,14 @@ of_write (fault.Open f) h = absurd h
 
 pub returns-in-Err-clause-write : goal.returns-in-Err-clause-write
 returns-in-Err-clause-write g c = λ is.
-    let same : c.of_script.result ≡ failure.Write = cc in
-    let told = of_write c.in-Err.fault (subst (IsFailureOf c.in-Err.fault) same c.of_script.ensures.fault) in
+    let same : c.from_script.result ≡ failure.Write = cc in
+    let told = of_write c.in-Err.fault (subst (IsFailureOf c.in-Err.fault) same c.from_script.ensures.fault) in
     c.in-Err.ensures.run.write (ap (λ (f : ScriptRunFault). Err f) told)
 
 pub returns-in-Err-clause-unwritten : goal.returns-in-Err-clause-unwritten
 returns-in-Err-clause-unwritten g c = λ other.
     c.in-Err.ensures.run.unwritten (λ (is : c.in-Err.fault ≡ fault.Write).
-    other (subst (λ (f : ScriptRunFault). IsFailureOf f c.of_script.result) is c.of_script.ensures.fault))
+    other (subst (λ (f : ScriptRunFault). IsFailureOf f c.from_script.result) is c.from_script.ensures.fault))
 
 -- what the program tells of a fault with words are the words of the first fault
 told : (format : InputFormat) (bytes : List ℕ) (vars : Variables) (f : ScriptRunFault) (made : Failure) → IsFailureOf f made
@@ -74,8 +74,8 @@ pub returns-in-Ok-clause-only_fault : goal.returns-in-Ok-clause-only_fault
 returns-in-Ok-clause-only_fault g c = no_fault _ c.args.format c.args.vars _ c.in-Ok.ensures.run.only_fault
 
 pub returns-in-Err-clause-refused : goal.returns-in-Err-clause-refused
-returns-in-Err-clause-refused g c = refused _ c.args.format c.args.vars c.in-Err.fault c.of_script.result c.of_script.ensures.fault c.in-Err.ensures.run.fault
+returns-in-Err-clause-refused g c = refused _ c.args.format c.args.vars c.in-Err.fault c.from_script.result c.from_script.ensures.fault c.in-Err.ensures.run.fault
 
 pub returns-in-Err-clause-only_fault : goal.returns-in-Err-clause-only_fault
 returns-in-Err-clause-only_fault g c =
-    only _ c.args.format c.args.vars c.in-Err.fault c.of_script.result c.of_script.ensures.fault c.in-Err.ensures.run.only_fault
+    only _ c.args.format c.args.vars c.in-Err.fault c.from_script.result c.from_script.ensures.fault c.in-Err.ensures.run.only_fault

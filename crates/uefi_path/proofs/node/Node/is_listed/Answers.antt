@@ -18,7 +18,7 @@ returns-then-is_some c =
           (λ i. omega (arith, c.type_inv.body i));
       len = c.requires;
     } in
-    let some : is_some (fixed_node_of r) ≡ is_some c.of_one_length.result = ap (λ (found : Option Node). is_some found) (sym c.of_one_length.ensures) in
+    let some : is_some (fixed_node_of r) ≡ is_some c.from_one_length.result = ap (λ (found : Option Node). is_some found) (sym c.from_one_length.ensures) in
     (λ _. found_is_listed r (fixed_node_of r) (fixed_node_found r is) (some ∙ sym c.is_some.ensures ∙ c.if-is_some.true), λ _. c.if-is_some.true)
 
 pub returns-else-is_some : goal.returns-else-is_some
@@ -31,7 +31,7 @@ returns-else-is_some c =
           (λ i. omega (arith, c.type_inv.body i));
       len = c.requires;
     } in
-    let some : is_some (fixed_node_of r) ≡ is_some c.of_one_length.result = ap (λ (found : Option Node). is_some found) (sym c.of_one_length.ensures) in (
+    let some : is_some (fixed_node_of r) ≡ is_some c.from_one_length.result = ap (λ (found : Option Node). is_some found) (sym c.from_one_length.ensures) in (
       λ e. found_is_listed r (list_node_of r) (list_node_found r is) (sym c.is_of_a_list.ensures ∙ e),
       λ listed. c.is_of_a_list.ensures ∙ or_else (fixed_node_of r) (list_node_of r) (typed_node_listed r listed)
           (λ yes. false≢true (sym c.if-is_some.false ∙ c.is_some.ensures ∙ sym some ∙ yes)),

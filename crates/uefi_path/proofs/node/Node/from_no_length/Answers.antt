@@ -4,7 +4,7 @@ use Rattle.uefi_path.specs.Row.{row}
 use Rattle.uefi_path.specs.Reader.{list_node_of, node_of}
 use Rattle.uefi_path.proofs.Bytes.{recursion_from_bytes}
 use Rattle.uefi_path.proofs.Inverse.{unlisted_name, none_listed, other_of_row}
-use Rattle.uefi_path.proofs.node.Node.of_no_length.Goals.{
+use Rattle.uefi_path.proofs.node.Node.from_no_length.Goals.{
   in_default-via-in-1-eq4+else-body-ge-GUID_LEN,
   in_default-via-in-1+in_default,
   in_default-via-in-3-eq10+else-body-ge-GUID_LEN-2,
@@ -14,7 +14,7 @@ use Rattle.uefi_path.proofs.node.Node.of_no_length.Goals.{
   in_default-via-in-4+in_default,
   in_default-via-in_default,
 }
-use Rattle.uefi_path.proofs.node.Node.of_no_length.Goals as goal
+use Rattle.uefi_path.proofs.node.Node.from_no_length.Goals as goal
 
 pub new-requires : goal.new-requires
 new-requires c =

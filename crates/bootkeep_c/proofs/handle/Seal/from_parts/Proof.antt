@@ -1,4 +1,4 @@
--- `of_parts` moves two fields, and what they own goes with them.
+-- `from_parts` moves two fields, and what they own goes with them.
 use mathlib.Core.Path.{refl, sym, subst}
 use mathlib.Core.List.{List, [], ◌∷◌, ◌++◌}
 use Rattle.std.specs.Prelude.{Some}
@@ -26,10 +26,10 @@ use denote.Triple.Walked.{says, Stays, stay_dropped, walk_of, ends_at, Goes-drop
 use Rattle.std_alloc.proofs.BoxSteps.Form.{D, B, word, box_typed}
 use Rattle.std_alloc.proofs.BoxSteps.Steps.{box_out, box_in}
 use Rattle.bootkeep_c.proofs.Boxes.{E, FromParts as From}
-use Rattle.bootkeep_c.specs.contracts.handle.Seal.of_parts as F
-use Rattle.bootkeep_c.specs.contracts.handle.Seal.of_parts.Key.{name as #self}
-use Rattle.bootkeep_c.proofs.handle.Seal.of_parts.Statement as stated
-use Rattle.bootkeep_c.proofs.handle.Seal.of_parts.Code as code
+use Rattle.bootkeep_c.specs.contracts.handle.Seal.from_parts as F
+use Rattle.bootkeep_c.specs.contracts.handle.Seal.from_parts.Key.{name as #self}
+use Rattle.bootkeep_c.proofs.handle.Seal.from_parts.Statement as stated
+use Rattle.bootkeep_c.proofs.handle.Seal.from_parts.Code as code
 
 abbrev stayed : Stays (F.ended).signature.params (F.ended).kept
 stayed = (stay_dropped From yes, tt)
