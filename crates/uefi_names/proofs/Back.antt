@@ -1,28 +1,31 @@
 -- What is printed by names is read as what was printed.
-use Rattle.std.proofs.Common.{◌≡◌, ◌≢◌, ◌==◌, ℕ, Bool, true, false, List, [], ◌∷◌, map, refl, ap, sym, ◌∙◌, inl, inr}
+use Rattle.std.proofs.Common.{◌≡◌, ◌≢◌, ◌==◌, ℕ, Bool, true, false, List, [], ◌∷◌, map, refl, ap, sym, ◌∙◌, inl, inr, arith}
 use Rattle.std.specs.Prelude.{Option, Some, None, unwrap_or, if◌then◌else◌}
 use Rattle.std.specs.Cmp.Lexicographic.{pointwise}
 use Rattle.std.specs.List.{AllByRecursion, join_with_byte}
 use Rattle.std.specs.Option.{option_or}
 use Rattle.std.proofs.lemmas.Bool.{and_parts, eqb-true}
 use Rattle.uefi_path.specs.declared.node.Node.{Node}
+use Rattle.uefi_path.specs.declared.node.Node.TheVariants as nodes
 use Rattle.uefi_path.specs.Equality.{row_eq}
 use Rattle.uefi_path.specs.Row.{Row, row_bytes}
 use Rattle.uefi_path.specs.Node.{row_of, IsNode}
 use Rattle.uefi_path.specs.Path.{IsPath}
 use Rattle.uefi_text.specs.Bytes.{Each}
 use Rattle.uefi_text.specs.Segment.{comma, slash}
-use Rattle.uefi_text.specs.Printed.{segment_of, node_text}
+use Rattle.uefi_text.specs.Node as means
+use Rattle.uefi_text.specs.Printed.{segment_of}
 use Rattle.uefi_text.specs.Path.{IsNodeText}
 use Rattle.uefi_text.proofs.Means.One.{BytesSpellOneNode}
 use Rattle.uefi_text.proofs.Means.Paths.{path_text_one}
+use Rattle.uefi_text.proofs.Means.Printed.{decimal_printed}
 use Rattle.uefi_text.proofs.Means.Texts.{each_one}
 use Rattle.uefi_names.specs.declared.table.NodeTable.{NodeTable}
 use Rattle.uefi_names.specs.declared.table.Form.{Form}
 use Rattle.uefi_names.specs.Table.{fits, forms_for}
 use Rattle.uefi_names.specs.Shown.{form_text}
 use Rattle.uefi_names.specs.Cut.{cut_named}
-use Rattle.uefi_names.specs.Named.{is_whole_for, is_segment, is_row, is_read_back, text_in_forms, named_node, named_instance, named_path}
+use Rattle.uefi_names.specs.Named.{is_whole_for, is_segment, is_row, is_read_back, text_in_forms, plain_segment, plain_text, named_node, named_instance, named_path}
 use Rattle.uefi_names.specs.Reading.{segment_row, respelled, IsOneNode, IsAgain, IsExactSegment, IsNodeOf, IsNamedSegment, IsNamedText}
 use Rattle.uefi_names.proofs.Pieces.{IsSegmentText, whole_for, path_again}
 use Rattle.uefi_names.proofs.Exact.{exact_text, exact_named}
@@ -70,18 +73,18 @@ read_back table text node valid e =
       named = read_row table text node valid (segment_row table text) refl both.1;
     }
 
-exactly : (table : NodeTable) (node : Node) → IsNodeText (segment_of node) node → IsTextOf table (node_text node) node
-exactly table node is = record { segment = exact_text (segment_of node) node is; named = exact_named table (segment_of node) node is }
+exactly : (table : NodeTable) (node : Node) → IsNodeText (plain_segment node) node → IsTextOf table (plain_text node) node
+exactly table node is = record { segment = exact_text (plain_segment node) node is; named = exact_named table (plain_segment node) node is }
 
-of_forms : (table : NodeTable) (node : Node) → IsNode node → IsNodeText (segment_of node) node → (forms : List Form)
-    → IsTextOf table (unwrap_or (text_in_forms table (row_of node) forms) (node_text node)) node
+of_forms : (table : NodeTable) (node : Node) → IsNode node → IsNodeText (plain_segment node) node → (forms : List Form)
+    → IsTextOf table (unwrap_or (text_in_forms table (row_of node) forms) (plain_text node)) node
 of_forms table node valid is [] = exactly table node is
 of_forms table node valid is (form ∷ forms) =
     go (fits (row_of node).body form) (is_read_back table (form_text form (row_of node).body) (row_of node)) refl (of_forms table node valid is forms)
   where
     go : (b c : Bool) → is_read_back table (form_text form (row_of node).body) (row_of node) ≡ c
-        → IsTextOf table (unwrap_or (text_in_forms table (row_of node) forms) (node_text node)) node
-        → IsTextOf table (unwrap_or (option_or (if b then (if c then Some (form_text form (row_of node).body) else None) else None) (text_in_forms table (row_of node) forms)) (node_text node)) node
+        → IsTextOf table (unwrap_or (text_in_forms table (row_of node) forms) (plain_text node)) node
+        → IsTextOf table (unwrap_or (option_or (if b then (if c then Some (form_text form (row_of node).body) else None) else None) (text_in_forms table (row_of node) forms)) (plain_text node)) node
     go true true e later = read_back table (form_text form (row_of node).body) node valid e
     go true false e later = later
     go false c e later = later
@@ -89,8 +92,27 @@ of_forms table node valid is (form ∷ forms) =
 abbrev pub SegmentsStand : Type 0
 SegmentsStand = (node : Node) → IsNode node → IsNodeText (segment_of node) node
 
+plain_stands : SegmentsStand → (node : Node) → IsNode node → IsNodeText (plain_segment node) node
+plain_stands law (nodes.Vlan id) valid =
+    record { valid = valid; means = means.vlan (decimal_printed id (omega (arith, valid))) }
+plain_stands law (nodes.Pci a b) valid = law (nodes.Pci a b) valid
+plain_stands law (nodes.VendorHw a) valid = law (nodes.VendorHw a) valid
+plain_stands law (nodes.Acpi a b) valid = law (nodes.Acpi a b) valid
+plain_stands law (nodes.Usb a b) valid = law (nodes.Usb a b) valid
+plain_stands law (nodes.VendorMsg a) valid = law (nodes.VendorMsg a) valid
+plain_stands law (nodes.Mac a b) valid = law (nodes.Mac a b) valid
+plain_stands law (nodes.Ipv4 a) valid = law (nodes.Ipv4 a) valid
+plain_stands law (nodes.Sata a b c) valid = law (nodes.Sata a b c) valid
+plain_stands law (nodes.Nvme a b) valid = law (nodes.Nvme a b) valid
+plain_stands law (nodes.Uri a) valid = law (nodes.Uri a) valid
+plain_stands law (nodes.HardDrive a) valid = law (nodes.HardDrive a) valid
+plain_stands law (nodes.Cdrom a b c) valid = law (nodes.Cdrom a b c) valid
+plain_stands law (nodes.VendorMedia a) valid = law (nodes.VendorMedia a) valid
+plain_stands law (nodes.FilePath a) valid = law (nodes.FilePath a) valid
+plain_stands law (nodes.Other a) valid = law (nodes.Other a) valid
+
 pub named_text_of : SegmentsStand → (table : NodeTable) (node : Node) → IsNode node → IsTextOf table (named_node table node) node
-named_text_of law table node valid = of_forms table node valid (law node valid) (forms_for table (row_of node).kind (row_of node).sub)
+named_text_of law table node valid = of_forms table node valid (plain_stands law node valid) (forms_for table (row_of node).kind (row_of node).sub)
 
 -- ---- paths
 

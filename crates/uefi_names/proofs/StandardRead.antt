@@ -8,7 +8,6 @@ use Rattle.uefi_path.specs.Node.{row_of}
 use Rattle.uefi_path.specs.Row.{Row}
 use Rattle.uefi_text.specs.Bytes.{Each}
 use Rattle.uefi_text.specs.Segment.{comma, slash}
-use Rattle.uefi_text.specs.Printed.{node_text}
 use Rattle.uefi_text.specs.Reader.{◌>>=◌}
 use Rattle.uefi_names.specs.declared.table.NodeTable.{NodeTable}
 use Rattle.uefi_names.specs.declared.table.NodeRow.{NodeRow}
@@ -27,7 +26,7 @@ use Rattle.uefi_names.specs.Cut.{cut_named, arguments_in, named_parts}
 use Rattle.uefi_names.specs.Spelled.{is_word, word_of, number_read, number_bytes, within_mask, number_or, masked_read, shown_read}
 use Rattle.uefi_names.specs.Read.{first_read, items_of, read_by, field_read, offset_or, Spelled, spelled_in, rank_of, fields_read, arguments_of, front_len, front_of, with_fields, with_tails, body_of, if_fits, form_read, forms_read, rows_read, table_read}
 use Rattle.uefi_names.specs.Reading.{profile_name, named_row, segment_row, IsNodeOf, IsNamedSegment, IsNamedText}
-use Rattle.uefi_names.specs.Named.{text_in_form, text_in_forms, table_text, named_node, named_path}
+use Rattle.uefi_names.specs.Named.{text_in_form, text_in_forms, table_text, plain_text, named_node, named_path}
 use Rattle.uefi_names.proofs.Standard.{find-same, fits-same, form-same, rows-same}
 
 -- ---- arguments
@@ -210,7 +209,7 @@ table_text-same table r =
     ap (text_in_forms (plain_table table) r) (forms_for-same table r.kind r.sub) ∙ in_forms-same table r (forms_for table r.kind r.sub)
 
 node-same : (table : NodeTable) (node : Node) → named_node (plain_table table) node ≡ named_node table node
-node-same table node = ap (λ (text : Option (List ℕ)). unwrap_or text (node_text node)) (table_text-same table (row_of node))
+node-same table node = ap (λ (text : Option (List ℕ)). unwrap_or text (plain_text node)) (table_text-same table (row_of node))
 
 path-same : (table : NodeTable) (path : List (List Node)) → named_path (plain_table table) path ≡ named_path table path
 path-same table path =

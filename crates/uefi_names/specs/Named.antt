@@ -1,15 +1,15 @@
 -- Paths as text, with each node by its name.
-use Rattle.std.specs.Prelude.{ℕ, Bool, true, false, ◌==◌, ◌&&◌, List, [], ◌∷◌, map, Option, Some, None, is_none, unwrap_or, codes}
+use Rattle.std.specs.Prelude.{ℕ, Bool, true, false, ◌==◌, ◌&&◌, List, [], ◌∷◌, map, Option, Some, None, is_none, unwrap_or, codes, decimal}
 use Rattle.std.specs.Prelude.{if◌then◌else◌}
 use Rattle.std.specs.List.{join_with_byte}
 use Rattle.std.specs.Option.{option_or}
 use Rattle.uefi_path.specs.declared.node.Node.{Node}
-use Rattle.uefi_path.specs.declared.node.Node.TheVariants.{Other}
+use Rattle.uefi_path.specs.declared.node.Node.TheVariants.{Other, Vlan}
 use Rattle.uefi_path.specs.Row.{Row}
 use Rattle.uefi_path.specs.Node.{row_of}
 use Rattle.uefi_path.specs.Equality.{row_eq}
-use Rattle.uefi_text.specs.Segment.{comma, slash}
-use Rattle.uefi_text.specs.Printed.{node_text}
+use Rattle.uefi_text.specs.Segment.{Segment, named, comma, slash, segment_text}
+use Rattle.uefi_text.specs.Printed.{segment_of, node_text}
 use Rattle.uefi_names.specs.declared.table.NodeTable.{NodeTable}
 use Rattle.uefi_names.specs.declared.table.Form.{Form}
 use Rattle.uefi_names.specs.Table.{fits, form_for, forms_for}
@@ -74,9 +74,17 @@ text_in_forms table r (form ∷ forms) = option_or (text_in_form table r form) (
 abbrev pub table_text : NodeTable → Row → Option (List ℕ)
 table_text table r = text_in_forms table r (forms_for table r.kind r.sub)
 
--- a node by its name if a form of the table has a text that is read as the node, otherwise as it is printed exactly
+-- the segment of a node as it is printed exactly, but with the identifier of a network in decimal digits (10.6.1)
+abbrev pub plain_segment : Node → Segment
+plain_segment (Vlan id) = named (codes "Vlan") (decimal id ∷ [])
+plain_segment node = segment_of node
+
+abbrev pub plain_text : Node → List ℕ
+plain_text node = segment_text (plain_segment node)
+
+-- a node by its name if a form of the table has a text that is read as the node, otherwise without a form
 abbrev pub named_node : NodeTable → Node → List ℕ
-named_node table node = unwrap_or (table_text table (row_of node)) (node_text node)
+named_node table node = unwrap_or (table_text table (row_of node)) (plain_text node)
 
 abbrev pub named_instance : NodeTable → List Node → List ℕ
 named_instance table nodes = join_with_byte slash (map (named_node table) nodes)

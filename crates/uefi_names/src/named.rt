@@ -7,7 +7,7 @@ ghost use Rattle.uefi_path.specs.Row.{row as path_row};
 ghost use Rattle.uefi_path.specs.Node.{row_of};
 ghost use Rattle.uefi_path.specs.Equality.{row_eq};
 ghost use Rattle.uefi_names.specs.Standard.{standard_table};
-ghost use Rattle.uefi_names.specs.Named.{named_node, named_instance, named_path, table_text, text_in_forms, text_in_form, is_read_back};
+ghost use Rattle.uefi_names.specs.Named.{named_node, named_instance, named_path, plain_text, table_text, text_in_forms, text_in_form, is_read_back};
 
 use crate::cut::is_segment;
 use crate::form_reader::ReadRow;
@@ -159,7 +159,7 @@ fn append_instance(
     Ok(())
 }
 
-/// Appends a node: by its name if the table has one and its text is read as the node, otherwise as it is printed exactly.
+/// Appends a node: by its name if the table has one and its text is read as the node, otherwise without a form.
 pub(crate) fn append_node(
     alloc: Global,
     table: &NodeTable,
@@ -170,8 +170,18 @@ pub(crate) fn append_node(
 {
     match table_text(alloc, table, node)? {
         Some(named) => text.push_str(&named),
-        None => write!(text, "{}", NodeText(node)),
+        None => append_plain(node, text),
     }
+}
+
+/// Appends a node as it is printed exactly, but with the identifier of a network in decimal digits (10.6.1).
+fn append_plain(node: &Node, text: &mut String) -> Result<(), AllocError>
+    ensures { OnOk result (string_bytes text.new ≡ string_bytes text.old ++ plain_text node.now) }
+{
+    if let Node::Vlan { id } = node {
+        return write!(text, "Vlan({id})");
+    }
+    write!(text, "{}", NodeText(node))
 }
 
 /// The text of a node by the table.
