@@ -3,7 +3,7 @@ use Rattle.std.proofs.Common.{◌≡◌, ◌≤◌, ℕ, suc, List, [], ◌∷�
 use Rattle.std.proofs.lemmas.Bool.Decides.{nat_tests}
 use Rattle.uefi_names.specs.Read.{with_bits}
 
--- no bits are set behind the end
+-- no bits are set after the end
 pub bits_behind : (at : ℕ) (bits body : List ℕ) → length body ≤ at → with_bits at bits body ≡ body
 bits_behind at [] body past = refl
 bits_behind at (one ∷ bits) body past =

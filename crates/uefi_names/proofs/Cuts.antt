@@ -61,15 +61,15 @@ cut_at mark at text e =
     let same : o.before ≡ at = omega (arith, o.is) in
     subst (IsCutAt mark text) same (record { under = o.under; byte = o.byte; cut = o.cut [] })
 
-pub first_piece : (mark : ℕ) (text front behind : List ℕ) → ◌≡◌ {A = Option (List ℕ × List ℕ)} (Some (front, behind)) (around_mark mark text) → pieces mark text ≡ front ∷ pieces mark behind
-first_piece mark text front behind e = go (first_outside mark 0 0 text) refl e
+pub first_piece : (mark : ℕ) (text front after : List ℕ) → ◌≡◌ {A = Option (List ℕ × List ℕ)} (Some (front, after)) (around_mark mark text) → pieces mark text ≡ front ∷ pieces mark after
+first_piece mark text front after e = go (first_outside mark 0 0 text) refl e
   where
-    go : (o : Option ℕ) → first_outside mark 0 0 text ≡ o → ◌≡◌ {A = Option (List ℕ × List ℕ)} (Some (front, behind)) (o >>= λ at. Some (take at text, drop (suc at) text)) → pieces mark text ≡ front ∷ pieces mark behind
+    go : (o : Option ℕ) → first_outside mark 0 0 text ≡ o → ◌≡◌ {A = Option (List ℕ × List ℕ)} (Some (front, after)) (o >>= λ at. Some (take at text, drop (suc at) text)) → pieces mark text ≡ front ∷ pieces mark after
     go None is e = cc
     go (Some at) is e =
-        let same : ◌≡◌ {A = List ℕ × List ℕ} (front, behind) (take at text, drop (suc at) text) = cc in
+        let same : ◌≡◌ {A = List ℕ × List ℕ} (front, after) (take at text, drop (suc at) text) = cc in
         let a : front ≡ take at text = ap (λ (p : List ℕ × List ℕ). p.0) same in
-        let b : behind ≡ drop (suc at) text = ap (λ (p : List ℕ × List ℕ). p.1) same in
+        let b : after ≡ drop (suc at) text = ap (λ (p : List ℕ × List ℕ). p.1) same in
         rw (a, b) (cut_at mark at text is).cut
 
 pub only_piece : (mark : ℕ) (text : List ℕ) → ◌≡◌ {A = Option (List ℕ × List ℕ)} None (around_mark mark text) → pieces mark text ≡ text ∷ []

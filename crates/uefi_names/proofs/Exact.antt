@@ -61,8 +61,8 @@ named_whole mark name inside other free flat =
     whole_on mark 0 name (0x28 ∷ (inside ++ 0x29 ∷ [])) (λ at. outside_none mark at name free)
     (subst (λ depth. IsWhole mark depth (0x28 ∷ (inside ++ 0x29 ∷ []))) (sym (flat_depth 0 name (free_flat mark name free)))
     (let last : IsWhole mark (depth_after 1 inside) (0x29 ∷ []) = subst (λ depth. IsWhole mark depth (0x29 ∷ [])) (sym (flat_depth 1 inside flat)) (record { none = λ at. closing mark at; closed = refl }) in
-    let behind = whole_on mark 1 inside (0x29 ∷ []) (λ at. inside_none mark 0 at inside flat) last in
-    record { none = λ at. rw other (behind.none (suc at)); closed = behind.closed }))
+    let after = whole_on mark 1 inside (0x29 ∷ []) (λ at. inside_none mark 0 at inside flat) last in
+    record { none = λ at. rw other (after.none (suc at)); closed = after.closed }))
   where
     closing : (m at : ℕ) → first_outside m 1 at (0x29 ∷ []) ≡ None
     closing m at = go (0x29 == m)
@@ -124,7 +124,7 @@ known_none table name known (Some text) = rw known refl
 flat_no_open : (at : ℕ) (text : List ℕ) → AllByRecursion IsFlat text → first_outside open_mark 0 at text ≡ None
 flat_no_open at text all = outside_none open_mark at text (all_from IsFlat (IsFree open_mark) (λ byte flat. record { flat = flat; other = flat.no_open }) text all)
 
--- what comes behind the name, if it is closed
+-- what comes after the name, if it is closed
 abbrev closed : List (List ℕ) → Option (List ℕ)
 closed arguments = before_close (join_with_byte comma arguments ++ codes ")")
 

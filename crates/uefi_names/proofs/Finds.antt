@@ -53,7 +53,7 @@ exact_again text None none h = λ node is. by node is
 
 -- ---- lists
 
--- those before what is left are read: what is read of these comes behind them
+-- those before what is left are read: what is read of these comes after them
 pub record IsReadTo {X Y : Type 0} (R : X → Y → Type 0) (all left : List X) (read : List Y) : Type 0 where
   pub done : (more : List Y) → Each R left more → Each R all (read ++ more)
   pub back : (whole : List Y) → Each R all whole → (more : List Y) × Each R left more

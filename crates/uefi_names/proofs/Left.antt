@@ -8,7 +8,7 @@ use Rattle.uefi_path.specs.Node.{row_of, IsNode}
 use Rattle.uefi_path.specs.Path.{IsPath, path_rows, separator}
 use Rattle.uefi_text.specs.Segment.{comma, slash}
 use Rattle.uefi_names.specs.declared.table.NodeTable.{NodeTable}
-use Rattle.uefi_names.specs.Named.{named_node, named_instance, named_path, slash_behind}
+use Rattle.uefi_names.specs.Named.{named_node, named_instance, named_path, slash_before}
 use Rattle.uefi_names.proofs.Texts.{join-first}
 
 -- the text of the nodes that are left of an instance
@@ -101,7 +101,7 @@ end-done table path done is_first r rows all begins end l =
 
 -- the text of the nodes that are left is that of the first and of the others
 nodes-begin : (table : NodeTable) (is_first : Bool) (node : Node) (left : List Node)
-    → nodes_text table is_first (node ∷ left) ≡ (slash_behind is_first ++ named_node table node) ++ nodes_text table false left
+    → nodes_text table is_first (node ∷ left) ≡ (slash_before is_first ++ named_node table node) ++ nodes_text table false left
 nodes-begin table true node left = join-first slash (named_node table) node left
 nodes-begin table false node left = refl
 
@@ -110,29 +110,29 @@ one-node-done : (table : NodeTable) (path : List (List Node)) (done new : List �
     → r ∷ rows ≡ map row_of left ++ (separator others ++ path_rows others)
     → done ++ (nodes_text table is_first left ++ others_text table others) ≡ named_path table path
     → r.kind ≢ 0x7F
-    → ((node : Node) → IsNode node → row_of node ≡ r → new ≡ done ++ (slash_behind is_first ++ named_node table node))
+    → ((node : Node) → IsNode node → row_of node ≡ r → new ≡ done ++ (slash_before is_first ++ named_node table node))
     → IsLeft table path new false rows
 one-node-done table path done new is_first r rows [] [] are others-are e text no_end writes = no-row r rows e
 one-node-done table path done new is_first r rows [] (next ∷ others) are others-are e text no_end writes =
     absurd (no_end (ap (λ row. row.kind) (head-of r end_instance rows _ e)))
 one-node-done table path done new is_first r rows (node ∷ left) others are others-are e text no_end writes =
-    let wrote = slash_behind is_first ++ named_node table node in
-    let behind = nodes_text table false left ++ others_text table others in
+    let wrote = slash_before is_first ++ named_node table node in
+    let after = nodes_text table false left ++ others_text table others in
     record {
       left = left;
       others = others;
       are = are.1;
       others-are = others-are;
       rows-are = tail-of r (row_of node) rows _ e;
-      text = ap (λ (front : List ℕ). front ++ behind) (writes node are.0 (sym (head-of r (row_of node) rows _ e)))
-          ∙ (append_assoc done wrote behind
+      text = ap (λ (front : List ℕ). front ++ after) (writes node are.0 (sym (head-of r (row_of node) rows _ e)))
+          ∙ (append_assoc done wrote after
           ∙ (ap (λ (more : List ℕ). done ++ more) (sym (append_assoc wrote (nodes_text table false left) (others_text table others)))
           ∙ (ap (λ (more : List ℕ). done ++ (more ++ others_text table others)) (sym (nodes-begin table is_first node left)) ∙ text)));
     }
 
 pub node-done : (table : NodeTable) (path : List (List Node)) (done new : List ℕ) (is_first : Bool) (r : Row) (rows all : List Row)
     → all ≡ r ∷ rows → r.kind ≢ 0x7F
-    → ((node : Node) → IsNode node → row_of node ≡ r → new ≡ done ++ (slash_behind is_first ++ named_node table node))
+    → ((node : Node) → IsNode node → row_of node ≡ r → new ≡ done ++ (slash_before is_first ++ named_node table node))
     → IsLeft table path done is_first all → IsLeft table path new false rows
 node-done table path done new is_first r rows all begins no_end writes l =
     one-node-done table path done new is_first r rows l.left l.others l.are l.others-are (sym begins ∙ l.rows-are) l.text no_end writes

@@ -28,48 +28,48 @@ pub one-more : {X : Type 0} (text : X → List ℕ) (done : List ℕ) (x : X) (l
 one-more text done x left all e = append_assoc done (text x) (flat_map text left) ∙ e
 
 -- the first of those that are left is done, where what is left is known to begin so
-pub one-done : {X : Type 0} (text : X → List ℕ) (done : List ℕ) (x : X) (behind left : List X) (all : List ℕ)
-    → x ∷ behind ≡ left → done ++ flat_map text left ≡ all → (done ++ text x) ++ flat_map text behind ≡ all
-one-done text done x behind left all begins e =
-    one-more text done x behind all (ap (λ xs. done ++ flat_map text xs) begins ∙ e)
+pub one-done : {X : Type 0} (text : X → List ℕ) (done : List ℕ) (x : X) (after left : List X) (all : List ℕ)
+    → x ∷ after ≡ left → done ++ flat_map text left ≡ all → (done ++ text x) ++ flat_map text after ≡ all
+one-done text done x after left all begins e =
+    one-more text done x after all (ap (λ xs. done ++ flat_map text xs) begins ∙ e)
 
-nth-begins : (rest : List ℕ) (byte : ℕ) (behind : List ℕ) (before : ℕ)
-    → rest ≡ byte ∷ behind → before ≡ 0 → (byte == 0) ≡ false → byte ∷ nth_text before behind ≡ nth_text before rest
-nth-begins rest byte behind before r b some = rw (r, b, some) refl
+nth-begins : (rest : List ℕ) (byte : ℕ) (after : List ℕ) (before : ℕ)
+    → rest ≡ byte ∷ after → before ≡ 0 → (byte == 0) ≡ false → byte ∷ nth_text before after ≡ nth_text before rest
+nth-begins rest byte after before r b some = rw (r, b, some) refl
 
-pub ascii-more : (done rest : List ℕ) (byte : ℕ) (behind : List ℕ) (before : ℕ) (all : List ℕ)
-    → rest ≡ byte ∷ behind → before ≡ 0 → (byte == 0) ≡ false
-    → done ++ flat_map escaped (nth_text before rest) ≡ all → (done ++ escaped byte) ++ flat_map escaped (nth_text before behind) ≡ all
-ascii-more done rest byte behind before all r b some e =
-    one-done escaped done byte (nth_text before behind) (nth_text before rest) all (nth-begins rest byte behind before r b some) e
+pub ascii-more : (done rest : List ℕ) (byte : ℕ) (after : List ℕ) (before : ℕ) (all : List ℕ)
+    → rest ≡ byte ∷ after → before ≡ 0 → (byte == 0) ≡ false
+    → done ++ flat_map escaped (nth_text before rest) ≡ all → (done ++ escaped byte) ++ flat_map escaped (nth_text before after) ≡ all
+ascii-more done rest byte after before all r b some e =
+    one-done escaped done byte (nth_text before after) (nth_text before rest) all (nth-begins rest byte after before r b some) e
 
-units-begin : (rest : List ℕ) (unit : ℕ) (behind : List ℕ)
-    → 2 ≤ length rest → behind ≡ drop 2 rest → unit ≡ from_le_bytes w16 (take 2 rest) → (unit == 0) ≡ false
-    → unit ∷ units_in behind ≡ units_in rest
-units-begin (low ∷ high ∷ rest) unit behind long b u some =
+units-begin : (rest : List ℕ) (unit : ℕ) (after : List ℕ)
+    → 2 ≤ length rest → after ≡ drop 2 rest → unit ≡ from_le_bytes w16 (take 2 rest) → (unit == 0) ≡ false
+    → unit ∷ units_in after ≡ units_in rest
+units-begin (low ∷ high ∷ rest) unit after long b u some =
     let nonzero : (from_le_bytes w16 (low ∷ high ∷ []) == 0) ≡ false = ap (λ n. n == 0) (sym u) ∙ some in
     rw (b, u, nonzero) refl
-units-begin [] unit behind long b u some = absurd (omega (arith, long))
-units-begin (_ ∷ []) unit behind long b u some = absurd (omega (arith, long))
+units-begin [] unit after long b u some = absurd (omega (arith, long))
+units-begin (_ ∷ []) unit after long b u some = absurd (omega (arith, long))
 
-pub units-more : (done rest : List ℕ) (unit : ℕ) (chunk behind : List ℕ) (all : List ℕ)
-    → chunk ≡ take 2 rest → behind ≡ drop 2 rest → 2 ≤ length rest → unit ≡ from_le_bytes w16 chunk → (unit == 0) ≡ false
-    → done ++ flat_map escaped (units_in rest) ≡ all → (done ++ escaped unit) ++ flat_map escaped (units_in behind) ≡ all
-units-more done rest unit chunk behind all c b long u some e =
-    one-done escaped done unit (units_in behind) (units_in rest) all
-    (units-begin rest unit behind long b (u ∙ ap (from_le_bytes w16) c) some) e
+pub units-more : (done rest : List ℕ) (unit : ℕ) (chunk after : List ℕ) (all : List ℕ)
+    → chunk ≡ take 2 rest → after ≡ drop 2 rest → 2 ≤ length rest → unit ≡ from_le_bytes w16 chunk → (unit == 0) ≡ false
+    → done ++ flat_map escaped (units_in rest) ≡ all → (done ++ escaped unit) ++ flat_map escaped (units_in after) ≡ all
+units-more done rest unit chunk after all c b long u some e =
+    one-done escaped done unit (units_in after) (units_in rest) all
+    (units-begin rest unit after long b (u ∙ ap (from_le_bytes w16) c) some) e
 
-twos-begin : (rest chunk behind : List ℕ) → 2 ≤ length rest → chunk ≡ take 2 rest → behind ≡ drop 2 rest
-    → chunk ∷ in_twos behind ≡ in_twos rest
-twos-begin (first ∷ second ∷ rest) chunk behind long c b = rw (c, b) refl
-twos-begin [] chunk behind long c b = absurd (omega (arith, long))
-twos-begin (_ ∷ []) chunk behind long c b = absurd (omega (arith, long))
+twos-begin : (rest chunk after : List ℕ) → 2 ≤ length rest → chunk ≡ take 2 rest → after ≡ drop 2 rest
+    → chunk ∷ in_twos after ≡ in_twos rest
+twos-begin (first ∷ second ∷ rest) chunk after long c b = rw (c, b) refl
+twos-begin [] chunk after long c b = absurd (omega (arith, long))
+twos-begin (_ ∷ []) chunk after long c b = absurd (omega (arith, long))
 
-pub twos-more : (text : List ℕ → List ℕ) (done rest chunk behind all : List ℕ)
-    → chunk ≡ take 2 rest → behind ≡ drop 2 rest → 2 ≤ length rest
-    → done ++ flat_map text (in_twos rest) ≡ all → (done ++ text chunk) ++ flat_map text (in_twos behind) ≡ all
-twos-more text done rest chunk behind all c b long e =
-    one-done text done chunk (in_twos behind) (in_twos rest) all (twos-begin rest chunk behind long c b) e
+pub twos-more : (text : List ℕ → List ℕ) (done rest chunk after all : List ℕ)
+    → chunk ≡ take 2 rest → after ≡ drop 2 rest → 2 ≤ length rest
+    → done ++ flat_map text (in_twos rest) ≡ all → (done ++ text chunk) ++ flat_map text (in_twos after) ≡ all
+twos-more text done rest chunk after all c b long e =
+    one-done text done chunk (in_twos after) (in_twos rest) all (twos-begin rest chunk after long c b) e
 
 no-twos : (rest : List ℕ) → length rest < 2 → in_twos rest ≡ []
 no-twos [] short = refl
@@ -91,18 +91,18 @@ twos-end bytes first others rest done f o long short e =
     ∙ (sym (join-first colon hex_text first (in_twos others))
     ∙ ap (λ groups. join_with_byte colon (map hex_text groups)) (twos-begin bytes first others long f o))
 
-items-begin : (len left : ℕ) (rest item behind : List ℕ) → 0 < left → item ≡ take len rest → behind ≡ drop len rest
-    → item ∷ items_in (left - 1) len behind ≡ items_in left len rest
-items-begin len (suc left) rest item behind some i b =
+items-begin : (len left : ℕ) (rest item after : List ℕ) → 0 < left → item ≡ take len rest → after ≡ drop len rest
+    → item ∷ items_in (left - 1) len after ≡ items_in left len rest
+items-begin len (suc left) rest item after some i b =
     let less : suc left - 1 ≡ left = omega arith in
     rw (i, b, less) refl
-items-begin len zero rest item behind some i b = absurd (omega (arith, some))
+items-begin len zero rest item after some i b = absurd (omega (arith, some))
 
-pub items-more : (text : List ℕ → List ℕ) (len left : ℕ) (done rest item behind all : List ℕ)
-    → item ≡ take len rest → behind ≡ drop len rest → 0 < left
-    → done ++ flat_map text (items_in left len rest) ≡ all → (done ++ text item) ++ flat_map text (items_in (left - 1) len behind) ≡ all
-items-more text len left done rest item behind all i b some e =
-    one-done text done item (items_in (left - 1) len behind) (items_in left len rest) all (items-begin len left rest item behind some i b) e
+pub items-more : (text : List ℕ → List ℕ) (len left : ℕ) (done rest item after all : List ℕ)
+    → item ≡ take len rest → after ≡ drop len rest → 0 < left
+    → done ++ flat_map text (items_in left len rest) ≡ all → (done ++ text item) ++ flat_map text (items_in (left - 1) len after) ≡ all
+items-more text len left done rest item after all i b some e =
+    one-done text done item (items_in (left - 1) len after) (items_in left len rest) all (items-begin len left rest item after some i b) e
 
 no-items : (left len : ℕ) (rest : List ℕ) → left ≡ 0 → items_in left len rest ≡ []
 no-items left len rest none = rw none refl

@@ -93,6 +93,6 @@ abbrev pub named_path : NodeTable → List (List Node) → List ℕ
 named_path table path = join_with_byte comma (map (named_instance table) path)
 
 -- For private functions: what comes before a node, which is the first of its instance or isn't.
-abbrev pub slash_behind : Bool → List ℕ
-slash_behind true = []
-slash_behind false = codes "/"
+abbrev pub slash_before : Bool → List ℕ
+slash_before true = []
+slash_before false = codes "/"

@@ -20,7 +20,7 @@ use Rattle.uefi_names.specs.Spelled.{is_word, item_read, shown_read}
 
 -- ---- arguments
 
--- what items spell, one after the other, behind what is done
+-- what items spell, one after the other, after what is done
 abbrev pub items_read : Item → ℕ → List ℕ → List (List ℕ) → Option (List ℕ)
 items_read item len done [] = Some done
 items_read item len done (text ∷ texts) =
@@ -64,7 +64,7 @@ abbrev pub spelled_in : Field → List ℕ → Spelled
 spelled_in field bytes =
     record { at = field.at; is_last = field.len == to_end; rank = rank_of field.show; bytes = bytes }
 
--- what the arguments of fields spell, behind what is done: each argument is of a field
+-- what the arguments of fields spell, after what is done: each argument is of a field
 abbrev pub fields_read : List Spelled → List Field → List (List ℕ) → Option (List Spelled)
 fields_read done [] texts = if length texts == 0 then Some done else None
 fields_read done (field ∷ fields) texts =
@@ -85,7 +85,7 @@ offset_or None otherwise = otherwise
 abbrev pub front_len : Form → ℕ
 front_len form = offset_or (find (λ (field : Field). field.len == to_end) form.fields.now) (least form.len)
 
--- a byte with these bits set besides; behind the end there is none
+-- a byte with these bits set besides; after the end there is none
 abbrev pub with_byte : ℕ → ℕ → List ℕ → List ℕ
 with_byte at bits body = if nat_lt at (length body) then set body at (bit_or (slice_index body at) bits) else body
 
@@ -107,7 +107,7 @@ with_fields [] body = body
 with_fields (one ∷ others) body =
     with_fields others (if one.is_last then body else with_bits one.at one.bytes body)
 
--- behind them the bytes of each field that goes to the end and has so many texts before it
+-- after them the bytes of each field that goes to the end and has so many texts before it
 abbrev pub with_tails : ℕ → List Spelled → List ℕ → List ℕ
 with_tails rank [] body = body
 with_tails rank (one ∷ others) body =

@@ -85,7 +85,7 @@ is_plain unit =
 abbrev pub escaped : ℕ → List ℕ
 escaped unit = if is_plain unit then unit ∷ [] else 0x5C ∷ hex_text (to_be_bytes w16 unit)
 
--- of texts that are each closed by a zero or the end, the one that comes behind this many others
+-- of texts that are each closed by a zero or the end, the one that comes after this many others
 abbrev pub nth_text : ℕ → List ℕ → List ℕ
 nth_text before [] = []
 nth_text zero (byte ∷ bytes) = if byte == 0 then [] else byte ∷ nth_text zero bytes

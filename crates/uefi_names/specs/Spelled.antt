@@ -135,7 +135,7 @@ abbrev pub group_read : Group → List ℕ → Option (List ℕ)
 group_read Octet text = numeral_read 10 3 text >>= λ n. (if nat_le n 0xFF then Some (n ∷ []) else None)
 group_read Pair text = numeral_read 16 4 text >>= λ n. Some ((n / 256) % 256 ∷ n % 256 ∷ [])
 
--- what parts spell, one after the other, behind what is done
+-- what parts spell, one after the other, after what is done
 abbrev pub groups_read : Group → List ℕ → List (List ℕ) → Option (List ℕ)
 groups_read group done [] = Some done
 groups_read group done (text ∷ texts) = group_read group text >>= λ bytes. groups_read group (done ++ bytes) texts
@@ -166,7 +166,7 @@ unit_bytes false unit = if (unit == 0) || nat_lt 0xFF unit then None else Some (
 abbrev pub with_digit : ℕ → ℕ → ℕ
 with_digit value digit = (value * 16 + digit_value digit) % 0x10000
 
--- What units spell, behind what is done: a plain unit stands for itself, and a backslash and four digits for the unit of
+-- What units spell, after what is done: a plain unit stands for itself, and a backslash and four digits for the unit of
 -- this number. So many digits are to come of a unit that has this value so far.
 abbrev pub text_read : Bool → List ℕ → ℕ → ℕ → List ℕ → Option (List ℕ)
 text_read wide done left value [] = if left == 0 then Some done else None

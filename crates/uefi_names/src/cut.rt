@@ -16,14 +16,14 @@ pub(crate) fn pieces<'a>(alloc: Global, text: &'a str, mark: u8) -> Result<Vec<&
     let mut all = Vec::new(alloc);
     let mut left = Some(text);
     while let Some(rest) = left {
-        let (piece, behind) = split_outside(rest, mark);
+        let (piece, after) = split_outside(rest, mark);
         all.push(piece)?;
-        left = behind;
+        left = after;
     }
     Ok(all)
 }
 
-/// The first piece, and what comes behind the mark after it, if there is one.
+/// The first piece, and what comes after the mark after it, if there is one.
 fn split_outside(text: &str, mark: u8) -> (&str, Option<&str>)
     requires { mark < 128 }
     ensures all { pieces mark text.now ≡ result.0.now ∷ pieces_left mark (option_map (λ rest. rest.now) result.1) }
@@ -128,10 +128,10 @@ fn without_first(text: &str) -> &str
 pub(crate) fn named_parts(text: &str) -> Option<(&str, &str)>
     ensures { option_map (λ parts. (parts.0.now, parts.1.now)) result ≡ named_parts text.now }
 {
-    let Some((name, behind)) = around_mark(text, b'(') else {
+    let Some((name, after)) = around_mark(text, b'(') else {
         return None;
     };
-    match before_close(behind) {
+    match before_close(after) {
         Some(inside) => Some((name, inside)),
         None => None,
     }

@@ -74,7 +74,7 @@ pub(crate) fn fault_of(
         if let Some(fault) = instance_fault(alloc, table, instance, place)? {
             return Ok(fault);
         }
-        place = behind(place, instance);
+        place = after(place, instance);
     }
     Ok(NamedFault::BadSegment(0))
 }
@@ -92,13 +92,13 @@ fn instance_fault(
         if segment_read(alloc, table, segment)?.is_none() {
             return Ok(Some(segment_fault(alloc, table, segment, place)?));
         }
-        place = behind(place, segment);
+        place = after(place, segment);
     }
     Ok(None)
 }
 
-/// The place behind a piece at a place, and behind the mark after it.
-fn behind(place: usize, piece: &str) -> usize {
+/// The place after a piece at a place, and after the mark after it.
+fn after(place: usize, piece: &str) -> usize {
     place.saturating_add(piece.len()).saturating_add(1)
 }
 
@@ -174,7 +174,7 @@ fn table_fault(
     inside: &str,
     place: usize,
 ) -> Result<NamedFault, AllocError> {
-    let start = behind(place, name);
+    let start = after(place, name);
     let mut fault = NamedFault::UnknownName(place);
     for kind in 1..=5u8 {
         fault = rows_fault(alloc, table.rows_of(kind), name, inside, start, fault)?;
@@ -230,7 +230,7 @@ fn form_fault(
         if !matches!(field.show, Show::Each(..)) {
             index += 1;
         }
-        place = behind(place, argument);
+        place = after(place, argument);
     }
     match form.fields.get(index) {
         Some(

@@ -175,9 +175,9 @@ fn fields_read(
     let mut taken = 0;
     for field in fields {
         match field_read(alloc, field.show, field.len, arguments, taken)? {
-            Some((bytes, behind)) => {
+            Some((bytes, after)) => {
                 all.push(spelled_in(field, bytes))?;
-                taken = behind;
+                taken = after;
             }
             None => return Ok(None),
         }
@@ -189,7 +189,7 @@ fn fields_read(
     }
 }
 
-/// What the arguments of a field spell, of those from an index on, and the index behind them: a list of items has all,
+/// What the arguments of a field spell, of those from an index on, and the index after them: a list of items has all,
 /// another field the first.
 fn field_read(
     alloc: Global,
@@ -218,7 +218,7 @@ fn items_of(show: Show) -> Option<(usize, Item)>
     }
 }
 
-/// What all arguments from an index on spell, and the index behind them.
+/// What all arguments from an index on spell, and the index after them.
 fn all_read(
     alloc: Global,
     item: Item,
@@ -236,7 +236,7 @@ fn all_read(
     }
 }
 
-/// What the first argument from an index on spells, and the index behind it.
+/// What the first argument from an index on spells, and the index after it.
 fn first_read(
     alloc: Global,
     show: Show,
@@ -331,7 +331,7 @@ fn set_fields(all: &[SpelledField], body: &mut [u8])
     }
 }
 
-/// Sets bits of bytes from an offset on; behind the end there are none.
+/// Sets bits of bytes from an offset on; after the end there are none.
 fn set_bits(at: usize, bits: &[u8], body: &mut [u8])
     ensures { body.new ≡ with_bits at bits.now body.old }
 {

@@ -44,7 +44,7 @@ macro_rules! acpi_device {
     };
 }
 
-/// The form of the vendor's nodes with a GUID, these data behind it, and these arguments.
+/// The form of the vendor's nodes with a GUID, these data after it, and these arguments.
 macro_rules! vendor {
     ($guid:expr, $len:literal, $name:literal, $fields:tt) => {
         form!(

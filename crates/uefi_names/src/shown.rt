@@ -220,9 +220,9 @@ impl fmt::Display for Ipv6Text<'_> {
         };
         write!(f, "{}", DigitsText(first))?;
         let mut rest = others;
-        while let Some((group, behind)) = rest.split_first_chunk::<2>() {
+        while let Some((group, after)) = rest.split_first_chunk::<2>() {
             write!(f, ":{}", DigitsText(group))?;
-            rest = behind;
+            rest = after;
         }
         Ok(())
     }
@@ -252,9 +252,9 @@ impl fmt::Display for ItemsText<'_> {
         let mut rest = others;
         let mut left = count - 1;
         while left > 0 {
-            let (item, behind) = cut(rest, self.len);
+            let (item, after) = cut(rest, self.len);
             write!(f, ",{}", ItemText(self.item, item))?;
-            rest = behind;
+            rest = after;
             left -= 1;
         }
         Ok(())
@@ -268,10 +268,10 @@ fn item_count(len: usize, bytes: &[u8]) -> usize
     if len == 0 { 0 } else { bytes.len() / len }
 }
 
-/// So many bytes, or fewer if there are no more, and those behind them.
+/// So many bytes, or fewer if there are no more, and those after them.
 pub(crate) fn cut(bytes: &[u8], len: usize) -> (&[u8], &[u8])
     ensures front { result.0.now ≡ take len bytes.now }
-    ensures behind { result.1.now ≡ drop len bytes.now }
+    ensures after { result.1.now ≡ drop len bytes.now }
 {
     bytes.split_at(len.min(bytes.len()))
 }
@@ -293,14 +293,14 @@ impl fmt::Display for AsciiText<'_> {
     fn fmt<W: fmt::Write>(&self, f: &mut fmt::Formatter<W>) -> fmt::Result {
         let mut before = self.number;
         let mut rest = self.bytes;
-        while let Some((byte, behind)) = rest.split_first() {
+        while let Some((byte, after)) = rest.split_first() {
             match (*byte, before) {
                 (0, 0) => return Ok(()),
                 (0, _) => before -= 1,
                 (byte, 0) => write!(f, "{}", Escaped(u16::from(byte)))?,
                 _ => {}
             }
-            rest = behind;
+            rest = after;
         }
         Ok(())
     }
@@ -318,13 +318,13 @@ impl fmt::Display for UnitsText<'_> {
 
     fn fmt<W: fmt::Write>(&self, f: &mut fmt::Formatter<W>) -> fmt::Result {
         let mut rest = self.0;
-        while let Some((unit, behind)) = rest.split_first_chunk::<2>() {
+        while let Some((unit, after)) = rest.split_first_chunk::<2>() {
             let unit = u16::from_le_bytes(*unit);
             if unit == 0 {
                 return Ok(());
             }
             write!(f, "{}", Escaped(unit))?;
-            rest = behind;
+            rest = after;
         }
         Ok(())
     }

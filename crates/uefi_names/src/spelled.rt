@@ -319,9 +319,9 @@ fn pairs(alloc: Global, digits: &[u8]) -> Result<Vec<u8>, AllocError>
 {
     let mut bytes = Vec::new(alloc);
     let mut rest = digits;
-    while let [high, low, behind @ ..] = rest {
+    while let [high, low, after @ ..] = rest {
         bytes.push(digit_of(*high) * HEXADECIMAL + digit_of(*low))?;
-        rest = behind;
+        rest = after;
     }
     Ok(bytes)
 }

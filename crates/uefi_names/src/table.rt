@@ -272,7 +272,7 @@ fn first_fitting(forms: &'static [Form], body: &[u8]) -> Option<&'static Form>
     forms.iter().find(|form| form.fits(body))
 }
 
-/// The byte at an offset: zero behind the end.
+/// The byte at an offset: zero after the end.
 pub(crate) fn byte(bytes: &[u8], at: usize) -> u8
     ensures { result ≡ slice_index bytes.now at }
 {
@@ -283,7 +283,7 @@ pub(crate) fn byte(bytes: &[u8], at: usize) -> u8
 pub(crate) fn part(bytes: &[u8], at: usize, len: usize) -> &[u8]
     ensures { result.now ≡ part at len bytes.now }
 {
-    let (_, behind) = bytes.split_at(at.min(bytes.len()));
-    let (front, _) = behind.split_at(len.min(behind.len()));
+    let (_, after) = bytes.split_at(at.min(bytes.len()));
+    let (front, _) = after.split_at(len.min(after.len()));
     front
 }

@@ -7,7 +7,7 @@ ghost use Rattle.uefi_path.specs.Node.{row_of, IsNode};
 ghost use Rattle.uefi_path.specs.Path.{IsPath, path_rows};
 ghost use Rattle.uefi_path.specs.Views.{row_seen, rows_left};
 ghost use Rattle.uefi_names.specs.Standard.{standard_table};
-ghost use Rattle.uefi_names.specs.Named.{named_node, named_path, slash_behind};
+ghost use Rattle.uefi_names.specs.Named.{named_node, named_path, slash_before};
 
 use crate::named;
 use crate::table::NodeTable;
@@ -47,7 +47,7 @@ fn append_node(
     text: &mut String,
 ) -> Result<(), AllocError>
     ensures { OnOk result ((node : Node) → IsNode node → row_of node ≡ row_seen view.now →
-        string_bytes text.new ≡ string_bytes text.old ++ (slash_behind is_first ++ named_node table.now node)) }
+        string_bytes text.new ≡ string_bytes text.old ++ (slash_before is_first ++ named_node table.now node)) }
 {
     match view.to_node(alloc) {
         Ok(node) => append_marked(alloc, table, &node, is_first, text),
@@ -64,7 +64,7 @@ fn append_marked(
     is_first: bool,
     text: &mut String,
 ) -> Result<(), AllocError>
-    ensures { OnOk result (string_bytes text.new ≡ string_bytes text.old ++ (slash_behind is_first ++ named_node table.now node.now)) }
+    ensures { OnOk result (string_bytes text.new ≡ string_bytes text.old ++ (slash_before is_first ++ named_node table.now node.now)) }
 {
     text.push_str(mark_before(is_first))?;
     named::append_node(alloc, table, node, text)
@@ -72,7 +72,7 @@ fn append_marked(
 
 /// What comes before a node.
 fn mark_before(is_first: bool) -> &'static str
-    ensures { result.now ≡ slash_behind is_first }
+    ensures { result.now ≡ slash_before is_first }
 {
     if is_first { "" } else { "/" }
 }
