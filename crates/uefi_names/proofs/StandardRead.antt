@@ -10,24 +10,25 @@ use Rattle.uefi_text.specs.Bytes.{Each}
 use Rattle.uefi_text.specs.Segment.{comma, slash}
 use Rattle.uefi_text.specs.Reader.{◌>>=◌}
 use Rattle.uefi_names.specs.declared.table.NodeTable.{NodeTable}
+use Rattle.uefi_names.specs.declared.table.NodeGroup.{NodeGroup}
 use Rattle.uefi_names.specs.declared.table.NodeRow.{NodeRow}
 use Rattle.uefi_names.specs.declared.table.Form.{Form}
 use Rattle.uefi_names.specs.declared.table.Field.{Field}
 use Rattle.uefi_names.specs.declared.table.Word.{Word}
 use Rattle.uefi_names.specs.declared.table.When.{When}
-use Rattle.uefi_names.specs.declared.table.When.TheVariants.{Always, Byte, Unlike, Bytes}
+use Rattle.uefi_names.specs.declared.table.When.TheVariants.{Always, Byte, Unlike, Bytes, BytesAndByte}
 use Rattle.uefi_names.specs.declared.table.Item.{Item}
 use Rattle.uefi_names.specs.declared.table.Show.{Show}
 use Rattle.uefi_names.specs.declared.table.Show.TheVariants as shows
-use Rattle.uefi_names.specs.Table.{rows_of, forms_in, forms_for, least, to_end}
+use Rattle.uefi_names.specs.Table.{row_for, forms_in, forms_for, least, to_end}
 use Rattle.uefi_names.specs.Shown.{form_text}
-use Rattle.uefi_names.specs.Standard.{plain_word, plain_show, plain_field, plain_when, plain_form, plain_row, plain_table, standard_table}
+use Rattle.uefi_names.specs.Standard.{plain_word, plain_show, plain_field, plain_when, plain_form, plain_row, plain_group, plain_table, standard_table}
 use Rattle.uefi_names.specs.Cut.{cut_named, arguments_in, named_parts}
 use Rattle.uefi_names.specs.Spelled.{is_word, word_of, number_read, number_bytes, within_mask, number_or, masked_read, shown_read}
-use Rattle.uefi_names.specs.Read.{first_read, items_of, read_by, field_read, offset_or, Spelled, spelled_in, rank_of, fields_read, arguments_of, front_len, front_of, with_fields, with_tails, body_of, if_fits, form_read, forms_read, rows_read, table_read}
+use Rattle.uefi_names.specs.Read.{first_read, items_of, read_by, field_read, offset_or, Spelled, spelled_in, rank_of, fields_read, arguments_of, front_len, front_of, with_fields, with_tails, body_of, if_fits, form_read, forms_read, rows_read, groups_read, table_read}
 use Rattle.uefi_names.specs.Reading.{profile_name, named_row, segment_row, IsNodeOf, IsNamedSegment, IsNamedText}
 use Rattle.uefi_names.specs.Named.{text_in_form, text_in_forms, table_text, plain_text, named_node, named_path}
-use Rattle.uefi_names.proofs.Standard.{find-same, fits-same, form-same, rows-same}
+use Rattle.uefi_names.proofs.Standard.{find-same, fits-same, form-same, row_for-same}
 
 -- ---- arguments
 
@@ -137,8 +138,9 @@ front_len-same form =
 front-same : (when : When) (len : ℕ) → front_of (plain_when when) len ≡ front_of when len
 front-same Always len = refl
 front-same (Byte at mask is) len = refl
-front-same (Unlike at is) len = refl
+front-same (Unlike at mask is) len = refl
 front-same (Bytes at are) len = refl
+front-same (BytesAndByte are at mask is) len = refl
 
 body-same : (form : Form) (all : List Spelled) → body_of (plain_form form) all ≡ body_of form all
 body-same form all =
@@ -168,15 +170,13 @@ rows_read-same : (kind : ℕ) (name inside : List ℕ) (rows : List NodeRow) →
 rows_read-same kind name inside [] = refl
 rows_read-same kind name inside (r ∷ rows) = rw (forms-same name inside r.forms.now, rows_read-same kind name inside rows) refl
 
+groups-same : (name inside : List ℕ) (groups : List NodeGroup) → groups_read name inside (map plain_group groups) ≡ groups_read name inside groups
+groups-same name inside [] = refl
+groups-same name inside (group ∷ groups) =
+    rw (rows_read-same group.kind name inside group.rows.now, groups-same name inside groups) refl
+
 table-same : (table : NodeTable) (name inside : List ℕ) → table_read (plain_table table) name inside ≡ table_read table name inside
-table-same table name inside =
-    rw (
-      rows_read-same 1 name inside table.hardware.now,
-      rows_read-same 2 name inside table.acpi.now,
-      rows_read-same 3 name inside table.messaging.now,
-      rows_read-same 4 name inside table.media.now,
-      rows_read-same 5 name inside table.bios_boot.now,
-    ) refl
+table-same table name inside = groups-same name inside table.groups
 
 segment-same : (table : NodeTable) (text : List ℕ) → segment_row (plain_table table) text ≡ segment_row table text
 segment-same table text = go (named_parts text)
@@ -200,9 +200,7 @@ plain_forms None = refl
 plain_forms (Some r) = refl
 
 forms_for-same : (table : NodeTable) (kind sub : ℕ) → forms_for (plain_table table) kind sub ≡ map plain_form (forms_for table kind sub)
-forms_for-same table kind sub =
-    ap (λ (rows : List NodeRow). forms_in (find (λ row. row.sub == sub) rows)) (rows-same table kind)
-    ∙ (ap forms_in (find-same (λ row. row.sub == sub) plain_row (λ row. refl) (rows_of table kind)) ∙ plain_forms (find (λ row. row.sub == sub) (rows_of table kind)))
+forms_for-same table kind sub = ap forms_in (row_for-same table kind sub) ∙ plain_forms (row_for table kind sub)
 
 table_text-same : (table : NodeTable) (r : Row) → table_text (plain_table table) r ≡ table_text table r
 table_text-same table r =

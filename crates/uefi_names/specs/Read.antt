@@ -6,11 +6,12 @@ use Rattle.std.specs.Option.{option_or}
 use Rattle.uefi_path.specs.Row.{Row, row}
 use Rattle.uefi_text.specs.Reader.{◌>>=◌}
 use Rattle.uefi_names.specs.declared.table.NodeTable.{NodeTable}
+use Rattle.uefi_names.specs.declared.table.NodeGroup.{NodeGroup}
 use Rattle.uefi_names.specs.declared.table.NodeRow.{NodeRow}
 use Rattle.uefi_names.specs.declared.table.Form.{Form}
 use Rattle.uefi_names.specs.declared.table.Field.{Field}
 use Rattle.uefi_names.specs.declared.table.When.{When}
-use Rattle.uefi_names.specs.declared.table.When.TheVariants.{Always, Byte, Unlike, Bytes}
+use Rattle.uefi_names.specs.declared.table.When.TheVariants.{Always, Byte, Unlike, Bytes, BytesAndByte}
 use Rattle.uefi_names.specs.declared.table.Item.{Item}
 use Rattle.uefi_names.specs.declared.table.Show.{Show}
 use Rattle.uefi_names.specs.declared.table.Show.TheVariants as shows
@@ -98,8 +99,9 @@ with_bits at (bits ∷ others) body = with_bits (suc at) others (with_byte at bi
 abbrev pub front_of : When → ℕ → List ℕ
 front_of Always len = replicate len 0
 front_of (Byte at mask is) len = with_bits at (is ∷ []) (replicate len 0)
-front_of (Unlike at is) len = replicate len 0
+front_of (Unlike at mask is) len = replicate len 0
 front_of (Bytes at are) len = with_bits at are.now (replicate len 0)
+front_of (BytesAndByte are at mask is) len = with_bits at (is ∷ []) (with_bits 0 are.now (replicate len 0))
 
 -- the bits of each field that doesn't go to the end
 abbrev pub with_fields : List Spelled → List ℕ → List ℕ
@@ -143,10 +145,12 @@ rows_read kind name inside [] = None
 rows_read kind name inside (r ∷ rows) =
     option_or (row_read kind r.sub (forms_read name inside r.forms.now)) (rows_read kind name inside rows)
 
--- the node that a name and what is between parentheses spell by the table: that of the first form, type by type
+-- the same of groups of rows, one after the other
+abbrev pub groups_read : List ℕ → List ℕ → List NodeGroup → Option Row
+groups_read name inside [] = None
+groups_read name inside (group ∷ groups) =
+    option_or (rows_read group.kind name inside group.rows.now) (groups_read name inside groups)
+
+-- the node that a name and what is between parentheses spell by the table: that of the first form
 abbrev pub table_read : NodeTable → List ℕ → List ℕ → Option Row
-table_read table name inside =
-    option_or (rows_read 1 name inside table.hardware.now)
-    (option_or (rows_read 2 name inside table.acpi.now)
-    (option_or (rows_read 3 name inside table.messaging.now)
-    (option_or (rows_read 4 name inside table.media.now) (rows_read 5 name inside table.bios_boot.now))))
+table_read table name inside = groups_read name inside table.groups

@@ -1,13 +1,14 @@
 -- The table of the standard's nodes (UEFI 2.10, 10.3) that are kept as bytes, row by row.
-use Rattle.std.specs.Prelude.{ℕ, List, [], ◌∷◌, map, codes}
+use Rattle.std.specs.Prelude.{ℕ, ◌+◌, List, [], ◌∷◌, ◌++◌, map, codes}
 use Rattle.std.specs.Borrow.{Bor}
 use Rattle.uefi_names.specs.declared.table.NodeTable.{NodeTable}
+use Rattle.uefi_names.specs.declared.table.NodeGroup.{NodeGroup}
 use Rattle.uefi_names.specs.declared.table.NodeRow.{NodeRow}
 use Rattle.uefi_names.specs.declared.table.Form.{Form}
 use Rattle.uefi_names.specs.declared.table.Field.{Field}
 use Rattle.uefi_names.specs.declared.table.Word.{Word}
 use Rattle.uefi_names.specs.declared.table.When.{When}
-use Rattle.uefi_names.specs.declared.table.When.TheVariants.{Always, Byte, Unlike, Bytes}
+use Rattle.uefi_names.specs.declared.table.When.TheVariants.{Always, Byte, Unlike, Bytes, BytesAndByte}
 use Rattle.uefi_names.specs.declared.table.DataLen.{DataLen}
 use Rattle.uefi_names.specs.declared.table.DataLen.TheVariants.{Exactly, AtLeast, Items}
 use Rattle.uefi_names.specs.declared.table.Numeral.TheVariants.{Hexadecimal, Decimal}
@@ -36,6 +37,7 @@ plain_field field = record { at = field.at; len = field.len; show = plain_show f
 
 abbrev pub plain_when : When → When
 plain_when (Bytes at are) = Bytes at (to are.now)
+plain_when (BytesAndByte are at mask is) = BytesAndByte (to are.now) at mask is
 plain_when other = other
 
 abbrev pub plain_form : Form → Form
@@ -49,15 +51,12 @@ plain_form form = record {
 abbrev pub plain_row : NodeRow → NodeRow
 plain_row row = record { sub = row.sub; forms = to (map plain_form row.forms.now) }
 
+abbrev pub plain_group : NodeGroup → NodeGroup
+plain_group group = record { kind = group.kind; rows = to (map plain_row group.rows.now) }
+
 -- the same table, of whose references nothing is said but what they refer to
 abbrev pub plain_table : NodeTable → NodeTable
-plain_table table = record {
-  hardware = to (map plain_row table.hardware.now);
-  acpi = to (map plain_row table.acpi.now);
-  messaging = to (map plain_row table.messaging.now);
-  media = to (map plain_row table.media.now);
-  bios_boot = to (map plain_row table.bios_boot.now);
-}
+plain_table table = record { groups = map plain_group table.groups }
 
 -- ---- fields
 
@@ -99,6 +98,9 @@ prefixed_at at len = field_of at len shows.PrefixedDigits
 abbrev pub guid_at : ℕ → Field
 guid_at at = field_of at 16 shows.Guid
 
+abbrev pub ipv4_at : ℕ → Field
+ipv4_at at = field_of at 4 shows.Ipv4
+
 abbrev pub ipv6_at : ℕ → Field
 ipv6_at at = field_of at 16 shows.Ipv6
 
@@ -129,7 +131,8 @@ row_of_forms sub all = record { sub = sub; forms = to all }
 abbrev pub row_of : ℕ → DataLen → List ℕ → List Field → NodeRow
 row_of sub len name all = row_of_forms sub (form_of Always len name all ∷ [])
 
--- the data have this byte at an offset, or a byte with these bits of a mask, or another byte, or these bytes
+-- the data have this byte at an offset, or a byte with these bits of a mask, or another byte, or one with other bits, or
+-- these bytes
 abbrev pub has_byte : ℕ → ℕ → When
 has_byte at byte = Byte at 0xFF byte
 
@@ -137,10 +140,17 @@ abbrev pub has_bits : ℕ → ℕ → ℕ → When
 has_bits at mask bits = Byte at mask bits
 
 abbrev pub has_another_byte : ℕ → ℕ → When
-has_another_byte at byte = Unlike at byte
+has_another_byte at byte = Unlike at 0xFF byte
+
+abbrev pub has_other_bits : ℕ → ℕ → ℕ → When
+has_other_bits at mask bits = Unlike at mask bits
 
 abbrev pub has_bytes : ℕ → List ℕ → When
 has_bytes at bytes = Bytes at (to bytes)
+
+-- these bytes first, and a byte at an offset with these bits of a mask
+abbrev pub has_bytes_and_bits : List ℕ → ℕ → ℕ → ℕ → When
+has_bytes_and_bits bytes at mask bits = BytesAndByte (to bytes) at mask bits
 
 -- ---- the rows
 
@@ -179,7 +189,7 @@ acpi_rows =
     ∷ row_of 4 (Exactly 4) (codes "AcpiNVDIMM") (number_at 0 4 ∷ [])
     ∷ []
 
--- 10.3.4.5: the forms of USB devices of a class, and of a sub-class of the class 0xFE
+-- 10.3.4.9: the forms of USB devices of a class, and of a sub-class of the class 0xFE
 abbrev pub usb_class : ℕ → List ℕ → Form
 usb_class class name =
     form_of (has_byte 4 class) (Exactly 7) name (number_at 0 2 ∷ number_at 2 2 ∷ number_at 5 1 ∷ number_at 6 1 ∷ [])
@@ -209,35 +219,62 @@ usb_forms =
     (number_at 0 2 ∷ number_at 2 2 ∷ number_at 4 1 ∷ number_at 5 1 ∷ number_at 6 1 ∷ [])
     ∷ []
 
--- 10.3.4.13: SAS devices, by the low and the high bits of their topology
+-- 10.3.4.19 and 10.3.4.20: what the topology of a SAS device at an offset says, by its low and high bits: nothing,
+-- where the device is, the same and its drive, or something else
+abbrev pub sas_place : ℕ → List Field
+sas_place at =
+    word_at at 1 0x10 (word 0 (codes "SAS") ∷ word 0x10 (codes "SATA") ∷ [])
+    ∷ word_at at 1 0x20 (word 0 (codes "Internal") ∷ word 0x20 (codes "External") ∷ [])
+    ∷ word_at at 1 0x40 (word 0 (codes "Direct") ∷ word 0x40 (codes "Expanded") ∷ []) ∷ []
+
+abbrev pub sas_zeros : ℕ → List Field
+sas_zeros at = always_at at 2 (codes "0") ∷ always_at at 2 (codes "0") ∷ always_at at 2 (codes "0") ∷ []
+
+abbrev pub sas_nothing : ℕ → List Field
+sas_nothing at = always_at at 2 (codes "NoTopology") ∷ sas_zeros at
+
+abbrev pub sas_no_drive : ℕ → List Field
+sas_no_drive at = sas_place at ++ always_at (at + 1) 1 (codes "0") ∷ []
+
+abbrev pub sas_drive : ℕ → List Field
+sas_drive at = sas_place at ++ field_of (at + 1) 1 shows.OneMore ∷ []
+
+abbrev pub sas_other : ℕ → List Field
+sas_other at = number_at at 2 ∷ sas_zeros at
+
 abbrev pub sas_form : When → List Field → Form
 sas_form when topology =
     form_of when (Exactly 20) (codes "SasEx") (prefixed_at 0 8 ∷ prefixed_at 8 8 ∷ number_at 18 2 ∷ topology)
 
-abbrev pub sas_protocol : Field
-sas_protocol = word_at 16 1 0x10 (word 0 (codes "SAS") ∷ word 0x10 (codes "SATA") ∷ [])
-
-abbrev pub sas_location : Field
-sas_location = word_at 16 1 0x20 (word 0 (codes "Internal") ∷ word 0x20 (codes "External") ∷ [])
-
-abbrev pub sas_connection : Field
-sas_connection = word_at 16 1 0x40 (word 0 (codes "Direct") ∷ word 0x40 (codes "Expanded") ∷ [])
-
-abbrev pub zero_at_topology : Field
-zero_at_topology = always_at 16 2 (codes "0")
-
 abbrev pub sas_forms : List Form
 sas_forms =
-    sas_form (has_bits 16 0x8F 0)
-    (always_at 16 2 (codes "NoTopology") ∷ zero_at_topology ∷ zero_at_topology ∷ zero_at_topology ∷ [])
-    ∷ sas_form (has_bits 16 0x8F 1) (sas_protocol ∷ sas_location ∷ sas_connection ∷ always_at 17 1 (codes "0") ∷ [])
-    ∷ sas_form (has_bits 16 0x8F 2) (sas_protocol ∷ sas_location ∷ sas_connection ∷ field_of 17 1 shows.OneMore ∷ [])
-    ∷ sas_form Always (number_at 16 2 ∷ zero_at_topology ∷ zero_at_topology ∷ zero_at_topology ∷ [])
+    sas_form (has_bits 16 0x8F 0) (sas_nothing 16)
+    ∷ sas_form (has_bits 16 0x8F 1) (sas_no_drive 16)
+    ∷ sas_form (has_bits 16 0x8F 2) (sas_drive 16)
+    ∷ sas_form Always (sas_other 16)
     ∷ []
 
--- 10.3.4.17: the forms of vendors' nodes, by their GUIDs as these are stored
+-- 10.3.4.17 to 10.3.4.19: the forms of vendors' nodes, by their GUIDs as these are stored
 abbrev pub vendor : List ℕ → ℕ → List ℕ → List Field → Form
 vendor guid len name all = form_of (has_bytes 0 guid) (Exactly len) name all
+
+-- those of SAS devices, with an address, a logical unit, a port, the topology and what is reserved
+abbrev pub sas_guid : List ℕ
+sas_guid =
+    0xB4 ∷ 0xDD ∷ 0x87 ∷ 0xD4 ∷ 0x8B ∷ 0x00 ∷ 0xD9 ∷ 0x11 ∷ 0xAF ∷ 0xDC ∷ 0x00 ∷ 0x10 ∷ 0x83 ∷ 0xFF ∷ 0xCA ∷ 0x4D ∷ []
+
+abbrev pub vendor_sas : When → List Field → Form
+vendor_sas when topology =
+    form_of when (Exactly 40) (codes "SAS")
+    (number_at 20 8 ∷ number_at 28 8 ∷ number_at 38 2 ∷ (topology ++ number_at 16 4 ∷ []))
+
+abbrev pub vendor_sas_forms : List Form
+vendor_sas_forms =
+    vendor_sas (has_bytes_and_bits sas_guid 36 0x8F 0) (sas_nothing 36)
+    ∷ vendor_sas (has_bytes_and_bits sas_guid 36 0x8F 1) (sas_no_drive 36)
+    ∷ vendor_sas (has_bytes_and_bits sas_guid 36 0x8F 2) (sas_drive 36)
+    ∷ vendor_sas (has_bytes 0 sas_guid) (sas_other 36)
+    ∷ []
 
 abbrev pub vendor_forms : List Form
 vendor_forms =
@@ -260,11 +297,13 @@ vendor_forms =
     ∷ vendor
     (0xD2 ∷ 0xE8 ∷ 0xA4 ∷ 0xEB ∷ 0x58 ∷ 0x38 ∷ 0xEC ∷ 0x41 ∷ 0xA2 ∷ 0x81 ∷ 0x26 ∷ 0x47 ∷ 0xBA ∷ 0x96 ∷ 0x60 ∷ 0xD0 ∷ [])
     16 (codes "DebugPort") []
-    ∷ []
+    ∷ vendor_sas_forms
 
--- 10.3.4.18, and its older form without the last two fields
-abbrev pub ipv6_protocol : Field
-ipv6_protocol = word_at 36 2 all_bits (word 6 (codes "TCP") ∷ word 17 (codes "UDP") ∷ [])
+-- 10.3.4.12 and 10.3.4.13: what a network carries
+abbrev pub protocol_at : ℕ → Field
+protocol_at at = word_at at 2 all_bits (word 6 (codes "TCP") ∷ word 17 (codes "UDP") ∷ [])
+
+-- 10.3.4.13, and its older form without the last two fields
 
 abbrev pub ipv6_origin : Field
 ipv6_origin =
@@ -274,13 +313,13 @@ ipv6_origin =
 abbrev pub ipv6_forms : List Form
 ipv6_forms =
     form_of Always (Exactly 56) (codes "IPv6")
-    (ipv6_at 16 ∷ ipv6_protocol ∷ ipv6_origin ∷ ipv6_at 0 ∷ number_at 39 1 ∷ ipv6_at 40 ∷ [])
-    ∷ form_of Always (Exactly 39) (codes "IPv6") (ipv6_at 16 ∷ ipv6_protocol ∷ ipv6_origin ∷ ipv6_at 0 ∷ [])
+    (ipv6_at 16 ∷ protocol_at 36 ∷ ipv6_origin ∷ ipv6_at 0 ∷ number_at 39 1 ∷ ipv6_at 40 ∷ [])
+    ∷ form_of Always (Exactly 39) (codes "IPv6") (ipv6_at 16 ∷ protocol_at 36 ∷ ipv6_origin ∷ ipv6_at 0 ∷ [])
     ∷ []
 
--- 10.3.4
-abbrev pub messaging_rows : List NodeRow
-messaging_rows =
+-- 10.3.4: buses and drives
+abbrev pub storage_rows : List NodeRow
+storage_rows =
     row_of 1 (Exactly 4) (codes "Ata")
     (word_at 0 1 all_bits (word 0 (codes "Primary") ∷ word 1 (codes "Secondary") ∷ [])
     ∷ word_at 1 1 all_bits (word 0 (codes "Master") ∷ word 1 (codes "Slave") ∷ []) ∷ number_at 2 2 ∷ [])
@@ -290,19 +329,6 @@ messaging_rows =
     ∷ row_of 6 (Exactly 4) (codes "I2O") (number_at 0 4 ∷ [])
     ∷ row_of 9 (Exactly 44) (codes "Infiniband")
     (number_at 0 4 ∷ guid_at 4 ∷ number_at 20 8 ∷ number_at 28 8 ∷ number_at 36 8 ∷ [])
-    ∷ row_of_forms 10 vendor_forms
-    ∷ row_of_forms 13 ipv6_forms
-    ∷ row_of 14 (Exactly 15) (codes "Uart")
-    (word_or_decimal_at 4 8 all_bits (word 0 (codes "DEFAULT") ∷ [])
-    ∷ word_or_decimal_at 12 1 all_bits (word 0 (codes "DEFAULT") ∷ [])
-    ∷ word_at 13 1 all_bits
-    (word 0 (codes "D") ∷ word 1 (codes "N") ∷ word 2 (codes "E") ∷ word 3 (codes "O") ∷ word 4 (codes "M")
-    ∷ word 5 (codes "S") ∷ [])
-    ∷ word_at 14 1 all_bits
-    (word 0 (codes "D") ∷ word 1 (codes "1") ∷ word 2 (codes "1.5") ∷ word 3 (codes "2") ∷ []) ∷ [])
-    ∷ row_of_forms 15 usb_forms
-    ∷ row_of 16 (Items 6 2) (codes "UsbWwid")
-    (number_at 2 2 ∷ number_at 4 2 ∷ number_at 0 2 ∷ field_of 6 to_end shows.Units ∷ [])
     ∷ row_of 17 (Exactly 1) (codes "Unit") (number_at 0 1 ∷ [])
     ∷ row_of 19 (AtLeast 14) (codes "iSCSI")
     (text_at 14 0 ∷ number_at 12 2 ∷ prefixed_at 4 8
@@ -316,20 +342,53 @@ messaging_rows =
     ∷ row_of_forms 22 sas_forms
     ∷ row_of 25 (Exactly 2) (codes "UFS") (number_at 0 1 ∷ number_at 1 1 ∷ [])
     ∷ row_of 26 (Exactly 1) (codes "SD") (number_at 0 1 ∷ [])
+    ∷ row_of 29 (Exactly 1) (codes "eMMC") (number_at 0 1 ∷ [])
+    ∷ row_of 32 (Exactly 16) (codes "NVDIMM") (guid_at 0 ∷ [])
+    ∷ row_of 34 (AtLeast 18) (codes "NVMEoF") (text_at 17 0 ∷ number_at 0 1 ∷ digits_at 1 16 ∷ [])
+    ∷ []
+
+-- 10.3.4.17
+abbrev pub vendor_rows : List NodeRow
+vendor_rows =
+    row_of_forms 10 vendor_forms
+    ∷ []
+
+-- 10.3.4: networks and serial lines
+abbrev pub network_rows : List NodeRow
+network_rows =
+    row_of_forms 11
+    (form_of (has_other_bits 32 0xFE 0) (Exactly 33) (codes "MAC") (digits_at 0 32 ∷ number_at 32 1 ∷ []) ∷ [])
+    ∷ row_of 12 (Exactly 15) (codes "IPv4")
+    (ipv4_at 4 ∷ protocol_at 12 ∷ word_at 14 1 all_bits (word 0 (codes "DHCP") ∷ word 1 (codes "Static") ∷ []) ∷ ipv4_at 0
+    ∷ [])
+    ∷ row_of_forms 13 ipv6_forms
+    ∷ row_of 14 (Exactly 15) (codes "Uart")
+    (word_or_decimal_at 4 8 all_bits (word 0 (codes "DEFAULT") ∷ [])
+    ∷ word_or_decimal_at 12 1 all_bits (word 0 (codes "DEFAULT") ∷ [])
+    ∷ word_at 13 1 all_bits
+    (word 0 (codes "D") ∷ word 1 (codes "N") ∷ word 2 (codes "E") ∷ word 3 (codes "O") ∷ word 4 (codes "M")
+    ∷ word 5 (codes "S") ∷ [])
+    ∷ word_at 14 1 all_bits
+    (word 0 (codes "D") ∷ word 1 (codes "1") ∷ word 2 (codes "1.5") ∷ word 3 (codes "2") ∷ []) ∷ [])
     ∷ row_of 27 (Exactly 6) (codes "Bluetooth") (digits_at 0 6 ∷ [])
     ∷ row_of 28 (Exactly 32) (codes "Wi-Fi") (field_of 0 32 (shows.Ascii 0) ∷ [])
-    ∷ row_of 29 (Exactly 1) (codes "eMMC") (number_at 0 1 ∷ [])
     ∷ row_of 30 (Exactly 7) (codes "BluetoothLE") (digits_at 0 6 ∷ number_at 6 1 ∷ [])
     ∷ row_of_forms 31
     (form_of (has_byte 0 0) (Items 17 16) (codes "Dns") (each_at 1 16 items.Ipv4 ∷ [])
     ∷ form_of (has_byte 0 1) (Items 17 16) (codes "Dns") (each_at 1 16 items.Ipv6 ∷ []) ∷ [])
-    ∷ row_of 32 (Exactly 16) (codes "NVDIMM") (guid_at 0 ∷ [])
     ∷ row_of_forms 33
     (form_of (has_byte 0 0xFF) (Exactly 18) (codes "RestService") (number_at 0 1 ∷ number_at 1 1 ∷ guid_at 2 ∷ [])
     ∷ form_of (has_byte 0 0xFF) (AtLeast 19) (codes "RestService")
     (number_at 0 1 ∷ number_at 1 1 ∷ guid_at 2 ∷ digits_at 18 to_end ∷ [])
     ∷ form_of (has_another_byte 0 0xFF) (Exactly 2) (codes "RestService") (number_at 0 1 ∷ number_at 1 1 ∷ []) ∷ [])
-    ∷ row_of 34 (AtLeast 18) (codes "NVMEoF") (text_at 17 0 ∷ number_at 0 1 ∷ digits_at 1 16 ∷ [])
+    ∷ []
+
+-- 10.3.4: USB
+abbrev pub usb_rows : List NodeRow
+usb_rows =
+    row_of_forms 15 usb_forms
+    ∷ row_of 16 (Items 6 2) (codes "UsbWwid")
+    (number_at 2 2 ∷ number_at 4 2 ∷ number_at 0 2 ∷ field_of 6 to_end shows.Units ∷ [])
     ∷ []
 
 -- 10.3.5.9: the forms of RAM disks, by the GUIDs of their types as these are stored
@@ -358,7 +417,9 @@ ram_disk_forms =
 -- 10.3.5
 abbrev pub media_rows : List NodeRow
 media_rows =
-    row_of 5 (Exactly 16) (codes "Media") (guid_at 0 ∷ [])
+    row_of 1 (Exactly 38) (codes "HD")
+    (decimal_at 0 4 ∷ decimal_at 37 1 ∷ always_at 20 16 (codes "0") ∷ number_at 4 8 ∷ number_at 12 8 ∷ [])
+    ∷ row_of 5 (Exactly 16) (codes "Media") (guid_at 0 ∷ [])
     ∷ row_of 6 (Exactly 16) (codes "FvFile") (guid_at 0 ∷ [])
     ∷ row_of 7 (Exactly 16) (codes "Fv") (guid_at 0 ∷ [])
     ∷ row_of 8 (Exactly 20) (codes "Offset") (number_at 4 8 ∷ number_at 12 8 ∷ [])
@@ -375,12 +436,14 @@ bios_boot_rows =
     ∷ text_at 4 0 ∷ number_at 2 2 ∷ [])
     ∷ []
 
+-- the rows of a type
+abbrev pub group_of : ℕ → List NodeRow → NodeGroup
+group_of kind rows = record { kind = kind; rows = to rows }
+
 -- the table
 unfoldable pub standard_table : NodeTable
 standard_table = record {
-  hardware = to hardware_rows;
-  acpi = to acpi_rows;
-  messaging = to messaging_rows;
-  media = to media_rows;
-  bios_boot = to bios_boot_rows;
+  groups =
+      group_of 1 hardware_rows ∷ group_of 2 acpi_rows ∷ group_of 3 storage_rows ∷ group_of 3 vendor_rows
+      ∷ group_of 3 network_rows ∷ group_of 3 usb_rows ∷ group_of 4 media_rows ∷ group_of 5 bios_boot_rows ∷ [];
 }

@@ -176,8 +176,8 @@ fn table_fault(
 ) -> Result<NamedFault, AllocError> {
     let start = after(place, name);
     let mut fault = NamedFault::UnknownName(place);
-    for kind in 1..=5u8 {
-        fault = rows_fault(alloc, table.rows_of(kind), name, inside, start, fault)?;
+    for group in &table.groups {
+        fault = rows_fault(alloc, group.rows, name, inside, start, fault)?;
     }
     Ok(match fault {
         NamedFault::BadData(_) => NamedFault::BadData(place),

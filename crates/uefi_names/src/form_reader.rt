@@ -6,11 +6,11 @@ ghost use Rattle.std.specs.List.{find};
 ghost use Rattle.uefi_names.specs.Table.{to_end};
 ghost use Rattle.uefi_path.specs.Row.{row};
 ghost use Rattle.uefi_names.specs.SpelledFields.{spelled_of};
-ghost use Rattle.uefi_names.specs.Read.{spelled_in, items_read, first_read, all_read, items_of, field_read, fields_read, arguments_of, front_len, with_bits, front_of, with_fields, rank_of, with_tails, body_of, form_read, named_form_read, forms_read, rows_read, table_read};
+ghost use Rattle.uefi_names.specs.Read.{spelled_in, items_read, first_read, all_read, items_of, field_read, fields_read, arguments_of, front_len, with_bits, front_of, with_fields, rank_of, with_tails, body_of, form_read, named_form_read, forms_read, rows_read, groups_read, table_read};
 
 use crate::cut::arguments_in;
 use crate::spelled::{is_word, item_bytes, spelled};
-use crate::table::{Field, Form, Item, NodeRow, NodeTable, REST, Show, When};
+use crate::table::{Field, Form, Item, NodeGroup, NodeRow, NodeTable, REST, Show, When};
 use std::alloc::{AllocError, Global};
 
 /// A node as it is read: its type, its sub-type and its data.
@@ -55,20 +55,25 @@ impl NodeTable {
     ) -> Result<Option<ReadRow>, AllocError>
         ensures { IfOk result (λ read. option_map (λ r. row r.kind r.sub r.body.items) read ≡ table_read self.now name.now inside.now) }
     {
-        if let Some(row) = rows_read(alloc, 1, self.hardware, name, inside)? {
-            return Ok(Some(row));
-        }
-        if let Some(row) = rows_read(alloc, 2, self.acpi, name, inside)? {
-            return Ok(Some(row));
-        }
-        if let Some(row) = rows_read(alloc, 3, self.messaging, name, inside)? {
-            return Ok(Some(row));
-        }
-        if let Some(row) = rows_read(alloc, 4, self.media, name, inside)? {
-            return Ok(Some(row));
-        }
-        rows_read(alloc, 5, self.bios_boot, name, inside)
+        groups_read(alloc, &self.groups, name, inside)
     }
+}
+
+/// The same by some groups of rows.
+fn groups_read(
+    alloc: Global,
+    groups: &[NodeGroup],
+    name: &str,
+    inside: &str,
+) -> Result<Option<ReadRow>, AllocError>
+    ensures { IfOk result (λ read. option_map (λ r. row r.kind r.sub r.body.items) read ≡ groups_read name.now inside.now groups.now) }
+{
+    for group in groups {
+        if let Some(row) = rows_read(alloc, group.kind, group.rows, name, inside)? {
+            return Ok(Some(row));
+        }
+    }
+    Ok(None)
 }
 
 /// The same by the rows of a type.
@@ -316,6 +321,10 @@ fn front_of(alloc: Global, when: When, len: usize) -> Result<Vec<u8>, AllocError
         When::Always | When::Unlike { .. } => {}
         When::Byte { at, is, .. } => set_bits(at, &[is], &mut front),
         When::Bytes { at, are } => set_bits(at, are, &mut front),
+        When::BytesAndByte { are, at, is, .. } => {
+            set_bits(0, are, &mut front);
+            set_bits(at, &[is], &mut front);
+        }
     }
     Ok(front)
 }

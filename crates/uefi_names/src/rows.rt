@@ -1,12 +1,12 @@
-//! The table of the nodes that have a name here: each of the standard (UEFI 2.10, 10.3) that [`Node`](uefi_path::Node)
-//! has no case for.
+//! The table of the nodes that have a name here: those of the standard (UEFI 2.10, 10.3) that have no exact text, or
+//! another form beside it. Its rows are in groups, each proved for itself: one proof of all would be too large.
 
 ghost use Rattle.std.specs.Prelude.{◌≡◌};
 ghost use Rattle.uefi_names.specs.Table.{IsTable, AreWhole};
-ghost use Rattle.uefi_names.specs.Standard.{plain_table, standard_table};
+ghost use Rattle.uefi_names.specs.Standard.{plain_group, plain_table, group_of, hardware_rows, acpi_rows, storage_rows, vendor_rows, network_rows, usb_rows, media_rows, bios_boot_rows, standard_table};
 
 use crate::table::{
-    DataLen, Field, Form, Item, NodeRow, NodeTable, Numeral, REST, Show, When, Word,
+    DataLen, Field, Form, Item, NodeGroup, NodeRow, NodeTable, Numeral, REST, Show, When, Word,
 };
 
 /// A form: what the data must have in them, how long they must be, the name, and of each field the offset, the length
@@ -104,6 +104,36 @@ macro_rules! sas_topology {
     };
 }
 
+/// The form of a vendor's node for a SAS device with this condition, and of the four arguments of its topology.
+macro_rules! vendor_sas {
+    ($when:expr, [$($topology:tt),*]) => {
+        form!(
+            $when,
+            DataLen::Exactly(40),
+            "SAS",
+            [
+                (20, 8, HEX),
+                (28, 8, HEX),
+                (38, 2, HEX),
+                $($topology,)*
+                (16, 4, HEX)
+            ]
+        )
+    };
+}
+
+/// The condition that a vendor's node is of a SAS device whose topology has these low and high bits.
+macro_rules! has_sas_topology {
+    ($is:literal) => {
+        When::BytesAndByte {
+            are: &SAS,
+            at: 36,
+            mask: 0x8f,
+            is: $is,
+        }
+    };
+}
+
 const HEX: Show = Show::Number(Numeral::Hexadecimal);
 
 const DECIMAL: Show = Show::Number(Numeral::Decimal);
@@ -190,6 +220,10 @@ const DEBUG_PORT: [u8; 16] = [
     0xd2, 0xe8, 0xa4, 0xeb, 0x58, 0x38, 0xec, 0x41, 0xa2, 0x81, 0x26, 0x47, 0xba, 0x96, 0x60, 0xd0,
 ];
 
+const SAS: [u8; 16] = [
+    0xb4, 0xdd, 0x87, 0xd4, 0x8b, 0x00, 0xd9, 0x11, 0xaf, 0xdc, 0x00, 0x10, 0x83, 0xff, 0xca, 0x4d,
+];
+
 /// The types of RAM disks, as GUIDs in the order in which their bytes are stored.
 const VIRTUAL_DISK: [u8; 16] = [
     0x5a, 0x53, 0xab, 0x77, 0xfc, 0x45, 0x4b, 0x62, 0x55, 0x60, 0xf7, 0xb2, 0x81, 0xd1, 0xf9, 0x6e,
@@ -207,6 +241,7 @@ const PERSISTENT_VIRTUAL_CD: [u8; 16] = [
     0x88, 0x81, 0x01, 0x08, 0xcd, 0x42, 0x48, 0xbb, 0x10, 0x0f, 0x53, 0x87, 0xd5, 0x3d, 0xed, 0x3d,
 ];
 
+/// Hardware (10.3.2).
 static HARDWARE: [NodeRow; 4] = [
     row!(2, DataLen::Exactly(1), "PcCard", [(0, 1, HEX)]),
     row!(
@@ -219,6 +254,7 @@ static HARDWARE: [NodeRow; 4] = [
     row!(6, DataLen::Exactly(9), "BMC", [(0, 1, HEX), (1, 8, HEX)]),
 ];
 
+/// ACPI (10.3.3).
 static ACPI: [NodeRow; 4] = [
     NodeRow {
         sub: 1,
@@ -276,7 +312,8 @@ static ACPI: [NodeRow; 4] = [
     row!(4, DataLen::Exactly(4), "AcpiNVDIMM", [(0, 4, HEX)]),
 ];
 
-static MESSAGING: [NodeRow; 25] = [
+/// Buses and drives (10.3.4).
+static STORAGE: [NodeRow; 15] = [
     row!(
         1,
         DataLen::Exactly(4),
@@ -318,129 +355,6 @@ static MESSAGING: [NodeRow; 25] = [
             (20, 8, HEX),
             (28, 8, HEX),
             (36, 8, HEX)
-        ]
-    ),
-    NodeRow {
-        sub: 10,
-        forms: &[
-            vendor!(PC_ANSI, 16, "VenPcAnsi", []),
-            vendor!(VT_100, 16, "VenVt100", []),
-            vendor!(VT_100_PLUS, 16, "VenVt100Plus", []),
-            vendor!(VT_UTF8, 16, "VenUtf8", []),
-            vendor!(
-                UART_FLOW_CONTROL,
-                20,
-                "UartFlowCtrl",
-                [(
-                    16,
-                    4,
-                    words!(
-                        ALL,
-                        Numeral::Hexadecimal,
-                        [(0, "None"), (1, "Hardware"), (2, "XonXoff")]
-                    )
-                )]
-            ),
-            vendor!(DEBUG_PORT, 16, "DebugPort", []),
-        ],
-    },
-    NodeRow {
-        sub: 13,
-        forms: &[
-            form!(
-                When::Always,
-                DataLen::Exactly(56),
-                "IPv6",
-                [
-                    (16, 16, Show::Ipv6),
-                    (36, 2, PROTOCOL),
-                    (38, 1, ORIGIN),
-                    (0, 16, Show::Ipv6),
-                    (39, 1, HEX),
-                    (40, 16, Show::Ipv6)
-                ]
-            ),
-            form!(
-                When::Always,
-                DataLen::Exactly(39),
-                "IPv6",
-                [
-                    (16, 16, Show::Ipv6),
-                    (36, 2, PROTOCOL),
-                    (38, 1, ORIGIN),
-                    (0, 16, Show::Ipv6)
-                ]
-            ),
-        ],
-    },
-    row!(
-        14,
-        DataLen::Exactly(15),
-        "Uart",
-        [
-            (4, 8, words!(ALL, Numeral::Decimal, [(0, "DEFAULT")])),
-            (12, 1, words!(ALL, Numeral::Decimal, [(0, "DEFAULT")])),
-            (
-                13,
-                1,
-                words!(
-                    ALL,
-                    Numeral::Hexadecimal,
-                    [(0, "D"), (1, "N"), (2, "E"), (3, "O"), (4, "M"), (5, "S")]
-                )
-            ),
-            (
-                14,
-                1,
-                words!(
-                    ALL,
-                    Numeral::Hexadecimal,
-                    [(0, "D"), (1, "1"), (2, "1.5"), (3, "2")]
-                )
-            )
-        ]
-    ),
-    NodeRow {
-        sub: 15,
-        forms: &[
-            usb_class!(0x01, "UsbAudio"),
-            usb_class!(0x02, "UsbCDCControl"),
-            usb_class!(0x03, "UsbHID"),
-            usb_class!(0x06, "UsbImage"),
-            usb_class!(0x07, "UsbPrinter"),
-            usb_class!(0x08, "UsbMassStorage"),
-            usb_class!(0x09, "UsbHub"),
-            usb_class!(0x0a, "UsbCDCData"),
-            usb_class!(0x0b, "UsbSmartCard"),
-            usb_class!(0x0e, "UsbVideo"),
-            usb_class!(0xdc, "UsbDiagnostic"),
-            usb_class!(0xe0, "UsbWireless"),
-            usb_application!(0x01, "UsbDeviceFirmwareUpdate"),
-            usb_application!(0x02, "UsbIrdaBridge"),
-            usb_application!(0x03, "UsbTestAndMeasurement"),
-            form!(
-                When::Always,
-                DataLen::Exactly(7),
-                "UsbClass",
-                [
-                    (0, 2, HEX),
-                    (2, 2, HEX),
-                    (4, 1, HEX),
-                    (5, 1, HEX),
-                    (6, 1, HEX)
-                ]
-            ),
-        ],
-    },
-    row!(
-        16,
-        DataLen::Items { before: 6, each: 2 },
-        "UsbWwid",
-        [
-            (2, 2, HEX),
-            (4, 2, HEX),
-            (0, 2, HEX),
-            (6, REST, Show::Units)
         ]
     ),
     row!(17, DataLen::Exactly(1), "Unit", [(0, 1, HEX)]),
@@ -521,9 +435,165 @@ static MESSAGING: [NodeRow; 25] = [
     },
     row!(25, DataLen::Exactly(2), "UFS", [(0, 1, HEX), (1, 1, HEX)]),
     row!(26, DataLen::Exactly(1), "SD", [(0, 1, HEX)]),
+    row!(29, DataLen::Exactly(1), "eMMC", [(0, 1, HEX)]),
+    row!(32, DataLen::Exactly(16), "NVDIMM", [(0, 16, Show::Guid)]),
+    row!(
+        34,
+        DataLen::AtLeast(18),
+        "NVMEoF",
+        [
+            (17, REST, Show::Ascii(0)),
+            (0, 1, HEX),
+            (1, 16, Show::Digits)
+        ]
+    ),
+];
+
+/// Nodes of vendors (10.3.4.17).
+static VENDORS: [NodeRow; 1] = [NodeRow {
+    sub: 10,
+    forms: &[
+        vendor!(PC_ANSI, 16, "VenPcAnsi", []),
+        vendor!(VT_100, 16, "VenVt100", []),
+        vendor!(VT_100_PLUS, 16, "VenVt100Plus", []),
+        vendor!(VT_UTF8, 16, "VenUtf8", []),
+        vendor!(
+            UART_FLOW_CONTROL,
+            20,
+            "UartFlowCtrl",
+            [(
+                16,
+                4,
+                words!(
+                    ALL,
+                    Numeral::Hexadecimal,
+                    [(0, "None"), (1, "Hardware"), (2, "XonXoff")]
+                )
+            )]
+        ),
+        vendor!(DEBUG_PORT, 16, "DebugPort", []),
+        vendor_sas!(
+            has_sas_topology!(0),
+            [
+                (36, 2, Show::Literal("NoTopology")),
+                (36, 2, ZERO),
+                (36, 2, ZERO),
+                (36, 2, ZERO)
+            ]
+        ),
+        vendor_sas!(
+            has_sas_topology!(1),
+            [
+                (36, 1, SAS_PROTOCOL),
+                (36, 1, SAS_LOCATION),
+                (36, 1, SAS_CONNECTION),
+                (37, 1, ZERO)
+            ]
+        ),
+        vendor_sas!(
+            has_sas_topology!(2),
+            [
+                (36, 1, SAS_PROTOCOL),
+                (36, 1, SAS_LOCATION),
+                (36, 1, SAS_CONNECTION),
+                (37, 1, Show::OneMore)
+            ]
+        ),
+        vendor_sas!(
+            When::Bytes { at: 0, are: &SAS },
+            [(36, 2, HEX), (36, 2, ZERO), (36, 2, ZERO), (36, 2, ZERO)]
+        ),
+    ],
+}];
+
+/// Networks and serial lines (10.3.4).
+static NETWORKS: [NodeRow; 9] = [
+    NodeRow {
+        sub: 11,
+        forms: &[form!(
+            When::Unlike {
+                at: 32,
+                mask: 0xfe,
+                is: 0
+            },
+            DataLen::Exactly(33),
+            "MAC",
+            [(0, 32, Show::Digits), (32, 1, HEX)]
+        )],
+    },
+    row!(
+        12,
+        DataLen::Exactly(15),
+        "IPv4",
+        [
+            (4, 4, Show::Ipv4),
+            (12, 2, PROTOCOL),
+            (
+                14,
+                1,
+                words!(ALL, Numeral::Hexadecimal, [(0, "DHCP"), (1, "Static")])
+            ),
+            (0, 4, Show::Ipv4)
+        ]
+    ),
+    NodeRow {
+        sub: 13,
+        forms: &[
+            form!(
+                When::Always,
+                DataLen::Exactly(56),
+                "IPv6",
+                [
+                    (16, 16, Show::Ipv6),
+                    (36, 2, PROTOCOL),
+                    (38, 1, ORIGIN),
+                    (0, 16, Show::Ipv6),
+                    (39, 1, HEX),
+                    (40, 16, Show::Ipv6)
+                ]
+            ),
+            form!(
+                When::Always,
+                DataLen::Exactly(39),
+                "IPv6",
+                [
+                    (16, 16, Show::Ipv6),
+                    (36, 2, PROTOCOL),
+                    (38, 1, ORIGIN),
+                    (0, 16, Show::Ipv6)
+                ]
+            ),
+        ],
+    },
+    row!(
+        14,
+        DataLen::Exactly(15),
+        "Uart",
+        [
+            (4, 8, words!(ALL, Numeral::Decimal, [(0, "DEFAULT")])),
+            (12, 1, words!(ALL, Numeral::Decimal, [(0, "DEFAULT")])),
+            (
+                13,
+                1,
+                words!(
+                    ALL,
+                    Numeral::Hexadecimal,
+                    [(0, "D"), (1, "N"), (2, "E"), (3, "O"), (4, "M"), (5, "S")]
+                )
+            ),
+            (
+                14,
+                1,
+                words!(
+                    ALL,
+                    Numeral::Hexadecimal,
+                    [(0, "D"), (1, "1"), (2, "1.5"), (3, "2")]
+                )
+            )
+        ]
+    ),
     row!(27, DataLen::Exactly(6), "Bluetooth", [(0, 6, Show::Digits)]),
     row!(28, DataLen::Exactly(32), "Wi-Fi", [(0, 32, Show::Ascii(0))]),
-    row!(29, DataLen::Exactly(1), "eMMC", [(0, 1, HEX)]),
     row!(
         30,
         DataLen::Exactly(7),
@@ -561,7 +631,6 @@ static MESSAGING: [NodeRow; 25] = [
             ),
         ],
     },
-    row!(32, DataLen::Exactly(16), "NVDIMM", [(0, 16, Show::Guid)]),
     NodeRow {
         sub: 33,
         forms: &[
@@ -591,26 +660,80 @@ static MESSAGING: [NodeRow; 25] = [
                 ]
             ),
             form!(
-                When::Unlike { at: 0, is: 0xff },
+                When::Unlike {
+                    at: 0,
+                    mask: 0xff,
+                    is: 0xff
+                },
                 DataLen::Exactly(2),
                 "RestService",
                 [(0, 1, HEX), (1, 1, HEX)]
             ),
         ],
     },
+];
+
+/// USB (10.3.4).
+static USB: [NodeRow; 2] = [
+    NodeRow {
+        sub: 15,
+        forms: &[
+            usb_class!(0x01, "UsbAudio"),
+            usb_class!(0x02, "UsbCDCControl"),
+            usb_class!(0x03, "UsbHID"),
+            usb_class!(0x06, "UsbImage"),
+            usb_class!(0x07, "UsbPrinter"),
+            usb_class!(0x08, "UsbMassStorage"),
+            usb_class!(0x09, "UsbHub"),
+            usb_class!(0x0a, "UsbCDCData"),
+            usb_class!(0x0b, "UsbSmartCard"),
+            usb_class!(0x0e, "UsbVideo"),
+            usb_class!(0xdc, "UsbDiagnostic"),
+            usb_class!(0xe0, "UsbWireless"),
+            usb_application!(0x01, "UsbDeviceFirmwareUpdate"),
+            usb_application!(0x02, "UsbIrdaBridge"),
+            usb_application!(0x03, "UsbTestAndMeasurement"),
+            form!(
+                When::Always,
+                DataLen::Exactly(7),
+                "UsbClass",
+                [
+                    (0, 2, HEX),
+                    (2, 2, HEX),
+                    (4, 1, HEX),
+                    (5, 1, HEX),
+                    (6, 1, HEX)
+                ]
+            ),
+        ],
+    },
     row!(
-        34,
-        DataLen::AtLeast(18),
-        "NVMEoF",
+        16,
+        DataLen::Items { before: 6, each: 2 },
+        "UsbWwid",
         [
-            (17, REST, Show::Ascii(0)),
-            (0, 1, HEX),
-            (1, 16, Show::Digits)
+            (2, 2, HEX),
+            (4, 2, HEX),
+            (0, 2, HEX),
+            (6, REST, Show::Units)
         ]
     ),
 ];
 
-static MEDIA: [NodeRow; 5] = [
+/// Media (10.3.5).
+static MEDIA: [NodeRow; 6] = [
+    row!(
+        1,
+        DataLen::Exactly(38),
+        "HD",
+        [
+            (0, 4, DECIMAL),
+            (37, 1, DECIMAL),
+            (20, 16, ZERO),
+            (4, 8, HEX),
+            (12, 8, HEX)
+        ]
+    ),
     row!(5, DataLen::Exactly(16), "Media", [(0, 16, Show::Guid)]),
     row!(6, DataLen::Exactly(16), "FvFile", [(0, 16, Show::Guid)]),
     row!(7, DataLen::Exactly(16), "Fv", [(0, 16, Show::Guid)]),
@@ -642,6 +765,7 @@ static MEDIA: [NodeRow; 5] = [
     },
 ];
 
+/// BIOS boot specification (10.3.6).
 static BIOS_BOOT: [NodeRow; 1] = [row!(
     1,
     DataLen::AtLeast(5),
@@ -669,18 +793,95 @@ static BIOS_BOOT: [NodeRow; 1] = [row!(
 )];
 
 impl NodeTable {
-    /// The table of the nodes of the standard that [`Node`](uefi_path::Node) has no case for.
+    /// The table of the nodes of the standard that have no exact text, or another form beside it.
     pub fn standard() -> NodeTable
         ensures rows { plain_table result ≡ standard_table }
         ensures distinct { IsTable result }
         ensures whole { AreWhole result }
     {
         NodeTable {
-            hardware: &HARDWARE,
-            acpi: &ACPI,
-            messaging: &MESSAGING,
-            media: &MEDIA,
-            bios_boot: &BIOS_BOOT,
+            groups: [
+                hardware(),
+                acpi(),
+                storage(),
+                vendors(),
+                networks(),
+                usb(),
+                media(),
+                bios_boot(),
+            ],
         }
+    }
+}
+
+fn hardware() -> NodeGroup
+    ensures { plain_group result ≡ group_of 1 hardware_rows }
+{
+    NodeGroup {
+        kind: 1,
+        rows: &HARDWARE,
+    }
+}
+
+fn acpi() -> NodeGroup
+    ensures { plain_group result ≡ group_of 2 acpi_rows }
+{
+    NodeGroup {
+        kind: 2,
+        rows: &ACPI,
+    }
+}
+
+fn storage() -> NodeGroup
+    ensures { plain_group result ≡ group_of 3 storage_rows }
+{
+    NodeGroup {
+        kind: 3,
+        rows: &STORAGE,
+    }
+}
+
+fn vendors() -> NodeGroup
+    ensures { plain_group result ≡ group_of 3 vendor_rows }
+{
+    NodeGroup {
+        kind: 3,
+        rows: &VENDORS,
+    }
+}
+
+fn networks() -> NodeGroup
+    ensures { plain_group result ≡ group_of 3 network_rows }
+{
+    NodeGroup {
+        kind: 3,
+        rows: &NETWORKS,
+    }
+}
+
+fn usb() -> NodeGroup
+    ensures { plain_group result ≡ group_of 3 usb_rows }
+{
+    NodeGroup {
+        kind: 3,
+        rows: &USB,
+    }
+}
+
+fn media() -> NodeGroup
+    ensures { plain_group result ≡ group_of 4 media_rows }
+{
+    NodeGroup {
+        kind: 4,
+        rows: &MEDIA,
+    }
+}
+
+fn bios_boot() -> NodeGroup
+    ensures { plain_group result ≡ group_of 5 bios_boot_rows }
+{
+    NodeGroup {
+        kind: 5,
+        rows: &BIOS_BOOT,
     }
 }

@@ -3,21 +3,22 @@
 ghost use Rattle.std.specs.Prelude.{◌≡◌, ◌==◌, slice_index};
 ghost use Rattle.std.specs.Option.{option_copied};
 ghost use Rattle.std.specs.List.{find};
-ghost use Rattle.uefi_names.specs.Table.{allows, holds, fits, rows_of, form_for, forms_for, part, least};
+ghost use Rattle.uefi_names.specs.Table.{allows, holds, fits, row_in, row_among, row_for, form_for, forms_for, part, least};
 
-/// The table of nodes, by their types (UEFI 2.10, 10.3).
+/// The table of nodes (UEFI 2.10, 10.3).
 #[derive(Clone, Copy, Debug)]
 pub struct NodeTable {
-    /// The rows of type 1, hardware (10.3.2).
-    pub hardware: &'static [NodeRow],
-    /// The rows of type 2, ACPI (10.3.3).
-    pub acpi: &'static [NodeRow],
-    /// The rows of type 3, messaging (10.3.4).
-    pub messaging: &'static [NodeRow],
-    /// The rows of type 4, media (10.3.5).
-    pub media: &'static [NodeRow],
-    /// The rows of type 5, BIOS boot specification (10.3.6).
-    pub bios_boot: &'static [NodeRow],
+    /// The rows, in groups. A type may have several groups, and a group no rows.
+    pub groups: [NodeGroup; 8],
+}
+
+/// Rows of one type.
+#[derive(Clone, Copy, Debug)]
+pub struct NodeGroup {
+    /// The type.
+    pub kind: u8,
+    /// The rows.
+    pub rows: &'static [NodeRow],
 }
 
 /// A row of the table: the nodes of a type and a sub-type, and how they are printed.
@@ -56,11 +57,13 @@ pub enum When {
         /// What they must be.
         is: u8,
     },
-    /// A byte that is another one than this.
+    /// A byte that has other bits of the mask than these.
     Unlike {
         /// The byte's offset in the data.
         at: usize,
-        /// What it must not be.
+        /// The bits that count.
+        mask: u8,
+        /// What they must not be.
         is: u8,
     },
     /// These bytes.
@@ -69,6 +72,17 @@ pub enum When {
         at: usize,
         /// The bytes.
         are: &'static [u8],
+    },
+    /// These bytes first, and a byte that has these bits of the mask.
+    BytesAndByte {
+        /// The bytes.
+        are: &'static [u8],
+        /// The byte's offset in the data.
+        at: usize,
+        /// The bits that count.
+        mask: u8,
+        /// What they must be.
+        is: u8,
     },
 }
 
@@ -209,8 +223,11 @@ impl When {
         match self {
             When::Always => true,
             When::Byte { at, mask, is } => byte(body, at) & mask == is,
-            When::Unlike { at, is } => byte(body, at) != is,
+            When::Unlike { at, mask, is } => byte(body, at) & mask != is,
             When::Bytes { at, are } => part(body, at, are.len()) == are,
+            When::BytesAndByte { are, at, mask, is } => {
+                part(body, 0, are.len()) == are && byte(body, at) & mask == is
+            }
         }
     }
 }
@@ -229,7 +246,7 @@ impl NodeTable {
     pub fn form_of(&self, kind: u8, sub: u8, body: &[u8]) -> Option<&'static Form>
         ensures { option_copied result ≡ form_for self.now kind sub body.now }
     {
-        let row = row_of(self.rows_of(kind), sub)?;
+        let row = self.row_for(kind, sub)?;
         first_fitting(row.forms, body)
     }
 
@@ -237,25 +254,43 @@ impl NodeTable {
     pub(crate) fn forms_for(&self, kind: u8, sub: u8) -> &'static [Form]
         ensures { result.now ≡ forms_for self.now kind sub }
     {
-        match row_of(self.rows_of(kind), sub) {
+        match self.row_for(kind, sub) {
             Some(row) => row.forms,
             None => &[],
         }
     }
 
-    /// The rows of a type: none if it has none.
-    pub fn rows_of(&self, kind: u8) -> &'static [NodeRow]
-        ensures { result.now ≡ rows_of self.now kind }
+    /// The row of a type and a sub-type.
+    fn row_for(&self, kind: u8, sub: u8) -> Option<&'static NodeRow>
+        ensures { option_copied result ≡ row_for self.now kind sub }
     {
-        match kind {
-            1 => self.hardware,
-            2 => self.acpi,
-            3 => self.messaging,
-            4 => self.media,
-            5 => self.bios_boot,
-            _ => &[],
+        row_among(&self.groups, kind, sub)
+    }
+}
+
+impl NodeGroup {
+    /// The row of a sub-type, if the group is of the type.
+    fn row_of(&self, kind: u8, sub: u8) -> Option<&'static NodeRow>
+        ensures { option_copied result ≡ row_in kind sub self.now }
+    {
+        if self.kind == kind {
+            row_of(self.rows, sub)
+        } else {
+            None
         }
     }
+}
+
+/// The first row of a type and a sub-type in some groups.
+fn row_among(groups: &[NodeGroup], kind: u8, sub: u8) -> Option<&'static NodeRow>
+    ensures { option_copied result ≡ row_among kind sub groups.now }
+{
+    for group in groups {
+        if let Some(row) = group.row_of(kind, sub) {
+            return Some(row);
+        }
+    }
+    None
 }
 
 /// The row of a sub-type.
