@@ -10,7 +10,7 @@ pub only_path : {P : Type 0} (Is : P → Type 0) → ((p q : P) → Is p → Is 
 only_path Is one (Ok p) found none path is = inl (ap Ok (one p path found is))
 only_path Is one (Err faults.OutOfMemory) found none path is = inr refl
 only_path Is one (Err (faults.BadSegment place)) found none path is = absurd (none (λ e. cc) path is)
-only_path Is one (Err (faults.UnknownName place)) found none path is = absurd (none (λ e. cc) path is)
+only_path Is one (Err (faults.UnknownName place name)) found none path is = absurd (none (λ e. cc) path is)
 only_path Is one (Err (faults.BadArgument place field)) found none path is = absurd (none (λ e. cc) path is)
 only_path Is one (Err (faults.BadCount place)) found none path is = absurd (none (λ e. cc) path is)
 only_path Is one (Err (faults.BadData place)) found none path is = absurd (none (λ e. cc) path is)

@@ -8,3 +8,5 @@ pub mod Spelled
 pub mod Read
 pub mod SpelledFields
 pub mod Reading
+-- what the contracts of private functions cite
+pub mod Nearest

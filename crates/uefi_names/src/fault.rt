@@ -4,6 +4,7 @@ ghost use Rattle.std.specs.Prelude.{◌≡◌};
 ghost use Rattle.uefi_names.specs.declared.fault.NamedFault.TheVariants as faults;
 
 use crate::cut::{named_parts, pieces, trimmed};
+use crate::nearest::nearest_name;
 use crate::reading::{profile_name, respelled, segment_read, segments_in, takes_whole};
 use crate::spelled::{is_word, spelled};
 use crate::table::{Field, Form, NodeRow, NodeTable, Show};
@@ -18,9 +19,9 @@ pub enum NamedFault {
     /// What begins at this place isn't a segment: it has no parentheses, or doesn't end with them.
     #[error("BadSegment {0}")]
     BadSegment(usize),
-    /// No node has the name at this place.
+    /// No node has the name at this place. With it comes the nearest name, if one is near.
     #[error("UnknownName {0}")]
-    UnknownName(usize),
+    UnknownName(usize, Option<&'static str>),
     /// The argument at this place isn't one of this field.
     #[error("BadArgument {0}")]
     BadArgument(usize, Field),
@@ -44,7 +45,7 @@ impl NamedFault {
     pub fn place(&self) -> Option<usize> {
         match self {
             NamedFault::BadSegment(place)
-            | NamedFault::UnknownName(place)
+            | NamedFault::UnknownName(place, _)
             | NamedFault::BadArgument(place, _)
             | NamedFault::BadCount(place)
             | NamedFault::BadData(place) => Some(*place),
@@ -175,11 +176,14 @@ fn table_fault(
     place: usize,
 ) -> Result<NamedFault, AllocError> {
     let start = after(place, name);
-    let mut fault = NamedFault::UnknownName(place);
+    let mut fault = NamedFault::UnknownName(place, None);
     for group in &table.groups {
         fault = rows_fault(alloc, group.rows, name, inside, start, fault)?;
     }
     Ok(match fault {
+        NamedFault::UnknownName(..) => {
+            NamedFault::UnknownName(place, nearest_name(alloc, table, name)?)
+        }
         NamedFault::BadData(_) => NamedFault::BadData(place),
         fault => fault,
     })

@@ -7,6 +7,7 @@ mod fault;
 mod form_reader;
 pub mod laws;
 mod named;
+mod nearest;
 mod reading;
 mod rows;
 mod shown;

@@ -169,7 +169,7 @@ pub(crate) fn profile_name(name: &str) -> Option<&'static str>
 }
 
 /// The names of the nodes that have a case of their own.
-fn profile_names() -> &'static [&'static str]
+pub(crate) fn profile_names() -> &'static [&'static str]
     ensures { map (λ name. name.now) result.now ≡ profile_names }
 {
     &PROFILE_NAMES
