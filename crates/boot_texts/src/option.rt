@@ -7,7 +7,7 @@ ghost use Rattle.uefi_names.specs.Reading.{IsNamedText};
 ghost use Rattle.boot_texts.specs.OptionOfWords.{ArePathTexts, IsOptionOfWords};
 
 use crate::description::{DescriptionFault, append_text, description_units};
-use crate::reason::{named_reason, option_words};
+use crate::reason::{FaultReason, named_reason, option_words};
 use std::alloc::{AllocError, AllocFailed, Global};
 use thiserror::Error;
 use uefi_names::{NamedFault, read_named_text};
@@ -68,7 +68,7 @@ pub enum OptionWordsFault {
         /// The fault of its text, with the place.
         fault: NamedFault,
         /// The fault in plain words.
-        reason: &'static str,
+        reason: FaultReason,
     },
     /// The description has an escape that is none.
     #[error("the description: {0}")]
@@ -218,7 +218,7 @@ fn text_fault(alloc: Global, text: &str, number: usize, fault: NamedFault) -> Op
         return OptionWordsFault::PathOfBytes(number);
     }
     let reason = if is_plain_name(text, fault) {
-        PLAIN_NAME
+        FaultReason::Words(PLAIN_NAME)
     } else {
         named_reason(&fault)
     };

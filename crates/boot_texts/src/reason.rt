@@ -14,6 +14,9 @@ use uefi_vars::{ATTRIBUTES_LEN, VarFault};
 const HAS_ATTRIBUTES: &str =
     "four bytes come before the load option, as in a file of efivarfs: leave them out";
 
+/// What is said of a name that no node has.
+const NO_SUCH_NAME: &str = "no node has this name";
+
 /// Why something is refused. Its `Display` is in plain words.
 #[derive(Clone, Copy, Debug, PartialEq, Eq)]
 pub enum FaultReason {
@@ -21,6 +24,8 @@ pub enum FaultReason {
     Words(&'static str),
     /// In words that speak of a length, and then the length that there is and the one that there has to be, in bytes.
     Sizes(&'static str, Sizes),
+    /// In words that speak of a name, and then the nearest name that there is.
+    Nearest(&'static str, &'static str),
     /// At a character of a line that is no hexadecimal digit, counted from 1.
     Column(usize),
 }
@@ -51,6 +56,7 @@ impl fmt::Display for FaultReason {
             FaultReason::Sizes(words, sizes) => {
                 write!(f, "{words}: {} in place of {}", sizes.found, sizes.wanted)
             }
+            FaultReason::Nearest(words, name) => write!(f, "{words}: the nearest is {name}"),
             FaultReason::Column(column) => {
                 write!(
                     f,
@@ -113,10 +119,18 @@ fn path_words(fault: &PathFault) -> &'static str {
 
 /// Why a text in which nodes have their names stands for no device path (UEFI 2.10, 10.6), after the words `at that
 /// character`.
-pub(crate) fn named_reason(fault: &NamedFault) -> &'static str {
+pub(crate) fn named_reason(fault: &NamedFault) -> FaultReason {
+    match fault {
+        NamedFault::UnknownName(_, Some(name)) => FaultReason::Nearest(NO_SUCH_NAME, *name),
+        fault => FaultReason::Words(named_words(fault)),
+    }
+}
+
+/// The same, without a name that is near.
+fn named_words(fault: &NamedFault) -> &'static str {
     match fault {
         NamedFault::BadSegment(_) => "no node is written so",
-        NamedFault::UnknownName(_) => "no node has this name",
+        NamedFault::UnknownName(..) => NO_SUCH_NAME,
         NamedFault::BadArgument(_, field) => argument_reason(field),
         NamedFault::BadCount(_) => "the node has another number of arguments",
         NamedFault::BadData(_) => "no node has these arguments together",
