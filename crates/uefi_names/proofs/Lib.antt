@@ -11,4 +11,4 @@ mod Exact
 mod Back
 mod StandardRead
 mod Only
-mod Nearest
+mod NearestNames

@@ -1,6 +1,6 @@
 use Rattle.std.proofs.Common.{sym}
 use Rattle.uefi_names.specs.Nearest.{near_of}
-use Rattle.uefi_names.proofs.Nearest.{far}
+use Rattle.uefi_names.proofs.NearestNames.{far}
 use Rattle.uefi_names.proofs.nearest.nearer.Goals as goal
 
 pub returns-then-abs_diff-near : goal.returns-then-abs_diff-near
