@@ -1,6 +1,7 @@
 //! Device paths as libefivar prints them.
 
 use crate::efivar_rows::efivar_table;
+use crate::efivar_vendors::{vendor_hardware, vendor_messaging};
 use std::alloc::{AllocError, Global};
 use std::fmt::{self, Display};
 use uefi_names::{NamedPath, NodeTable, named_text};
@@ -133,6 +134,8 @@ struct EfivarNode<'a>(&'a Node);
 impl Display for EfivarNode<'_> {
     fn fmt<W: fmt::Write>(&self, f: &mut fmt::Formatter<W>) -> fmt::Result {
         match self.0 {
+            Node::VendorHw(vendor) => vendor_hardware(f, self.0, vendor),
+            Node::VendorMsg(vendor) => vendor_messaging(f, self.0, vendor),
             Node::Acpi { hid, uid } => acpi(f, *hid, *uid),
             Node::Usb { port, interface } => write!(f, "USB({port},{interface})"),
             Node::Mac { address, if_kind } => mac(f, address, *if_kind),

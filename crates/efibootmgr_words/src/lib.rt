@@ -12,6 +12,7 @@ mod asked_words;
 mod cut;
 mod efivar_path;
 mod efivar_rows;
+mod efivar_vendors;
 mod fault;
 mod given_words;
 mod help_text;
