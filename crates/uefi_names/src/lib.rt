@@ -13,10 +13,13 @@ mod rows;
 mod shown;
 mod spelled;
 mod table;
+pub mod vendors;
 mod views;
 
 pub use fault::NamedFault;
 pub use named::{NamedPath, named_text};
 pub use reading::read_named_text;
-pub use table::{DataLen, Field, Form, Item, NodeRow, NodeTable, Numeral, REST, Show, When, Word};
+pub use table::{
+    DataLen, Field, Form, Item, NodeGroup, NodeRow, NodeTable, Numeral, REST, Show, When, Word,
+};
 pub use views::named_nodes_text;
