@@ -1,21 +1,27 @@
 -- What the exact reader reads is read by names too.
-use Rattle.std.proofs.Common.{◌≡◌, ◌≢◌, ◌==◌, ◌&&◌, ℕ, suc, Bool, true, false, List, [], ◌∷◌, ◌++◌, map, append-nil, refl, ap, sym, subst, ◌∙◌, arith, inl, codes, ne_eqb}
-use Rattle.std.specs.Prelude.{Option, Some, None, is_some, if◌then◌else◌}
-use Rattle.std.specs.List.{AllByRecursion, join_with_byte}
+use Rattle.std.proofs.Common.{◌≡◌, ◌≢◌, ◌==◌, ◌&&◌, ℕ, suc, Bool, true, false, List, [], ◌∷◌, ◌++◌, map, length, ◌-◌, ◌≤◌, length-append, append-nil, refl, ap, sym, subst, ◌∙◌, arith, inl, codes, ne_eqb}
+use Rattle.std.specs.Prelude.{Option, Some, None, nat_lt, if◌then◌else◌}
+use Rattle.std.specs.List.{AllByRecursion, list_all, join_with_byte}
+use Rattle.std.proofs.Math.Seq.{get_or-append_seam, take-append_seam}
+use Rattle.std.proofs.lemmas.Bool.Decides.{nat_tests}
 use Rattle.uefi_path.specs.declared.node.Node.{Node}
+use Rattle.uefi_path.specs.Row.{Row}
 use Rattle.uefi_text.specs.Bytes.{Each}
 use Rattle.uefi_text.specs.Segment.{Segment, named, bare, comma, slash, segment_text, instance_text}
-use Rattle.uefi_text.specs.Node.{MeansNode, IsBareName, IsBareUnit, pci, usb, sata, nvme, pci_root, pcie_root, acpi_pnp, acpi, mac, ipv4, vlan, uri, file, bare_file, hd_gpt, hd_mbr, cdrom, vendor_hw, vendor_msg, vendor_media, generic}
+use Rattle.uefi_text.specs.Node.{MeansNode, IsBareName, IsBareUnit, IsUriByte, IsNameUnit, IsMacAddress, pci, usb, sata, nvme, pci_root, pcie_root, acpi_pnp, acpi, mac, ipv4, vlan, uri, file, bare_file, hd_gpt, hd_mbr, cdrom, vendor_hw, vendor_msg, vendor_media, generic}
 use Rattle.uefi_text.specs.Path.{IsNodeText, IsPathText}
-use Rattle.uefi_text.specs.Cuts.{open_mark}
+use Rattle.uefi_text.specs.Cuts.{open_mark, close_mark}
+use Rattle.uefi_text.specs.Within.{Lacks}
 use Rattle.uefi_text.specs.Reader.{◌>>=◌}
 use Rattle.uefi_text.proofs.Cut.Segments.{IsNameByte, IsArgumentByte, IsPlainNamed, all_from, all_joined, named_text}
-use Rattle.uefi_text.proofs.Means.Plain.{plain_of_text}
+use Rattle.uefi_text.proofs.Means.Plain.{plain_of_text, plain_of_meaning}
+use Rattle.uefi_text.proofs.Bytes.Guids.{hex_length}
 use Rattle.uefi_names.specs.declared.table.NodeTable.{NodeTable}
-use Rattle.uefi_names.specs.Cut.{deeper, first_outside, before_close}
+use Rattle.uefi_names.specs.Cut.{deeper, first_outside, trimmed, arguments_in, before_close}
 use Rattle.uefi_names.specs.Named.{depth_after}
-use Rattle.uefi_names.specs.Reading.{profile_name, named_row, segment_row, IsOneNode, IsNamedSegment, IsNamedText}
-use Rattle.uefi_names.proofs.Pieces.{IsWhole, IsSegmentText, whole_on, path_again, suc_some}
+use Rattle.uefi_names.specs.Read.{table_read}
+use Rattle.uefi_names.specs.Reading.{is_flat_ascii, may_have, may_be_exact, named_row, segment_row, IsOneNode, IsNamedSegment, IsNamedText}
+use Rattle.uefi_names.proofs.Pieces.{IsWhole, IsSegmentText, whole_on, joined_pieces, path_again, suc_some}
 
 -- a byte that opens and closes nothing
 record IsFlat (byte : ℕ) : Type 0 where
@@ -116,10 +122,19 @@ exact_text (bare text) node is =
 
 -- ---- no name of a table
 
-known_none : (table : NodeTable) (name : List ℕ) → is_some (profile_name name) ≡ true → (inside : Option (List ℕ))
-    → ((inside >>= λ text. Some (name, text)) >>= λ (parts : List ℕ × List ℕ). named_row table parts.0 parts.1) ≡ None
-known_none table name known None = refl
-known_none table name known (Some text) = rw known refl
+row_taken : (table : NodeTable) (name inside : List ℕ) → may_be_exact name inside ≡ true → named_row table name inside ≡ None
+row_taken table name inside may = ap (λ (b : Bool). if b then None else table_read table name inside) may
+
+-- what a name and what is closed after it spell by a table
+abbrev row_after : NodeTable → List ℕ → Option (List ℕ) → Option Row
+row_after table name inside =
+    (inside >>= λ text. Some (name, text)) >>= λ (parts : List ℕ × List ℕ). named_row table parts.0 parts.1
+
+-- whatever is in the parentheses
+known_none : (table : NodeTable) (name : List ℕ) → ((text : List ℕ) → may_be_exact name text ≡ true) → (inside : Option (List ℕ))
+    → row_after table name inside ≡ None
+known_none table name may None = refl
+known_none table name may (Some text) = row_taken table name text (may text)
 
 flat_no_open : (at : ℕ) (text : List ℕ) → AllByRecursion IsFlat text → first_outside open_mark 0 at text ≡ None
 flat_no_open at text all = outside_none open_mark at text (all_from IsFlat (IsFree open_mark) (λ byte flat. record { flat = flat; other = flat.no_open }) text all)
@@ -128,29 +143,95 @@ flat_no_open at text all = outside_none open_mark at text (all_from IsFlat (IsFr
 abbrev closed : List (List ℕ) → Option (List ℕ)
 closed arguments = before_close (join_with_byte comma arguments ++ codes ")")
 
+-- a text that is closed ends with its parenthesis
+closed_before : (text : List ℕ) → before_close (text ++ codes ")") ≡ Some text
+closed_before text =
+    let len : length (text ++ codes ")") - 1 ≡ length text = omega (arith, length-append text (codes ")")) in
+    rw (len, get_or-append_seam text close_mark [] 0, take-append_seam text (codes ")")) refl
+
+-- what an exact text of the name may have in its parentheses
+closed_none : (table : NodeTable) (name inside : List ℕ) → may_be_exact name inside ≡ true → row_after table name (before_close (inside ++ codes ")")) ≡ None
+closed_none table name inside may = ap (row_after table name) (closed_before inside) ∙ row_taken table name inside may
+
+-- a whole argument of such bytes
+flat_all : {P : ℕ → Type 0} → ((byte : ℕ) → P byte → is_flat_ascii byte ≡ true) → (text : List ℕ) → AllByRecursion P text → list_all is_flat_ascii text ≡ true
+flat_all flat [] all = refl
+flat_all flat (byte ∷ text) all = rw (flat byte all.0, flat_all flat text all.1) refl
+
+uri_flat : (byte : ℕ) → IsUriByte byte → is_flat_ascii byte ≡ true
+uri_flat byte is = grind (arith, nat_tests, is.high, is.no_open, is.no_close)
+
+name_flat : (unit : ℕ) → IsNameUnit unit → is_flat_ascii unit ≡ true
+name_flat unit is = grind (arith, nat_tests, is.high, is.no_open, is.no_close)
+
+free_argument : (text : List ℕ) → AllByRecursion IsArgumentByte text → Lacks comma text → AllByRecursion (IsFree comma) text
+free_argument [] bytes lacks = tt
+free_argument (byte ∷ text) bytes lacks = (
+  record { flat = record { no_open = bytes.0.no_open; no_close = bytes.0.no_close }; other = lacks.0 },
+  free_argument text bytes.1 lacks.1,
+)
+
+whole_arguments : (arguments : List (List ℕ)) → AllByRecursion (AllByRecursion IsArgumentByte) arguments → AllByRecursion (Lacks comma) arguments
+    → AllByRecursion (IsWhole comma 0) arguments
+whole_arguments [] bytes lacks = tt
+whole_arguments (text ∷ others) bytes lacks =
+    (free_whole comma text (free_argument text bytes.0 lacks.0), whole_arguments others bytes.1 lacks.1)
+
+-- arguments that an exact text of the name may have
+arguments_again : (name : List ℕ) (arguments : List (List ℕ)) → IsPlainNamed name arguments → AllByRecursion (Lacks comma) arguments
+    → arguments_in (join_with_byte comma arguments) ≡ map trimmed arguments
+arguments_again name arguments plain lacks =
+    ap (map trimmed) (joined_pieces comma refl arguments (whole_arguments arguments plain.argument_bytes lacks) plain.some)
+
+trimmed_length : (text : List ℕ) → length (trimmed text) ≤ length text
+trimmed_length [] = omega arith
+trimmed_length (byte ∷ text) = go (byte == 0x20) (trimmed_length text)
+  where
+    go : (b : Bool) → length (trimmed text) ≤ length text → length (if b then trimmed text else byte ∷ text) ≤ length (byte ∷ text)
+    go true less = omega (arith, less)
+    go false less = omega arith
+
+-- an address has twelve digits
+short_address : (address bytes : List ℕ) → IsMacAddress address bytes → nat_lt (length (trimmed address)) 64 ≡ true
+short_address address bytes is =
+    let twelve : length address ≡ 12 = omega (arith, hex_length address is.six is.read, is.len) in
+    grind (arith, nat_tests, trimmed_length address, twelve)
+
 pub no_row : (table : NodeTable) (s : Segment) (node : Node) → MeansNode s node → segment_row table (segment_text s) ≡ None
 no_row table _ _ (bare_file {units} x0) =
     rw (flat_no_open 0 units (free_flat slash units (bare_free slash (λ unit u. u.no_slash) (λ e. omega arith) units x0))) refl
-no_row table _ _ (pci {device} {function} x0 x1) = known_none table (codes "Pci") refl (closed (device ∷ function ∷ []))
-no_row table _ _ (usb {port} {interface} x0 x1) = known_none table (codes "USB") refl (closed (port ∷ interface ∷ []))
-no_row table _ _ (sata {hba} {multiplier} {lun} x0 x1 x2) = known_none table (codes "Sata") refl (closed (hba ∷ multiplier ∷ lun ∷ []))
-no_row table _ _ (nvme {namespace} {identifier} x0 x1) = known_none table (codes "NVMe") refl (closed (namespace ∷ identifier ∷ []))
-no_row table _ _ (pci_root {uid} x0) = known_none table (codes "PciRoot") refl (closed (uid ∷ []))
-no_row table _ _ (pcie_root {uid} x0) = known_none table (codes "PcieRoot") refl (closed (uid ∷ []))
-no_row table _ _ (acpi_pnp {hid} {uid} x0 x1) = known_none table (codes "Acpi") refl (closed (hid ∷ uid ∷ []))
-no_row table _ _ (acpi {hid} {uid} x0 x1) = known_none table (codes "Acpi") refl (closed (hid ∷ uid ∷ []))
-no_row table _ _ (mac {address} {if_kind} x0 x1 x2) = known_none table (codes "MAC") refl (closed (address ∷ if_kind ∷ []))
-no_row table _ _ (ipv4 {remote} {protocol} {origin} {local} {gateway} {mask} x0 x1 x2 x3 x4 x5) = known_none table (codes "IPv4") refl (closed (remote ∷ protocol ∷ origin ∷ local ∷ gateway ∷ mask ∷ []))
-no_row table _ _ (vlan {id} x0) = known_none table (codes "Vlan") refl (closed (id ∷ []))
-no_row table _ _ (uri {bytes} x0) = known_none table (codes "Uri") refl (closed (bytes ∷ []))
-no_row table _ _ (file {units} x0) = known_none table (codes "File") refl (closed (units ∷ []))
-no_row table _ _ (hd_gpt {partition} {guid} {start} {size} x0 x1 x2 x3) = known_none table (codes "HD") refl (closed (partition ∷ codes "GPT" ∷ guid ∷ start ∷ size ∷ []))
-no_row table _ _ (hd_mbr {partition} {signature} {start} {size} x0 x1 x2 x3) = known_none table (codes "HD") refl (closed (partition ∷ codes "MBR" ∷ signature ∷ start ∷ size ∷ []))
-no_row table _ _ (cdrom {entry} {start} {size} x0 x1 x2) = known_none table (codes "CDROM") refl (closed (entry ∷ start ∷ size ∷ []))
-no_row table _ _ (vendor_hw {arguments} x0) = known_none table (codes "VenHw") refl (closed (arguments))
-no_row table _ _ (vendor_msg {arguments} x0) = known_none table (codes "VenMsg") refl (closed (arguments))
-no_row table _ _ (vendor_media {arguments} x0) = known_none table (codes "VenMedia") refl (closed (arguments))
-no_row table _ _ (generic {kind} {sub} {more} x0 x1 x2 x3) = known_none table (codes "Path") refl (closed (kind ∷ sub ∷ more))
+no_row table _ _ (pci {device} {function} x0 x1) = known_none table (codes "Pci") (λ text. refl) (closed (device ∷ function ∷ []))
+no_row table _ _ (usb {port} {interface} x0 x1) = known_none table (codes "USB") (λ text. refl) (closed (port ∷ interface ∷ []))
+no_row table _ _ (sata {hba} {multiplier} {lun} x0 x1 x2) = known_none table (codes "Sata") (λ text. refl) (closed (hba ∷ multiplier ∷ lun ∷ []))
+no_row table _ _ (nvme {namespace} {identifier} x0 x1) = known_none table (codes "NVMe") (λ text. refl) (closed (namespace ∷ identifier ∷ []))
+no_row table _ _ (pci_root {uid} x0) = known_none table (codes "PciRoot") (λ text. refl) (closed (uid ∷ []))
+no_row table _ _ (pcie_root {uid} x0) = known_none table (codes "PcieRoot") (λ text. refl) (closed (uid ∷ []))
+no_row table _ _ (acpi_pnp {hid} {uid} x0 x1) = known_none table (codes "Acpi") (λ text. refl) (closed (hid ∷ uid ∷ []))
+no_row table _ _ (acpi {hid} {uid} x0 x1) = known_none table (codes "Acpi") (λ text. refl) (closed (hid ∷ uid ∷ []))
+no_row table _ _ (mac {address} {if_kind} x0 x1 x2) =
+    let plain : IsPlainNamed (codes "MAC") (address ∷ if_kind ∷ []) = plain_of_meaning (named (codes "MAC") (address ∷ if_kind ∷ [])) _ (mac x0 x1 x2) in
+    closed_none table (codes "MAC") (join_with_byte comma (address ∷ if_kind ∷ []))
+    (ap (may_have (codes "MAC")) (arguments_again (codes "MAC") (address ∷ if_kind ∷ []) plain plain.parted) ∙ short_address address _ x0)
+no_row table _ _ (ipv4 {remote} {protocol} {origin} {local} {gateway} {mask} x0 x1 x2 x3 x4 x5) =
+    let plain : IsPlainNamed (codes "IPv4") (remote ∷ protocol ∷ origin ∷ local ∷ gateway ∷ mask ∷ []) = plain_of_meaning (named (codes "IPv4") (remote ∷ protocol ∷ origin ∷ local ∷ gateway ∷ mask ∷ [])) _ (ipv4 x0 x1 x2 x3 x4 x5) in
+    closed_none table (codes "IPv4") (join_with_byte comma (remote ∷ protocol ∷ origin ∷ local ∷ gateway ∷ mask ∷ []))
+    (ap (may_have (codes "IPv4")) (arguments_again (codes "IPv4") (remote ∷ protocol ∷ origin ∷ local ∷ gateway ∷ mask ∷ []) plain plain.parted) ∙ refl)
+no_row table _ _ (vlan {id} x0) = known_none table (codes "Vlan") (λ text. refl) (closed (id ∷ []))
+no_row table _ _ (uri {bytes} x0) = closed_none table (codes "Uri") bytes (flat_all uri_flat bytes x0)
+no_row table _ _ (file {units} x0) = closed_none table (codes "File") units (flat_all name_flat units x0)
+no_row table _ _ (hd_gpt {partition} {guid} {start} {size} x0 x1 x2 x3) =
+    let plain : IsPlainNamed (codes "HD") (partition ∷ codes "GPT" ∷ guid ∷ start ∷ size ∷ []) = plain_of_meaning (named (codes "HD") (partition ∷ codes "GPT" ∷ guid ∷ start ∷ size ∷ [])) _ (hd_gpt x0 x1 x2 x3) in
+    closed_none table (codes "HD") (join_with_byte comma (partition ∷ codes "GPT" ∷ guid ∷ start ∷ size ∷ []))
+    (ap (may_have (codes "HD")) (arguments_again (codes "HD") (partition ∷ codes "GPT" ∷ guid ∷ start ∷ size ∷ []) plain plain.parted) ∙ refl)
+no_row table _ _ (hd_mbr {partition} {signature} {start} {size} x0 x1 x2 x3) =
+    let plain : IsPlainNamed (codes "HD") (partition ∷ codes "MBR" ∷ signature ∷ start ∷ size ∷ []) = plain_of_meaning (named (codes "HD") (partition ∷ codes "MBR" ∷ signature ∷ start ∷ size ∷ [])) _ (hd_mbr x0 x1 x2 x3) in
+    closed_none table (codes "HD") (join_with_byte comma (partition ∷ codes "MBR" ∷ signature ∷ start ∷ size ∷ []))
+    (ap (may_have (codes "HD")) (arguments_again (codes "HD") (partition ∷ codes "MBR" ∷ signature ∷ start ∷ size ∷ []) plain plain.parted) ∙ refl)
+no_row table _ _ (cdrom {entry} {start} {size} x0 x1 x2) = known_none table (codes "CDROM") (λ text. refl) (closed (entry ∷ start ∷ size ∷ []))
+no_row table _ _ (vendor_hw {arguments} x0) = known_none table (codes "VenHw") (λ text. refl) (closed (arguments))
+no_row table _ _ (vendor_msg {arguments} x0) = known_none table (codes "VenMsg") (λ text. refl) (closed (arguments))
+no_row table _ _ (vendor_media {arguments} x0) = known_none table (codes "VenMedia") (λ text. refl) (closed (arguments))
+no_row table _ _ (generic {kind} {sub} {more} x0 x1 x2 x3) = known_none table (codes "Path") (λ text. refl) (closed (kind ∷ sub ∷ more))
 
 -- a segment that stands for a node is the text of a path of that node
 pub one_node : (s : Segment) (node : Node) → IsNodeText s node → IsOneNode (segment_text s) node

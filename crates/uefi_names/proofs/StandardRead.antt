@@ -1,6 +1,6 @@
 -- What is read and printed by a table is so by the same table wherever its parts lie in memory.
 use Rattle.std.proofs.Common.{◌≡◌, ◌==◌, ◌&&◌, ℕ, suc, Bool, List, [], ◌∷◌, ◌++◌, map, length, refl, ap, sym, subst, ◌∙◌}
-use Rattle.std.specs.Prelude.{Option, Some, None, is_some, unwrap_or, if◌then◌else◌}
+use Rattle.std.specs.Prelude.{Option, Some, None, unwrap_or, if◌then◌else◌}
 use Rattle.std.specs.List.{find, join_with_byte}
 use Rattle.std.specs.Option.{option_map}
 use Rattle.uefi_path.specs.declared.node.Node.{Node}
@@ -26,7 +26,7 @@ use Rattle.uefi_names.specs.Standard.{plain_word, plain_show, plain_field, plain
 use Rattle.uefi_names.specs.Cut.{cut_named, arguments_in, named_parts}
 use Rattle.uefi_names.specs.Spelled.{is_word, word_of, number_read, number_bytes, within_mask, number_or, masked_read, shown_read}
 use Rattle.uefi_names.specs.Read.{first_read, items_of, read_by, field_read, offset_or, Spelled, spelled_in, rank_of, fields_read, arguments_of, front_len, front_of, with_fields, with_tails, body_of, if_fits, form_read, forms_read, rows_read, groups_read, table_read}
-use Rattle.uefi_names.specs.Reading.{profile_name, named_row, segment_row, IsNodeOf, IsNamedSegment, IsNamedText}
+use Rattle.uefi_names.specs.Reading.{may_be_exact, named_row, segment_row, IsNodeOf, IsNamedSegment, IsNamedText}
 use Rattle.uefi_names.specs.Named.{text_in_form, text_in_forms, table_text, plain_text, named_node, named_path}
 use Rattle.uefi_names.proofs.Standard.{find-same, fits-same, form-same, row_for-same}
 
@@ -183,7 +183,7 @@ segment-same table text = go (named_parts text)
   where
     go : (parts : Option (List ℕ × List ℕ)) → (parts >>= λ them. named_row (plain_table table) them.0 them.1) ≡ (parts >>= λ them. named_row table them.0 them.1)
     go None = refl
-    go (Some them) = ap (λ (read : Option Row). if is_some (profile_name them.0) then None else read) (table-same table them.0 them.1)
+    go (Some them) = ap (λ (read : Option Row). if may_be_exact them.0 them.1 then None else read) (table-same table them.0 them.1)
 
 -- ---- nodes and paths
 

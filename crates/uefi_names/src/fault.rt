@@ -5,7 +5,7 @@ ghost use Rattle.uefi_names.specs.declared.fault.NamedFault.TheVariants as fault
 
 use crate::cut::{named_parts, pieces, trimmed};
 use crate::nearest::nearest_name;
-use crate::reading::{profile_name, respelled, segment_read, segments_in, takes_whole};
+use crate::reading::{may_be_exact, respelled, segment_read, segments_in, takes_whole};
 use crate::spelled::{is_word, spelled};
 use crate::table::{Field, Form, NodeRow, NodeTable, Show};
 use std::alloc::{AllocError, Global};
@@ -113,7 +113,7 @@ fn segment_fault(
     let Some((name, inside)) = named_parts(segment) else {
         return exact_fault(alloc, segment, segment, place);
     };
-    if profile_name(name).is_none() {
+    if !may_be_exact(alloc, name, inside)? {
         return table_fault(alloc, table, name, inside, place);
     }
     match respelled(alloc, segment)? {
@@ -166,8 +166,8 @@ fn place_in(segment: &str, at: usize) -> usize {
 
 // ---- the table
 
-/// The fault of a segment at a place whose name is none of the exact texts: of the forms of this name the one that goes
-/// furthest tells it.
+/// The fault of a segment at a place that no exact text may be: of the forms of this name the one that goes furthest tells
+/// it.
 fn table_fault(
     alloc: Global,
     table: &NodeTable,

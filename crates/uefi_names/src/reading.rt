@@ -3,7 +3,7 @@
 ghost use Rattle.std.specs.Prelude.{◌≡◌, ◌≢◌, ◌++◌, ◌∷◌, ◌||◌, [], List, map, IfOk, IfErr, OnOk, IfSome, IfNone, Ok, codes, IsTrue, ◌↔◌, ◌≤◌, ◌<◌, ◌+◌, drop, length};
 ghost use Rattle.std.specs.Option.{option_map};
 ghost use Rattle.std.specs.String.{string_bytes};
-ghost use Rattle.std.specs.List.{join_with_byte};
+ghost use Rattle.std.specs.List.{list_all, join_with_byte};
 ghost use Rattle.uefi_path.specs.declared.node.Node.{Node};
 ghost use Rattle.uefi_path.specs.Row.{row};
 ghost use Rattle.uefi_path.specs.Node.{row_of, IsNode};
@@ -14,7 +14,7 @@ ghost use Rattle.uefi_text.specs.declared.fault.TextFault.{TextFault};
 ghost use Rattle.uefi_names.specs.Standard.{standard_table};
 ghost use Rattle.uefi_names.specs.Cut.{cut_named, segments_in, arguments_in};
 ghost use Rattle.uefi_names.specs.Spelled.{is_word};
-ghost use Rattle.uefi_names.specs.Reading.{profile_names, profile_name, named_row, segment_row, IsOneNode, takes_whole, inside_again, segment_again, respelled, IsAgain, IsExactSegment, IsNamedSegment, IsNamedInstance, IsNamedText, Finds};
+ghost use Rattle.uefi_names.specs.Reading.{profile_names, profile_name, is_flat_ascii, first_argument, second_argument, may_have, may_enclose, may_be_exact, named_row, segment_row, IsOneNode, takes_whole, inside_again, segment_again, respelled, IsAgain, IsExactSegment, IsNamedSegment, IsNamedInstance, IsNamedText, Finds};
 
 use crate::cut::{arguments_in, named_parts, pieces};
 use crate::fault::{NamedFault, fault_of};
@@ -138,7 +138,7 @@ pub(crate) fn segment_read(
 
 // ---- by the table
 
-/// The node of a segment that has a name of the table.
+/// The node of a segment by the table, if no exact text may be the segment.
 pub(crate) fn segment_row(
     alloc: Global,
     table: &NodeTable,
@@ -149,10 +149,83 @@ pub(crate) fn segment_row(
     let Some((name, inside)) = named_parts(text) else {
         return Ok(None);
     };
-    if profile_name(name).is_some() {
+    if may_be_exact(alloc, name, inside)? {
         return Ok(None);
     }
     table.read(alloc, name, inside)
+}
+
+/// Whether an exact text may have this name and what is between these parentheses.
+pub(crate) fn may_be_exact(alloc: Global, name: &str, inside: &str) -> Result<bool, AllocError>
+    ensures { IfOk result (λ may. may ≡ may_be_exact name.now inside.now) }
+{
+    if profile_name(name).is_none() {
+        return Ok(false);
+    }
+    may_enclose(alloc, name, inside)
+}
+
+/// Whether this may be between the parentheses of an exact text of this name.
+fn may_enclose(alloc: Global, name: &str, inside: &str) -> Result<bool, AllocError>
+    ensures { IfOk result (λ may. may ≡ may_enclose name.now inside.now) }
+{
+    if takes_whole(name) {
+        return Ok(is_flat(inside.as_bytes()));
+    }
+    let arguments = arguments_in(alloc, inside)?;
+    Ok(may_have(name, &arguments))
+}
+
+/// Whether a text is ASCII without parentheses.
+fn is_flat(text: &[u8]) -> bool
+    ensures { result ≡ list_all is_flat_ascii text.now }
+{
+    text.iter().all(|byte| is_flat_ascii(*byte))
+}
+
+/// Whether this is a byte of ASCII and no parenthesis.
+fn is_flat_ascii(byte: u8) -> bool
+    ensures { result ≡ is_flat_ascii byte }
+{
+    byte < 0x80 && !matches!(byte, b'(' | b')')
+}
+
+/// Whether an exact text of this name may have these arguments: one of an address has fewer than 64 digits, one of an
+/// address of IPv4 has no four fields, and one of a partition has a signature.
+fn may_have(name: &str, arguments: &[&str]) -> bool
+    ensures { result ≡ may_have name.now (map (λ argument. argument.now) arguments.now) }
+{
+    if is_word(name.as_bytes(), b"MAC") {
+        return first_argument(arguments).len() < 64;
+    }
+    if is_word(name.as_bytes(), b"IPv4") {
+        return arguments.len() != 4;
+    }
+    if is_word(name.as_bytes(), b"HD") {
+        let kind = second_argument(arguments).as_bytes();
+        return is_word(kind, b"GPT") || is_word(kind, b"MBR");
+    }
+    true
+}
+
+/// The first argument, or an empty text if there is none.
+fn first_argument<'a>(arguments: &[&'a str]) -> &'a str
+    ensures { result.now ≡ first_argument (map (λ argument. argument.now) arguments.now) }
+{
+    match arguments {
+        [first, ..] => *first,
+        _ => "",
+    }
+}
+
+/// The second argument, or an empty text if there is none.
+fn second_argument<'a>(arguments: &[&'a str]) -> &'a str
+    ensures { result.now ≡ second_argument (map (λ argument. argument.now) arguments.now) }
+{
+    match arguments {
+        [_, second, ..] => *second,
+        _ => "",
+    }
 }
 
 /// One of the names of the nodes that have a case of their own, as it is printed.
