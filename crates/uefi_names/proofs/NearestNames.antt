@@ -1,5 +1,5 @@
 -- The nearest name: at least as many edits lead from a text to a name as their lengths differ by.
-use Rattle.std.proofs.Common.{◌≡◌, ℕ, zero, suc, ◌+◌, ◌≤◌, Bool, false, List, [], ◌∷◌, length, map, nat_eq, nat_lt, if◌then◌else◌, arith, refl, sym, ap, ◌∙◌}
+use Rattle.std.proofs.Common.{◌≡◌, ℕ, zero, suc, ◌+◌, ◌≤◌, false, List, [], ◌∷◌, length, nat_eq, nat_lt, arith, refl, ap, ◌∙◌}
 use Rattle.std.proofs.lemmas.Int.{clamps}
 use Rattle.std.specs.Int.{abs_diff}
 use Rattle.strsim.specs.Edits.{cost_at, next_row, rows}

@@ -1,6 +1,5 @@
 use Rattle.std.proofs.Common.{ℕ, ◌+◌, ◌/◌, ap}
 use Rattle.std.specs.Prelude.{None}
-use Rattle.uefi_names.specs.Nearest.{Nearest}
 use Rattle.uefi_names.proofs.NearestNames.{nearest_is}
 use Rattle.uefi_names.proofs.nearest.nearest_name.Goals as goal
 
