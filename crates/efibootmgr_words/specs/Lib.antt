@@ -6,4 +6,5 @@ pub mod Options
 pub mod Parts
 pub mod Statuses
 pub mod Values
+pub mod Vendors
 pub mod Words

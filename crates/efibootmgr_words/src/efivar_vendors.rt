@@ -1,9 +1,11 @@
 //! The vendors' nodes that libefivar prints by a name.
 
-ghost use Rattle.std.specs.Prelude.{◌≡◌};
+ghost use Rattle.std.specs.Prelude.{◌≡◌, ◌==◌};
+ghost use Rattle.std.specs.Cmp.Lexicographic.{pointwise};
 ghost use Rattle.std.specs.Fmt.{WritesOnOk};
-ghost use Rattle.std.specs.Option.{option_map};
-ghost use Rattle.efibootmgr_words.specs.Vendors.{hardware_text, messaging_text, messaging_name, is_guid, flow_text};
+ghost use Rattle.std.specs.List.{find};
+ghost use Rattle.std.specs.Option.{option_map, option_copied};
+ghost use Rattle.efibootmgr_words.specs.Vendors.{hardware_text, messaging_text, number_of, device_name, flow_text};
 
 use std::fmt;
 use uefi_path::{Guid, Node, Vendor};
@@ -39,7 +41,38 @@ const UART_FLOW_CONTROL: Guid = Guid([
     0x9d, 0x9a, 0x49, 0x37, 0x2f, 0x54, 0x89, 0x4c, 0xa0, 0x26, 0x35, 0xda, 0x14, 0x20, 0x94, 0xe4,
 ]);
 
-/// Writes a vendor's hardware node, of which this is what it holds.
+/// The nodes with an identifier that have a name, and whose data may be any bytes.
+#[derive(Clone, Copy)]
+struct Device {
+    guid: Guid,
+    name: &'static str,
+}
+
+/// Terminals and debug ports.
+static DEVICES: [Device; 5] = [
+    Device {
+        guid: PC_ANSI,
+        name: "VenPcAnsi",
+    },
+    Device {
+        guid: VT_100,
+        name: "VenVt100",
+    },
+    Device {
+        guid: VT_100_PLUS,
+        name: "VenVt100Plus",
+    },
+    Device {
+        guid: VT_UTF8,
+        name: "VenUtf8",
+    },
+    Device {
+        guid: DEBUG_PORT,
+        name: "DebugPort",
+    },
+];
+
+/// Writes a vendor's hardware node, which holds this.
 pub(crate) fn vendor_hardware<W: fmt::Write>(
     f: &mut fmt::Formatter<W>,
     node: &Node,
@@ -47,16 +80,13 @@ pub(crate) fn vendor_hardware<W: fmt::Write>(
 ) -> fmt::Result
     ensures { WritesOnOk W.write_str_gives f.old result (hardware_text node.now vendor.now) f.new }
 {
-    if *vendor.guid() == EDD
-        && let Some(number) = vendor.body().first_chunk::<4>()
-    {
-        let number = NumberText(u64::from(u32::from_le_bytes(*number)));
-        return write!(f, "EDD10({number})");
+    match number_of(vendor, &EDD) {
+        Some(number) => write!(f, "EDD10({})", NumberText(u64::from(number))),
+        None => write!(f, "{}", NodeText(node)),
     }
-    write!(f, "{}", NodeText(node))
 }
 
-/// Writes a vendor's messaging node, of which this is what it holds.
+/// Writes a vendor's messaging node, which holds this.
 pub(crate) fn vendor_messaging<W: fmt::Write>(
     f: &mut fmt::Formatter<W>,
     node: &Node,
@@ -64,39 +94,50 @@ pub(crate) fn vendor_messaging<W: fmt::Write>(
 ) -> fmt::Result
     ensures { WritesOnOk W.write_str_gives f.old result (messaging_text node.now vendor.now) f.new }
 {
-    if *vendor.guid() == UART_FLOW_CONTROL
-        && let Some(kind) = vendor.body().first_chunk::<4>()
-    {
-        return flow_control(f, u32::from_le_bytes(*kind));
+    if let Some(kind) = number_of(vendor, &UART_FLOW_CONTROL) {
+        return flow_control(f, kind);
     }
-    match messaging_name(vendor.guid()) {
+    match device_name(vendor.guid()) {
         Some(name) => write!(f, "{name}({})", DigitsText(vendor.body())),
         None => write!(f, "{}", NodeText(node)),
     }
 }
 
-/// What the messaging nodes with an identifier are called, if they have a name.
-fn messaging_name(guid: &Guid) -> Option<&'static str>
-    ensures { option_map (λ name. name.now) result ≡ messaging_name guid.now.0 }
+/// The number that the data of the nodes with this identifier begin with. Other nodes have none, nor do shorter data.
+fn number_of(vendor: &Vendor, guid: &Guid) -> Option<u32>
+    ensures { result ≡ number_of guid.now.0 vendor.now }
 {
-    match *guid {
-        PC_ANSI => Some("VenPcAnsi"),
-        VT_100 => Some("VenVt100"),
-        VT_100_PLUS => Some("VenVt100Plus"),
-        VT_UTF8 => Some("VenUtf8"),
-        DEBUG_PORT => Some("DebugPort"),
-        _ => None,
+    if vendor.guid() != guid {
+        return None;
     }
+    let number = vendor.body().first_chunk::<4>()?;
+    Some(u32::from_le_bytes(*number))
 }
 
-/// Writes how the flow on a serial line is controlled: a word, or another number as one with a sign.
+/// What the messaging nodes with an identifier are called, if they have a name and any data.
+fn device_name(guid: &Guid) -> Option<&'static str>
+    ensures { option_map (λ name. name.now) result ≡ device_name guid.now.0 }
+{
+    let device = device_of(&DEVICES, guid)?;
+    Some(device.name)
+}
+
+/// The device of an identifier.
+fn device_of(devices: &'static [Device], guid: &Guid) -> Option<&'static Device>
+    ensures { option_copied result ≡ find (λ device. pointwise ◌==◌ device.guid.0 guid.now.0) devices.now }
+{
+    devices.iter().find(|device| device.guid == *guid)
+}
+
+/// Writes how the flow on a serial line is controlled: a word, or another number with its sign.
 fn flow_control<W: fmt::Write>(f: &mut fmt::Formatter<W>, kind: u32) -> fmt::Result
     ensures { WritesOnOk W.write_str_gives f.old result (flow_text kind) f.new }
 {
-    match kind {
-        0 => write!(f, "UartFlowControl(None)"),
-        1 => write!(f, "UartFlowControl(Hardware)"),
-        2 => write!(f, "UartFlowControl(XonXoff)"),
-        _ => write!(f, "UartFlowControl({})", kind.cast_signed()),
-    }
+    let word = match kind {
+        0 => "None",
+        1 => "Hardware",
+        2 => "XonXoff",
+        _ => return write!(f, "UartFlowControl({})", kind.cast_signed()),
+    };
+    write!(f, "UartFlowControl({word})")
 }
