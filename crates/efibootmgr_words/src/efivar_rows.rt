@@ -1,19 +1,28 @@
 //! The nodes that libefivar prints in another form than a person is shown by `uefi_names`.
 
-use uefi_names::{DataLen, Field, Form, NodeRow, NodeTable, Numeral, REST, Show, When, Word};
+use uefi_names::{
+    DataLen, Field, Form, NodeGroup, NodeRow, NodeTable, Numeral, REST, Show, When, Word,
+};
 
-/// A row of nodes with one form: the sub-type, and of the form how long the data must be, the name, and of each field the
-/// offset, the length and how it is shown.
+/// A form: what the data must have in them, how long they must be, the name, and of each field the offset, the length
+/// and how it is shown.
+macro_rules! form {
+    ($when:expr, $len:expr, $name:literal, [$(($at:expr, $size:expr, $show:expr)),*]) => {
+        Form {
+            when: $when,
+            len: $len,
+            name: $name,
+            fields: &[$(Field { at: $at, len: $size, show: $show }),*],
+        }
+    };
+}
+
+/// A row of nodes with one form.
 macro_rules! row {
-    ($sub:literal, $len:expr, $name:literal, [$(($at:expr, $size:expr, $show:expr)),*]) => {
+    ($sub:literal, $len:expr, $name:literal, $fields:tt) => {
         NodeRow {
             sub: $sub,
-            forms: &[Form {
-                when: When::Always,
-                len: $len,
-                name: $name,
-                fields: &[$(Field { at: $at, len: $size, show: $show }),*],
-            }],
+            forms: &[form!(When::Always, $len, $name, $fields)],
         }
     };
 }
@@ -66,7 +75,7 @@ static HARDWARE: [NodeRow; 2] = [
     ),
 ];
 
-static MESSAGING: [NodeRow; 8] = [
+static MESSAGING: [NodeRow; 9] = [
     row!(
         1,
         DataLen::Exactly(4),
@@ -92,12 +101,47 @@ static MESSAGING: [NodeRow; 8] = [
             (14, 1, STOP_BITS)
         ]
     ),
+    NodeRow {
+        sub: 11,
+        forms: &[
+            form!(
+                When::Unlike {
+                    at: 32,
+                    mask: 0xfe,
+                    is: 0
+                },
+                DataLen::Exactly(33),
+                "MAC",
+                [(0, 32, Show::Digits), (32, 1, DECIMAL)]
+            ),
+            form!(
+                When::Always,
+                DataLen::Exactly(33),
+                "MAC",
+                [(0, 6, Show::Digits), (32, 1, DECIMAL)]
+            ),
+        ],
+    },
     row!(17, DataLen::Exactly(1), "Unit", [(0, 1, DECIMAL)]),
     row!(26, DataLen::Exactly(1), "SD", [(0, 1, DECIMAL)]),
     row!(29, DataLen::Exactly(1), "eMMC", [(0, 1, DECIMAL)]),
 ];
 
-static MEDIA: [NodeRow; 1] = [row!(7, DataLen::Exactly(16), "FvVol", [(0, 16, Show::Guid)])];
+static MEDIA: [NodeRow; 2] = [
+    row!(
+        1,
+        DataLen::Exactly(38),
+        "HD",
+        [
+            (0, 4, DECIMAL),
+            (37, 1, DECIMAL),
+            (20, 16, Show::Digits),
+            (4, 8, HEX),
+            (12, 8, HEX)
+        ]
+    ),
+    row!(7, DataLen::Exactly(16), "FvVol", [(0, 16, Show::Guid)]),
+];
 
 static BIOS_BOOT: [NodeRow; 1] = [row!(
     1,
@@ -108,11 +152,22 @@ static BIOS_BOOT: [NodeRow; 1] = [row!(
 
 /// The table of these nodes.
 pub(crate) fn efivar_table() -> NodeTable {
+    let none = rows_of(0, &[]);
     NodeTable {
-        hardware: &HARDWARE,
-        acpi: &[],
-        messaging: &MESSAGING,
-        media: &MEDIA,
-        bios_boot: &BIOS_BOOT,
+        groups: [
+            rows_of(1, &HARDWARE),
+            rows_of(3, &MESSAGING),
+            rows_of(4, &MEDIA),
+            rows_of(5, &BIOS_BOOT),
+            none,
+            none,
+            none,
+            none,
+        ],
     }
+}
+
+/// Rows of a type.
+fn rows_of(kind: u8, rows: &'static [NodeRow]) -> NodeGroup {
+    NodeGroup { kind, rows }
 }

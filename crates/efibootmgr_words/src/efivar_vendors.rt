@@ -8,37 +8,13 @@ ghost use Rattle.std.specs.Option.{option_map, option_copied};
 ghost use Rattle.efibootmgr_words.specs.Vendors.{hardware_text, messaging_text, number_of, device_name, flow_text};
 
 use std::fmt;
+use uefi_names::vendors::{DEBUG_PORT, PC_ANSI, UART_FLOW_CONTROL, VT_100, VT_100_PLUS, VT_UTF8};
 use uefi_path::{Guid, Node, Vendor};
 use uefi_text::{DigitsText, NodeText, NumberText};
 
 /// The identifier of a BIOS's disk, in the order in which its bytes are stored.
 const EDD: Guid = Guid([
     0xc5, 0xfa, 0x31, 0xcf, 0x4e, 0xc2, 0xd2, 0x11, 0x85, 0xf3, 0x00, 0xa0, 0xc9, 0x3e, 0xc9, 0x3b,
-]);
-
-/// The identifiers of terminals and of what belongs to them (UEFI 2.10, 10.3.4.17), stored in the same order.
-const PC_ANSI: Guid = Guid([
-    0x53, 0x47, 0xc1, 0xe0, 0xbe, 0xf9, 0xd2, 0x11, 0x9a, 0x0c, 0x00, 0x90, 0x27, 0x3f, 0xc1, 0x4d,
-]);
-
-const VT_100: Guid = Guid([
-    0x65, 0x60, 0xa6, 0xdf, 0x19, 0xb4, 0xd3, 0x11, 0x9a, 0x2d, 0x00, 0x90, 0x27, 0x3f, 0xc1, 0x4d,
-]);
-
-const VT_100_PLUS: Guid = Guid([
-    0x0b, 0xc7, 0xae, 0x7b, 0xe0, 0x57, 0x76, 0x4c, 0x8e, 0x87, 0x2f, 0x9e, 0x28, 0x08, 0x83, 0x43,
-]);
-
-const VT_UTF8: Guid = Guid([
-    0xd6, 0xa0, 0x15, 0xad, 0xec, 0x8b, 0xcf, 0x4a, 0xa0, 0x73, 0xd0, 0x1d, 0xe7, 0x7e, 0x2d, 0x88,
-]);
-
-const DEBUG_PORT: Guid = Guid([
-    0xd2, 0xe8, 0xa4, 0xeb, 0x58, 0x38, 0xec, 0x41, 0xa2, 0x81, 0x26, 0x47, 0xba, 0x96, 0x60, 0xd0,
-]);
-
-const UART_FLOW_CONTROL: Guid = Guid([
-    0x9d, 0x9a, 0x49, 0x37, 0x2f, 0x54, 0x89, 0x4c, 0xa0, 0x26, 0x35, 0xda, 0x14, 0x20, 0x94, 0xe4,
 ]);
 
 /// The nodes with an identifier that have a name, and whose data may be any bytes.
@@ -51,23 +27,23 @@ struct Device {
 /// Terminals and debug ports.
 static DEVICES: [Device; 5] = [
     Device {
-        guid: PC_ANSI,
+        guid: Guid(PC_ANSI),
         name: "VenPcAnsi",
     },
     Device {
-        guid: VT_100,
+        guid: Guid(VT_100),
         name: "VenVt100",
     },
     Device {
-        guid: VT_100_PLUS,
+        guid: Guid(VT_100_PLUS),
         name: "VenVt100Plus",
     },
     Device {
-        guid: VT_UTF8,
+        guid: Guid(VT_UTF8),
         name: "VenUtf8",
     },
     Device {
-        guid: DEBUG_PORT,
+        guid: Guid(DEBUG_PORT),
         name: "DebugPort",
     },
 ];
@@ -94,7 +70,7 @@ pub(crate) fn vendor_messaging<W: fmt::Write>(
 ) -> fmt::Result
     ensures { WritesOnOk W.write_str_gives f.old result (messaging_text node.now vendor.now) f.new }
 {
-    if let Some(kind) = number_of(vendor, &UART_FLOW_CONTROL) {
+    if let Some(kind) = number_of(vendor, &Guid(UART_FLOW_CONTROL)) {
         return flow_control(f, kind);
     }
     match device_name(vendor.guid()) {
