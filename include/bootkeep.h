@@ -336,7 +336,8 @@ uint32_t bootkeep_path_text(const uint8_t *bytes, size_t bytes_len, uint8_t *out
 
 /*
  * The text of the device path for a person, as `bootvars show` prints it: that of bootkeep_path_text, with its name and
- * its fields for each node of the standard's table whose text can be read back as the node. All else is as there.
+ * its fields for each node of the standard's table whose text can be read back as the node. It is UTF-8: names of files
+ * may have characters past ASCII. All else is as there.
  *
  *     BOOTKEEP_DONE, BOOTKEEP_NO_ROOM, BOOTKEEP_NO_MEMORY
  *     BOOTKEEP_REFUSED   a number of paths

@@ -82,6 +82,15 @@ static uint32_t tell_text(const uint8_t *option, size_t len, const struct bootke
     return bootkeep_path_names(option + parts->list, parts->list_len, text, room, text_len, &taken, &refusal);
 }
 
+/* A text with a question mark in the place of each byte that isn't ASCII, as of a file's name. */
+static uint8_t *ascii_of(uint8_t *text)
+{
+    for (uint8_t *at = text; *at != 0; at++)
+        if (*at > 0x7e)
+            *at = '?';
+    return text;
+}
+
 void add_text(const uint8_t *option, size_t len, const struct bootkeep_option_parts *parts, size_t from)
 {
     size_t room = 0;
@@ -94,7 +103,7 @@ void add_text(const uint8_t *option, size_t len, const struct bootkeep_option_pa
         add(L"out of memory");
     else if (from < room) {
         text[room] = 0;
-        add(L"%a", text + from);
+        add(L"%a", ascii_of(text + from));
     }
     bootkeep_free(text);
 }

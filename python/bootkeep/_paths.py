@@ -39,7 +39,7 @@ def _text_and_len(call: Callable[..., int], data: Bytes) -> Tuple[str, int]:
     """A text of the device path at the start of the bytes, and how many bytes the path takes."""
     taken, refusal, given = c_size_t(), RawRefusal(), bytes_in(data)
     text = bytes_of(lambda *out: call(*given, *out, byref(taken), byref(refusal)), refusal=refusal)
-    return text.decode("ascii"), taken.value
+    return text.decode("utf-8"), taken.value
 
 
 def path_check(data: Bytes) -> int:

@@ -22,7 +22,7 @@ pub fn text(bytes: &[u8]) -> Result<(String, usize), Error> {
 /// Those of [`text`].
 pub fn names(bytes: &[u8]) -> Result<(String, usize), Error> {
     let (text, taken) = library::path_names(bytes)?;
-    Ok((crate::ascii(text), taken))
+    Ok((String::from_utf8_lossy(&text).into_owned(), taken))
 }
 
 /// How many bytes the device path at the start of the bytes takes (UEFI 2.10, 10.3).

@@ -4,7 +4,7 @@ use crate::sizes::{frame_sizes, option_sizes};
 use boot_requests::{FrameFault, OpenFault};
 use serde::{Described, Serialize, Serializer};
 use std::fmt;
-use uefi_names::{Field, Item, NamedFault, Show};
+use uefi_names::{Encoding, Field, Item, NamedFault, Show};
 use uefi_option::{OptionFault, check_option};
 use uefi_path::PathFault;
 use uefi_text::TextFault;
@@ -165,6 +165,12 @@ fn argument_reason(field: &Field) -> &'static str {
             "a text is wanted, with a backslash and four digits for what isn't plain"
         }
         (Show::Units, _) => "a text between quotes is wanted",
+        (Show::Whole(Encoding::Ascii), _) => {
+            "printing ASCII without blanks is wanted, with each parenthesis closed"
+        }
+        (Show::Whole(Encoding::Utf16), _) => {
+            "printing characters are wanted, with each parenthesis closed"
+        }
     }
 }
 

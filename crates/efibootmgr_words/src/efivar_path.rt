@@ -14,6 +14,9 @@ const SERIAL_HID: u32 = 0x0501_41d0;
 /// The `_HID` of a floppy disk, PNP0604, as a compressed EISA identifier.
 const FLOPPY_HID: u32 = 0x0604_41d0;
 
+/// The type and the sub-type of a file (10.3.5.4). One that is kept as bytes has no name.
+const FILE: (u8, u8) = (4, 4);
+
 /// The bytes of an address of Ethernet.
 const ETHERNET_LEN: usize = 6;
 
@@ -85,7 +88,7 @@ fn append_other(
     if table.form_of(kind, sub, body).is_some() {
         return append_named(alloc, node, &table, text);
     }
-    if NodeTable::standard().form_of(kind, sub, body).is_some() {
+    if (kind, sub) != FILE && NodeTable::standard().form_of(kind, sub, body).is_some() {
         return text.push_str(&named_text(alloc, &path_of(alloc, node)?)?);
     }
     match name_of_kind(kind) {

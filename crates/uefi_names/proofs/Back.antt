@@ -24,8 +24,8 @@ use Rattle.uefi_names.specs.declared.table.NodeTable.{NodeTable}
 use Rattle.uefi_names.specs.declared.table.Form.{Form}
 use Rattle.uefi_names.specs.Table.{fits, forms_for}
 use Rattle.uefi_names.specs.Shown.{form_text}
-use Rattle.uefi_names.specs.Cut.{cut_named}
-use Rattle.uefi_names.specs.Named.{is_whole_for, is_segment, is_row, is_read_back, text_in_forms, plain_segment, plain_text, named_node, named_instance, named_path}
+use Rattle.uefi_names.specs.Cut.{is_whole_for, cut_named}
+use Rattle.uefi_names.specs.Named.{is_segment, is_row, is_read_back, text_in_forms, plain_segment, plain_text, named_node, named_instance, named_path}
 use Rattle.uefi_names.specs.Reading.{segment_row, respelled, IsOneNode, IsAgain, IsExactSegment, IsNodeOf, IsNamedSegment, IsNamedText}
 use Rattle.uefi_names.proofs.Pieces.{IsSegmentText, whole_for, path_again}
 use Rattle.uefi_names.proofs.Exact.{exact_text, exact_named}

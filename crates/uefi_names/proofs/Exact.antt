@@ -17,8 +17,7 @@ use Rattle.uefi_text.proofs.Cut.Segments.{IsNameByte, IsArgumentByte, IsPlainNam
 use Rattle.uefi_text.proofs.Means.Plain.{plain_of_text, plain_of_meaning}
 use Rattle.uefi_text.proofs.Bytes.Guids.{hex_length}
 use Rattle.uefi_names.specs.declared.table.NodeTable.{NodeTable}
-use Rattle.uefi_names.specs.Cut.{deeper, first_outside, trimmed, arguments_in, before_close}
-use Rattle.uefi_names.specs.Named.{depth_after}
+use Rattle.uefi_names.specs.Cut.{deeper, first_outside, depth_after, trimmed, arguments_in, before_close}
 use Rattle.uefi_names.specs.Read.{table_read}
 use Rattle.uefi_names.specs.Reading.{is_flat_ascii, may_have, may_be_exact, named_row, segment_row, IsOneNode, IsNamedSegment, IsNamedText}
 use Rattle.uefi_names.proofs.Pieces.{IsWhole, IsSegmentText, whole_on, joined_pieces, path_again, suc_some}

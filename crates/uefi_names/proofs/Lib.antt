@@ -1,5 +1,6 @@
 -- what the proofs of functions use
 mod Texts
+mod Chars
 mod Left
 mod Standard
 mod Cuts

@@ -4,8 +4,7 @@ use Rattle.std.specs.Prelude.{Option, Some, None, is_none, if◌then◌else◌}
 use Rattle.std.specs.List.{AllByRecursion, join_with_byte}
 use Rattle.std.proofs.lemmas.Bool.{and_parts, eqb-true}
 use Rattle.uefi_text.specs.Segment.{comma, slash}
-use Rattle.uefi_names.specs.Cut.{deeper, first_outside, pieces_from, pieces, segments_in, cut_named}
-use Rattle.uefi_names.specs.Named.{depth_after, is_whole_for}
+use Rattle.uefi_names.specs.Cut.{deeper, first_outside, depth_after, is_whole_for, pieces_from, pieces, segments_in, cut_named}
 use Rattle.uefi_names.proofs.Cuts.{none_outside}
 
 -- no mark is outside parentheses in the text, which begins at this depth and ends at depth 0

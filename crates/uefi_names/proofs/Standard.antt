@@ -73,6 +73,7 @@ shown-same (shows.Ascii before) bytes = refl
 shown-same shows.LoneAscii bytes = refl
 shown-same shows.Units bytes = refl
 shown-same (shows.Each len item) bytes = refl
+shown-same (shows.Whole encoding) bytes = refl
 
 fields-same : (fields : List Field) (body : List ℕ) → fields_text (map plain_field fields) body ≡ fields_text fields body
 fields-same fields body =

@@ -1,5 +1,5 @@
 -- What is read and printed by a table is so by the same table wherever its parts lie in memory.
-use Rattle.std.proofs.Common.{◌≡◌, ◌==◌, ◌&&◌, ℕ, suc, Bool, List, [], ◌∷◌, ◌++◌, map, length, refl, ap, sym, subst, ◌∙◌}
+use Rattle.std.proofs.Common.{◌≡◌, ◌==◌, ℕ, suc, Bool, List, [], ◌∷◌, ◌++◌, map, length, refl, ap, sym, subst, ◌∙◌}
 use Rattle.std.specs.Prelude.{Option, Some, None, unwrap_or, if◌then◌else◌}
 use Rattle.std.specs.List.{find, join_with_byte}
 use Rattle.std.specs.Option.{option_map}
@@ -23,9 +23,9 @@ use Rattle.uefi_names.specs.declared.table.Show.TheVariants as shows
 use Rattle.uefi_names.specs.Table.{row_for, forms_in, forms_for, least, to_end}
 use Rattle.uefi_names.specs.Shown.{form_text}
 use Rattle.uefi_names.specs.Standard.{plain_word, plain_show, plain_field, plain_when, plain_form, plain_row, plain_group, plain_table, standard_table}
-use Rattle.uefi_names.specs.Cut.{cut_named, arguments_in, named_parts}
+use Rattle.uefi_names.specs.Cut.{cut_named, named_parts}
 use Rattle.uefi_names.specs.Spelled.{is_word, word_of, number_read, number_bytes, within_mask, number_or, masked_read, shown_read}
-use Rattle.uefi_names.specs.Read.{first_read, items_of, read_by, field_read, offset_or, Spelled, spelled_in, rank_of, fields_read, arguments_of, front_len, front_of, with_fields, with_tails, body_of, if_fits, form_read, forms_read, rows_read, groups_read, table_read}
+use Rattle.uefi_names.specs.Read.{first_read, items_of, read_by, field_read, offset_or, Spelled, spelled_in, rank_of, fields_read, shows_whole, takes_inside, arguments_of, front_len, front_of, with_fields, with_tails, body_of, if_fits, form_read, forms_read, rows_read, groups_read, table_read}
 use Rattle.uefi_names.specs.Reading.{may_be_exact, named_row, segment_row, IsNodeOf, IsNamedSegment, IsNamedText}
 use Rattle.uefi_names.specs.Named.{text_in_form, text_in_forms, table_text, plain_text, named_node, named_path}
 use Rattle.uefi_names.proofs.Standard.{find-same, fits-same, form-same, row_for-same}
@@ -57,6 +57,7 @@ read-same (shows.Ascii before) len text = refl
 read-same shows.LoneAscii len text = refl
 read-same shows.Units len text = refl
 read-same (shows.Each size item) len text = refl
+read-same (shows.Whole encoding) len text = refl
 
 first-same : (a b : Show) (len : ℕ) → ((text : List ℕ) → shown_read a len text ≡ shown_read b len text) → (texts : List (List ℕ)) → first_read a len texts ≡ first_read b len texts
 first-same a b len same [] = refl
@@ -78,6 +79,7 @@ items-same (shows.Ascii before) = refl
 items-same shows.LoneAscii = refl
 items-same shows.Units = refl
 items-same (shows.Each size item) = refl
+items-same (shows.Whole encoding) = refl
 
 by-same : (items : Option (ℕ × Item)) (show : Show) (len : ℕ) (texts : List (List ℕ)) → read_by items (plain_show show) len texts ≡ read_by items show len texts
 by-same (Some items) show len texts = refl
@@ -102,6 +104,7 @@ rank-same (shows.Ascii before) = refl
 rank-same shows.LoneAscii = refl
 rank-same shows.Units = refl
 rank-same (shows.Each size item) = refl
+rank-same (shows.Whole encoding) = refl
 
 spelled-same : (field : Field) (bytes : List ℕ) → spelled_in (plain_field field) bytes ≡ spelled_in field bytes
 spelled-same field bytes = ap (λ (n : ℕ). record { at = field.at; is_last = field.len == to_end; rank = n; bytes = bytes }) (rank-same field.show)
@@ -121,8 +124,31 @@ map_length : {X Y : Type 0} (f : X → Y) (xs : List X) → length (map f xs) �
 map_length f [] = refl
 map_length f (x ∷ xs) = ap (λ (n : ℕ). suc n) (map_length f xs)
 
+whole-same : (show : Show) → shows_whole (plain_show show) ≡ shows_whole show
+whole-same (shows.Word mask words otherwise) = refl
+whole-same (shows.Literal literal) = refl
+whole-same (shows.Number numeral) = refl
+whole-same shows.OneMore = refl
+whole-same shows.AllDigits = refl
+whole-same shows.Digits = refl
+whole-same shows.PrefixedDigits = refl
+whole-same shows.Guid = refl
+whole-same shows.HardwareId = refl
+whole-same shows.Ipv4 = refl
+whole-same shows.Ipv6 = refl
+whole-same (shows.Ascii before) = refl
+whole-same shows.LoneAscii = refl
+whole-same shows.Units = refl
+whole-same (shows.Each size item) = refl
+whole-same (shows.Whole encoding) = refl
+
+inside-same : (fields : List Field) → takes_inside (map plain_field fields) ≡ takes_inside fields
+inside-same [] = refl
+inside-same (field ∷ []) = whole-same field.show
+inside-same (field ∷ second ∷ fields) = refl
+
 arguments-same : (fields : List Field) (inside : List ℕ) → arguments_of (map plain_field fields) inside ≡ arguments_of fields inside
-arguments-same fields inside = ap (λ (n : ℕ). if (n == 0) && (length inside == 0) then [] else arguments_in inside) (map_length plain_field fields)
+arguments-same fields inside = rw (inside-same fields, map_length plain_field fields) refl
 
 -- ---- data
 

@@ -77,7 +77,7 @@ no-twos (_ ∷ []) short = refl
 no-twos (_ ∷ _ ∷ rest) short = absurd (omega (arith, short))
 
 -- none is left
-none-left : {X : Type 0} (text : X → List ℕ) (done : List ℕ) (left : List X) (all : List ℕ)
+pub none-left : {X : Type 0} (text : X → List ℕ) (done : List ℕ) (left : List X) (all : List ℕ)
     → left ≡ [] → done ++ flat_map text left ≡ all → done ≡ all
 none-left text done left all none e =
     sym (append-nil done) ∙ (ap (λ xs. done ++ flat_map text xs) (sym none) ∙ e)

@@ -1,6 +1,6 @@
 -- How a text is cut at marks that aren't in parentheses.
 use Rattle.std.specs.Prelude.{ℕ, suc, ◌-◌, Bool, ◌==◌, ◌&&◌, List, [], ◌∷◌, ◌++◌, map, take, drop, length, slice_index}
-use Rattle.std.specs.Prelude.{Option, Some, None, if◌then◌else◌}
+use Rattle.std.specs.Prelude.{Option, Some, None, is_none, if◌then◌else◌}
 use Rattle.uefi_text.specs.Segment.{comma, slash}
 use Rattle.uefi_text.specs.Cuts.{open_mark, close_mark}
 use Rattle.uefi_text.specs.Reader.{◌>>=◌}
@@ -14,6 +14,15 @@ abbrev pub first_outside : ℕ → ℕ → ℕ → List ℕ → Option ℕ
 first_outside mark depth at [] = None
 first_outside mark depth at (byte ∷ text) =
     if (byte == mark) && (depth == 0) then Some at else first_outside mark (deeper depth byte) (suc at) text
+
+-- how many parentheses are open after a text
+abbrev pub depth_after : ℕ → List ℕ → ℕ
+depth_after depth [] = depth
+depth_after depth (byte ∷ text) = depth_after (deeper depth byte) text
+
+-- the text has no such mark outside parentheses, and closes those that it opens
+abbrev pub is_whole_for : ℕ → List ℕ → Bool
+is_whole_for mark text = is_none (first_outside mark 0 0 text) && (depth_after 0 text == 0)
 
 -- what is between such marks; the first piece begins with what is done of it
 abbrev pub pieces_from : ℕ → List ℕ → ℕ → List ℕ → List (List ℕ)

@@ -1,5 +1,5 @@
 -- Paths as text, with each node by its name.
-use Rattle.std.specs.Prelude.{ℕ, Bool, true, false, ◌==◌, ◌&&◌, List, [], ◌∷◌, map, Option, Some, None, is_none, unwrap_or, codes, decimal}
+use Rattle.std.specs.Prelude.{Bool, true, false, ◌&&◌, ℕ, List, [], ◌∷◌, map, Option, Some, None, unwrap_or, codes, decimal}
 use Rattle.std.specs.Prelude.{if◌then◌else◌}
 use Rattle.std.specs.List.{join_with_byte}
 use Rattle.std.specs.Option.{option_or}
@@ -14,7 +14,7 @@ use Rattle.uefi_names.specs.declared.table.NodeTable.{NodeTable}
 use Rattle.uefi_names.specs.declared.table.Form.{Form}
 use Rattle.uefi_names.specs.Table.{fits, form_for, forms_for}
 use Rattle.uefi_names.specs.Shown.{form_text}
-use Rattle.uefi_names.specs.Cut.{deeper, first_outside}
+use Rattle.uefi_names.specs.Cut.{is_whole_for}
 use Rattle.uefi_names.specs.Reading.{segment_row}
 
 -- ---- in the forms of a table, whether or not the text can be read back
@@ -36,15 +36,6 @@ abbrev pub shown_path : NodeTable → List (List Node) → List ℕ
 shown_path table path = join_with_byte comma (map (shown_instance table) path)
 
 -- ---- so that the text is read as the path
-
--- how many parentheses are open after a text
-abbrev pub depth_after : ℕ → List ℕ → ℕ
-depth_after depth [] = depth
-depth_after depth (byte ∷ text) = depth_after (deeper depth byte) text
-
--- the text has no such mark outside parentheses, and closes those that it opens
-abbrev pub is_whole_for : ℕ → List ℕ → Bool
-is_whole_for mark text = is_none (first_outside mark 0 0 text) && (depth_after 0 text == 0)
 
 -- a text that is one segment wherever it stands
 abbrev pub is_segment : List ℕ → Bool

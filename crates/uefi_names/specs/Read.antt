@@ -1,5 +1,5 @@
 -- What the text of a node in a form of a table stands for: the data that its arguments spell.
-use Rattle.std.specs.Prelude.{ℕ, suc, Bool, ◌==◌, ◌&&◌, nat_lt, List, [], ◌∷◌, ◌++◌, length, replicate, set, slice_index, bit_or}
+use Rattle.std.specs.Prelude.{ℕ, suc, Bool, true, false, ◌==◌, ◌&&◌, nat_lt, List, [], ◌∷◌, ◌++◌, length, replicate, set, slice_index, bit_or}
 use Rattle.std.specs.Prelude.{Option, Some, None, if◌then◌else◌}
 use Rattle.std.specs.List.{find}
 use Rattle.std.specs.Option.{option_or}
@@ -71,9 +71,20 @@ fields_read done [] texts = if length texts == 0 then Some done else None
 fields_read done (field ∷ fields) texts =
     field_read field.show field.len texts >>= λ one. fields_read (done ++ spelled_in field one.0 ∷ []) fields one.1
 
+abbrev pub shows_whole : Show → Bool
+shows_whole (shows.Whole encoding) = true
+shows_whole _ = false
+
+-- the only field is shown as all that is in parentheses
+abbrev pub takes_inside : List Field → Bool
+takes_inside (field ∷ []) = shows_whole field.show
+takes_inside _ = false
+
 -- the arguments of a form: a form without fields has none
 abbrev pub arguments_of : List Field → List ℕ → List (List ℕ)
-arguments_of fields inside = if (length fields == 0) && (length inside == 0) then [] else arguments_in inside
+arguments_of fields inside =
+    if takes_inside fields then inside ∷ []
+    else (if (length fields == 0) && (length inside == 0) then [] else arguments_in inside)
 
 -- ---- data
 

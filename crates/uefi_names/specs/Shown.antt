@@ -2,7 +2,9 @@
 use Rattle.std.specs.Prelude.{ℕ, zero, suc, ◌+◌, ◌/◌, Bool, ◌==◌, ◌&&◌, ◌||◌, not, nat_le, List, [], ◌∷◌, ◌++◌, map, flat_map}
 use Rattle.std.specs.Prelude.{length, take, drop, Option, Some, None, codes, decimal, slice_index, bit_and, if◌then◌else◌}
 use Rattle.std.specs.List.{find, join_with_byte}
-use Rattle.std.specs.Int.{w16, w32, w64, from_le_bytes, to_be_bytes}
+use Rattle.std.specs.Char.{encode_utf8}
+use Rattle.std.specs.Char.Utf16.{is_high_surrogate, is_low_surrogate, surrogate_pair_char, utf16_lossy_chars}
+use Rattle.std.specs.Int.{w16, w32, w64, from_le_bytes, to_be_bytes, is_in_range}
 use Rattle.uefi_text.specs.Number.{number_text}
 use Rattle.uefi_text.specs.Bytes.{hex_text, address_text}
 use Rattle.uefi_text.specs.Guid.{guid_text}
@@ -15,6 +17,8 @@ use Rattle.uefi_names.specs.declared.table.Numeral.{Numeral}
 use Rattle.uefi_names.specs.declared.table.Numeral.TheVariants.{Hexadecimal, Decimal}
 use Rattle.uefi_names.specs.declared.table.Item.{Item}
 use Rattle.uefi_names.specs.declared.table.Item.TheVariants as items
+use Rattle.uefi_names.specs.declared.table.Encoding.{Encoding}
+use Rattle.uefi_names.specs.declared.table.Encoding.TheVariants as encodings
 use Rattle.uefi_names.specs.declared.table.Show.{Show}
 use Rattle.uefi_names.specs.declared.table.Show.TheVariants as shows
 use Rattle.uefi_names.specs.Table.{part}
@@ -98,6 +102,41 @@ units_in (low ∷ high ∷ bytes) =
     if unit == 0 then [] else unit ∷ units_in bytes
 units_in _ = []
 
+-- a character that a terminal may act on: of control, or one that parts lines or turns the direction of a text
+abbrev pub is_hidden : ℕ → Bool
+is_hidden c =
+    is_in_range 0 0x1F c
+    || (is_in_range 0x7F 0x9F c
+    || ((c == 0x61C)
+    || (is_in_range 0x200E 0x200F c
+    || (is_in_range 0x2028 0x202E c || (is_in_range 0x2066 0x2069 c || (c == 0xFEFF))))))
+
+-- a character that is shown as itself
+abbrev pub is_shown : Encoding → ℕ → Bool
+is_shown encodings.Ascii c = is_in_range 0x21 0x7E c
+is_shown encodings.Utf16 c = not (is_hidden c)
+
+-- a character as it is shown: itself, or U+FFFD
+abbrev pub shown_char : Encoding → ℕ → ℕ
+shown_char encoding c = if is_shown encoding c then c else 0xFFFD
+
+-- the character of a pair of units, if they are one
+abbrev pub pair_char : ℕ → ℕ → Option ℕ
+pair_char high low =
+    if is_high_surrogate high && is_low_surrogate low then Some (surrogate_pair_char high low) else None
+
+-- the characters that bytes are: of UTF-16 those up to a zero unit or the end, with U+FFFD for half of a pair
+abbrev pub chars_in : Encoding → List ℕ → List ℕ
+chars_in encodings.Ascii bytes = bytes
+chars_in encodings.Utf16 bytes = utf16_lossy_chars (units_in bytes)
+
+-- the bytes of a character as it is shown, in UTF-8
+abbrev pub char_text : Encoding → ℕ → List ℕ
+char_text encoding c = encode_utf8 (shown_char encoding c)
+
+abbrev pub whole_text : Encoding → List ℕ → List ℕ
+whole_text encoding bytes = flat_map (char_text encoding) (chars_in encoding bytes)
+
 -- the bytes of a field as they are shown
 abbrev pub shown_text : Show → List ℕ → List ℕ
 shown_text (shows.Number numeral) bytes = numeral_text numeral (number_in bytes)
@@ -117,6 +156,7 @@ shown_text (shows.Ascii number) bytes = flat_map escaped (nth_text number bytes)
 shown_text shows.LoneAscii bytes = flat_map escaped (nth_text 0 bytes)
 shown_text shows.Units bytes = codes "\"" ++ (flat_map escaped (units_in bytes) ++ codes "\"")
 shown_text (shows.Each len item) bytes = items_text item len bytes
+shown_text (shows.Whole encoding) bytes = whole_text encoding bytes
 
 -- a field as it is shown: its bytes are so many from its offset on
 abbrev pub field_text : Field → List ℕ → List ℕ

@@ -1,24 +1,29 @@
 -- What an argument of a form spells: the bytes of its field.
 use Rattle.std.specs.Prelude.{ℕ, ◌+◌, ◌-◌, ◌*◌, ◌/◌, ◌%◌, Bool, true, false, ◌==◌, ◌&&◌, ◌||◌, nat_le, nat_lt, List, [], ◌∷◌, ◌++◌}
 use Rattle.std.specs.Prelude.{length, take, drop, replicate, slice_index, bit_and, codes, Option, Some, None, if◌then◌else◌}
-use Rattle.std.specs.Str.{str_eq_ignore_ascii_case}
+use Rattle.std.specs.Str.{str_eq_ignore_ascii_case, chars}
 use Rattle.std.specs.Str.Parse.{digits_value}
-use Rattle.std.specs.Char.{digit_value}
+use Rattle.std.specs.Char.{digit_value, encode_utf8}
+use Rattle.std.specs.Char.Escape.{encode_utf16}
 use Rattle.std.specs.List.{find, list_all}
 use Rattle.std.specs.Int.{w64, to_le_bytes}
+use Rattle.uefi_path.specs.Units.{units_bytes}
 use Rattle.uefi_text.specs.Node.{pnp_hid}
 use Rattle.uefi_text.specs.Bytes.{dot, hyphen}
+use Rattle.uefi_text.specs.Cuts.{close_mark}
 use Rattle.uefi_text.specs.Reader.{◌>>=◌, is_numeral, is_data, data_bytes}
 use Rattle.uefi_names.specs.declared.table.Word.{Word}
 use Rattle.uefi_names.specs.declared.table.Item.{Item}
 use Rattle.uefi_names.specs.declared.table.Item.TheVariants as items
+use Rattle.uefi_names.specs.declared.table.Encoding.{Encoding}
+use Rattle.uefi_names.specs.declared.table.Encoding.TheVariants as encodings
 use Rattle.uefi_names.specs.declared.table.Show.{Show}
 use Rattle.uefi_names.specs.declared.table.Show.TheVariants as shows
 use Rattle.uefi_names.specs.declared.spelled.Group.{Group}
 use Rattle.uefi_names.specs.declared.spelled.Group.TheVariants.{Octet, Pair}
 use Rattle.uefi_names.specs.Table.{part, to_end}
-use Rattle.uefi_names.specs.Shown.{is_plain, colon}
-use Rattle.uefi_names.specs.Cut.{pieces}
+use Rattle.uefi_names.specs.Shown.{is_plain, is_shown, colon}
+use Rattle.uefi_names.specs.Cut.{is_whole_for, pieces}
 
 -- the second step, if the first gave a value
 abbrev pub and_then : {A B : Type 0} → Option A → (A → Option B) → Option B
@@ -199,6 +204,28 @@ quoted text =
 abbrev pub wide_read : ℕ → List ℕ → Option (List ℕ)
 wide_read len text = quoted text >>= λ inside. (text_read true [] 0 0 inside >>= sized len)
 
+-- ---- all that is in parentheses
+
+-- the bytes of a character
+abbrev pub char_bytes : Encoding → ℕ → List ℕ
+char_bytes encodings.Ascii c = encode_utf8 c
+char_bytes encodings.Utf16 c = units_bytes (encode_utf16 c)
+
+-- what comes after the characters: a zero unit closes those of UTF-16
+abbrev pub closing_bytes : Encoding → List ℕ
+closing_bytes encodings.Ascii = []
+closing_bytes encodings.Utf16 = 0 ∷ 0 ∷ []
+
+-- the bytes of characters that are shown as themselves, after what is done
+abbrev pub chars_read : Encoding → List ℕ → List ℕ → Option (List ℕ)
+chars_read encoding done [] = Some (done ++ closing_bytes encoding)
+chars_read encoding done (c ∷ characters) =
+    if is_shown encoding c then chars_read encoding (done ++ char_bytes encoding c) characters else None
+
+-- the bytes of a text in which each parenthesis closes one or is closed
+abbrev pub whole_read : Encoding → List ℕ → Option (List ℕ)
+whole_read encoding text = if is_whole_for close_mark text then chars_read encoding [] (chars text) else None
+
 -- ---- fields
 
 -- the bytes that an argument spells in a field of this length
@@ -218,3 +245,4 @@ shown_read (shows.Ascii before) len text = ascii_read len text
 shown_read shows.LoneAscii len text = lone_read text
 shown_read shows.Units len text = wide_read len text
 shown_read (shows.Each size item) len text = item_read item size text
+shown_read (shows.Whole encoding) len text = whole_read encoding text >>= sized len

@@ -14,6 +14,8 @@ use Rattle.uefi_names.specs.declared.table.DataLen.TheVariants.{Exactly, AtLeast
 use Rattle.uefi_names.specs.declared.table.Numeral.TheVariants.{Hexadecimal, Decimal}
 use Rattle.uefi_names.specs.declared.table.Item.{Item}
 use Rattle.uefi_names.specs.declared.table.Item.TheVariants as items
+use Rattle.uefi_names.specs.declared.table.Encoding.{Encoding}
+use Rattle.uefi_names.specs.declared.table.Encoding.TheVariants.{Ascii, Utf16}
 use Rattle.uefi_names.specs.declared.table.Show.{Show}
 use Rattle.uefi_names.specs.declared.table.Show.TheVariants as shows
 use Rattle.uefi_names.specs.Table.{to_end}
@@ -118,6 +120,10 @@ lone_text_at at = field_of at to_end shows.LoneAscii
 -- items of one length from there to the end
 abbrev pub each_at : ℕ → ℕ → Item → Field
 each_at at len item = field_of at to_end (shows.Each len item)
+
+-- all the data, as all that is in parentheses
+abbrev pub whole : Encoding → Field
+whole encoding = field_of 0 to_end (shows.Whole encoding)
 
 -- ---- forms and rows
 
@@ -383,6 +389,7 @@ network_rows =
     ∷ word 5 (codes "S") ∷ [])
     ∷ word_at 14 1 all_bits
     (word 0 (codes "D") ∷ word 1 (codes "1") ∷ word 2 (codes "1.5") ∷ word 3 (codes "2") ∷ []) ∷ [])
+    ∷ row_of 24 (AtLeast 1) (codes "Uri") (whole Ascii ∷ [])
     ∷ row_of 27 (Exactly 6) (codes "Bluetooth") (digits_at 0 6 ∷ [])
     ∷ row_of 28 (Exactly 32) (codes "Wi-Fi") (field_of 0 32 (shows.Ascii 0) ∷ [])
     ∷ row_of 30 (Exactly 7) (codes "BluetoothLE") (digits_at 0 6 ∷ number_at 6 1 ∷ [])
@@ -432,6 +439,7 @@ abbrev pub media_rows : List NodeRow
 media_rows =
     row_of 1 (Exactly 38) (codes "HD")
     (decimal_at 0 4 ∷ decimal_at 37 1 ∷ always_at 20 16 (codes "0") ∷ number_at 4 8 ∷ number_at 12 8 ∷ [])
+    ∷ row_of 4 (AtLeast 4) (codes "File") (whole Utf16 ∷ [])
     ∷ row_of 5 (Exactly 16) (codes "Media") (guid_at 0 ∷ [])
     ∷ row_of 6 (Exactly 16) (codes "FvFile") (guid_at 0 ∷ [])
     ∷ row_of 7 (Exactly 16) (codes "Fv") (guid_at 0 ∷ [])

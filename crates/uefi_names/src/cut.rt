@@ -2,8 +2,8 @@
 
 ghost use Rattle.std.specs.Prelude.{◌≡◌, ◌<◌, ◌≤◌, ◌^◌, ◌∷◌, ◌==◌, ◌&&◌, true, drop, map, IfOk, IfSome, length};
 ghost use Rattle.std.specs.Option.{option_map};
-ghost use Rattle.uefi_names.specs.Named.{depth_after, is_whole_for, is_segment};
-ghost use Rattle.uefi_names.specs.Cut.{deeper, first_outside, pieces, pieces_left, around_mark, begins_with_space, trimmed, arguments_in, named_parts, before_close};
+ghost use Rattle.uefi_names.specs.Named.{is_segment};
+ghost use Rattle.uefi_names.specs.Cut.{deeper, first_outside, depth_after, is_whole_for, pieces, pieces_left, around_mark, begins_with_space, trimmed, arguments_in, named_parts, before_close};
 
 use crate::table::byte;
 use std::alloc::{AllocError, Global};
@@ -157,7 +157,7 @@ pub(crate) fn is_segment(text: &str) -> bool
 }
 
 /// Whether a text has no such mark outside parentheses, and closes those that it opens.
-fn is_whole_for(text: &str, mark: u8) -> bool
+pub(crate) fn is_whole_for(text: &str, mark: u8) -> bool
     ensures { result ≡ is_whole_for mark text.now }
 {
     let bytes = text.as_bytes();

@@ -4,6 +4,7 @@ ghost use Rattle.std.specs.Prelude.{◌≡◌};
 ghost use Rattle.uefi_names.specs.declared.fault.NamedFault.TheVariants as faults;
 
 use crate::cut::{named_parts, pieces, trimmed};
+use crate::form_reader::shows_whole;
 use crate::nearest::nearest_name;
 use crate::reading::{may_be_exact, respelled, segment_read, segments_in, takes_whole};
 use crate::spelled::{is_word, spelled};
@@ -31,7 +32,7 @@ pub enum NamedFault {
     /// What the arguments of the segment at this place say is no data of its form.
     #[error("BadData {0}")]
     BadData(usize),
-    /// A segment whose name is one of the exact texts has this fault.
+    /// A segment that an exact text may be has this fault.
     #[error("{0}")]
     Exact(TextFault),
     /// Memory was refused.
@@ -219,6 +220,11 @@ fn form_fault(
     inside: &str,
     start: usize,
 ) -> Result<NamedFault, AllocError> {
+    if let [field] = form.fields {
+        if shows_whole(field.show) {
+            return whole_fault(alloc, *field, inside, start);
+        }
+    }
     let arguments = pieces(alloc, inside, b',')?;
     let mut index = 0;
     let mut place = start;
@@ -245,5 +251,18 @@ fn form_fault(
         )
         | None => Ok(NamedFault::BadData(start.saturating_add(inside.len()))),
         Some(_) => Ok(NamedFault::BadCount(start.saturating_add(inside.len()))),
+    }
+}
+
+/// The fault of a form whose only field is shown as all that is in parentheses, and begins at a place.
+fn whole_fault(
+    alloc: Global,
+    field: Field,
+    inside: &str,
+    start: usize,
+) -> Result<NamedFault, AllocError> {
+    match spelled(alloc, field.show, field.len, inside)? {
+        Some(_) => Ok(NamedFault::BadData(start)),
+        None => Ok(NamedFault::BadArgument(start, field)),
     }
 }

@@ -6,7 +6,7 @@ ghost use Rattle.std.specs.List.{find};
 ghost use Rattle.uefi_names.specs.Table.{to_end};
 ghost use Rattle.uefi_path.specs.Row.{row};
 ghost use Rattle.uefi_names.specs.SpelledFields.{spelled_of};
-ghost use Rattle.uefi_names.specs.Read.{spelled_in, items_read, first_read, all_read, items_of, field_read, fields_read, arguments_of, front_len, with_bits, front_of, with_fields, rank_of, with_tails, body_of, form_read, named_form_read, forms_read, rows_read, groups_read, table_read};
+ghost use Rattle.uefi_names.specs.Read.{spelled_in, items_read, first_read, all_read, items_of, field_read, fields_read, shows_whole, takes_inside, arguments_of, front_len, with_bits, front_of, with_fields, rank_of, with_tails, body_of, form_read, named_form_read, forms_read, rows_read, groups_read, table_read};
 
 use crate::cut::arguments_in;
 use crate::spelled::{is_word, item_bytes, spelled};
@@ -153,6 +153,22 @@ fn form_read(
 
 // ---- arguments
 
+/// Whether the only field is shown as all that is in parentheses.
+fn takes_inside(fields: &[Field]) -> bool
+    ensures { result ≡ takes_inside fields.now }
+{
+    match fields {
+        [field] => shows_whole(field.show),
+        _ => false,
+    }
+}
+
+pub(crate) fn shows_whole(show: Show) -> bool
+    ensures { result ≡ shows_whole show }
+{
+    matches!(show, Show::Whole(_))
+}
+
 /// The arguments of a form: a form without fields has none.
 fn arguments_of<'a>(
     alloc: Global,
@@ -161,11 +177,15 @@ fn arguments_of<'a>(
 ) -> Result<Vec<&'a str>, AllocError>
     ensures { IfOk result (λ all. map (λ argument. argument.now) all.items ≡ arguments_of fields.now inside.now) }
 {
-    if fields.is_empty() && inside.is_empty() {
-        Ok(Vec::new(alloc))
-    } else {
-        arguments_in(alloc, inside)
+    let mut all = Vec::new(alloc);
+    if takes_inside(fields) {
+        all.push(inside)?;
+        return Ok(all);
     }
+    if fields.is_empty() && inside.is_empty() {
+        return Ok(all);
+    }
+    arguments_in(alloc, inside)
 }
 
 /// What the arguments of fields spell: `None` if one spells nothing, or if there are fewer or more than the fields have.

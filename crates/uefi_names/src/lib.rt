@@ -15,11 +15,13 @@ mod spelled;
 mod table;
 pub mod vendors;
 mod views;
+mod whole;
 
 pub use fault::NamedFault;
 pub use named::{NamedPath, named_text};
 pub use reading::read_named_text;
 pub use table::{
-    DataLen, Field, Form, Item, NodeGroup, NodeRow, NodeTable, Numeral, REST, Show, When, Word,
+    DataLen, Encoding, Field, Form, Item, NodeGroup, NodeRow, NodeTable, Numeral, REST, Show, When,
+    Word,
 };
 pub use views::named_nodes_text;

@@ -6,7 +6,8 @@ ghost use Rattle.uefi_names.specs.Table.{IsTable, AreWhole};
 ghost use Rattle.uefi_names.specs.Standard.{plain_group, plain_table, group_of, hardware_rows, acpi_rows, storage_rows, vendor_rows, network_rows, usb_rows, media_rows, bios_boot_rows, standard_table};
 
 use crate::table::{
-    DataLen, Field, Form, Item, NodeGroup, NodeRow, NodeTable, Numeral, REST, Show, When, Word,
+    DataLen, Encoding, Field, Form, Item, NodeGroup, NodeRow, NodeTable, Numeral, REST, Show, When,
+    Word,
 };
 use crate::vendors::{DEBUG_PORT, PC_ANSI, SAS, UART_FLOW_CONTROL, VT_100, VT_100_PLUS, VT_UTF8};
 
@@ -479,7 +480,7 @@ static VENDORS: [NodeRow; 1] = [NodeRow {
 }];
 
 /// Networks and serial lines (10.3.4).
-static NETWORKS: [NodeRow; 9] = [
+static NETWORKS: [NodeRow; 10] = [
     NodeRow {
         sub: 11,
         forms: &[form!(
@@ -563,6 +564,12 @@ static NETWORKS: [NodeRow; 9] = [
                 )
             )
         ]
+    ),
+    row!(
+        24,
+        DataLen::AtLeast(1),
+        "Uri",
+        [(0, REST, Show::Whole(Encoding::Ascii))]
     ),
     row!(27, DataLen::Exactly(6), "Bluetooth", [(0, 6, Show::Digits)]),
     row!(28, DataLen::Exactly(32), "Wi-Fi", [(0, 32, Show::Ascii(0))]),
@@ -693,7 +700,7 @@ static USB: [NodeRow; 2] = [
 ];
 
 /// Media (10.3.5).
-static MEDIA: [NodeRow; 6] = [
+static MEDIA: [NodeRow; 7] = [
     row!(
         1,
         DataLen::Exactly(38),
@@ -705,6 +712,12 @@ static MEDIA: [NodeRow; 6] = [
             (4, 8, HEX),
             (12, 8, HEX)
         ]
+    ),
+    row!(
+        4,
+        DataLen::AtLeast(4),
+        "File",
+        [(0, REST, Show::Whole(Encoding::Utf16))]
     ),
     row!(5, DataLen::Exactly(16), "Media", [(0, 16, Show::Guid)]),
     row!(6, DataLen::Exactly(16), "FvFile", [(0, 16, Show::Guid)]),

@@ -6,6 +6,7 @@ ghost use Rattle.std.specs.Option.{option_copied};
 ghost use Rattle.uefi_names.specs.Shown.{number_in, word_for, guid_shown, hardware_id_shown, item_count, is_plain};
 
 use crate::table::{Field, Form, Item, Numeral, Show, Word, byte, part};
+use crate::whole::WholeText;
 use std::fmt;
 use uefi_path::Guid;
 use uefi_text::{AddressText, DigitsText, GuidText, HidText, NumberText};
@@ -112,6 +113,7 @@ impl fmt::Display for ShownText<'_> {
             Show::LoneAscii => write!(f, "{}", AsciiText { number: 0, bytes }),
             Show::Units => write!(f, "\"{}\"", UnitsText(bytes)),
             Show::Each(len, item) => write!(f, "{}", ItemsText { item, len, bytes }),
+            Show::Whole(encoding) => write!(f, "{}", WholeText { encoding, bytes }),
         }
     }
 }

@@ -13,6 +13,7 @@ ghost use Rattle.uefi_names.specs.Spelled.{and_then, is_word, word_of, numeral_r
 use crate::cut::pieces;
 use crate::shown::{cut, is_plain};
 use crate::table::{Item, REST, Show, Word, byte, part};
+use crate::whole::whole_bytes;
 use std::alloc::{AllocError, Global};
 
 /// The bases of numbers, and the most digits that one has.
@@ -49,6 +50,7 @@ pub(crate) fn spelled(
         Show::LoneAscii => lone_bytes(alloc, text),
         Show::Units => wide_bytes(alloc, text, len),
         Show::Each(size, item) => item_bytes(alloc, item, size, argument),
+        Show::Whole(encoding) => Ok(sized(whole_bytes(alloc, encoding, argument)?, len)),
     }
 }
 

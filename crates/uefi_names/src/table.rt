@@ -158,6 +158,18 @@ pub enum Show {
     Units,
     /// Items of so many bytes each, to the end, joined by commas.
     Each(usize, Item),
+    /// All that is in the parentheses: the characters, of which one that a terminal may act on is U+FFFD, and so isn't
+    /// read back. A form has no other field then.
+    Whole(Encoding),
+}
+
+/// What characters the bytes of a text are.
+#[derive(Clone, Copy, Debug, PartialEq, Eq)]
+pub enum Encoding {
+    /// A printing character of ASCII for each byte.
+    Ascii,
+    /// Those of UTF-16 in units of two bytes, little-endian, up to a zero unit.
+    Utf16,
 }
 
 /// How a number is written.

@@ -1,5 +1,5 @@
 use Rattle.std.proofs.Common.{◌≡◌, ◌≤◌, drop}
-use Rattle.uefi_names.specs.Named.{depth_after}
+use Rattle.uefi_names.specs.Cut.{depth_after}
 use Rattle.uefi_names.proofs.cut.depth_after.Given as goal
 
 abbrev pub invariant-loop-byte : goal.invariant-loop-byte
