@@ -3,6 +3,7 @@
 use crate::digits::is_hexadecimal;
 use std::alloc::{AllocError, AllocFailed, Global};
 use thiserror::Error;
+use uefi_names::is_hidden;
 use uefi_path::append_units;
 
 /// What stands for `\u` in a text that goes into JSON, before four digits, and twice for itself. No text has it.
@@ -48,7 +49,7 @@ pub(crate) fn marked_text(alloc: Global, units: &[u16]) -> Result<String, AllocE
                 text.push(MARK)?;
                 text.push(MARK)?;
             }
-            Ok(character) if is_hidden(character) => append_mark(u32::from(character), &mut text)?,
+            Ok(character) if needs_mark(character) => append_mark(u32::from(character), &mut text)?,
             Ok(character) => text.push(character)?,
             Err(half) => append_mark(u32::from(half.unpaired_surrogate()), &mut text)?,
         }
@@ -61,18 +62,9 @@ fn append_mark(unit: u32, text: &mut String) -> Result<(), AllocError> {
     write!(text, "{MARK}{unit:04x}")
 }
 
-/// Whether a terminal may take the character for something to do, and JSON doesn't escape it: a control character past
-/// ASCII, or one that parts lines or turns the direction of a text. Each is one unit of UTF-16.
-fn is_hidden(character: char) -> bool {
-    matches!(
-        character,
-        '\x7f'..='\u{9f}'
-            | '\u{61c}'
-            | '\u{200e}'..='\u{200f}'
-            | '\u{2028}'..='\u{202e}'
-            | '\u{2066}'..='\u{2069}'
-            | '\u{feff}'
-    )
+/// Whether a terminal may act on the character, and JSON doesn't escape it.
+fn needs_mark(character: char) -> bool {
+    character >= ' ' && is_hidden(character)
 }
 
 /// A line of JSON, with an escape for each mark in it. This fails only when out of memory.

@@ -4,7 +4,7 @@ use crate::efivar_rows::efivar_table;
 use crate::efivar_vendors::{vendor_hardware, vendor_messaging};
 use std::alloc::{AllocError, Global};
 use std::fmt::{self, Display};
-use uefi_names::{NamedPath, NodeTable, named_text};
+use uefi_names::{NamedPath, NodeTable, is_hidden, named_text};
 use uefi_path::{FileNode, Node, OtherNode, PCI_ROOT_HID, PCIE_ROOT_HID, Path, make_path};
 use uefi_text::{DigitsText, NodeText, NumberText};
 
@@ -66,7 +66,7 @@ pub(crate) fn append_units(units: &[u16], text: &mut String) -> Result<(), Alloc
     for read in char::decode_utf16(units.iter().copied()) {
         match read {
             Ok('\0') => break,
-            Ok(character) if character.is_control() => {
+            Ok(character) if is_hidden(character) => {
                 write!(text, "\\u{:04x}", u32::from(character))?;
             }
             Ok(character) => text.push(character)?,

@@ -53,7 +53,8 @@ impl NodeTable {
         name: &str,
         inside: &str,
     ) -> Result<Option<ReadRow>, AllocError>
-        ensures { IfOk result (λ read. option_map (λ r. row r.kind r.sub r.body.items) read ≡ table_read self.now name.now inside.now) }
+        ensures { IfOk result (λ read. option_map (λ r. row r.kind r.sub r.body.items) read
+            ≡ table_read self.now name.now inside.now) }
     {
         groups_read(alloc, &self.groups, name, inside)
     }
@@ -66,7 +67,8 @@ fn groups_read(
     name: &str,
     inside: &str,
 ) -> Result<Option<ReadRow>, AllocError>
-    ensures { IfOk result (λ read. option_map (λ r. row r.kind r.sub r.body.items) read ≡ groups_read name.now inside.now groups.now) }
+    ensures { IfOk result (λ read. option_map (λ r. row r.kind r.sub r.body.items) read
+        ≡ groups_read name.now inside.now groups.now) }
 {
     for group in groups {
         if let Some(row) = rows_read(alloc, group.kind, group.rows, name, inside)? {
@@ -84,7 +86,8 @@ fn rows_read(
     name: &str,
     inside: &str,
 ) -> Result<Option<ReadRow>, AllocError>
-    ensures { IfOk result (λ read. option_map (λ r. row r.kind r.sub r.body.items) read ≡ rows_read kind name.now inside.now rows.now) }
+    ensures { IfOk result (λ read. option_map (λ r. row r.kind r.sub r.body.items) read
+        ≡ rows_read kind name.now inside.now rows.now) }
 {
     for row in rows {
         if let Some(body) = forms_read(alloc, row.forms, name, inside)? {
@@ -122,7 +125,8 @@ fn named_form_read(
     name: &str,
     inside: &str,
 ) -> Result<Option<Vec<u8>>, AllocError>
-    ensures { IfOk result (λ read. option_map (λ body. body.items) read ≡ named_form_read name.now inside.now form.now) }
+    ensures { IfOk result (λ read. option_map (λ body. body.items) read
+        ≡ named_form_read name.now inside.now form.now) }
 {
     if is_word(name.as_bytes(), form.name.as_bytes()) {
         form_read(alloc, form, inside)
@@ -194,7 +198,8 @@ fn fields_read(
     fields: &'static [Field],
     arguments: &[&str],
 ) -> Result<Option<Vec<SpelledField>>, AllocError>
-    ensures { IfOk result (λ read. option_map (λ all. map spelled_of all.items) read ≡ fields_read [] fields.now (map (λ argument. argument.now) arguments.now)) }
+    ensures { IfOk result (λ read. option_map (λ all. map spelled_of all.items) read
+        ≡ fields_read [] fields.now (map (λ argument. argument.now) arguments.now)) }
 {
     let mut all = Vec::new(alloc);
     let mut taken = 0;
@@ -224,7 +229,12 @@ fn field_read(
     from: usize,
 ) -> Result<Option<(Vec<u8>, usize)>, AllocError>
     requires { from ≤ length arguments.now }
-    ensures read { IfOk result (λ read. option_map (λ one. (one.0.items, drop one.1 (map (λ argument. argument.now) arguments.now))) read ≡ field_read show len (drop from (map (λ argument. argument.now) arguments.now))) }
+    ensures read { IfOk result (λ read. option_map (λ one. (
+      one.0.items,
+      drop one.1
+          (map (λ argument. argument.now) arguments.now),
+    )) read
+        ≡ field_read show len (drop from (map (λ argument. argument.now) arguments.now))) }
     ensures within { IfOk result (λ read. IfSome read (λ one. one.1 ≤ length arguments.now)) }
 {
     match items_of(show) {
@@ -252,7 +262,12 @@ fn all_read(
     from: usize,
 ) -> Result<Option<(Vec<u8>, usize)>, AllocError>
     requires { from ≤ length arguments.now }
-    ensures read { IfOk result (λ read. option_map (λ one. (one.0.items, drop one.1 (map (λ argument. argument.now) arguments.now))) read ≡ all_read item size (drop from (map (λ argument. argument.now) arguments.now))) }
+    ensures read { IfOk result (λ read. option_map (λ one. (
+      one.0.items,
+      drop one.1
+          (map (λ argument. argument.now) arguments.now),
+    )) read
+        ≡ all_read item size (drop from (map (λ argument. argument.now) arguments.now))) }
     ensures within { IfOk result (λ read. IfSome read (λ one. one.1 ≤ length arguments.now)) }
 {
     match items_read(alloc, item, size, &arguments[from..])? {
@@ -270,7 +285,12 @@ fn first_read(
     from: usize,
 ) -> Result<Option<(Vec<u8>, usize)>, AllocError>
     requires { from ≤ length arguments.now }
-    ensures read { IfOk result (λ read. option_map (λ one. (one.0.items, drop one.1 (map (λ argument. argument.now) arguments.now))) read ≡ first_read show len (drop from (map (λ argument. argument.now) arguments.now))) }
+    ensures read { IfOk result (λ read. option_map (λ one. (
+      one.0.items,
+      drop one.1
+          (map (λ argument. argument.now) arguments.now),
+    )) read
+        ≡ first_read show len (drop from (map (λ argument. argument.now) arguments.now))) }
     ensures within { IfOk result (λ read. IfSome read (λ one. one.1 ≤ length arguments.now)) }
 {
     let Some((first, _)) = arguments[from..].split_first() else {
@@ -289,7 +309,8 @@ fn items_read(
     size: usize,
     arguments: &[&str],
 ) -> Result<Option<Vec<u8>>, AllocError>
-    ensures { IfOk result (λ read. option_map (λ bytes. bytes.items) read ≡ items_read item size [] (map (λ argument. argument.now) arguments.now)) }
+    ensures { IfOk result (λ read. option_map (λ bytes. bytes.items) read
+        ≡ items_read item size [] (map (λ argument. argument.now) arguments.now)) }
 {
     let mut all = Vec::new(alloc);
     for argument in arguments {

@@ -204,7 +204,8 @@ fn text_in_forms(
     forms: &'static [Form],
     node: &ReadRow,
 ) -> Result<Option<String>, AllocError>
-    ensures { IfOk result (λ text. option_map (λ t. string_bytes t) text ≡ text_in_forms table.now (path_row node.now.kind node.now.sub node.now.body.items) forms.now) }
+    ensures { IfOk result (λ text. option_map (λ t. string_bytes t) text
+        ≡ text_in_forms table.now (path_row node.now.kind node.now.sub node.now.body.items) forms.now) }
 {
     for form in forms {
         if let Some(text) = text_in_form(alloc, table, form, node)? {
@@ -221,7 +222,8 @@ fn text_in_form(
     form: &Form,
     node: &ReadRow,
 ) -> Result<Option<String>, AllocError>
-    ensures { IfOk result (λ text. option_map (λ t. string_bytes t) text ≡ text_in_form table.now (path_row node.now.kind node.now.sub node.now.body.items) form.now) }
+    ensures { IfOk result (λ text. option_map (λ t. string_bytes t) text
+        ≡ text_in_form table.now (path_row node.now.kind node.now.sub node.now.body.items) form.now) }
 {
     let body = node.body.as_slice();
     if !form.fits(body) {
@@ -254,7 +256,8 @@ fn is_read_back(
     text: &str,
     node: &ReadRow,
 ) -> Result<bool, AllocError>
-    ensures { IfOk result (λ is. is ≡ is_read_back table.now text.now (path_row node.now.kind node.now.sub node.now.body.items)) }
+    ensures { IfOk result (λ is. is ≡ is_read_back table.now text.now
+        (path_row node.now.kind node.now.sub node.now.body.items)) }
 {
     if !is_segment(text) {
         return Ok(false);
@@ -267,7 +270,8 @@ fn is_read_back(
 
 /// Whether two rows are the same.
 fn is_row(read: &ReadRow, node: &ReadRow) -> bool
-    ensures { result ≡ row_eq (path_row read.now.kind read.now.sub read.now.body.items) (path_row node.now.kind node.now.sub node.now.body.items) }
+    ensures { result ≡ row_eq (path_row read.now.kind read.now.sub read.now.body.items)
+        (path_row node.now.kind node.now.sub node.now.body.items) }
 {
     read.kind == node.kind && read.sub == node.sub && read.body.as_slice() == node.body.as_slice()
 }

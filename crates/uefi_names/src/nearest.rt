@@ -41,7 +41,8 @@ fn nearest_of(
     text: &str,
     names: &'static [&'static str],
 ) -> Result<Near, AllocError>
-    ensures { IfOk result (λ near. near_of near ≡ nearest_of text.now (near_of before) (map (λ name. name.now) names.now)) }
+    ensures { IfOk result (λ near. near_of near ≡ nearest_of text.now (near_of before)
+        (map (λ name. name.now) names.now)) }
 {
     let mut near = before;
     for name in names {
@@ -89,7 +90,8 @@ fn nearest_of_forms(
     text: &str,
     forms: &'static [Form],
 ) -> Result<Near, AllocError>
-    ensures { IfOk result (λ near. near_of near ≡ nearest_of text.now (near_of before) (map (λ form. form.name.now) forms.now)) }
+    ensures { IfOk result (λ near. near_of near ≡ nearest_of text.now (near_of before)
+        (map (λ form. form.name.now) forms.now)) }
 {
     let mut near = before;
     for form in forms {

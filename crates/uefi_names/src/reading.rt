@@ -40,7 +40,8 @@ pub(crate) fn path_nodes(
     table: &NodeTable,
     text: &str,
 ) -> Result<Option<Vec<Vec<Node>>>, AllocError>
-    ensures { IfOk result (λ read. Finds (Each (Each (IsNamedSegment table.now)) (cut_named text.now)) (option_map (λ all. map (λ nodes. nodes.items) all.items) read)) }
+    ensures { IfOk result (λ read. Finds (Each (Each (IsNamedSegment table.now)) (cut_named text.now))
+        (option_map (λ all. map (λ nodes. nodes.items) all.items) read)) }
 {
     let texts = pieces(alloc, text, b',')?;
     instances_read(alloc, table, &texts)
@@ -52,7 +53,8 @@ fn instances_read(
     table: &NodeTable,
     texts: &[&str],
 ) -> Result<Option<Vec<Vec<Node>>>, AllocError>
-    ensures { IfOk result (λ read. Finds (Each (IsNamedInstance table.now) (map (λ text. text.now) texts.now)) (option_map (λ all. map (λ nodes. nodes.items) all.items) read)) }
+    ensures { IfOk result (λ read. Finds (Each (IsNamedInstance table.now) (map (λ text. text.now) texts.now))
+        (option_map (λ all. map (λ nodes. nodes.items) all.items) read)) }
 {
     let mut all = Vec::new(alloc);
     let mut index = 0;
@@ -70,7 +72,8 @@ fn instances_read(
 fn text_at<'a>(texts: &[&'a str], index: usize) -> Option<&'a str>
     requires { index ≤ length texts.now }
     ensures none { IfNone result (drop index (map (λ text. text.now) texts.now) ≡ []) }
-    ensures some { IfSome result (λ text. drop index (map (λ text. text.now) texts.now) ≡ text.now ∷ drop (index + 1) (map (λ text. text.now) texts.now)) }
+    ensures some { IfSome result (λ text. drop index (map (λ text. text.now) texts.now)
+        ≡ text.now ∷ drop (index + 1) (map (λ text. text.now) texts.now)) }
     ensures within { IfSome result (λ _. index < length texts.now) }
 {
     match texts[index..].split_first() {
@@ -85,7 +88,8 @@ fn instance_read(
     table: &NodeTable,
     text: &str,
 ) -> Result<Option<Vec<Node>>, AllocError>
-    ensures { IfOk result (λ read. Finds (IsNamedInstance table.now text.now) (option_map (λ nodes. nodes.items) read)) }
+    ensures { IfOk result (λ read. Finds (IsNamedInstance table.now text.now)
+        (option_map (λ nodes. nodes.items) read)) }
 {
     let segments = segments_in(alloc, text)?;
     nodes_read(alloc, table, &segments)
@@ -97,7 +101,8 @@ fn nodes_read(
     table: &NodeTable,
     segments: &[&str],
 ) -> Result<Option<Vec<Node>>, AllocError>
-    ensures { IfOk result (λ read. Finds (Each (IsNamedSegment table.now) (map (λ segment. segment.now) segments.now)) (option_map (λ nodes. nodes.items) read)) }
+    ensures { IfOk result (λ read. Finds (Each (IsNamedSegment table.now) (map (λ segment. segment.now) segments.now))
+        (option_map (λ nodes. nodes.items) read)) }
 {
     let mut nodes = Vec::new(alloc);
     let mut index = 0;
@@ -144,7 +149,8 @@ pub(crate) fn segment_row(
     table: &NodeTable,
     text: &str,
 ) -> Result<Option<ReadRow>, AllocError>
-    ensures { IfOk result (λ read. option_map (λ r. row r.kind r.sub r.body.items) read ≡ segment_row table.now text.now) }
+    ensures { IfOk result (λ read. option_map (λ r. row r.kind r.sub r.body.items) read
+        ≡ segment_row table.now text.now) }
 {
     let Some((name, inside)) = named_parts(text) else {
         return Ok(None);
@@ -250,7 +256,8 @@ pub(crate) fn profile_names() -> &'static [&'static str]
 
 /// The node that has a row, if there is one.
 fn node_of(alloc: Global, read: &ReadRow) -> Result<Option<Node>, AllocError>
-    ensures { IfOk result (λ found. Finds (λ node. IsNode node × (row_of node ≡ row read.now.kind read.now.sub read.now.body.items)) found) }
+    ensures { IfOk result (λ found. Finds (λ node. IsNode node
+        × (row_of node ≡ row read.now.kind read.now.sub read.now.body.items)) found) }
 {
     match node_from_parts(alloc, read.kind, read.sub, &read.body) {
         Ok(node) => Ok(Some(node)),
@@ -360,7 +367,8 @@ pub(crate) fn takes_whole(name: &str) -> bool
 
 /// Appends arguments, joined by commas.
 fn append_joined(arguments: &[&str], text: &mut String) -> Result<(), AllocError>
-    ensures { OnOk result (string_bytes text.new ≡ string_bytes text.old ++ join_with_byte comma (map (λ argument. argument.now) arguments.now)) }
+    ensures { OnOk result (string_bytes text.new ≡ string_bytes text.old
+        ++ join_with_byte comma (map (λ argument. argument.now) arguments.now)) }
 {
     let Some((first, others)) = arguments.split_first() else {
         return Ok(());

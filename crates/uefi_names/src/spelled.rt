@@ -265,7 +265,8 @@ fn are_zeros(bytes: &[u8]) -> bool
 
 /// These bytes, and zeros after them up to this length.
 fn padded(alloc: Global, bytes: Option<Vec<u8>>, len: usize) -> Result<Option<Vec<u8>>, AllocError>
-    ensures { IfOk result (λ read. option_map (λ bytes. bytes.items) read ≡ and_then (option_map (λ bytes. bytes.items) bytes) (padded len)) }
+    ensures { IfOk result (λ read. option_map (λ bytes. bytes.items) read
+        ≡ and_then (option_map (λ bytes. bytes.items) bytes) (padded len)) }
 {
     let Some(mut bytes) = bytes else {
         return Ok(None);
@@ -280,7 +281,8 @@ fn padded(alloc: Global, bytes: Option<Vec<u8>>, len: usize) -> Result<Option<Ve
 
 /// These bytes, if a field of this length has as many.
 fn sized(bytes: Option<Vec<u8>>, len: usize) -> Option<Vec<u8>>
-    ensures { option_map (λ bytes. bytes.items) result ≡ and_then (option_map (λ bytes. bytes.items) bytes) (sized len) }
+    ensures { option_map (λ bytes. bytes.items) result ≡ and_then (option_map (λ bytes. bytes.items) bytes)
+        (sized len) }
 {
     match bytes {
         Some(bytes) if len == REST || len == bytes.len() => Some(bytes),
@@ -387,7 +389,8 @@ fn address(
     len: usize,
 ) -> Result<Option<Vec<u8>>, AllocError>
     requires { mark < 128 }
-    ensures { IfOk result (λ read. option_map (λ bytes. bytes.items) read ≡ and_then (groups_read group [] (pieces mark text.now)) (exactly len)) }
+    ensures { IfOk result (λ read. option_map (λ bytes. bytes.items) read
+        ≡ and_then (groups_read group [] (pieces mark text.now)) (exactly len)) }
 {
     let parts = pieces(alloc, text, mark)?;
     match group_bytes(alloc, group, &parts)? {
@@ -398,7 +401,8 @@ fn address(
 
 /// The bytes of the parts of an address.
 fn group_bytes(alloc: Global, group: Group, parts: &[&str]) -> Result<Option<Vec<u8>>, AllocError>
-    ensures { IfOk result (λ read. option_map (λ bytes. bytes.items) read ≡ groups_read group [] (map (λ part. part.now) parts.now)) }
+    ensures { IfOk result (λ read. option_map (λ bytes. bytes.items) read
+        ≡ groups_read group [] (map (λ part. part.now) parts.now)) }
 {
     let mut bytes = Vec::new(alloc);
     for part in parts {
@@ -411,7 +415,8 @@ fn group_bytes(alloc: Global, group: Group, parts: &[&str]) -> Result<Option<Vec
 
 /// Appends the bytes of a part of an address: `false` if it is none.
 fn append_group(group: Group, part: &str, bytes: &mut Vec<u8>) -> Result<bool, AllocError>
-    ensures { IfOk result (λ is. (if is then Some bytes.new.items else None) ≡ and_then (group_read group part.now) (λ more. Some (bytes.old.items ++ more))) }
+    ensures { IfOk result (λ is. (if is then Some bytes.new.items else None)
+        ≡ and_then (group_read group part.now) (λ more. Some (bytes.old.items ++ more))) }
 {
     let text = part.as_bytes();
     match group {
@@ -521,7 +526,9 @@ fn text_bytes(alloc: Global, is_wide: bool, text: &[u8]) -> Result<Option<Vec<u8
 
 /// Appends a plain unit: `false` if it isn't plain.
 fn append_plain(is_wide: bool, unit: u8, bytes: &mut Vec<u8>) -> Result<bool, AllocError>
-    ensures { IfOk result (λ is. (if is then Some bytes.new.items else None) ≡ (if is_plain unit then and_then (unit_bytes is_wide unit) (λ more. Some (bytes.old.items ++ more)) else None)) }
+    ensures { IfOk result (λ is. (if is then Some bytes.new.items else None)
+        ≡ (if is_plain unit then and_then (unit_bytes is_wide unit) (λ more.
+        Some (bytes.old.items ++ more)) else None)) }
 {
     if is_plain(u16::from(unit)) {
         append_unit(is_wide, u32::from(unit), bytes)
@@ -532,7 +539,8 @@ fn append_plain(is_wide: bool, unit: u8, bytes: &mut Vec<u8>) -> Result<bool, Al
 
 /// Appends a unit as one byte or as two: `false` if it is zero or has no room.
 fn append_unit(is_wide: bool, unit: u32, bytes: &mut Vec<u8>) -> Result<bool, AllocError>
-    ensures { IfOk result (λ is. (if is then Some bytes.new.items else None) ≡ and_then (unit_bytes is_wide unit) (λ more. Some (bytes.old.items ++ more))) }
+    ensures { IfOk result (λ is. (if is then Some bytes.new.items else None)
+        ≡ and_then (unit_bytes is_wide unit) (λ more. Some (bytes.old.items ++ more))) }
 {
     if unit == 0 || (!is_wide && unit > 0xff) {
         return Ok(false);

@@ -64,7 +64,8 @@ fn append_marked(
     is_first: bool,
     text: &mut String,
 ) -> Result<(), AllocError>
-    ensures { OnOk result (string_bytes text.new ≡ string_bytes text.old ++ (slash_before is_first ++ named_node table.now node.now)) }
+    ensures { OnOk result (string_bytes text.new ≡ string_bytes text.old
+        ++ (slash_before is_first ++ named_node table.now node.now)) }
 {
     text.push_str(mark_before(is_first))?;
     named::append_node(alloc, table, node, text)

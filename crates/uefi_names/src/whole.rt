@@ -74,8 +74,9 @@ fn is_shown(encoding: Encoding, character: char) -> bool
     }
 }
 
-/// Whether a terminal may act on the character: one of control, or one that parts lines or turns the direction of a text.
-fn is_hidden(character: char) -> bool
+/// Whether a terminal may act on a character: one of control, or one that parts lines or turns the direction of a text.
+/// Each is one unit of UTF-16.
+pub fn is_hidden(character: char) -> bool
     ensures { result ≡ is_hidden character }
 {
     matches!(
@@ -107,7 +108,8 @@ fn first_char(encoding: Encoding, bytes: &[u8]) -> Option<(char, &[u8])>
 
 /// The first character of UTF-16, and the bytes after it: `None` at a zero unit and at the end. Half of a pair is U+FFFD.
 fn first_of_utf16(bytes: &[u8]) -> Option<(char, &[u8])>
-    ensures some { IfSome result (λ first. utf16_lossy_chars (units_in bytes.now) ≡ first.0 ∷ utf16_lossy_chars (units_in first.1.now)) }
+    ensures some { IfSome result (λ first. utf16_lossy_chars (units_in bytes.now)
+        ≡ first.0 ∷ utf16_lossy_chars (units_in first.1.now)) }
     ensures none { IfNone result (utf16_lossy_chars (units_in bytes.now) ≡ []) }
     ensures less { IfSome result (λ first. length first.1.now < length bytes.now) }
 {
@@ -122,8 +124,10 @@ fn first_of_utf16(bytes: &[u8]) -> Option<(char, &[u8])>
 
 /// The character of a unit and the one that comes after it, if they are a pair, and the bytes after them.
 fn pair_at(high: u16, bytes: &[u8]) -> Option<(char, &[u8])>
-    ensures some { IfSome result (λ first. utf16_lossy_chars (high ∷ units_in bytes.now) ≡ first.0 ∷ utf16_lossy_chars (units_in first.1.now)) }
-    ensures none { IfNone result (utf16_lossy_chars (high ∷ units_in bytes.now) ≡ unwrap_or (lone_unit_char high) 0xFFFD ∷ utf16_lossy_chars (units_in bytes.now)) }
+    ensures some { IfSome result (λ first. utf16_lossy_chars (high ∷ units_in bytes.now)
+        ≡ first.0 ∷ utf16_lossy_chars (units_in first.1.now)) }
+    ensures none { IfNone result (utf16_lossy_chars (high ∷ units_in bytes.now)
+        ≡ unwrap_or (lone_unit_char high) 0xFFFD ∷ utf16_lossy_chars (units_in bytes.now)) }
     ensures less { IfSome result (λ first. length first.1.now < length bytes.now) }
 {
     let Some((low, after)) = first_unit(bytes) else {
