@@ -47,6 +47,11 @@ def removal(number: int) -> bytes:
 class Values(unittest.TestCase):
     """What goes in and comes out."""
 
+    def test_a_file_has_its_letters(self) -> None:
+        name = "\\Größe.efi\0".encode("utf-16-le")
+        path = bytes([4, 4, 4 + len(name), 0]) + name + bytes.fromhex("7fff0400")
+        self.assertEqual(bootkeep.path_names(path), "File(\\Größe.efi)")
+
     def test_a_path_has_its_text(self) -> None:
         self.assertEqual(bootkeep.path_text_and_len(PATH + b"rest"), (TEXT, len(PATH)))
         self.assertEqual(bootkeep.path_check(PATH + b"rest"), len(PATH))
