@@ -1,5 +1,6 @@
 -- Lemmas.
 pub mod Cuts
+pub mod Digits
 pub mod Letters
 pub mod Orders
 pub mod Reading

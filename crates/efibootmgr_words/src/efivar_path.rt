@@ -1,24 +1,14 @@
 //! Device paths as libefivar prints them.
 
+use crate::efivar_nodes::EfivarNode;
 use crate::efivar_rows::efivar_table;
-use crate::efivar_vendors::{vendor_hardware, vendor_messaging};
 use std::alloc::{AllocError, Global};
-use std::fmt::{self, Display};
 use uefi_names::{NamedPath, NodeTable, is_hidden, named_text};
-use uefi_path::{FileNode, Node, OtherNode, PCI_ROOT_HID, PCIE_ROOT_HID, Path, make_path};
-use uefi_text::{DigitsText, NodeText, NumberText};
-
-/// The `_HID` of a serial port, PNP0501, as a compressed EISA identifier.
-const SERIAL_HID: u32 = 0x0501_41d0;
-
-/// The `_HID` of a floppy disk, PNP0604, as a compressed EISA identifier.
-const FLOPPY_HID: u32 = 0x0604_41d0;
+use uefi_path::{FileNode, Node, OtherNode, Path, make_path};
+use uefi_text::{DigitsText, NodeText};
 
 /// The type and the sub-type of a file (10.3.5.4). One that is kept as bytes has no name.
 const FILE: (u8, u8) = (4, 4);
-
-/// The bytes of an address of Ethernet.
-const ETHERNET_LEN: usize = 6;
 
 /// The text of a path in the forms of libefivar 37 (UEFI 2.10, 10.6), but for nodes that it prints wrong: those are as
 /// `uefi_names` shows them, as docs/machines.md says. This fails only when out of memory.
@@ -128,70 +118,4 @@ fn path_of(alloc: Global, node: &Node) -> Result<Path, AllocError> {
     instances.push(nodes)?;
     // It has an instance.
     make_path(instances).map_err(|_| AllocError)
-}
-
-/// A node with a case of its own.
-#[derive(Clone, Copy)]
-struct EfivarNode<'a>(&'a Node);
-
-impl Display for EfivarNode<'_> {
-    fn fmt<W: fmt::Write>(&self, f: &mut fmt::Formatter<W>) -> fmt::Result {
-        match self.0 {
-            Node::VendorHw(vendor) => vendor_hardware(f, self.0, vendor),
-            Node::VendorMsg(vendor) => vendor_messaging(f, self.0, vendor),
-            Node::Acpi { hid, uid } => acpi(f, *hid, *uid),
-            Node::Usb { port, interface } => write!(f, "USB({port},{interface})"),
-            Node::Mac { address, if_kind } => mac(f, address, *if_kind),
-            Node::Sata {
-                hba,
-                multiplier,
-                lun,
-            } => write!(f, "Sata({hba},{multiplier},{lun})"),
-            Node::Vlan { id } => write!(f, "Vlan({id})"),
-            Node::Nvme { namespace, eui } => {
-                let namespace = NumberText(u64::from(*namespace));
-                write!(f, "NVMe({namespace},{})", UpperEui(eui))
-            }
-            Node::Cdrom { entry, start, size } => {
-                let start = NumberText(*start);
-                let size = NumberText(*size);
-                write!(f, "CDROM({entry},{start},{size})")
-            }
-            node => write!(f, "{}", NodeText(node)),
-        }
-    }
-}
-
-fn acpi<W: fmt::Write>(f: &mut fmt::Formatter<W>, hid: u32, uid: u32) -> fmt::Result {
-    let number = NumberText(u64::from(uid));
-    match hid {
-        PCI_ROOT_HID => write!(f, "PciRoot({number})"),
-        PCIE_ROOT_HID => write!(f, "PcieRoot({number})"),
-        SERIAL_HID => write!(f, "Serial({number})"),
-        FLOPPY_HID => write!(f, "Floppy({number})"),
-        _ => write!(f, "Acpi(0x{hid:08x},{number})"),
-    }
-}
-
-fn mac<W: fmt::Write>(f: &mut fmt::Formatter<W>, address: &[u8; 32], if_kind: u8) -> fmt::Result {
-    let whole = address.as_slice();
-    let shown = match if_kind {
-        0 | 1 => whole.get(..ETHERNET_LEN).unwrap_or(whole),
-        _ => whole,
-    };
-    write!(f, "MAC({},{if_kind})", DigitsText(shown))
-}
-
-/// The bytes of an EUI-64 in upper case, with a hyphen between two.
-#[derive(Clone, Copy)]
-struct UpperEui<'a>(&'a [u8; 8]);
-
-impl Display for UpperEui<'_> {
-    fn fmt<W: fmt::Write>(&self, f: &mut fmt::Formatter<W>) -> fmt::Result {
-        let [a, b, c, d, e, g, h, i] = *self.0;
-        write!(
-            f,
-            "{a:02X}-{b:02X}-{c:02X}-{d:02X}-{e:02X}-{g:02X}-{h:02X}-{i:02X}"
-        )
-    }
 }

@@ -4,25 +4,18 @@ use uefi_names::{
     DataLen, Field, Form, NodeGroup, NodeRow, NodeTable, Numeral, REST, Show, When, Word,
 };
 
-/// A form: what the data must have in them, how long they must be, the name, and of each field the offset, the length
-/// and how it is shown.
-macro_rules! form {
-    ($when:expr, $len:expr, $name:literal, [$(($at:expr, $size:expr, $show:expr)),*]) => {
-        Form {
-            when: $when,
-            len: $len,
-            name: $name,
-            fields: &[$(Field { at: $at, len: $size, show: $show }),*],
-        }
-    };
-}
-
-/// A row of nodes with one form.
+/// A row of nodes with one form: the sub-type, and of the form how long the data must be, the name, and of each field the
+/// offset, the length and how it is shown.
 macro_rules! row {
-    ($sub:literal, $len:expr, $name:literal, $fields:tt) => {
+    ($sub:literal, $len:expr, $name:literal, [$(($at:expr, $size:expr, $show:expr)),*]) => {
         NodeRow {
             sub: $sub,
-            forms: &[form!(When::Always, $len, $name, $fields)],
+            forms: &[Form {
+                when: When::Always,
+                len: $len,
+                name: $name,
+                fields: &[$(Field { at: $at, len: $size, show: $show }),*],
+            }],
         }
     };
 }
@@ -75,7 +68,7 @@ static HARDWARE: [NodeRow; 2] = [
     ),
 ];
 
-static MESSAGING: [NodeRow; 9] = [
+static MESSAGING: [NodeRow; 8] = [
     row!(
         1,
         DataLen::Exactly(4),
@@ -101,47 +94,12 @@ static MESSAGING: [NodeRow; 9] = [
             (14, 1, STOP_BITS)
         ]
     ),
-    NodeRow {
-        sub: 11,
-        forms: &[
-            form!(
-                When::Unlike {
-                    at: 32,
-                    mask: 0xfe,
-                    is: 0
-                },
-                DataLen::Exactly(33),
-                "MAC",
-                [(0, 32, Show::Digits), (32, 1, DECIMAL)]
-            ),
-            form!(
-                When::Always,
-                DataLen::Exactly(33),
-                "MAC",
-                [(0, 6, Show::Digits), (32, 1, DECIMAL)]
-            ),
-        ],
-    },
     row!(17, DataLen::Exactly(1), "Unit", [(0, 1, DECIMAL)]),
     row!(26, DataLen::Exactly(1), "SD", [(0, 1, DECIMAL)]),
     row!(29, DataLen::Exactly(1), "eMMC", [(0, 1, DECIMAL)]),
 ];
 
-static MEDIA: [NodeRow; 2] = [
-    row!(
-        1,
-        DataLen::Exactly(38),
-        "HD",
-        [
-            (0, 4, DECIMAL),
-            (37, 1, DECIMAL),
-            (20, 16, Show::Digits),
-            (4, 8, HEX),
-            (12, 8, HEX)
-        ]
-    ),
-    row!(7, DataLen::Exactly(16), "FvVol", [(0, 16, Show::Guid)]),
-];
+static MEDIA: [NodeRow; 1] = [row!(7, DataLen::Exactly(16), "FvVol", [(0, 16, Show::Guid)])];
 
 static BIOS_BOOT: [NodeRow; 1] = [row!(
     1,

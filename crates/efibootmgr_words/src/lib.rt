@@ -10,6 +10,7 @@
 
 mod asked_words;
 mod cut;
+mod efivar_nodes;
 mod efivar_path;
 mod efivar_rows;
 mod efivar_vendors;
