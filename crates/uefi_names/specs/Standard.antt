@@ -322,13 +322,13 @@ vendor_forms =
 abbrev pub protocol_at : ℕ → Field
 protocol_at at = word_at at 2 all_bits (word 6 (codes "TCP") ∷ word 17 (codes "UDP") ∷ [])
 
--- 10.3.4.13, and its older form without the last two fields
-
+-- 10.3.4.13
 abbrev pub ipv6_origin : Field
 ipv6_origin =
     word_at 38 1 all_bits
     (word 0 (codes "Static") ∷ word 1 (codes "StatelessAutoConfigure") ∷ word 2 (codes "StatefulAutoConfigure") ∷ [])
 
+-- 10.3.4.13, and its older form without the last two fields
 abbrev pub ipv6_forms : List Form
 ipv6_forms =
     form_of Always (Exactly 56) (codes "IPv6")

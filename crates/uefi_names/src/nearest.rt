@@ -104,7 +104,7 @@ fn nearest_of_forms(
 fn nearer(alloc: Global, near: Near, text: &str, name: &'static str) -> Result<Near, AllocError>
     ensures { IfOk result (λ found. near_of found ≡ nearer text.now (near_of near) name.now) }
 {
-    // As many edits lead there at least as the lengths differ by, so no time is lost over a long text.
+    // At least as many edits lead there as the lengths differ by, so a long text takes no time.
     if text.len().abs_diff(name.len()) >= near.edits {
         return Ok(near);
     }
