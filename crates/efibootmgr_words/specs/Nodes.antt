@@ -14,7 +14,10 @@ use Rattle.uefi_text.specs.Segment.{Segment, named, segment_text}
 use Rattle.uefi_text.specs.Printed.{eight_digits, node_text}
 use Rattle.efibootmgr_words.specs.Vendors.{hardware_text, messaging_text}
 
--- PNP0501 and PNP0604, a serial port and a floppy disk, as compressed EISA identifiers
+-- PNP0301, PNP0501 and PNP0604, a keyboard, a serial port and a floppy disk, as compressed EISA identifiers
+abbrev pub keyboard_hid : ℕ
+keyboard_hid = 0x030141D0
+
 abbrev pub serial_hid : ℕ
 serial_hid = 0x050141D0
 
@@ -25,9 +28,10 @@ abbrev pub acpi_segment : ℕ → ℕ → Segment
 acpi_segment hid uid =
     if hid == pci_root_hid then named (codes "PciRoot") (number_text uid ∷ [])
     else (if hid == pcie_root_hid then named (codes "PcieRoot") (number_text uid ∷ [])
+    else (if hid == keyboard_hid then named (codes "Keyboard") (number_text uid ∷ [])
     else (if hid == serial_hid then named (codes "Serial") (number_text uid ∷ [])
     else (if hid == floppy_hid then named (codes "Floppy") (number_text uid ∷ [])
-    else named (codes "Acpi") (eight_digits hid ∷ number_text uid ∷ []))))
+    else named (codes "Acpi") (eight_digits hid ∷ number_text uid ∷ [])))))
 
 -- the bytes of an address that are printed: six of an interface of type 0 or 1
 abbrev pub mac_bytes : List ℕ → ℕ → List ℕ

@@ -11,6 +11,9 @@ use std::fmt;
 use uefi_path::{Guid, HardDriveNode, Node, PCI_ROOT_HID, PCIE_ROOT_HID, field};
 use uefi_text::{DigitsText, GuidText, NodeText, NumberText};
 
+/// The `_HID` of a keyboard, PNP0301, as a compressed EISA identifier.
+const KEYBOARD_HID: u32 = 0x0301_41d0;
+
 /// The `_HID` of a serial port, PNP0501, as a compressed EISA identifier.
 const SERIAL_HID: u32 = 0x0501_41d0;
 
@@ -66,6 +69,7 @@ fn acpi<W: fmt::Write>(f: &mut fmt::Formatter<W>, hid: u32, uid: u32) -> fmt::Re
     match hid {
         PCI_ROOT_HID => write!(f, "PciRoot({number})"),
         PCIE_ROOT_HID => write!(f, "PcieRoot({number})"),
+        KEYBOARD_HID => write!(f, "Keyboard({number})"),
         SERIAL_HID => write!(f, "Serial({number})"),
         FLOPPY_HID => write!(f, "Floppy({number})"),
         _ => write!(f, "Acpi(0x{},{number})", DigitsText(&hid.to_be_bytes())),
