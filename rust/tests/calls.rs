@@ -131,7 +131,7 @@ fn a_path_has_its_names() {
 fn a_file_has_its_letters() {
     let name: Vec<u8> = "\\Größe.efi\0".encode_utf16().flat_map(u16::to_le_bytes).collect();
     let header = [4, 4, u8::try_from(4 + name.len()).unwrap(), 0];
-    let path = [&header, name.as_slice(), &[0x7f, 0xff, 4, 0]].concat();
+    let path = [&header[..], &name, &[0x7f, 0xff, 4, 0]].concat();
     assert_eq!(path::names(&path).unwrap(), ("File(\\Größe.efi)".to_owned(), path.len()));
 }
 
