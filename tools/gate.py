@@ -25,6 +25,9 @@ PRODUCTS = (*PROGRAMS, "bootkeep_c")
 ENDED = re.compile(r"^(\d+) passed, (\d+) failed")
 """The last line of `rt ci`."""
 
+BAD_EDIT = ": BAD EDIT: "
+"""What `rt ci` says of an edit that it can't apply, compile or read. Such a one shows nothing, and fails nothing there."""
+
 UNPROVED = "check: the cases alone, over programs that aren't proved"
 
 
@@ -101,8 +104,8 @@ def script_tests() -> Tuple[int, int]:
 
 
 def gate() -> Tuple[int, int]:
-    """What `rt ci` passed and failed. It says so itself."""
-    last = ""
+    """What `rt ci` passed and failed."""
+    said = []
     with subprocess.Popen(
         ["rt", "ci"],
         cwd=ROOT,
@@ -114,12 +117,19 @@ def gate() -> Tuple[int, int]:
         assert ci.stdout is not None
         for line in ci.stdout:
             print(line, end="", flush=True)
-            last = line
-    ended = ENDED.match(last)
+            said.append(line)
+    return gate_counts(said, ci.returncode)
+
+
+def gate_counts(said: List[str], status: int) -> Tuple[int, int]:
+    """What `rt ci` passed and failed, by the lines that it said and its status: of the first it says so itself in its last
+    line, and each bad edit, which it only notes, has failed too."""
+    ended = ENDED.match(said[-1]) if said else None
     if ended is None:
         return 0, 1
     passed, failed = int(ended[1]), int(ended[2])
-    return passed, max(failed, int(ci.returncode != 0 and failed == 0))
+    bad_edits = sum(BAD_EDIT in line for line in said)
+    return passed, max(failed, int(status != 0)) + bad_edits
 
 
 def end(passed: int, failed: int, sources: Optional[Dict[str, str]] = None) -> int:
