@@ -1,4 +1,4 @@
-"""The pages and the manuals: how long they are, and that what they name is there."""
+"""The pages and the manuals: that what they name is there."""
 
 from __future__ import annotations
 
@@ -8,11 +8,6 @@ from pathlib import Path
 from typing import Dict, List
 
 ROOT = Path(__file__).resolve().parents[1]
-
-MOST_WORDS = 45_000
-"""How many words all pages may have together, as CONTRIBUTING.md says."""
-
-MOST_WORDS_OF = {"docs/promises.md": 6_000, "docs/DECISIONS.md": 4_000}
 
 FILE = re.compile(
     r"`((?:bench|crates|docs|examples|fleet|include|man|python|rust|tests|tools)/[\w./-]+)`"
@@ -30,12 +25,6 @@ def texts() -> Dict[str, str]:
 
 
 class Pages(unittest.TestCase):
-    def test_they_are_short(self) -> None:
-        words = {name: len(text.split()) for name, text in texts().items()}
-        self.assertLessEqual(sum(words.values()), MOST_WORDS)
-        for name, most in MOST_WORDS_OF.items():
-            self.assertLessEqual(words[name], most, name)
-
     def test_files_that_are_named_are_there(self) -> None:
         for name, text in texts().items():
             for file in FILE.findall(text):
