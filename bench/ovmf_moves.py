@@ -69,11 +69,16 @@ def length_of_path(data: bytes) -> Optional[int]:
     """The length of the path at the front of these bytes, if there is one."""
     place = 0
     while place + 4 <= len(data):
-        if data[place:place + 4] == PATH_END:
+        if data[place : place + 4] == PATH_END:
             return place + 4
-        length, = struct.unpack_from("<H", data, place + 2)
+        (length,) = struct.unpack_from("<H", data, place + 2)
         is_end = data[place] == PATH_END[0]
-        if length < 4 or place + length > len(data) or is_end and data[place:place + 4] != INSTANCE_END:
+        if (
+            length < 4
+            or place + length > len(data)
+            or is_end
+            and data[place : place + 4] != INSTANCE_END
+        ):
             return None
         place += length
     return None
@@ -84,12 +89,12 @@ def is_option(data: bytes) -> bool:
     of paths, one at least."""
     if len(data) < 6:
         return False
-    length, = struct.unpack_from("<H", data, 4)
-    ends = (place + 2 for place in range(6, len(data) - 1, 2) if data[place:place + 2] == b"\0\0")
+    (length,) = struct.unpack_from("<H", data, 4)
+    ends = (place + 2 for place in range(6, len(data) - 1, 2) if data[place : place + 2] == b"\0\0")
     start = next(ends, None)
     if start is None or length == 0 or start + length > len(data):
         return False
-    paths = data[start:start + length]
+    paths = data[start : start + length]
     while paths:
         front = length_of_path(paths)
         if front is None:
@@ -102,8 +107,12 @@ def at_risk(values: Values) -> AtRisk:
     """Which entries a start of firmware may write over or delete."""
     stored, named = entries(values), order(values)
     return AtRisk(
-        unnamed={number for number in stored if number not in named and number != next_entry(values)},
-        undecodable={number for number in stored if number in named and not is_option(stored[number])},
+        unnamed={
+            number for number in stored if number not in named and number != next_entry(values)
+        },
+        undecodable={
+            number for number in stored if number in named and not is_option(stored[number])
+        },
     )
 
 
@@ -115,13 +124,15 @@ def told_of(values: Values) -> List[int]:
 
 def own_entries(before: Values, after: Values) -> List[int]:
     """The numbers of the entries that a start put at the order's end."""
-    return order(after)[len(kept_order(before)):]
+    return order(after)[len(kept_order(before)) :]
 
 
 def kept_order(values: Values) -> List[int]:
     """What a start keeps of the order: the entries that are load options."""
     stored, risk = entries(values), at_risk(values)
-    return [number for number in order(values) if number in stored and number not in risk.undecodable]
+    return [
+        number for number in order(values) if number in stored and number not in risk.undecodable
+    ]
 
 
 def findings_of_start(before: Values, after: Values) -> Iterator[str]:
@@ -135,7 +146,7 @@ def findings_of_start(before: Values, after: Values) -> Iterator[str]:
             yield f"{entry_name(number)} is gone"
     for number in sorted(now.keys() - was.keys() - set(own)):
         yield f"{entry_name(number)} is new, and isn't at the order's end"
-    if order(after)[:len(kept)] != kept:
+    if order(after)[: len(kept)] != kept:
         yield f"the order is {words_of(order(after))}, and doesn't begin with {words_of(kept)}"
     taken = {*kept, next_entry(before)}
     for number in own:
@@ -151,7 +162,9 @@ def findings_of_start(before: Values, after: Values) -> Iterator[str]:
 def moved_by(before: Values, after: Values) -> List[int]:
     """The numbers of entries that differ before and after a start."""
     was, now = entries(before), entries(after)
-    return sorted(number for number in was.keys() | now.keys() if was.get(number) != now.get(number))
+    return sorted(
+        number for number in was.keys() | now.keys() if was.get(number) != now.get(number)
+    )
 
 
 def findings_of_settling(model: Values, place: Values, *starts: Values) -> Iterator[str]:
@@ -169,7 +182,9 @@ def findings_of_settling(model: Values, place: Values, *starts: Values) -> Itera
 
 def with_state(model: Values, place: Values) -> Values:
     """The boot variables of the place, and which requests were applied to the model."""
-    return ovmf_store.boot_values(place) | {name: data for name, data in model.items() if name == "BootKeepState"}
+    return ovmf_store.boot_values(place) | {
+        name: data for name, data in model.items() if name == "BootKeepState"
+    }
 
 
 def words_of(numbers: List[int]) -> str:
@@ -195,7 +210,9 @@ def main(words: List[str]) -> int:
     if command in ("told", "moved"):
         print(words_of(told_of(*values) if command == "told" else moved_by(*values)))
         return 0
-    findings = list(findings_of_start(*values) if command == "start" else findings_of_settling(*values))
+    findings = list(
+        findings_of_start(*values) if command == "start" else findings_of_settling(*values)
+    )
     for finding in findings:
         print(finding)
     return 1 if findings else 0

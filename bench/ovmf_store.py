@@ -43,7 +43,9 @@ IN_TRANSITION = 0x3E
 # Bits are taken away one by one: the header is written, the variable is added, is being replaced, is deleted.
 STATES = (0xFF, 0x7F, ADDED, IN_TRANSITION, 0x3D, 0x3C, 0x7D, 0xFD)
 
-Record = namedtuple("Record", "place state reserved attributes count time key vendor name value padding")
+Record = namedtuple(
+    "Record", "place state reserved attributes count time key vendor name value padding"
+)
 Store = namedtuple("Store", "volume start size records free_place")
 
 
@@ -60,16 +62,29 @@ def expect(is_so, what):
 def read_volume(data):
     """The lengths of the volume and of its header."""
     expect(len(data) >= VOLUME_HEADER.size, "the file is too short for a volume")
-    zeros, guid, length, signature, _, header, _, second, _, revision = VOLUME_HEADER.unpack_from(data)
+    zeros, guid, length, signature, _, header, _, second, _, revision = VOLUME_HEADER.unpack_from(
+        data
+    )
     expect(zeros == bytes(16), "the volume's first 16 bytes aren't 0")
-    expect(guid == VOLUME_GUID and signature == b"_FVH", "the file doesn't begin with a volume of variables")
+    expect(
+        guid == VOLUME_GUID and signature == b"_FVH",
+        "the file doesn't begin with a volume of variables",
+    )
     expect(revision == 2 and second == 0, "the volume isn't of revision 2, without a second header")
     expect(length <= len(data), "the volume ends after the file")
-    expect(header % 8 == 0 and VOLUME_HEADER.size < header <= length, "the length of the volume's header")
-    expect(sum(struct.unpack_from(f"<{header // 2}H", data)) % 0x10000 == 0, "the volume's checksum")
-    blocks = list(struct.iter_unpack("<II", data[VOLUME_HEADER.size:header]))
+    expect(
+        header % 8 == 0 and VOLUME_HEADER.size < header <= length,
+        "the length of the volume's header",
+    )
+    expect(
+        sum(struct.unpack_from(f"<{header // 2}H", data)) % 0x10000 == 0, "the volume's checksum"
+    )
+    blocks = list(struct.iter_unpack("<II", data[VOLUME_HEADER.size : header]))
     expect(blocks[-1] == (0, 0), "the block map has no end")
-    expect(sum(count * size for count, size in blocks) == length, "the block map isn't that of the volume")
+    expect(
+        sum(count * size for count, size in blocks) == length,
+        "the block map isn't that of the volume",
+    )
     return length, header
 
 
@@ -86,8 +101,19 @@ def read_record(data, place, end):
     after = value_at + value_size
     next_at = (after + 3) // 4 * 4
     expect(next_at <= end, f"the record at {place} is cut")
-    record = Record(place, state, reserved, attributes, count, time, key, vendor,
-                    data[name_at:value_at], data[value_at:after], data[after:next_at])
+    record = Record(
+        place,
+        state,
+        reserved,
+        attributes,
+        count,
+        time,
+        key,
+        vendor,
+        data[name_at:value_at],
+        data[value_at:after],
+        data[after:next_at],
+    )
     return record, next_at
 
 
@@ -100,7 +126,7 @@ def read_store(data):
     expect((formatted, healthy) == (0x5A, 0xFE), "the store isn't formatted and healthy")
     expect(size % 4 == 0 and STORE_HEADER.size <= size <= volume - start, "the size of the store")
     records, place, end = [], start + STORE_HEADER.size, start + size
-    while data[place:place + 2] == struct.pack("<H", RECORD_START) and place + 2 <= end:
+    while data[place : place + 2] == struct.pack("<H", RECORD_START) and place + 2 <= end:
         record, place = read_record(data, place, end)
         records.append(record)
     return Store(volume, start, size, records, place)
@@ -112,7 +138,9 @@ def variables(store):
     found = {}
     for record in store.records:
         key = record.vendor, record.name
-        if record.state in (ADDED, IN_TRANSITION) and (key not in found or found[key].state != ADDED):
+        if record.state in (ADDED, IN_TRANSITION) and (
+            key not in found or found[key].state != ADDED
+        ):
             found[key] = record
     return found
 
@@ -133,9 +161,12 @@ def check(data):
         expect(record.value, f"{where} has no value")
         expect(record.attributes & 1, f"{where} is of a variable that isn't kept")
         if record.state == ADDED:
-            expect((record.vendor, record.name) not in added, f"{where} is of a variable that was there")
+            expect(
+                (record.vendor, record.name) not in added,
+                f"{where} is of a variable that was there",
+            )
             added.add((record.vendor, record.name))
-    free = data[store.free_place:store.start + store.size]
+    free = data[store.free_place : store.start + store.size]
     expect(set(free) <= {0xFF}, "the bytes after the records aren't FF")
     return store
 
@@ -147,14 +178,19 @@ def name_text(name):
 
 def global_values(store):
     """The values of the variables of the standard's vendor, by name."""
-    return {name_text(name): record.value
-            for (vendor, name), record in variables(store).items() if vendor == GLOBAL_GUID}
+    return {
+        name_text(name): record.value
+        for (vendor, name), record in variables(store).items()
+        if vendor == GLOBAL_GUID
+    }
 
 
 def is_boot_name(name):
     """Whether it is Boot####, BootOrder or BootNext."""
     digits = name.removeprefix("Boot")
-    is_entry = name.startswith("Boot") and len(digits) == 4 and set(digits) <= set("0123456789ABCDEF")
+    is_entry = (
+        name.startswith("Boot") and len(digits) == 4 and set(digits) <= set("0123456789ABCDEF")
+    )
     return is_entry or name in ("BootOrder", "BootNext")
 
 
@@ -168,7 +204,12 @@ def write_set(values):
     """The bytes of a set file."""
     parts = [b"BVS1"]
     for name in sorted(values):
-        parts += [bytes([len(name)]), name.encode(), struct.pack("<I", len(values[name])), values[name]]
+        parts += [
+            bytes([len(name)]),
+            name.encode(),
+            struct.pack("<I", len(values[name])),
+            values[name],
+        ]
     return b"".join(parts)
 
 
@@ -177,10 +218,10 @@ def read_set(data):
     expect(data[:4] == b"BVS1", "it is no set")
     values, place = {}, 4
     while place < len(data):
-        name = data[place + 1:place + 1 + data[place]].decode()
+        name = data[place + 1 : place + 1 + data[place]].decode()
         place += 1 + data[place]
-        size, = struct.unpack_from("<I", data, place)
-        values[name] = data[place + 4:place + 4 + size]
+        (size,) = struct.unpack_from("<I", data, place)
+        values[name] = data[place + 4 : place + 4 + size]
         place += 4 + size
     expect(place == len(data), "the set is cut")
     return values
@@ -193,9 +234,11 @@ def boot_values(values):
 
 def other_variables(store):
     """All but the boot variables, of all vendors, with what their records tell besides the value."""
-    return {key: (record.attributes, record.count, record.time, record.key, record.value)
-            for key, record in variables(store).items()
-            if not (key[0] == GLOBAL_GUID and is_boot_name(name_text(key[1])))}
+    return {
+        key: (record.attributes, record.count, record.time, record.key, record.value)
+        for key, record in variables(store).items()
+        if not (key[0] == GLOBAL_GUID and is_boot_name(name_text(key[1])))
+    }
 
 
 def compare(before_data, after_data, set_data):
@@ -206,11 +249,17 @@ def compare(before_data, after_data, set_data):
     expect(before_data[:head] == after_data[:head], "bytes before the records are changed")
     expect(before_data[end:] == after_data[end:], "bytes after the store are changed")
     expect(other_variables(before) == other_variables(after), "another variable is changed")
-    expect(boot_values(global_values(after)) == boot_values(read_set(set_data)), "the boot variables aren't the set's")
+    expect(
+        boot_values(global_values(after)) == boot_values(read_set(set_data)),
+        "the boot variables aren't the set's",
+    )
     was, now = variables(before), variables(after)
     for key in now.keys() - other_variables(after).keys():
         attributes = was[key].attributes if key in was else 7
-        expect(now[key].attributes == attributes, f"{name_text(key[1])} has the attributes {now[key].attributes:#x}")
+        expect(
+            now[key].attributes == attributes,
+            f"{name_text(key[1])} has the attributes {now[key].attributes:#x}",
+        )
 
 
 def read_file(name):
@@ -222,7 +271,9 @@ def read_file(name):
 def print_vars(file):
     """Writes a set of the variables of the standard's vendor to standard output."""
     values = global_values(read_store(read_file(file)))
-    sys.stdout.buffer.write(write_set({name: value for name, value in values.items() if fits_set(name, value)}))
+    sys.stdout.buffer.write(
+        write_set({name: value for name, value in values.items() if fits_set(name, value)})
+    )
 
 
 def print_count(file):
@@ -243,14 +294,18 @@ def compare_files(before, after, set_file):
 
 def print_gone(before, after):
     """Says which variables aren't there any more."""
-    gone = variables(read_store(read_file(before))).keys() - variables(check(read_file(after))).keys()
+    gone = (
+        variables(read_store(read_file(before))).keys() - variables(check(read_file(after))).keys()
+    )
     for name in sorted(name_text(name) for _, name in gone):
         print(name)
 
 
 def print_with(set_file, name, digits):
     """Writes the set with these data under the name to standard output."""
-    sys.stdout.buffer.write(write_set(read_set(read_file(set_file)) | {name: bytes.fromhex(digits)}))
+    sys.stdout.buffer.write(
+        write_set(read_set(read_file(set_file)) | {name: bytes.fromhex(digits)})
+    )
 
 
 def print_filled(file, left):
@@ -262,16 +317,25 @@ def print_filled(file, left):
         size = min(FILL_MAX, end - place - RECORD_HEADER.size - len(name)) // 4 * 4
         if size <= 0:
             break
-        head = RECORD_HEADER.pack(RECORD_START, ADDED, 0, 7, 0, bytes(16), 0, len(name), size, FILL_GUID)
+        head = RECORD_HEADER.pack(
+            RECORD_START, ADDED, 0, 7, 0, bytes(16), 0, len(name), size, FILL_GUID
+        )
         record = head + name + bytes(size)
-        data[place:place + len(record)] = record
+        data[place : place + len(record)] = record
         place += len(record)
     check(bytes(data))
     sys.stdout.buffer.write(data)
 
 
-COMMANDS = {"vars": print_vars, "check": print_count, "used": print_used, "compare": compare_files,
-            "gone": print_gone, "put": print_with, "fill": print_filled}
+COMMANDS = {
+    "vars": print_vars,
+    "check": print_count,
+    "used": print_used,
+    "compare": compare_files,
+    "gone": print_gone,
+    "put": print_with,
+    "fill": print_filled,
+}
 
 
 if __name__ == "__main__":
