@@ -15,10 +15,14 @@ VariableFormat.h, and that of docs/formats.md for set files.
 The status is 0 if nothing is wrong, and 1 otherwise.
 """
 
+from __future__ import annotations
+
 import struct
 import sys
 import uuid
-from collections import namedtuple
+from dataclasses import dataclass
+from pathlib import Path
+from typing import Callable, Dict, List, Tuple, Union
 
 VOLUME_GUID = uuid.UUID("fff12b8d-7696-4c8b-a985-2747075b4f50").bytes_le
 STORE_GUID = uuid.UUID("aaf32c78-947b-439a-a180-2e144ec37792").bytes_le
@@ -43,23 +47,52 @@ IN_TRANSITION = 0x3E
 # Bits are taken away one by one: the header is written, the variable is added, is being replaced, is deleted.
 STATES = (0xFF, 0x7F, ADDED, IN_TRANSITION, 0x3D, 0x3C, 0x7D, 0xFD)
 
-Record = namedtuple(
-    "Record", "place state reserved attributes count time key vendor name value padding"
-)
-Store = namedtuple("Store", "volume start size records free_place")
+Values = Dict[str, bytes]
+Name = Tuple[bytes, bytes]
+"""The vendor and the name of a variable, as its record has them."""
+
+
+@dataclass(frozen=True)
+class Record:
+    """A record of a store."""
+
+    place: int
+    state: int
+    reserved: int
+    attributes: int
+    count: int
+    time: bytes
+    key: int
+    vendor: bytes
+    name: bytes
+    value: bytes
+    padding: bytes
+
+
+@dataclass(frozen=True)
+class Store:
+    """A store of variables."""
+
+    volume: int
+    """The length of the volume that it is in."""
+    start: int
+    size: int
+    records: List[Record]
+    free_place: int
+    """Where the bytes after the records begin."""
 
 
 class Malformed(Exception):
     """What isn't as it has to be."""
 
 
-def expect(is_so, what):
+def expect(is_so: bool, what: str) -> None:
     """Goes on only if this is so."""
     if not is_so:
         raise Malformed(what)
 
 
-def read_volume(data):
+def read_volume(data: bytes) -> Tuple[int, int]:
     """The lengths of the volume and of its header."""
     expect(len(data) >= VOLUME_HEADER.size, "the file is too short for a volume")
     zeros, guid, length, signature, _, header, _, second, _, revision = VOLUME_HEADER.unpack_from(
@@ -88,7 +121,7 @@ def read_volume(data):
     return length, header
 
 
-def read_record(data, place, end):
+def read_record(data: bytes, place: int, end: int) -> Tuple[Record, int]:
     """The record at a place, and the place after it."""
     expect(place + RECORD_HEADER.size <= end, f"the record at {place} is cut")
     fields = RECORD_HEADER.unpack_from(data, place)
@@ -117,7 +150,7 @@ def read_record(data, place, end):
     return record, next_at
 
 
-def read_store(data):
+def read_store(data: bytes) -> Store:
     """The store in the bytes of a file."""
     volume, start = read_volume(data)
     expect(start + STORE_HEADER.size <= volume, "the volume has no room for a store")
@@ -132,10 +165,10 @@ def read_store(data):
     return Store(volume, start, size, records, place)
 
 
-def variables(store):
+def variables(store: Store) -> Dict[Name, Record]:
     """The records of the variables that are there, by vendor and name: the first that was added, or else the last that
     is being replaced."""
-    found = {}
+    found: Dict[Name, Record] = {}
     for record in store.records:
         key = record.vendor, record.name
         if record.state in (ADDED, IN_TRANSITION) and (
@@ -145,7 +178,7 @@ def variables(store):
     return found
 
 
-def check(data):
+def check(data: bytes) -> Store:
     """The store, if it is in every part as edk2 leaves it when it is at rest."""
     store = read_store(data)
     added = set()
@@ -158,8 +191,8 @@ def check(data):
         expect(len(record.name) % 2 == 0, f"{where} has half a unit in its name")
         units = [unit for unit, in struct.iter_unpack("<H", record.name)]
         expect(len(units) > 1 and units[-1] == 0 and units.count(0) == 1, f"{where} has no name")
-        expect(record.value, f"{where} has no value")
-        expect(record.attributes & 1, f"{where} is of a variable that isn't kept")
+        expect(record.value != b"", f"{where} has no value")
+        expect(record.attributes & 1 == 1, f"{where} is of a variable that isn't kept")
         if record.state == ADDED:
             expect(
                 (record.vendor, record.name) not in added,
@@ -171,12 +204,12 @@ def check(data):
     return store
 
 
-def name_text(name):
+def name_text(name: bytes) -> str:
     """The name of a variable as text, without its zero unit."""
     return name[:-2].decode("utf-16-le", "surrogatepass")
 
 
-def global_values(store):
+def global_values(store: Store) -> Values:
     """The values of the variables of the standard's vendor, by name."""
     return {
         name_text(name): record.value
@@ -185,7 +218,7 @@ def global_values(store):
     }
 
 
-def is_boot_name(name):
+def is_boot_name(name: str) -> bool:
     """Whether it is Boot####, BootOrder or BootNext."""
     digits = name.removeprefix("Boot")
     is_entry = (
@@ -194,13 +227,13 @@ def is_boot_name(name):
     return is_entry or name in ("BootOrder", "BootNext")
 
 
-def fits_set(name, value):
+def fits_set(name: str, value: bytes) -> bool:
     """Whether a set made of a machine's variables has it."""
     is_name = 1 <= len(name) <= 64 and all("!" <= character <= "~" for character in name)
     return is_name and name != "BootKeepState" and 1 <= len(value) <= 1 << 20
 
 
-def write_set(values):
+def write_set(values: Values) -> bytes:
     """The bytes of a set file."""
     parts = [b"BVS1"]
     for name in sorted(values):
@@ -213,7 +246,7 @@ def write_set(values):
     return b"".join(parts)
 
 
-def read_set(data):
+def read_set(data: bytes) -> Values:
     """The values in a set file, by name."""
     expect(data[:4] == b"BVS1", "it is no set")
     values, place = {}, 4
@@ -227,12 +260,12 @@ def read_set(data):
     return values
 
 
-def boot_values(values):
+def boot_values(values: Values) -> Values:
     """Those of the values that are of Boot####, BootOrder and BootNext."""
     return {name: value for name, value in values.items() if is_boot_name(name)}
 
 
-def other_variables(store):
+def other_variables(store: Store) -> Dict[Name, Tuple[int, int, bytes, int, bytes]]:
     """All but the boot variables, of all vendors, with what their records tell besides the value."""
     return {
         key: (record.attributes, record.count, record.time, record.key, record.value)
@@ -241,7 +274,7 @@ def other_variables(store):
     }
 
 
-def compare(before_data, after_data, set_data):
+def compare(before_data: bytes, after_data: bytes, set_data: bytes) -> None:
     """Goes on only if the one file is the other with the boot variables of the set, and nothing else."""
     before, after = check(before_data), check(after_data)
     expect(len(before_data) == len(after_data), "the file has another length")
@@ -262,13 +295,13 @@ def compare(before_data, after_data, set_data):
         )
 
 
-def read_file(name):
+def read_file(name: Union[str, Path]) -> bytes:
     """The bytes of a file."""
     with open(name, "rb") as file:
         return file.read()
 
 
-def print_vars(file):
+def print_vars(file: str) -> None:
     """Writes a set of the variables of the standard's vendor to standard output."""
     values = global_values(read_store(read_file(file)))
     sys.stdout.buffer.write(
@@ -276,23 +309,23 @@ def print_vars(file):
     )
 
 
-def print_count(file):
+def print_count(file: str) -> None:
     """Says how many variables there are, if the file is in order."""
     print(len(variables(check(read_file(file)))))
 
 
-def print_used(file):
+def print_used(file: str) -> None:
     """Says how many bytes the records have."""
     store = read_store(read_file(file))
     print(store.free_place - store.start - STORE_HEADER.size)
 
 
-def compare_files(before, after, set_file):
+def compare_files(before: str, after: str, set_file: str) -> None:
     """Says what isn't as it has to be once the set was written."""
     compare(read_file(before), read_file(after), read_file(set_file))
 
 
-def print_gone(before, after):
+def print_gone(before: str, after: str) -> None:
     """Says which variables aren't there any more."""
     gone = (
         variables(read_store(read_file(before))).keys() - variables(check(read_file(after))).keys()
@@ -301,14 +334,14 @@ def print_gone(before, after):
         print(name)
 
 
-def print_with(set_file, name, digits):
+def print_with(set_file: str, name: str, digits: str) -> None:
     """Writes the set with these data under the name to standard output."""
     sys.stdout.buffer.write(
         write_set(read_set(read_file(set_file)) | {name: bytes.fromhex(digits)})
     )
 
 
-def print_filled(file, left):
+def print_filled(file: str, left: str) -> None:
     """Writes the file with variables that fill the store but for so many bytes to standard output."""
     data = bytearray(read_file(file))
     store = check(bytes(data))
@@ -327,7 +360,7 @@ def print_filled(file, left):
     sys.stdout.buffer.write(data)
 
 
-COMMANDS = {
+COMMANDS: Dict[str, Callable[..., None]] = {
     "vars": print_vars,
     "check": print_count,
     "used": print_used,

@@ -1,7 +1,7 @@
 # Completions of bootvars for bash, made by tools/completions: source it, or put it where bash looks for them.
 _bootvars() {
     local current=${COMP_WORDS[COMP_CWORD]} before=${COMP_WORDS[COMP_CWORD - 1]}
-    local command=bootvars words= word
+    local command=bootvars words="" word
     for word in "${COMP_WORDS[@]:1:COMP_CWORD-1}"; do
         case "$command $word" in
             "bootvars check" | \
@@ -53,7 +53,7 @@ _bootvars() {
 "bootvars option --loader" | \
 "bootvars option --root" | \
 "bootvars option --optional-file" | \
-"bootvars option --out") COMPREPLY=($(compgen -f -- "$current")); return ;;
+"bootvars option --out") mapfile -t COMPREPLY < <(compgen -f -- "$current"); return ;;
         "bootvars add --description" | \
 "bootvars add --disk" | \
 "bootvars add --part" | \
@@ -119,7 +119,7 @@ _bootvars() {
         "bootvars explain") words="--stream --json --help --version -h -V" ;;
         "bootvars efibootmgr") words="--help --version -h -V" ;;
     esac
-    COMPREPLY=($(compgen -W "$words" -- "$current"))
-    [[ $current == -* || $command == bootvars ]] || COMPREPLY+=($(compgen -f -- "$current"))
+    mapfile -t COMPREPLY < <(compgen -W "$words" -- "$current")
+    [[ $current == -* || $command == bootvars ]] || mapfile -t -O "${#COMPREPLY[@]}" COMPREPLY < <(compgen -f -- "$current")
 }
 complete -o filenames -F _bootvars bootvars

@@ -11,12 +11,15 @@ What it makes are shell scripts that say which program they stand for. FAKE_RT h
     slow           a proof takes two seconds
 """
 
+from __future__ import annotations
+
 import os
 import subprocess
 import sys
 import tempfile
 import time
 from pathlib import Path
+from typing import List
 
 PROGRAM = """#!/bin/bash
 # Shows its words, and a file or a FIFO that it is to show.
@@ -43,7 +46,7 @@ def write_program(path: Path, kind: str) -> None:
     path.chmod(0o755)
 
 
-def try_program(words):
+def try_program(words: List[str]) -> int:
     """`rt try`: compiles the program in a temporary folder, and runs it there with the words."""
     if "refuse-try" in MODES:
         print("error: it has no main\nrun=none proved=no", file=sys.stderr)
@@ -61,7 +64,7 @@ def try_program(words):
     return ran.returncode
 
 
-def prove(verb, jobs):
+def prove(verb: str, jobs: List[str]) -> int:
     """`rt run -- --help` and `rt lib`, with or without a number of jobs."""
     name = Path.cwd().name
     print(
@@ -85,7 +88,7 @@ def prove(verb, jobs):
     return 0
 
 
-def main(words):
+def main(words: List[str]) -> int:
     """Does what the words ask for."""
     if words == ["version"]:
         print("a toolchain that proves nothing")

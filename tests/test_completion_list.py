@@ -4,6 +4,7 @@ from __future__ import annotations
 
 import subprocess
 import sys
+import tempfile
 import unittest
 from pathlib import Path
 from typing import List
@@ -109,30 +110,37 @@ class SmallProgram(unittest.TestCase):
                 at = completion_list.quoted(f"__tool_at {command.words}")
                 self.assertIn(f"-n {at} -l {option.name}", self.files["tool.fish"])
 
+    def completed(self, line: str, folder: str) -> str:
+        """What bash offers for the last word of a line, in a folder."""
+        words = " ".join(f"'{word}'" for word in line.split(" "))
+        script = (
+            self.files["tool.bash"]
+            + f"COMP_WORDS=({words}); COMP_CWORD={line.count(' ')}; _tool; IFS='|'; echo \"${{COMPREPLY[*]}}\""
+        )
+        done = subprocess.run(
+            ["bash", "-c", script], cwd=folder, capture_output=True, check=True, encoding="utf-8"
+        )
+        self.assertEqual(done.stderr, "")
+        return done.stdout.rstrip("\n")
+
     def test_bash(self) -> None:
         for line, wanted in (
-            ("tool ", "make ask --help -h"),
+            ("tool ", "make|ask|--help|-h"),
             ("tool ma", "make"),
-            ("tool make --", "--out --name --help"),
+            ("tool make --", "--out|--name|--help"),
             ("tool make --name ", ""),
             ("tool ask 5 no", "now"),
             ("tool ask 5 now --", "--loud"),
         ):
-            words = " ".join(f"'{word}'" for word in line.split(" "))
-            script = (
-                self.files["tool.bash"]
-                + f"COMP_WORDS=({words}); COMP_CWORD={line.count(' ')}; _tool; echo \"${{COMPREPLY[*]}}\""
-            )
-            done = subprocess.run(
-                ["bash", "-c", script],
-                cwd="/proc/self/fdinfo",
-                capture_output=True,
-                check=True,
-                encoding="utf-8",
-            )
             with self.subTest(line):
-                self.assertEqual(done.stdout.rstrip("\n"), wanted)
-                self.assertEqual(done.stderr, "")
+                self.assertEqual(self.completed(line, "/proc/self/fdinfo"), wanted)
+
+    def test_bash_offers_a_file_whose_name_has_blanks_as_one_word(self) -> None:
+        with tempfile.TemporaryDirectory() as folder:
+            Path(folder, "a set *").touch()
+            for line in ("tool make --out ", "tool make --out a", "tool make a"):
+                with self.subTest(line):
+                    self.assertEqual(self.completed(line, folder), "a set *")
 
     def test_no_program(self) -> None:
         unlike = completion_list.differences(ROOT / "no" / "program", "tool")

@@ -10,7 +10,7 @@ import tempfile
 import time
 import unittest
 from pathlib import Path
-from typing import Dict, List
+from typing import Dict, List, Tuple
 
 TESTS = Path(__file__).resolve().parent
 ROOT = TESTS.parent
@@ -114,7 +114,7 @@ class Unproved(Clone):
         self.assertIn("wrong words\n", called.stderr)
 
     def test_words_that_show(self) -> None:
-        for program, words in (
+        shows: List[Tuple[str, List[str]]] = [
             ("bootvars", ["write", "set", "place", "--dry-run"]),
             ("bootvars", ["first", "--dry-run", "place", "0000"]),
             ("bootvars", ["undo", "place", "--list"]),
@@ -125,7 +125,8 @@ class Unproved(Clone):
             ("bootvars", ["efibootmgr", "-v"]),
             ("bootkeep", ["option", "file"]),
             ("bootkeep", []),
-        ):
+        ]
+        for program, words in shows:
             called = self.call(program, *words)
             self.assertEqual(called.stdout, f"unproved {program}: {' '.join(words)}\n")
         self.assertEqual(self.proofs(), [])

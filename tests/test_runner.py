@@ -8,7 +8,7 @@ import sys
 import tempfile
 import unittest
 from pathlib import Path
-from typing import Any, List
+from typing import Any, Dict, List
 from unittest import mock
 
 TESTS = Path(__file__).resolve().parent
@@ -181,13 +181,14 @@ class CommandLines(WithPrograms):
             self.assertEqual(self.found("exec sleep 60"), ["no answer within 0.2 seconds"])
 
     def test_where_a_case_runs(self) -> None:
-        for members in (
+        elsewhere: List[Dict[str, Any]] = [
             {"files": {"/proc/a": ""}},
             {"after": {"/proc/a": ""}},
             {"refused": ["a"]},
             {"locked": ["a"]},
             {"in_memory": True},
-        ):
+        ]
+        for members in elsewhere:
             self.assertFalse(command_lines.runs_in_a_folder(Case("bootvars", 1, members)))
         self.assertTrue(command_lines.runs_in_a_folder(Case("bootvars", 1, {"files": {"a": ""}})))
 

@@ -1,8 +1,10 @@
 """Makes the calls that the lines of standard input ask for by the module for Python, and says on a line each what they
 answer, as calls.c does by the header."""
 
+from __future__ import annotations
+
 import sys
-from typing import Callable, Iterable, Optional
+from typing import Callable, Dict, Iterable, Optional, Union
 
 import bootkeep
 
@@ -152,7 +154,7 @@ def run(data: bytes, stream: bytes) -> str:
     return f"{digits(after)} {digits(text.encode())}"
 
 
-CALLS = {
+CALLS: Dict[str, Callable[..., str]] = {
     "path_text": path_text,
     "path_names": path_names,
     "status_word": word(bootkeep.status_word),
@@ -178,12 +180,12 @@ CALLS = {
 }
 
 
-def said(reply: bootkeep.Reply | bootkeep.Plan | None) -> str:
+def said(reply: Optional[Union[bootkeep.Reply, bootkeep.Plan]]) -> str:
     """The line of a reply."""
     return "nothing prepared" if reply is None else str(reply)
 
 
-def told(reply: bootkeep.Reply | bootkeep.Plan | None) -> str:
+def told(reply: Optional[Union[bootkeep.Reply, bootkeep.Plan]]) -> str:
     """The fields of a reply, as calls.c says them."""
     if reply is None:
         reply = bootkeep.Reply(bootkeep.ReplyKind.NOTHING_PREPARED)

@@ -118,7 +118,14 @@ def digits(data: bytes) -> str:
 
 def taken_of(given: bytes, told: str) -> int:
     """How many of these bytes the path takes of which the command tells this."""
-    return len(given) - int(re.search(r"^rest (\d+)$", told, re.M)[1])
+    return len(given) - int(line_of(r"^rest (\d+)$", told)[1])
+
+
+def line_of(pattern: str, told: str) -> "re.Match[str]":
+    """The first line of what a command tells that is of the pattern."""
+    match = re.search(pattern, told, re.M)
+    assert match is not None, f"no line is of {pattern}: {told}"
+    return match
 
 
 def damage(chance: random.Random, data: bytes) -> bytes:
@@ -302,8 +309,8 @@ class Cases:
         lines = f"option_description {digits(data)}\noption_parts {digits(data)}"
         if status:
             return lines, [self.side.refusal("option", told)] * 2
-        described = re.search(r"^description (.*)$", out, re.M)[1]
-        attributes = int(re.search(r"^attributes (\w+)$", out, re.M)[1], 16)
+        described = line_of(r"^description (.*)$", out)[1]
+        attributes = int(line_of(r"^attributes (\w+)$", out)[1], 16)
         places = " ".join(map(str, places_of(data)))
         return lines, [f"done {digits(described.encode())}", f"done {attributes} {places}"]
 
@@ -313,7 +320,7 @@ class Cases:
         line = f"set_plan {digits(data)}"
         if status:
             return line, [self.side.refusal("set", told)]
-        first, normal = re.search(r"^plan next (\S+) normal (.*)$", out, re.M).groups()
+        first, normal = line_of(r"^plan next (\S+) normal (.*)$", out).groups()
         numbers = number_bytes([] if normal == "-" else (int(word, 16) for word in normal.split()))
         return line, [f"done {digits(numbers)} {0x10000 if first == '-' else int(first, 16)}"]
 

@@ -84,7 +84,7 @@ def test_a_reply_is_read() -> None:
         b'{"to":"x","refused":[]}',
         b'{"to":"x","status":"y","error":""}',
     ],
-    ids=lambda payload: payload[:60].decode("latin-1"),
+    ids=lambda payload: str(payload[:60], "latin-1"),
 )
 def test_what_is_no_reply_is_told(payload: bytes) -> None:
     with pytest.raises(BadAnswer):

@@ -33,8 +33,8 @@ def verify(fleet: Path, name: str, purpose: str) -> bool:
         "-purpose",
         purpose,
         "-CAfile",
-        certs / "ca.pem",
-        certs / name / "own.pem",
+        str(certs / "ca.pem"),
+        str(certs / name / "own.pem"),
     ]
     return subprocess.run(words, capture_output=True, check=False).returncode == 0
 
