@@ -38,8 +38,9 @@ class Counts(unittest.TestCase):
         self.assertEqual(gate.gate_counts(["46 passed, 0 failed\n"], 1), (46, 1))
 
     def test_no_count_is_a_failure(self) -> None:
-        for said in ([], ["rt: no crates.txt\n"], ["46 passed, 0 failed\n", "Killed\n"]):
-            self.assertEqual(gate.gate_counts(said, 0), (0, 1))
+        self.assertEqual(gate.gate_counts([], 0), (0, 1))
+        self.assertEqual(gate.gate_counts(["rt: no crates.txt\n"], 0), (0, 1))
+        self.assertEqual(gate.gate_counts(["46 passed, 0 failed\n", "Killed\n"], 0), (0, 1))
 
 
 if __name__ == "__main__":

@@ -1,4 +1,4 @@
-"""What `./check` does: the gate and all cases, or the cases alone."""
+"""What `./check` does: the gate, all cases, and the tests and checks of the scripts; or the cases alone."""
 
 from __future__ import annotations
 
@@ -12,6 +12,7 @@ from concurrent.futures import ThreadPoolExecutor
 from pathlib import Path
 from typing import Dict, List, Optional, Tuple
 
+import linters
 import runner
 import trying
 from building import proved
@@ -90,8 +91,9 @@ def whole() -> int:
     with tempfile.TemporaryDirectory(prefix="bootkeep-check-") as folder:
         case_runner = compiled_runner(Path(folder))
         told = runner.run(runner.Programs(case_runner, by_both), False, [])
-    tests = script_tests()
-    return end(passed + told[0] + tests[0], failed + told[1] + tests[1], sources)
+    for of_scripts in (script_tests(), linters.lint()):
+        passed, failed = passed + of_scripts[0], failed + of_scripts[1]
+    return end(passed + told[0], failed + told[1], sources)
 
 
 def script_tests() -> Tuple[int, int]:
