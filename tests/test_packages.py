@@ -235,6 +235,13 @@ class Places(unittest.TestCase):
             ],
         )
 
+    def test_pages_that_a_page_leads_to_are_there(self) -> None:
+        for page in package_files.PAGES:
+            text = " ".join((ROOT / "docs" / page).read_text(encoding="utf-8").split())
+            for other in re.findall(r"`docs/(\w+\.md)`(?! of the source)", text):
+                with self.subTest(page):
+                    self.assertIn(other, package_files.PAGES)
+
     def test_manuals_are_packed_for_debian(self) -> None:
         files = package_files.program_files(self.made, package_files.DEBIAN).files
         packed = files["share/man/man1/bootvars.1.gz"].data

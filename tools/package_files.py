@@ -17,8 +17,11 @@ PREFIX_MARK = b"@prefix@"
 ARCHIVE, HEADER = "libbootkeep.a", "bootkeep.h"
 SHARED, SHARED_NAMES = "libbootkeep.so.1.0.0", ("libbootkeep.so.1", "libbootkeep.so")
 
-PAGES = ("machines.md", "requests.md", "formats.md", "promises.md")
-"""The pages for those who have the programs."""
+PAGES = (
+    *("machines.md", "requests.md", "packages.md", "formats.md"),
+    *("promises.md", "definitions.md", "performance.md", "DECISIONS.md"),
+)
+"""The pages for those who have the programs, and for those who want to know what to trust."""
 
 
 @dataclass(frozen=True)
