@@ -41,6 +41,18 @@ class Pages(unittest.TestCase):
                 found += 1
         self.assertGreater(found, 0)
 
+    def test_the_manual_describes_each_option(self) -> None:
+        completions = (ROOT / "completions" / "bootvars.fish").read_text(encoding="utf-8")
+        manual = (ROOT / "man" / "bootvars.1").read_text(encoding="utf-8")
+        described = manual[manual.index(".Sh DESCRIPTION") : manual.index(".Sh EXAMPLES")]
+        options = set(re.findall(r"(?m)^complete .* -l ([\w-]+)", completions))
+        self.assertIn("dry-run", options)
+        for option in sorted(options):
+            with self.subTest(option):
+                self.assertRegex(
+                    described, rf"(?m)(^\.|\s)Fl -{option}\b(?!-)|[ ,]-{option}\b(?!-)"
+                )
+
 
 if __name__ == "__main__":
     unittest.main()
