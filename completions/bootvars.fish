@@ -52,7 +52,7 @@ complete -c bootvars -n '__bootvars_at bootvars' -a undo -d 'Brings back what wa
 complete -c bootvars -n '__bootvars_at bootvars' -a write -d 'Makes the boot variables of a place those of a set'
 complete -c bootvars -n '__bootvars_at bootvars' -a update -d 'Runs requests over a machine'\''s boot variables, each exactly once'
 complete -c bootvars -n '__bootvars_at bootvars' -a option -d 'Makes a load option, the value of a variable Boot####'
-complete -c bootvars -n '__bootvars_at bootvars' -a frame -d 'Makes the frame of a request: a line of a script for `bootkeep run`'
+complete -c bootvars -n '__bootvars_at bootvars' -a frame -d 'Makes the frame of a request: a line of a script for `bootvars update`'
 complete -c bootvars -n '__bootvars_at bootvars' -a explain -d 'Shows what the frames of a script or a stream ask for'
 complete -c bootvars -n '__bootvars_at bootvars' -a efibootmgr -d 'Takes the words of efibootmgr, and prints its lines'
 complete -c bootvars -n '__bootvars_at bootvars' -l help -s h -d 'Print help'

@@ -14,13 +14,14 @@ usage: efibootmgr [options]
 \t-C | --create-only    makes an entry, and leaves BootOrder as it is
 \t-D | --remove-dups    takes repeated numbers out of BootOrder
 \t-d | --disk disk      the disk with the loader, or the partition (/dev/sda)
-\t-e | --edd30 -1       as without it
+\t-e | --edd30 -1 | 0   as without it
 \t-g | --gpt            as without it
 \t-l | --loader name    the loader (\\EFI\\debian\\grub.efi)
 \t-L | --label label    the description (Linux)
 \t-n | --bootnext XXXX  sets BootNext
 \t-N | --delete-bootnext takes BootNext out
 \t-o | --bootorder XXXX,YYYY,.. sets BootOrder
+\t     --keep           with -o, leaves the other entries of BootOrder after these
 \t-O | --delete-bootorder takes BootOrder out
 \t-p | --part part      the number of the partition with the loader (1)
 \t-q | --quiet          lists nothing

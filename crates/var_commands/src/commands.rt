@@ -516,7 +516,7 @@ static OPTION_COMMANDS: [CommandRow; 1] = [CommandRow {
 /// The command that makes the frames of the requests below.
 static FRAME: CommandRow = CommandRow {
     name: "frame",
-    about: "Makes the frame of a request: a line of a script for `bootkeep run`",
+    about: "Makes the frame of a request: a line of a script for `bootvars update`",
     after_help: "An ENTRY is one to four hexadecimal digits, as in Boot####.\n\n\
         Example:\n  bootvars frame 5 order 0001 0000 >> script",
     args: &[
