@@ -1,5 +1,6 @@
 -- what public contracts cite
 pub mod Frame
+pub mod Json
 pub mod NamingChange
 pub mod OptionOfWords
 -- of the crates below, what they cite

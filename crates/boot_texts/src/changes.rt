@@ -3,10 +3,10 @@
 use crate::at_risk::{EntryName, NamingChange, Risk, naming_change};
 use crate::content::{Content, DataText, EntryDigits, Quoted, digits_of};
 use crate::json::{
-    JsonObject, Leaf, append_leaf, append_leaves, append_object, append_objects, json_line,
+    JsonObject, JsonWriter, Leaf, append_leaf, append_leaves, append_object, append_objects,
+    json_line,
 };
 use crate::shown_option::{AttributeWords, ShownOption};
-use serde::Serializer;
 use std::alloc::{AllocError, Global};
 use std::fmt::{self, Display};
 use uefi_vars::{BootChange, Vars, boot_changes, entry_number};
@@ -25,7 +25,7 @@ struct ShownDiff<'a> {
 }
 
 impl JsonObject for ShownDiff<'_> {
-    fn append_members<S: Serializer>(&self, out: &mut S) -> Result<(), S::Error> {
+    fn append_members(&self, out: &mut JsonWriter) -> Result<(), AllocError> {
         append_leaf("equal", Leaf::Flag(Some(self.equal)), out)?;
         append_objects("changes", &self.changes, out)?;
         append_leaves(
@@ -54,7 +54,7 @@ struct ShownChange<'a> {
 }
 
 impl JsonObject for ShownChange<'_> {
-    fn append_members<S: Serializer>(&self, out: &mut S) -> Result<(), S::Error> {
+    fn append_members(&self, out: &mut JsonWriter) -> Result<(), AllocError> {
         append_leaves(
             &[
                 ("change", Leaf::Word(Some(self.change.word()))),

@@ -1,9 +1,8 @@
 //! What variables hold, as it is shown.
 
-use crate::json::{JsonObject, Leaf, append_leaf, append_leaves};
+use crate::json::{JsonObject, JsonWriter, Leaf, append_leaf, append_leaves};
 use crate::reason::{FaultReason, numbers_reason, option_reason};
 use crate::shown_option::ShownOption;
-use serde::{Described, Serialize, Serializer};
 use std::alloc::{AllocError, Global};
 use std::fmt;
 use uefi_option::{OptionFault, read_option};
@@ -12,20 +11,12 @@ use uefi_vars::{BOOT_NEXT, BOOT_ORDER, ORDER_MAX, VarFault};
 
 /// The number of an entry, shown as the four hexadecimal digits in upper case that its variable's name has (UEFI 2.10,
 /// 3.1.1).
-#[derive(Clone, Copy, PartialEq, Eq, PartialOrd, Ord)]
-pub(crate) struct EntryDigits(pub(crate) u16);
+#[derive(Clone, Copy, Debug, PartialEq, Eq, PartialOrd, Ord)]
+pub struct EntryDigits(pub u16);
 
 impl fmt::Display for EntryDigits {
     fn fmt<W: fmt::Write>(&self, f: &mut fmt::Formatter<W>) -> fmt::Result {
         write!(f, "{:04X}", self.0)
-    }
-}
-
-impl Described for EntryDigits {}
-
-impl Serialize for EntryDigits {
-    fn serialize<S: Serializer>(&self, out: &mut S) -> Result<(), S::Error> {
-        out.collect_str(self)
     }
 }
 
@@ -59,7 +50,7 @@ pub(crate) struct ShownFault {
 }
 
 impl JsonObject for ShownFault {
-    fn append_members<S: Serializer>(&self, out: &mut S) -> Result<(), S::Error> {
+    fn append_members(&self, out: &mut JsonWriter) -> Result<(), AllocError> {
         append_leaves(
             &[
                 ("fault", Leaf::Text(Some(&self.fault))),
@@ -165,7 +156,7 @@ impl Content {
 }
 
 impl JsonObject for Content {
-    fn append_members<S: Serializer>(&self, out: &mut S) -> Result<(), S::Error> {
+    fn append_members(&self, out: &mut JsonWriter) -> Result<(), AllocError> {
         append_leaf("kind", Leaf::Word(Some(self.kind())), out)?;
         match self {
             Content::LoadOption(option) => option.append_members(out),

@@ -3,11 +3,7 @@
 use crate::digits::is_hexadecimal;
 use std::alloc::{AllocError, AllocFailed, Global};
 use thiserror::Error;
-use uefi_names::is_hidden;
 use uefi_path::append_units;
-
-/// What stands for `\u` in a text that goes into JSON, before four digits, and twice for itself. No text has it.
-const MARK: char = '\u{10FFFF}';
 
 /// How many digits an escape has.
 const ESCAPE_LEN: usize = 4;
@@ -36,54 +32,6 @@ impl<T: Drop> From<AllocFailed<T>> for DescriptionFault {
     fn from(_refusal: AllocFailed<T>) -> DescriptionFault {
         DescriptionFault::OutOfMemory
     }
-}
-
-/// A description for JSON: its text, in which a unit that is half of a pair and a character that a terminal may take for
-/// something to do have [`MARK`] and four digits, of which [`with_escapes`] makes escapes. This fails only when out of
-/// memory.
-pub(crate) fn marked_text(alloc: Global, units: &[u16]) -> Result<String, AllocError> {
-    let mut text = String::with_capacity(alloc, units.len())?;
-    for read in char::decode_utf16(units.iter().copied()) {
-        match read {
-            Ok(MARK) => {
-                text.push(MARK)?;
-                text.push(MARK)?;
-            }
-            Ok(character) if needs_mark(character) => append_mark(u32::from(character), &mut text)?,
-            Ok(character) => text.push(character)?,
-            Err(half) => append_mark(u32::from(half.unpaired_surrogate()), &mut text)?,
-        }
-    }
-    Ok(text)
-}
-
-/// Appends a unit that is to be an escape.
-fn append_mark(unit: u32, text: &mut String) -> Result<(), AllocError> {
-    write!(text, "{MARK}{unit:04x}")
-}
-
-/// Whether a terminal may act on the character, and JSON doesn't escape it.
-fn needs_mark(character: char) -> bool {
-    character >= ' ' && is_hidden(character)
-}
-
-/// A line of JSON, with an escape for each mark in it. This fails only when out of memory.
-pub(crate) fn with_escapes(alloc: Global, line: &str) -> Result<String, AllocError> {
-    let mut text = String::with_capacity(alloc, line.len())?;
-    let mut is_marked = false;
-    for character in line.chars() {
-        match (is_marked, character) {
-            (false, MARK) => {}
-            (true, MARK) => text.push(MARK)?,
-            (false, character) => text.push(character)?,
-            (true, character) => {
-                text.push_str("\\u")?;
-                text.push(character)?;
-            }
-        }
-        is_marked = !is_marked && character == MARK;
-    }
-    Ok(text)
 }
 
 /// The bytes of a description in hexadecimal digits, two bytes little-endian for each unit (UEFI 2.10, 3.1.3), if its text

@@ -1,8 +1,8 @@
 //! Where in a script or a stream an event or a fault is.
 
-use crate::json::{JsonObject, Leaf, append_leaves};
+use crate::json::{JsonObject, JsonWriter, Leaf, append_leaves};
 use boot_requests::InputFormat;
-use serde::Serializer;
+use std::alloc::AllocError;
 use std::fmt;
 
 /// Where an event or a fault is.
@@ -25,7 +25,7 @@ impl EventPosition {
 }
 
 impl JsonObject for EventPosition {
-    fn append_members<S: Serializer>(&self, out: &mut S) -> Result<(), S::Error> {
+    fn append_members(&self, out: &mut JsonWriter) -> Result<(), AllocError> {
         let (line, offset) = match self {
             EventPosition::Line(number) => (Some(*number), None),
             EventPosition::Offset(offset) => (None, Some(*offset)),

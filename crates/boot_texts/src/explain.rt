@@ -3,13 +3,13 @@
 use crate::content::{EntryDigits, NumberList, Summary, digits_of, option_place};
 use crate::event_position::EventPosition;
 use crate::json::{
-    JsonObject, Leaf, append_leaf, append_leaves, append_object, append_objects, json_line,
+    JsonObject, JsonWriter, Leaf, append_leaf, append_leaves, append_object, append_objects,
+    json_line,
 };
 use crate::reason::{FaultReason, frame_reason, option_reason};
 use crate::script_reason::script_reason;
 use crate::shown_option::{AttributeWords, ShownOption};
 use boot_requests::{Event, EventList, FRAME_MAGIC, FrameFault, InputFormat, Request, read_frame};
-use serde::Serializer;
 use std::alloc::{AllocError, Global};
 use std::fmt;
 use uefi_option::LoadOption;
@@ -361,7 +361,7 @@ impl fmt::Display for WithAttributes<'_> {
 }
 
 impl JsonObject for Explanation {
-    fn append_members<S: Serializer>(&self, out: &mut S) -> Result<(), S::Error> {
+    fn append_members(&self, out: &mut JsonWriter) -> Result<(), AllocError> {
         append_leaf("form", Leaf::Word(Some(format_word(self.format))), out)?;
         append_objects("steps", &self.steps, out)?;
         append_object("fault", self.fault.as_ref(), out)?;
@@ -370,7 +370,7 @@ impl JsonObject for Explanation {
 }
 
 impl JsonObject for Step {
-    fn append_members<S: Serializer>(&self, out: &mut S) -> Result<(), S::Error> {
+    fn append_members(&self, out: &mut JsonWriter) -> Result<(), AllocError> {
         self.place.append_members(out)?;
         match &self.asks {
             Asks::Request(request) => request.append_members(out),
@@ -381,7 +381,7 @@ impl JsonObject for Step {
 }
 
 impl JsonObject for ShownRequest {
-    fn append_members<S: Serializer>(&self, out: &mut S) -> Result<(), S::Error> {
+    fn append_members(&self, out: &mut JsonWriter) -> Result<(), AllocError> {
         append_leaf("kind", Leaf::Word(Some(self.kind)), out)?;
         append_leaf("request", Leaf::Number(Some(self.request)), out)?;
         if let Some(entry) = self.entry {
@@ -398,7 +398,7 @@ impl JsonObject for ShownRequest {
 }
 
 impl JsonObject for Malformed {
-    fn append_members<S: Serializer>(&self, out: &mut S) -> Result<(), S::Error> {
+    fn append_members(&self, out: &mut JsonWriter) -> Result<(), AllocError> {
         append_leaves(
             &[
                 ("kind", Leaf::Word(Some("malformed"))),
@@ -413,7 +413,7 @@ impl JsonObject for Malformed {
 }
 
 impl JsonObject for FormatFault {
-    fn append_members<S: Serializer>(&self, out: &mut S) -> Result<(), S::Error> {
+    fn append_members(&self, out: &mut JsonWriter) -> Result<(), AllocError> {
         self.place.append_members(out)?;
         append_leaves(
             &[

@@ -5,7 +5,7 @@
 //! [`explain_report`] what the frames of a script or a stream ask for, each as lines for a person. [`vars_json`],
 //! [`diff_json`] and [`explain_json`] have the same as JSON, [`reply_json`] shows the answer to an event, [`look_json`]
 //! a machine with the replies to an update of it, and [`refusal_json`] why an update wasn't made; docs/formats.md has
-//! each line and each field. [`naming_change`] tells which entries a change leaves in no order, of which the [`Risk`] is
+//! each line and each field, and [`json`] writes them. [`naming_change`] tells which entries a change leaves in no order, of which the [`Risk`] is
 //! that a start of firmware writes over them.
 //!
 //! [`option_bytes`] makes a load option of words, and [`frame_bytes`] a frame, which [`frame_line`] puts into a line of
@@ -23,7 +23,8 @@ mod digits;
 mod event_position;
 mod explain;
 mod frame;
-mod json;
+pub mod json;
+mod json_text;
 mod look;
 mod option;
 mod reason;
@@ -38,6 +39,7 @@ mod sizes;
 
 pub use at_risk::{EntryName, NamingChange, Risk, naming_change};
 pub use changes::{change_report, diff_json, diff_report};
+pub use content::EntryDigits;
 pub use description::DescriptionFault;
 pub use digits::{DigitsFault, attributes_of_text, entry_of_digits, number_of_digits};
 pub use event_position::EventPosition;

@@ -1,9 +1,10 @@
 //! A look at a machine as JSON, as `bootvars update --look` prints it.
 
-use crate::json::{JsonObject, Leaf, append_leaves, append_object, append_objects, json_line};
+use crate::json::{
+    JsonObject, JsonWriter, Leaf, append_leaves, append_object, append_objects, json_line,
+};
 use crate::replies::{ShownReply, ToldReply};
 use crate::shown_vars::ShownVars;
-use serde::Serializer;
 use std::alloc::{AllocError, Global};
 use uefi_vars::Vars;
 
@@ -30,7 +31,7 @@ struct ShownLook<'a> {
 }
 
 impl JsonObject for ShownLook<'_> {
-    fn append_members<S: Serializer>(&self, out: &mut S) -> Result<(), S::Error> {
+    fn append_members(&self, out: &mut JsonWriter) -> Result<(), AllocError> {
         append_leaves(
             &[
                 ("next", Leaf::Number(Some(self.next))),

@@ -1,10 +1,10 @@
 //! Load options of words.
 
-ghost use Rattle.std.specs.Prelude.{map, IfOk};
+ghost use Rattle.std.specs.Prelude.{◌≡◌, map, IfOk};
 ghost use Rattle.uefi_option.specs.LoadOption.{OptionParts, SpellsOption};
 ghost use Rattle.uefi_names.specs.Standard.{standard_table};
 ghost use Rattle.uefi_names.specs.Reading.{IsNamedText};
-ghost use Rattle.boot_texts.specs.OptionOfWords.{ArePathTexts, IsOptionOfWords};
+ghost use Rattle.boot_texts.specs.OptionOfWords.{bit_if, said_attributes, ArePathTexts, IsOptionOfWords};
 
 use crate::description::{DescriptionFault, append_text, description_units};
 use crate::reason::{FaultReason, named_reason, option_words};
@@ -112,12 +112,20 @@ impl From<DescriptionFault> for OptionWordsFault {
 }
 
 /// The attributes of a load option of which this is said (UEFI 2.10, 3.1.3).
-pub fn attribute_bits(flags: Flags) -> u32 {
-    let active = if flags.inactive { 0 } else { ACTIVE };
-    let hidden = if flags.hidden { HIDDEN } else { 0 };
-    let app = if flags.app { CATEGORY_APP } else { 0 };
-    let reconnect = if flags.reconnect { FORCE_RECONNECT } else { 0 };
-    active | hidden | app | reconnect
+pub fn attribute_bits(flags: Flags) -> u32
+    ensures { result ≡ said_attributes flags }
+{
+    bit_if(!flags.inactive, ACTIVE)
+        | bit_if(flags.hidden, HIDDEN)
+        | bit_if(flags.app, CATEGORY_APP)
+        | bit_if(flags.reconnect, FORCE_RECONNECT)
+}
+
+/// A bit, if something is so.
+fn bit_if(is_so: bool, bit: u32) -> u32
+    ensures { result ≡ bit_if is_so bit }
+{
+    if is_so { bit } else { 0 }
 }
 
 /// The bytes of the load option of these words (UEFI 2.10, 3.1.3). The description becomes units of UTF-16, and each

@@ -2,7 +2,6 @@
 
 use crate::sizes::{frame_sizes, option_sizes};
 use boot_requests::{FrameFault, OpenFault};
-use serde::{Described, Serialize, Serializer};
 use std::fmt;
 use uefi_names::{Encoding, Field, Item, NamedFault, Show};
 use uefi_option::{OptionFault, check_option};
@@ -64,14 +63,6 @@ impl fmt::Display for FaultReason {
                 )
             }
         }
-    }
-}
-
-impl Described for FaultReason {}
-
-impl Serialize for FaultReason {
-    fn serialize<S: Serializer>(&self, out: &mut S) -> Result<(), S::Error> {
-        out.collect_str(self)
     }
 }
 

@@ -1,7 +1,6 @@
 //! Refusals of updates as JSON.
 
-use crate::json::{JsonObject, Leaf, append_leaves, append_object, json_line};
-use serde::Serializer;
+use crate::json::{JsonObject, JsonWriter, Leaf, append_leaves, append_object, json_line};
 use std::alloc::{AllocError, Global};
 
 /// Why an update wasn't made, for whoever sent it.
@@ -48,7 +47,7 @@ impl Remedy {
 struct Reasons<'a>(Refusal<'a>);
 
 impl JsonObject for Reasons<'_> {
-    fn append_members<S: Serializer>(&self, out: &mut S) -> Result<(), S::Error> {
+    fn append_members(&self, out: &mut JsonWriter) -> Result<(), AllocError> {
         let refusal = &self.0;
         append_leaves(
             &[
@@ -63,7 +62,7 @@ impl JsonObject for Reasons<'_> {
 }
 
 impl JsonObject for Refusal<'_> {
-    fn append_members<S: Serializer>(&self, out: &mut S) -> Result<(), S::Error> {
+    fn append_members(&self, out: &mut JsonWriter) -> Result<(), AllocError> {
         append_object("refused", Some(&Reasons(*self)), out)?;
         append_leaves(
             &[

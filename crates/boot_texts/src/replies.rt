@@ -3,12 +3,12 @@
 use crate::content::{EntryDigits, digits_of};
 use crate::event_position::EventPosition;
 use crate::json::{
-    JsonObject, Leaf, append_leaf, append_leaves, append_object, append_objects, json_line,
+    JsonObject, JsonWriter, Leaf, append_leaf, append_leaves, append_object, append_objects,
+    json_line,
 };
 use crate::reason::frame_words;
 use crate::shown_vars::ShownPlan;
 use boot_requests::{Answer, Outcome, Reply};
-use serde::Serializer;
 use std::alloc::{AllocError, Global};
 use uefi_vars::BootPlan;
 
@@ -74,7 +74,7 @@ struct Follower {
 }
 
 impl JsonObject for ShownReply<'_> {
-    fn append_members<S: Serializer>(&self, out: &mut S) -> Result<(), S::Error> {
+    fn append_members(&self, out: &mut JsonWriter) -> Result<(), AllocError> {
         self.place.append_members(out)?;
         self.append_reply(out)?;
         append_objects("followers", &self.followers, out)?;
@@ -98,7 +98,7 @@ impl JsonObject for ShownReply<'_> {
 }
 
 impl JsonObject for Follower {
-    fn append_members<S: Serializer>(&self, out: &mut S) -> Result<(), S::Error> {
+    fn append_members(&self, out: &mut JsonWriter) -> Result<(), AllocError> {
         append_leaves(
             &[
                 ("request", Leaf::Number(Some(self.request))),
@@ -156,7 +156,7 @@ impl<'a> ShownReply<'a> {
     }
 
     /// Appends what the reply is, and what it tells in numbers and words.
-    fn append_reply<S: Serializer>(&self, out: &mut S) -> Result<(), S::Error> {
+    fn append_reply(&self, out: &mut JsonWriter) -> Result<(), AllocError> {
         append_leaves(
             &[
                 ("request", Leaf::Number(self.request)),

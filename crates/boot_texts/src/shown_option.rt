@@ -1,8 +1,7 @@
 //! Load options as they are shown.
 
-use crate::description::{description_digits, marked_text};
-use crate::json::{JsonObject, Leaf, append_leaves};
-use serde::Serializer;
+use crate::description::description_digits;
+use crate::json::{JsonObject, JsonWriter, Leaf, append_leaves};
 use std::alloc::{AllocError, Global};
 use std::fmt;
 use uefi_names::named_text;
@@ -18,8 +17,8 @@ use uefi_text::path_text;
 pub(crate) struct ShownOption {
     /// The description, as [`description_text`] shows it.
     pub(crate) description: String,
-    /// The description as JSON has it, with marks.
-    marked_description: String,
+    /// The units of the description.
+    description_units: Vec<u16>,
     /// The units of the description in hexadecimal digits, if its text in JSON doesn't say all.
     description_digits: Option<String>,
     /// The attributes, all 32 bits.
@@ -47,7 +46,7 @@ impl ShownOption {
         let (paths, named_paths) = path_texts(alloc, option.paths())?;
         Ok(ShownOption {
             description: description_text(alloc, option.description())?,
-            marked_description: marked_text(alloc, option.description())?,
+            description_units: Vec::from_slice(alloc, option.description())?,
             description_digits: description_digits(alloc, option.description())?,
             attributes,
             category: format!(in alloc; "{}", Category(attributes))?,
@@ -65,11 +64,11 @@ impl ShownOption {
 }
 
 impl JsonObject for ShownOption {
-    fn append_members<S: Serializer>(&self, out: &mut S) -> Result<(), S::Error> {
+    fn append_members(&self, out: &mut JsonWriter) -> Result<(), AllocError> {
         let attributes = self.attributes;
         append_leaves(
             &[
-                ("description", Leaf::Text(Some(&self.marked_description))),
+                ("description", Leaf::Units(&self.description_units)),
                 (
                     "description_hex",
                     Leaf::Text(self.description_digits.as_deref()),

@@ -1,8 +1,7 @@
 //! What is to be said of numbers in BootOrder.
 
 use crate::content::{EntryDigits, NumberList};
-use crate::json::{Leaf, append_leaves};
-use serde::Serializer;
+use crate::json::{JsonWriter, Leaf, append_leaves};
 use std::alloc::{AllocError, Global};
 use uefi_vars::Vars;
 
@@ -52,7 +51,7 @@ impl OrderMarks {
     }
 
     /// Appends the members to the object that is open.
-    pub(crate) fn append_members<S: Serializer>(&self, out: &mut S) -> Result<(), S::Error> {
+    pub(crate) fn append_members(&self, out: &mut JsonWriter) -> Result<(), AllocError> {
         append_leaves(
             &[
                 ("stale", Leaf::Entries(Some(&self.stale))),

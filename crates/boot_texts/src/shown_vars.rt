@@ -5,12 +5,12 @@ use crate::content::{
     ByteCount, Content, DataText, EntryDigits, NumberList, ShownFault, digits_of,
 };
 use crate::json::{
-    JsonObject, Leaf, append_leaf, append_leaves, append_object, append_objects, json_line,
+    JsonObject, JsonWriter, Leaf, append_leaf, append_leaves, append_object, append_objects,
+    json_line,
 };
 use crate::settings::{BOOT_CURRENT, TIMEOUT, Timeout, bad_current, bad_timeout, number_of};
 use crate::shown_option::{AttributeWords, ShownOption};
 use crate::shown_order::OrderMarks;
-use serde::Serializer;
 use std::alloc::{AllocError, Global};
 use uefi_option::is_active;
 use uefi_vars::{AtRisk, BOOT_NEXT, BOOT_ORDER, VarFault, Vars, entry_number, plan_numbers};
@@ -56,7 +56,7 @@ struct ShownEntry<'a> {
 }
 
 impl JsonObject for ShownEntry<'_> {
-    fn append_members<S: Serializer>(&self, out: &mut S) -> Result<(), S::Error> {
+    fn append_members(&self, out: &mut JsonWriter) -> Result<(), AllocError> {
         append_leaves(
             &[
                 ("name", Leaf::Text(Some(self.name))),
@@ -79,7 +79,7 @@ pub(crate) struct ShownPlan {
 }
 
 impl JsonObject for ShownPlan {
-    fn append_members<S: Serializer>(&self, out: &mut S) -> Result<(), S::Error> {
+    fn append_members(&self, out: &mut JsonWriter) -> Result<(), AllocError> {
         append_leaves(
             &[
                 ("next", Leaf::Entry(self.next)),
@@ -100,7 +100,7 @@ struct NamedFault {
 }
 
 impl JsonObject for NamedFault {
-    fn append_members<S: Serializer>(&self, out: &mut S) -> Result<(), S::Error> {
+    fn append_members(&self, out: &mut JsonWriter) -> Result<(), AllocError> {
         append_leaf("name", Leaf::Text(Some(self.name)), out)?;
         self.fault.append_members(out)
     }
@@ -116,7 +116,7 @@ struct OtherVariable<'a> {
 }
 
 impl JsonObject for OtherVariable<'_> {
-    fn append_members<S: Serializer>(&self, out: &mut S) -> Result<(), S::Error> {
+    fn append_members(&self, out: &mut JsonWriter) -> Result<(), AllocError> {
         append_leaves(
             &[
                 ("name", Leaf::Text(Some(self.name))),
@@ -226,7 +226,7 @@ impl<'a> ShownVars<'a> {
 }
 
 impl JsonObject for ShownVars<'_> {
-    fn append_members<S: Serializer>(&self, out: &mut S) -> Result<(), S::Error> {
+    fn append_members(&self, out: &mut JsonWriter) -> Result<(), AllocError> {
         append_leaf("variables", Leaf::Count(Some(self.variables)), out)?;
         append_objects("entries", &self.entries, out)?;
         if self.fault_of(BOOT_ORDER).is_none() {

@@ -4,139 +4,180 @@ use crate::check::Verdict;
 use crate::checked::{Checked, Found};
 use crate::entry::LookedEntry;
 use crate::words::weight_word;
-use boot_texts::EntryName;
+use boot_texts::json::{
+    JsonObject, JsonWriter, Leaf, append_leaf, append_leaves, append_object, append_objects,
+    json_line,
+};
+use boot_texts::{EntryDigits, EntryName};
 use entry_checks::{Finding, NextFinding, OrderFindings};
 use std::alloc::{AllocError, Global};
 use uefi_vars::PlanNumbers;
 
 /// What is found as an object on one line, which ends with a line feed.
 pub(crate) fn json_of(alloc: Global, checked: &Checked) -> Result<String, AllocError> {
-    let mut json = String::new(alloc);
-    let is_ok = checked.verdict() == Verdict::Fine;
-    write!(json, "{{\"ok\":{is_ok},\"plan\":")?;
-    append_plan(checked.plan.as_ref(), &mut json)?;
-    json.push_str(",\"entries\":[")?;
-    append_entries(alloc, checked, &mut json)?;
-    json.push_str("],\"order\":")?;
-    append_order(&checked.order, &mut json)?;
-    json.push_str(",\"next\":")?;
-    append_next(checked.next, &mut json)?;
-    json.push_str("}\n")?;
-    Ok(json)
-}
-
-/// Appends what the next boot tries.
-fn append_plan(plan: Option<&PlanNumbers>, json: &mut String) -> Result<(), AllocError> {
-    let Some(plan) = plan else {
-        return json.push_str("null");
-    };
-    match plan.next {
-        Some(next) => write!(json, "{{\"next\":\"{next:04X}\",\"normal\":")?,
-        None => json.push_str("{\"next\":null,\"normal\":")?,
-    }
-    append_numbers(&plan.normal, json)?;
-    json.push('}')
-}
-
-/// Appends a list of numbers.
-fn append_numbers(numbers: &[u16], json: &mut String) -> Result<(), AllocError> {
-    json.push('[')?;
-    let mut comma = "";
-    for number in numbers {
-        write!(json, "{comma}\"{number:04X}\"")?;
-        comma = ",";
-    }
-    json.push(']')
-}
-
-/// Appends the objects of entries.
-fn append_entries(alloc: Global, checked: &Checked, json: &mut String) -> Result<(), AllocError> {
-    let mut is_first = true;
+    let mut entries = Vec::with_capacity(alloc, checked.entries.len())?;
     for (entry, found) in checked.entries.iter().zip(&checked.found) {
-        if !is_first {
-            json.push(',')?;
+        entries.push(ShownEntry::new(alloc, entry, found)?)?;
+    }
+    json_line(alloc, &ShownCheck { checked, entries })
+}
+
+/// What is found, as it is shown.
+#[derive(Drop)]
+struct ShownCheck<'a> {
+    checked: &'a Checked,
+    /// The entries in the order in which they are told.
+    entries: Vec<ShownEntry<'a>>,
+}
+
+impl JsonObject for ShownCheck<'_> {
+    fn append_members(&self, out: &mut JsonWriter) -> Result<(), AllocError> {
+        let is_ok = self.checked.verdict() == Verdict::Fine;
+        append_leaf("ok", Leaf::Flag(Some(is_ok)), out)?;
+        let plan = self.checked.plan.as_ref().map(|plan| ShownPlan(plan));
+        append_object("plan", plan.as_ref(), out)?;
+        append_objects("entries", &self.entries, out)?;
+        append_object("order", shown_order(&self.checked.order).as_ref(), out)?;
+        append_object("next", shown_next(self.checked.next).as_ref(), out)
+    }
+}
+
+/// What the next boot tries.
+#[derive(Clone, Copy)]
+struct ShownPlan<'a>(&'a PlanNumbers);
+
+impl JsonObject for ShownPlan<'_> {
+    fn append_members(&self, out: &mut JsonWriter) -> Result<(), AllocError> {
+        append_leaves(
+            &[
+                ("next", Leaf::Entry(self.0.next.map(EntryDigits))),
+                ("normal", Leaf::Numbers(&self.0.normal)),
+            ],
+            out,
+        )
+    }
+}
+
+/// An entry, and what is found of it.
+#[derive(Drop)]
+struct ShownEntry<'a> {
+    /// Its number.
+    number: u16,
+    /// Whether nothing is wrong with it.
+    is_ok: bool,
+    findings: Vec<ShownFinding<'a>>,
+}
+
+impl<'a> ShownEntry<'a> {
+    /// What is shown of an entry of which this is found. This fails only when out of memory.
+    fn new(
+        alloc: Global,
+        entry: &'a LookedEntry,
+        found: &Found,
+    ) -> Result<ShownEntry<'a>, AllocError> {
+        let mut findings = Vec::with_capacity(alloc, found.findings.len())?;
+        for finding in &found.findings {
+            findings.push(ShownFinding {
+                finding: *finding,
+                detail: detail_of(entry, found.twin, *finding),
+            })?;
         }
-        append_entry(alloc, entry, found, json)?;
-        is_first = false;
+        Ok(ShownEntry {
+            number: entry.number,
+            is_ok: found.is_ok(),
+            findings,
+        })
     }
-    Ok(())
 }
 
-/// Appends the object of an entry.
-fn append_entry(
-    alloc: Global,
-    entry: &LookedEntry,
-    found: &Found,
-    json: &mut String,
-) -> Result<(), AllocError> {
-    let number = entry.number;
-    let name = EntryName(number);
-    let is_ok = found.is_ok();
-    write!(
-        json,
-        "{{\"name\":\"{name}\",\"entry\":\"{number:04X}\",\"ok\":{is_ok},\"findings\":["
-    )?;
-    let mut comma = "";
-    for finding in &found.findings {
-        json.push_str(comma)?;
-        append_finding(alloc, entry, found.twin, *finding, json)?;
-        comma = ",";
+impl JsonObject for ShownEntry<'_> {
+    fn append_members(&self, out: &mut JsonWriter) -> Result<(), AllocError> {
+        append_leaves(
+            &[
+                ("name", Leaf::Name(EntryName(self.number))),
+                ("entry", Leaf::Entry(Some(EntryDigits(self.number)))),
+                ("ok", Leaf::Flag(Some(self.is_ok))),
+            ],
+            out,
+        )?;
+        append_objects("findings", &self.findings, out)
     }
-    json.push_str("]}")
 }
 
-/// Appends the object of what is found of an entry that has this twin.
-fn append_finding(
-    alloc: Global,
-    entry: &LookedEntry,
-    twin: Option<u16>,
+/// Something that is found of an entry.
+#[derive(Clone, Copy)]
+struct ShownFinding<'a> {
     finding: Finding,
-    json: &mut String,
-) -> Result<(), AllocError> {
-    let row = finding.row();
-    write!(
-        json,
-        "{{\"kind\":\"{}\",\"weight\":\"{}\",\"words\":\"{}\",\"detail\":",
-        row.kind,
-        weight_word(row.weight),
-        row.words
-    )?;
+    /// What it is about.
+    detail: Leaf<'a>,
+}
+
+impl JsonObject for ShownFinding<'_> {
+    fn append_members(&self, out: &mut JsonWriter) -> Result<(), AllocError> {
+        let row = self.finding.row();
+        append_leaves(
+            &[
+                ("kind", Leaf::Word(Some(row.kind))),
+                ("weight", Leaf::Word(Some(weight_word(row.weight)))),
+                ("words", Leaf::Word(Some(row.words))),
+                ("detail", self.detail),
+            ],
+            out,
+        )
+    }
+}
+
+/// What a finding is about that is found of an entry with this twin.
+fn detail_of(entry: &LookedEntry, twin: Option<u16>, finding: Finding) -> Leaf<'_> {
     match (finding, twin) {
-        (Finding::Undecodable | Finding::Leads(_), _) => append_text(alloc, &entry.detail, json)?,
-        (Finding::Twin, Some(twin)) => write!(json, "\"{}\"", EntryName(twin))?,
-        _ => json.push_str("null")?,
-    }
-    json.push('}')
-}
-
-/// Appends a text.
-fn append_text(alloc: Global, text: &str, json: &mut String) -> Result<(), AllocError> {
-    match serde_json::to_string(alloc, &text) {
-        Ok(text) => json.push_str(&text),
-        // Nothing else keeps a text from being written.
-        Err(_) => Err(AllocError),
+        (Finding::Undecodable | Finding::Leads(_), _) => Leaf::Text(Some(&entry.detail)),
+        (Finding::Twin, Some(twin)) => Leaf::Name(EntryName(twin)),
+        _ => Leaf::Text(None),
     }
 }
 
-/// Appends what is found of BootOrder.
-fn append_order(order: &OrderFindings, json: &mut String) -> Result<(), AllocError> {
+/// What is found of a BootOrder that can be read.
+#[derive(Clone, Copy)]
+struct ShownOrder<'a> {
+    stale: &'a [u16],
+    twice: &'a [u16],
+}
+
+impl JsonObject for ShownOrder<'_> {
+    fn append_members(&self, out: &mut JsonWriter) -> Result<(), AllocError> {
+        append_leaves(
+            &[
+                ("stale", Leaf::Numbers(self.stale)),
+                ("twice", Leaf::Numbers(self.twice)),
+            ],
+            out,
+        )
+    }
+}
+
+/// What is shown of BootOrder, if it can be read.
+fn shown_order(order: &OrderFindings) -> Option<ShownOrder<'_>> {
     match order {
-        OrderFindings::Unreadable => json.push_str("null"),
-        OrderFindings::Numbers { stale, twice } => {
-            json.push_str("{\"stale\":")?;
-            append_numbers(stale, json)?;
-            json.push_str(",\"twice\":")?;
-            append_numbers(twice, json)?;
-            json.push('}')
-        }
+        OrderFindings::Unreadable => None,
+        OrderFindings::Numbers { stale, twice } => Some(ShownOrder { stale, twice }),
     }
 }
 
-/// Appends what is wrong with BootNext.
-fn append_next(next: Option<NextFinding>, json: &mut String) -> Result<(), AllocError> {
+/// The entry of a BootNext that can be read, if it has no variable.
+#[derive(Clone, Copy)]
+struct ShownNext(Option<u16>);
+
+impl JsonObject for ShownNext {
+    fn append_members(&self, out: &mut JsonWriter) -> Result<(), AllocError> {
+        append_leaf("missing", Leaf::Entry(self.0.map(EntryDigits)), out)
+    }
+}
+
+/// What is shown of BootNext, if it can be read.
+fn shown_next(next: Option<NextFinding>) -> Option<ShownNext> {
     match next {
-        None => json.push_str("{\"missing\":null}"),
-        Some(NextFinding::Unreadable) => json.push_str("null"),
-        Some(NextFinding::Missing(number)) => { write!(json, "{{\"missing\":\"{number:04X}\"}}") }
+        None => Some(ShownNext(None)),
+        Some(NextFinding::Unreadable) => None,
+        Some(NextFinding::Missing(number)) => Some(ShownNext(Some(number))),
     }
 }

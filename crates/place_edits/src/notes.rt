@@ -4,7 +4,8 @@ use crate::edits::EditWords;
 use crate::led::Led;
 use crate::place_kind::PlaceKind;
 use boot_edits::EditAnswer;
-use boot_texts::{EntryName, diff_json, diff_report, naming_change};
+use boot_texts::json::{JsonObject, JsonWriter, Leaf, append_leaves, json_line};
+use boot_texts::{EntryDigits, EntryName, diff_json, diff_report, naming_change};
 use boot_updates::{tell_of_coming, tell_of_unnamed};
 use std::alloc::{AllocError, Global};
 use uefi_option::check_option;
@@ -72,13 +73,33 @@ fn name_line(alloc: Global, json: bool, answer: EditAnswer) -> Result<String, Al
         EditAnswer::Added(entry) => (entry, true),
         EditAnswer::Present(entry) => (entry, false),
     };
-    let name = EntryName(entry);
     if json {
-        format!(in alloc;
-            "{{\"name\":\"{name}\",\"entry\":\"{entry:04X}\",\"added\":{is_added}}}\n"
-        )
+        json_line(alloc, &ShownName { entry, is_added })
     } else {
+        let name = EntryName(entry);
         format!(in alloc; "{name}\n")
+    }
+}
+
+/// An entry that was to be added, as it is shown.
+#[derive(Clone, Copy)]
+struct ShownName {
+    /// Its number.
+    entry: u16,
+    /// Whether it wasn't there before.
+    is_added: bool,
+}
+
+impl JsonObject for ShownName {
+    fn append_members(&self, out: &mut JsonWriter) -> Result<(), AllocError> {
+        append_leaves(
+            &[
+                ("name", Leaf::Name(EntryName(self.entry))),
+                ("entry", Leaf::Entry(Some(EntryDigits(self.entry)))),
+                ("added", Leaf::Flag(Some(self.is_added))),
+            ],
+            out,
+        )
     }
 }
 

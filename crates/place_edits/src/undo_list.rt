@@ -1,6 +1,7 @@
 //! The changes that can be undone.
 
 use boot_history::{KeptRecord, records, time_text};
+use boot_texts::json::{JsonObject, JsonWriter, Leaf, append_leaves, json_line};
 use boot_updates::{MachineWords, lock_folder, name_of_machine};
 use std::alloc::{AllocError, Global};
 use std::rt::Files;
@@ -40,17 +41,33 @@ fn append_change(
     let number = kept.number;
     let time = time_text(alloc, kept.record.time)?;
     if json {
-        let Ok(words) = serde_json::to_string(alloc, &kept.record.words) else {
-            return Err(AllocError);
-        };
-        return writeln!(
-            text,
-            "{{\"number\":{number},\"time\":\"{time}\",\"words\":{words}}}"
-        );
+        let shown = ShownRecord { kept, time: &time };
+        return text.push_str(&json_line(alloc, &shown)?);
     }
     write!(text, "{number} {time}")?;
     for word in &kept.record.words {
         write!(text, " {}", shown(alloc, word)?)?;
     }
     text.push('\n')
+}
+
+/// A change that can be undone, as it is shown.
+#[derive(Clone, Copy)]
+struct ShownRecord<'a> {
+    kept: &'a KeptRecord,
+    /// The text of its time.
+    time: &'a str,
+}
+
+impl JsonObject for ShownRecord<'_> {
+    fn append_members(&self, out: &mut JsonWriter) -> Result<(), AllocError> {
+        append_leaves(
+            &[
+                ("number", Leaf::Record(self.kept.number)),
+                ("time", Leaf::Text(Some(self.time))),
+                ("words", Leaf::Texts(&self.kept.record.words)),
+            ],
+            out,
+        )
+    }
 }
