@@ -10,7 +10,7 @@ import bootkeep
 import pytest
 from conftest import Folder, agent, option
 
-from sender.answers import digest
+from sender.answers import digest, read_answer
 
 STANDING_IN = """#!/bin/sh
 echo "$@" >>"{0}/words"
@@ -60,6 +60,42 @@ def test_it_waits_while_another_update_is_at_work(
 def test_what_says_nothing_is_an_error(tmp_path: Path, monkeypatch: pytest.MonkeyPatch) -> None:
     stand_in(tmp_path, monkeypatch, 0, "echo why >&2; exit 4")
     assert updated(b"") == {"to": digest(b""), "status": 4, "error": "why\n"}
+
+
+@pytest.mark.parametrize(
+    "said",
+    [
+        '{"show":"\\u12 is no escape"}',
+        "{",
+        "[]",
+        "7",
+        "null",
+        '{"a":' * 100_000,
+    ],
+    ids=lambda said: str(said)[:20],
+)
+def test_what_is_no_object_is_an_error(
+    tmp_path: Path, monkeypatch: pytest.MonkeyPatch, said: str
+) -> None:
+    """One entry of the machine may lead to it: then somebody has to be told, and the agent goes on."""
+    (tmp_path / "said").write_text(said)
+    stand_in(tmp_path, monkeypatch, 0, f'cat "{tmp_path}/said"; echo why >&2; exit 6')
+    held = updated(b"")
+    assert (held["to"], held["status"]) == (digest(b""), 6)
+    assert held["error"].startswith("bootvars says what is no object of JSON: ")
+    assert held["error"].endswith("\nwhy\n")
+    refusal = read_answer(json.dumps(held).encode()).refusal
+    assert refusal is not None and refusal.words.startswith("status 6: bootvars says what is no")
+
+
+def test_a_reply_that_no_broker_takes_is_an_error(
+    tmp_path: Path, monkeypatch: pytest.MonkeyPatch
+) -> None:
+    (tmp_path / "said").write_text(json.dumps({"show": "x" * (1 << 20)}))
+    stand_in(tmp_path, monkeypatch, 0, f'cat "{tmp_path}/said"')
+    held = updated(b"")
+    assert (held["status"], "show" in held) == (0, False)
+    assert held["error"].startswith("the reply has 1048") and held["error"].endswith(" too many")
 
 
 def test_equal_messages_that_wait_are_one(monkeypatch: pytest.MonkeyPatch) -> None:
