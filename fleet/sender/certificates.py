@@ -40,8 +40,10 @@ allow_anonymous false
 acl_file {folder}/acl
 # Nothing is kept: what is lost is sent again.
 persistence false
+retain_available false
 max_queued_messages 1000
-max_packet_size 16777216
+max_queued_bytes 67108864
+max_packet_size 1048576
 """
 
 ACL = """\
@@ -121,13 +123,18 @@ def make_broker(folder: Path, host: str, port: int) -> None:
 
 
 def make_sender(folder: Path, name: str) -> None:
-    """Makes the certificate of a sender, and lets it send."""
-    make_certificate(folder, name)
-    acl = folder / "acl"
+    """Lets a sender send, and makes its certificate. One that is there before is somebody else's, as that of a machine
+    that was forgotten: whoever has its key could send to all."""
+    acl, made = folder / "acl", folder / name
     part = ACL_OF_SENDER.format(name=name)
     if part not in acl.read_text(encoding="utf-8"):
+        if made.exists():
+            raise CertificateError(
+                f"{made}: it is no sender's, and a machine may have its key: take another name, or remove it"
+            )
         with acl.open("a", encoding="utf-8") as out:
             out.write(part)
+    make_certificate(folder, name)
 
 
 def make_machine(folder: Path, name: str, broker: str) -> Path:

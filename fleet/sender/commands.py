@@ -443,9 +443,15 @@ def _is_sender(ledger: Ledger, name: str) -> bool:
     return f"user {name}\n" in acl
 
 
+def _open_private(path: str, flags: int) -> int:
+    return os.open(path, flags, 0o600)
+
+
 def _lock(ledger: Ledger, name: str) -> "IO[str]":
     """Keeps a second sender with the same certificate out: a broker would let only one of them stay connected."""
-    lock = open(f"{ledger.path}.{name}.lock", "w", encoding="utf-8")
+    lock = open(f"{ledger.path}.{name}.lock", "w", encoding="utf-8", opener=_open_private)
+    # Whoever may read it could keep it locked, also one that an earlier version made.
+    os.fchmod(lock.fileno(), 0o600)
     try:
         fcntl.flock(lock, fcntl.LOCK_EX | fcntl.LOCK_NB)
     except BlockingIOError:

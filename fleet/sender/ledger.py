@@ -87,6 +87,9 @@ VERSION = 1
 HAS_WORK = """trouble IS NULL AND name IN
     (SELECT machine FROM goal WHERE state = 'open' UNION SELECT machine FROM request WHERE state = 'sent')"""
 
+LONGEST_LEFT = 60.0
+"""For how many seconds at most a silent machine is left."""
+
 MOST_FRAMES = 64
 """How many requests a machine keeps the outcomes of, and so how many may be under way at once."""
 
@@ -156,6 +159,18 @@ class Ledger:
             self.db.execute("ROLLBACK")
             raise
         self.db.execute("COMMIT")
+
+    @contextmanager
+    def savepoint(self) -> Iterator[None]:
+        """A part of a transaction, of which nothing is done if it fails."""
+        self.db.execute("SAVEPOINT part")
+        try:
+            yield
+        except BaseException:
+            self.db.execute("ROLLBACK TO part")
+            raise
+        finally:
+            self.db.execute("RELEASE part")
 
     def one(self, query: str, *values: object) -> Any:
         """The first row that a query finds, or none."""
@@ -294,7 +309,11 @@ class Ledger:
 
     def hold(self, holder: str, most: int, now: float, until: float) -> List[str]:
         """Prolongs the leases of a sender, takes more machines that have something to be done up to so many, and gives
-        all that it has."""
+        all that it has. Where the clock was set back since they were written, no lease ends later than one from now on,
+        and no machine is left for longer than `LONGEST_LEFT`."""
+        self.db.execute(
+            "UPDATE machine SET until = ? WHERE holder IS NOT NULL AND until > ?", (until, until)
+        )
         self.db.execute(
             f"UPDATE machine SET until = ? WHERE holder = ? AND {HAS_WORK}", (until, holder)
         )
@@ -305,8 +324,9 @@ class Ledger:
             )
         ]
         free = self.db.execute(
-            f"SELECT name FROM machine WHERE (holder IS NULL OR until < ?) AND due <= ? AND {HAS_WORK} LIMIT ?",
-            (now, now, most - len(held)),
+            "SELECT name FROM machine WHERE (holder IS NULL OR until < ?) AND (due <= ? OR due > ?)"
+            f" AND {HAS_WORK} LIMIT ?",
+            (now, now, now + LONGEST_LEFT, most - len(held)),
         ).fetchall()
         self.db.executemany(
             "UPDATE machine SET holder = ?, until = ? WHERE name = ?",

@@ -9,7 +9,7 @@ from pathlib import Path
 
 import bootkeep
 import pytest
-from conftest import FLEET, PATH, bootfleet, option
+from conftest import FLEET, PATH, bootfleet, load_agent, option
 
 from sender import status
 from sender.certificates import CertificateError, check_name
@@ -81,6 +81,30 @@ def test_a_machine_is_no_sender_and_no_broker(fleet: Path) -> None:
     )
     bootfleet("--ledger", fleet / "ledger", "enroll-sender", "other", "other")
     assert (fleet / "certs/acl").read_text().count("user other\n") == 1
+
+
+def test_a_forgotten_machine_becomes_no_sender(fleet: Path) -> None:
+    """Whoever has its key could send to all."""
+    bootfleet("--ledger", fleet / "ledger", "forget", "--yes", "m1")
+    bootfleet("init", fleet / "second", "--broker", "localhost:1", "--certs", fleet / "certs")
+    for ledger in (fleet / "ledger", fleet / "second"):
+        told = bootfleet("--ledger", ledger, "enroll-sender", "m1", status=3)
+        assert f"{fleet}/certs/m1: it is no sender's" in told
+    assert "m1" not in (fleet / "certs/acl").read_text()
+
+
+def test_a_broker_takes_no_large_messages_and_keeps_none(fleet: Path) -> None:
+    held = dict(
+        line.split(" ", 1)
+        for line in (fleet / "certs/mosquitto.conf").read_text().splitlines()
+        if line and not line.startswith("#")
+    )
+    assert held["retain_available"] == "false"
+    assert int(held["max_packet_size"]) <= 1 << 20
+    assert int(held["max_queued_bytes"]) <= 1 << 26
+    agent_most = load_agent().MOST_BYTES
+    topic = len("bootkeep//reply") + 63
+    assert agent_most + topic + 16 < int(held["max_packet_size"])
 
 
 @pytest.mark.parametrize("broker", ["", ":1", "h:", "h:x", "h:0", "h:65536"])
@@ -164,6 +188,7 @@ def test_one_sender_of_a_name_runs(fleet: Path) -> None:
         running.stderr.readline()
         try:
             assert "it is running already" in call(fleet, "run", code=3)
+            assert (fleet / "ledger.sender.lock").stat().st_mode & 0o777 == 0o600
         finally:
             running.terminate()
         assert running.wait(20) == 0

@@ -129,6 +129,37 @@ def test_a_silent_machine_is_left_for_a_while(ledger: Ledger) -> None:
         assert ledger.hold("one", 9, 3, 13) == ["m1"]
 
 
+def test_a_clock_that_is_set_back_prolongs_no_lease(ledger: Ledger) -> None:
+    """A lease that was written an hour later by the clock ends within the time of one."""
+    add_job(ledger, "m1")
+    with ledger.transaction():
+        assert ledger.hold("one", 9, 3600, 3615) == ["m1"]
+        assert ledger.hold("two", 9, 0, 15) == []
+        assert ledger.hold("two", 9, 14, 29) == []
+        assert ledger.hold("two", 9, 16, 31) == ["m1"]
+
+
+def test_a_clock_that_is_set_back_leaves_no_machine(ledger: Ledger) -> None:
+    add_job(ledger, "m1")
+    with ledger.transaction():
+        ledger.leave("m1", 3616)
+        assert ledger.hold("one", 9, 3600, 3615) == []
+        assert ledger.hold("one", 9, 0, 15) == ["m1"]
+
+
+def test_a_part_of_a_transaction_is_undone_alone(ledger: Ledger) -> None:
+    job = add_job(ledger, "m1")
+    with ledger.transaction():
+        ledger.note("m1", "stays")
+        with pytest.raises(KeyError), ledger.savepoint():
+            ledger.add_request(machine(ledger), job, Asked(Request.FIRST, 1), b"")
+            raise KeyError
+        with ledger.savepoint():
+            ledger.note("m2", "stays")
+    assert machine(ledger).next == 0
+    assert ledger.db.execute("SELECT note FROM machine").fetchall() == [("stays",), ("stays",)]
+
+
 def test_trouble_ends_by_a_decision_alone(ledger: Ledger) -> None:
     job = add_job(ledger, "m1")
     send(ledger, job)
