@@ -7,7 +7,6 @@ import time
 from pathlib import Path
 from typing import Any, List
 
-import paho.mqtt.client as mqtt
 import relay as relays
 from fleet import Fleet
 
@@ -93,7 +92,7 @@ class Refused:
 
     def without_certificate(self) -> None:
         came: List[Any] = []
-        made = mqtt.Client("x2")
+        made = relays.new_client("x2")
         made.tls_set(str(self.fleet.certs / "ca.pem"))
         made.on_connect = lambda it, *_: it.subscribe("bootkeep/#")
         made.on_message = lambda *it: came.append(it)

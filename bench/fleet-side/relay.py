@@ -24,11 +24,18 @@ class Message(NamedTuple):
     payload: bytes
 
 
+def new_client(name: str) -> mqtt.Client:
+    """A client with this identity, by paho 1 or 2. The latter first asks how it is to call back."""
+    versions = getattr(mqtt, "CallbackAPIVersion", None)
+    more = {} if versions is None else {"callback_api_version": versions.VERSION2}
+    return mqtt.Client(client_id=name, **more)
+
+
 def client(
     own: Path, port: int, name: str, came: Callable[[Message], Any], *topics: str
 ) -> mqtt.Client:
     """A client of a broker, by the certificate in a folder, that subscribes to these topics."""
-    made = mqtt.Client(name)
+    made = new_client(name)
     made.tls_set(str(own / "ca.pem"), str(own / "own.pem"), str(own / "own.key"))
     made.reconnect_delay_set(1, 1)
     made.on_connect = lambda it, *_: [it.subscribe(topic, 0) for topic in topics]

@@ -4,16 +4,23 @@ from __future__ import annotations
 
 import hashlib
 import json
+import re
 from typing import Any, Dict, NamedTuple, Optional, Tuple
 
 import bootkeep
 
-from .entries import entry_of_shown
+from .entries import entry_name, entry_number, entry_of_shown
 from .goals import Shown
 
 
 MOST_WORDS = 2000
 """How many characters of a text of a reply are kept."""
+
+MOST_DIGITS = 20
+"""How many digits a number of a reply may have."""
+
+ANSWERED = re.compile(rb'\{"to": ?"([0-9a-f]{16})"')
+"""How a reply begins: which message it is to is known before all of it is read."""
 
 
 class BadAnswer(Exception):
@@ -63,22 +70,21 @@ UNASKED = digest(b"")
 """What a machine that has just come answers to."""
 
 
+def answered(payload: bytes) -> Optional[str]:
+    """Which message the bytes are a reply to, if they are one."""
+    found = ANSWERED.match(payload)
+    return None if found is None else found[1].decode()
+
+
 def read_answer(payload: bytes) -> Answer:
-    """The reply that the bytes are. Raises BadAnswer."""
+    """The reply that the bytes are. Raises BadAnswer, whatever they are."""
     try:
-        held = json.loads(payload)
-        return _answer(held)
-    except (
-        ValueError,
-        TypeError,
-        KeyError,
-        AttributeError,
-        RecursionError,
-        OverflowError,
-    ) as error:
-        raise BadAnswer(f"what it said is no reply: {type(error).__name__}: {error}") from error
+        return _answer(json.loads(payload, parse_int=_whole))
     except bootkeep.Error as error:
-        raise BadAnswer(f"what it said is no reply: {error}") from error
+        why = str(error)
+    except Exception as error:  # What reads them finds all sorts of things wrong.
+        why = f"{type(error).__name__}: {error}"
+    raise BadAnswer(f"what it said is no reply: {plain(why[:MOST_WORDS])}")
 
 
 def _answer(held: Dict[str, Any]) -> Answer:
@@ -87,17 +93,18 @@ def _answer(held: Dict[str, Any]) -> Answer:
         refused = held["refused"]
         return Answer(to, Refusal(_text(refused["words"]), _text(refused["do"])))
     if "error" in held:
-        words = _text(held["error"].strip())
-        return Answer(to, Refusal(f"status {int(held['status'])}: {words}", "send again"))
+        words, status = _text(held["error"].strip()), _number(held["status"], -(1 << 31))
+        return Answer(to, Refusal(f"status {status}: {words}", "send again"))
     show = held["show"]
+    shown = _shown(show)
     return Answer(
         to,
         None,
         _number(held["next"]),
         None if held["journal"] is None else _text(held["journal"]),
         tuple(_reply(reply) for reply in held["replies"]),
-        _shown(show),
-        _summary(show),
+        shown,
+        _summary(show, shown),
     )
 
 
@@ -109,7 +116,7 @@ def _reply(held: Dict[str, Any]) -> Reply:
         _text(held["reply"]),
         None if outcome is None else _text(outcome),
         None if held["same"] is None else bool(held["same"]),
-        None if entry is None else int(_text(entry), 16),
+        None if entry is None else entry_number(entry),
         None if reason is None else _text(reason),
     )
 
@@ -118,18 +125,19 @@ def _shown(held: Dict[str, Any]) -> Shown:
     following = held["next"]
     return Shown(
         tuple(entry_of_shown(entry) for entry in held["entries"]),
-        tuple(int(_text(number), 16) for number in held.get("order") or ()),
-        None if following is None else int(_text(following), 16),
+        tuple(entry_number(number) for number in held.get("order") or ()),
+        None if following is None else entry_number(following),
     )
 
 
-def _summary(held: Dict[str, Any]) -> Dict[str, Any]:
+def _summary(held: Dict[str, Any], shown: Shown) -> Dict[str, Any]:
     """What a person is shown of a machine's entries."""
     described = [
-        [_text(it["entry"]), plain(it["description"]) if "description" in it else None]
-        for it in held["entries"]
+        [entry_name(entry.number), _text(it["description"]) if "description" in it else None]
+        for entry, it in zip(shown.entries, held["entries"])
     ]
-    return {"entries": described, "order": held.get("order"), "bootnext": held["next"]}
+    order = [entry_name(number) for number in shown.order]
+    return {"entries": described, "order": order, "bootnext": entry_name(shown.next)}
 
 
 def plain(text: str) -> str:
@@ -143,7 +151,14 @@ def _text(value: object) -> str:
     return plain(value[:MOST_WORDS])
 
 
-def _number(value: object) -> int:
-    if not isinstance(value, int) or isinstance(value, bool) or not 0 <= value < 1 << 32:
-        raise TypeError(f"{value!r:.40} isn't a number of a request")
+def _number(value: object, least: int = 0) -> int:
+    if not isinstance(value, int) or isinstance(value, bool) or not least <= value < 1 << 32:
+        raise TypeError("a number isn't one that may stand there")
     return value
+
+
+def _whole(digits: str) -> int:
+    """A number of JSON. To read one of a million digits, of which none is meant, would take a while."""
+    if len(digits) > MOST_DIGITS:
+        raise ValueError(f"a number has {len(digits)} digits")
+    return int(digits)

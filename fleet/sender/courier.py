@@ -2,21 +2,27 @@
 
 from __future__ import annotations
 
-import queue
 import ssl
 import sys
 import threading
 import time
+from collections import Counter, deque
 from pathlib import Path
-from typing import List, NamedTuple, Protocol
+from typing import Any, Deque, List, NamedTuple, Protocol
 
 import paho.mqtt.client as mqtt
 
 PORT = 8883
 """The port of a broker that takes TLS alone."""
 
-MOST_PENDING = 65_536
-"""How many replies may wait to be taken; more are dropped, and come again."""
+MOST_WAITING, MOST_BYTES = 65_536, 1 << 26
+"""How many replies, and of how many bytes, may wait to be taken; more are dropped, and come again."""
+
+MOST_OF_ONE = 4
+"""How many of them may be one machine's, so that none keeps the others out."""
+
+BATCH_MOST, BATCH_BYTES = 1000, 1 << 23
+"""How many replies are taken at once, and of how many bytes, if they are more than one."""
 
 
 class Came(NamedTuple):
@@ -36,6 +42,57 @@ class Courier(Protocol):
         """What comes within a time, which ends early if much comes."""
 
 
+def new_client(name: str) -> mqtt.Client:
+    """A client with this identity, by paho 1 or 2. The latter first asks how it is to call back."""
+    versions = getattr(mqtt, "CallbackAPIVersion", None)
+    more = {} if versions is None else {"callback_api_version": versions.VERSION2}
+    return mqtt.Client(client_id=name, **more)
+
+
+class Waiting:
+    """Replies that wait to be taken, so many at most. They are put in by one thread, and taken by another."""
+
+    def __init__(self) -> None:
+        self.came: Deque[Came] = deque()
+        self.of: "Counter[str]" = Counter()
+        self.bytes = 0
+        self.changed = threading.Condition()
+
+    def put(self, one: Came) -> None:
+        """Adds a reply, or drops it if there are too many."""
+        with self.changed:
+            is_full = len(self.came) >= MOST_WAITING or self.bytes + len(one.payload) > MOST_BYTES
+            if is_full or self.of[one.name] >= MOST_OF_ONE:
+                return
+            self.came.append(one)
+            self.of[one.name] += 1
+            self.bytes += len(one.payload)
+            self.changed.notify()
+
+    def take(self, seconds: float) -> List[Came]:
+        """What comes within a time, which ends early if much comes."""
+        until, size = time.monotonic() + seconds, 0
+        taken: List[Came] = []
+        with self.changed:
+            while len(taken) < BATCH_MOST:
+                left = until - time.monotonic()
+                if not self.came and (left <= 0 or not self.changed.wait(left)):
+                    break
+                if taken and size + len(self.came[0].payload) > BATCH_BYTES:
+                    break
+                taken.append(self._take_one())
+                size += len(taken[-1].payload)
+        return taken
+
+    def _take_one(self) -> Came:
+        one = self.came.popleft()
+        self.bytes -= len(one.payload)
+        self.of[one.name] -= 1
+        if not self.of[one.name]:
+            del self.of[one.name]
+        return one
+
+
 def split_broker(broker: str) -> "tuple[str, int]":
     """The host and the port of a broker."""
     host, _, port = broker.partition(":")
@@ -48,8 +105,8 @@ class MqttCourier:
     """A courier over a broker, by TLS. It connects again whenever it has to."""
 
     def __init__(self, broker: str, own: Path, name: str) -> None:
-        self.came: "queue.Queue[Came]" = queue.Queue(MOST_PENDING)
-        self.client = mqtt.Client(name)
+        self.waiting = Waiting()
+        self.client = new_client(name)
         try:
             self.client.tls_set(str(own / "ca.pem"), str(own / "own.pem"), str(own / "own.key"))
         except (OSError, ssl.SSLError) as error:
@@ -74,17 +131,20 @@ class MqttCourier:
         """Keeps why the thread of the connection has ended: paho lets errors of TLS through."""
         self.failed = f"{self.broker}: {failed.exc_value}"
 
-    def _connected(self, client: mqtt.Client, _data: object, _flags: object, code: int) -> None:
+    def _connected(self, client: mqtt.Client, *more: Any) -> None:
+        code = more[2]
         self._say("connected" if code == 0 else f"refused: {mqtt.connack_string(code)}")
         client.subscribe("bootkeep/+/reply", 0)
 
-    def _disconnected(self, _client: mqtt.Client, _data: object, code: int) -> None:
-        if code:
-            self._say(f"the connection was lost: {mqtt.error_string(code)}")
+    def _disconnected(self, _client: mqtt.Client, _data: object, *more: Any) -> None:
+        # Of paho 1 the code is all; paho 2 has flags before it, and properties behind it, and a code with words.
+        code = more[0] if len(more) == 1 else more[1]
+        if code != 0:
+            words = mqtt.error_string(code) if isinstance(code, int) else code
+            self._say(f"the connection was lost: {words}")
 
     def _received(self, _client: mqtt.Client, _data: object, message: mqtt.MQTTMessage) -> None:
-        if not self.came.full():
-            self.came.put(Came(message.topic.split("/")[1], message.payload))
+        self.waiting.put(Came(message.topic.split("/")[1], message.payload))
 
     def send(self, name: str, payload: bytes) -> None:
         self.client.publish(f"bootkeep/{name}/request", payload, 0)
@@ -92,15 +152,7 @@ class MqttCourier:
     def receive(self, seconds: float) -> List[Came]:
         if self.failed:
             raise ConnectionError(self.failed)
-        came: List[Came] = []
-        until = time.monotonic() + seconds
-        while len(came) < 1000:
-            left = until - time.monotonic()
-            try:
-                came.append(self.came.get(timeout=left) if left > 0 else self.came.get_nowait())
-            except queue.Empty:
-                break
-        return came
+        return self.waiting.take(seconds)
 
     def close(self) -> None:
         self.client.disconnect()

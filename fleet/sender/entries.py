@@ -9,6 +9,8 @@ import bootkeep
 
 ESCAPE = re.compile(r"\\u([0-9a-fA-F]{4})")
 
+NUMBER = re.compile(r"[0-9a-fA-F]{4}")
+
 
 class Parts(NamedTuple):
     """What makes a load option (UEFI 2.10, 3.1.3): all that is in its bytes."""
@@ -24,6 +26,13 @@ class Entry(NamedTuple):
 
     number: int
     parts: Optional[Parts]
+
+
+def entry_number(text: object) -> int:
+    """The number of an entry, as a machine shows it: four digits. Raises ValueError for anything else."""
+    if not isinstance(text, str) or not NUMBER.fullmatch(text):
+        raise ValueError(f"{text!r:.40} isn't a number of an entry")
+    return int(text, 16)
 
 
 def units(text: str) -> bytes:
@@ -43,7 +52,7 @@ def parts_of_option(option: bytes) -> Parts:
 
 def entry_of_shown(shown: Dict[str, Any]) -> Entry:
     """An entry of what `bootvars show --json` prints. Raises what is wrong with it otherwise."""
-    number = int(shown["entry"], 16)
+    number = entry_number(shown["entry"])
     if shown["kind"] != "option":
         return Entry(number, None)
     as_hex = shown["description_hex"]

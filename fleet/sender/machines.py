@@ -11,12 +11,18 @@ from typing import Any, Dict, Optional
 
 import bootkeep
 
-from .answers import Answer, Reply
+from .answers import Answer, Reply, plain
 from .goals import Ask, Asked, Failed, Reached, Send, request_words, step
 from .ledger import MOST_FRAMES, Ledger, Machine
 
 NUMBER_AT = 4
 """Where the number is in a frame."""
+
+MOST_NUMBERS = (1 << 32) - 1
+"""How many numbers requests can have."""
+
+MOST_BYTES = 1 << 19
+"""How many bytes of frames are sent at once, if they are more than one: a broker takes no message without end."""
 
 
 class Trouble(Exception):
@@ -87,12 +93,18 @@ def _go_on(ledger: Ledger, machine: Machine, answer: Answer) -> None:
             ledger.end_goal(machine.name, held.job, "failed", None, taken.why)
             raise Trouble(f"goal {held.job}: {taken.why}")
         elif isinstance(taken, Ask):
+            _check_number(machine.next)
             frame = _frame(machine.next, taken)
             ledger.add_request(machine, held.job, taken.asked, frame)
             return
         else:
             _store_frames(ledger, machine, held.job, taken)
             return
+
+
+def _check_number(number: int) -> None:
+    if number >= MOST_NUMBERS:
+        raise Trouble("its journal has no number left for a request: give it a new folder")
 
 
 def _frame(number: int, ask: Ask) -> bytes:
@@ -103,7 +115,12 @@ def _frame(number: int, ask: Ask) -> bytes:
 
 
 def _store_frames(ledger: Ledger, machine: Machine, job: int, send: Send) -> None:
-    for frame in send.frames[:MOST_FRAMES]:
+    left = MOST_BYTES
+    for at, frame in enumerate(send.frames[:MOST_FRAMES]):
+        left -= len(frame)
+        if at and left < 0:
+            return
+        _check_number(machine.next)
         numbered = renumbered(frame, machine.next)
         machine = ledger.add_request(machine, job, asked_by(frame), numbered)
 
@@ -129,4 +146,4 @@ def describe(told: Dict[str, Any]) -> str:
     lines.append(
         f"order {' '.join(told['order'] or []) or '-'}, BootNext {told['bootnext'] or '-'}"
     )
-    return "\n".join(f"  {line}" for line in lines)
+    return "\n".join(f"  {plain(line)}" for line in lines)

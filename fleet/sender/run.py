@@ -3,16 +3,28 @@
 from __future__ import annotations
 
 import heapq
+import math
 import os
 import random
 import secrets
+import sqlite3
 import sys
 import time
 from dataclasses import dataclass, field
-from typing import Callable, Dict, List, Optional, Tuple
+from typing import Callable, Dict, List, NamedTuple, Optional, Tuple, Union
 
 from . import machines
-from .answers import UNASKED, Answer, BadAnswer, Refusal, digest, read_answer
+from .answers import (
+    MOST_WORDS,
+    UNASKED,
+    Answer,
+    BadAnswer,
+    Refusal,
+    answered,
+    digest,
+    plain,
+    read_answer,
+)
 from .courier import Came, Courier
 from .ledger import Ledger
 
@@ -53,6 +65,14 @@ class Held:
         self.asked = digest(self.payload)
 
 
+class Said(NamedTuple):
+    """What a machine said: to which message, and if that is the one it was asked last, what."""
+
+    name: str
+    to: Optional[str]
+    answer: Union[Answer, BadAnswer, None] = None
+
+
 @dataclass
 class Counts:
     """What a sender did."""
@@ -75,7 +95,7 @@ class Sender:
     held: Dict[str, Held] = field(default_factory=dict)
     queue: List[Tuple[float, str]] = field(default_factory=list)
     counts: Counts = field(default_factory=Counts)
-    leased: float = 0.0
+    leased: float = -math.inf
 
     def __post_init__(self) -> None:
         self.holder = f"{self.name}:{os.getpid()}:{secrets.token_hex(4)}"
@@ -94,13 +114,15 @@ class Sender:
                 self.ledger.leave_all(self.holder)
 
     def turn(self, came: List[Came]) -> None:
-        """Takes what came, and sends what is due: after what it is of is stored."""
-        now = time.time()
+        """Takes what came, and sends what is due: after what it is of is stored. What is due goes by a clock that
+        nobody sets; the ledger, which others read too, has the time of day."""
+        said = self._read(came)
+        now = time.monotonic()
         out: List[Tuple[str, bytes]] = []
         with self.ledger.transaction():
             if now - self.leased > LEASE / 3:
                 self._renew(now)
-            for one in came:
+            for one in said:
                 self._take(one, now)
             while self.queue and self.queue[0][0] <= now:
                 name = heapq.heappop(self.queue)[1]
@@ -115,7 +137,8 @@ class Sender:
     def _renew(self, now: float) -> None:
         """Takes the leases of machines that have something to be done, and loses those that others took meanwhile."""
         self.leased = now
-        names = self.ledger.hold(self.holder, MOST_HELD, now, now + LEASE)
+        day = time.time()
+        names = self.ledger.hold(self.holder, MOST_HELD, day, day + LEASE)
         held = self.held
         self.held = {name: held[name] for name in names if name in held}
         for name in names:
@@ -133,7 +156,7 @@ class Sender:
         """What is sent to a machine now, and when it is due again. Nothing if it is given up for a while."""
         if held.sent >= MOST_SENT and len(self.held) >= MOST_HELD:
             self.held.pop(name)
-            self.ledger.leave(name, now + random.uniform(1, 2) * self.longest_pause)
+            self.ledger.leave(name, time.time() + random.uniform(1, 2) * self.longest_pause)
             return b""
         self.counts.again += held.sent > 0
         held.due = now + self._pause(held.sent) * random.uniform(0.7, 1.3)
@@ -147,38 +170,60 @@ class Sender:
         later = GROWTH ** min(max(0, sent - SILENT_AFTER), SILENT_AFTER)
         return min(pause * later, SILENT_PAUSE)
 
-    def _take(self, came: Came, now: float) -> None:
-        """Takes what a machine said."""
-        if not self.ledger.has_machine(came.name):
+    def _read(self, came: List[Came]) -> List[Said]:
+        """What came, of which a reply to what a machine was asked is read, one of each machine. That may take a while,
+        so no transaction is open meanwhile."""
+        said: List[Said] = []
+        read = set()
+        for name, payload in came:
+            to, held = answered(payload), self.held.get(name)
+            if held is None or to not in (held.asked, None) or name in read:
+                said.append(Said(name, to))
+            else:
+                read.add(name)
+                said.append(Said(name, to, _answer_of(to, payload)))
+        return said
+
+    def _take(self, said: Said, now: float) -> None:
+        """Takes what a machine said. Whatever is wrong with it is the machine's trouble, but for the ledger's own."""
+        if not self.ledger.has_machine(said.name):
             self.counts.passed_over += 1
             return
-        self.ledger.heard(came.name, now)
-        held = self.held.get(came.name)
         try:
-            answer = read_answer(came.payload)
-        except BadAnswer as bad:
-            if held is not None:
-                self._stop(came.name, str(bad), None)
-            return
-        if held is None or answer.to != held.asked:
-            self._pass_over(came.name, held, answer, now)
-            return
-        self.counts.taken += 1
-        if answer.refusal is not None:
-            self._refused(came.name, held, answer.refusal)
-        elif (trouble := machines.take(self.ledger, came.name, answer)) is not None:
-            self._stopped(came.name, trouble)
-        else:
-            self._next(came.name, now)
+            with self.ledger.savepoint():
+                self._take_known(said, now)
+        except sqlite3.Error:
+            raise
+        except Exception as error:
+            why = f"{type(error).__name__}: {error}"
+            self._stop(said.name, f"what it said can't be taken: {plain(why[:MOST_WORDS])}", None)
 
-    def _pass_over(self, name: str, held: Optional[Held], answer: Answer, now: float) -> None:
+    def _take_known(self, said: Said, now: float) -> None:
+        self.ledger.heard(said.name, time.time())
+        held, answer = self.held.get(said.name), said.answer
+        if isinstance(answer, BadAnswer) and held is not None:
+            self._stop(said.name, str(answer), None)
+        elif not isinstance(answer, Answer) or held is None or said.to != held.asked:
+            self._pass_over(said, held, now)
+        elif answer.refusal is not None:
+            self.counts.taken += 1
+            self._refused(said.name, held, answer.refusal)
+        else:
+            self.counts.taken += 1
+            trouble = machines.take(self.ledger, said.name, answer)
+            if trouble is not None:
+                self._stopped(said.name, trouble)
+            else:
+                self._next(said.name, now)
+
+    def _pass_over(self, said: Said, held: Optional[Held], now: float) -> None:
         """Takes a reply to something else: one that is late, or doubled, or of a machine that has just come and is
         asked at once."""
         self.counts.passed_over += 1
-        if held is not None and answer.to == UNASKED:
+        if held is not None and said.to == UNASKED:
             held.sent = 0
             held.due = min(held.due, now + random.random() * self.first_pause)
-            heapq.heappush(self.queue, (held.due, name))
+            heapq.heappush(self.queue, (held.due, said.name))
 
     def _next(self, name: str, now: float) -> None:
         """Goes on with a machine that has answered, or gives its lease back if there is nothing left to be done."""
@@ -201,5 +246,15 @@ class Sender:
         self._stopped(name, why)
 
     def _stopped(self, name: str, why: str) -> None:
-        self.held.pop(name)
+        self.held.pop(name, None)
         print(f"bootfleet: {name}: {why}", file=sys.stderr, flush=True)
+
+
+def _answer_of(to: Optional[str], payload: bytes) -> Union[Answer, BadAnswer]:
+    """The reply that the bytes are, or why they are none."""
+    if to is None:
+        return BadAnswer("what it said is no reply: it doesn't begin with what it is to")
+    try:
+        return read_answer(payload)
+    except BadAnswer as bad:
+        return bad

@@ -8,8 +8,9 @@ from typing import Any, Dict
 import pytest
 from conftest import PATH, option
 
-from sender.answers import BadAnswer, digest, plain, read_answer
+from sender.answers import BadAnswer, answered, digest, plain, read_answer
 from sender.entries import entry_of_shown, parts_of_option, units
+from sender.machines import describe
 
 ENTRY: Dict[str, Any] = {
     "entry": "0003",
@@ -76,6 +77,17 @@ def test_a_reply_is_read() -> None:
         changed(show=None),
         changed(show={**SHOW, "order": [3]}),
         changed(show={**SHOW, "next": 3}),
+        changed(replies=[{**REPLY, "entry": "12345"}]),
+        changed(replies=[{**REPLY, "entry": "F" * 20}]),
+        changed(replies=[{**REPLY, "entry": "0x3"}]),
+        changed(show={**SHOW, "next": "10000"}),
+        changed(show={**SHOW, "next": "0" * 2000 + "3\x1b[2J"}),
+        changed(show={**SHOW, "order": ["0003", "10000"]}),
+        changed(show={**SHOW, "order": ["0" * 2000 + "3"]}),
+        changed(show={**SHOW, "entries": [{**ENTRY, "entry": "12345"}]}),
+        changed(show={**SHOW, "entries": [{**ENTRY, "entry": " 003"}]}),
+        b'{"to":"x","next":' + b"9" * 700_000 + b"}",
+        b'{"to":"x","status":' + b"9" * 4000 + b',"error":""}',
         changed(show={**SHOW, "entries": [{**ENTRY, "paths": ["Nonsense(1)"]}]}),
         changed(show={**SHOW, "entries": [{**ENTRY, "paths": None}]}),
         changed(show={**SHOW, "entries": [{**ENTRY, "optional": "0"}]}),
@@ -103,6 +115,39 @@ def test_a_terminal_is_not_told_what_to_do() -> None:
     entry = {**ENTRY, "description": "a\x1b"}
     told = read_answer(changed(show={**SHOW, "entries": [entry]})).told()
     assert told["entries"] == [["0003", "a\\u001b"]]
+
+
+@pytest.mark.parametrize(
+    "members",
+    [
+        {"order": ["0" * 2000 + "3\x1b]0;title\x07"]},
+        {"next": "0" * 2000 + "3\x1b[2J"},
+        {"entries": [{**ENTRY, "entry": "\x1b[2J"}]},
+        {"entries": [{**ENTRY, "description": "a" * 3000 + "\x1b[2J"}]},
+        {"entries": [{**ENTRY, "paths": ["\x1b[2J"]}]},
+    ],
+    ids=str,
+)
+def test_no_terminal_is_told_what_a_reply_says(members: Dict[str, Any]) -> None:
+    """Neither by what is shown before `adopt`, nor by why something is no reply."""
+    try:
+        said = describe(read_answer(changed(show={**SHOW, **members})).told())
+    except BadAnswer as bad:
+        said = str(bad)
+    assert "\x1b" not in said and "\x07" not in said
+    assert len(said) < 3000
+
+
+def test_what_an_earlier_version_kept_is_shown_plainly() -> None:
+    told = {"journal": "j", "next": 5, "entries": [["0003", "a"]], "order": ["\x1b[2J"]}
+    assert "\x1b" not in describe({**told, "bootnext": "\x1b[2J"})
+
+
+def test_a_reply_says_first_what_it_is_to() -> None:
+    assert answered(changed()) == digest(b"x")
+    assert answered(changed().replace(b": ", b":")) == digest(b"x")
+    for payload in (b"", b"[]", b'{"next":5}', b'{"to":"x"}', b'{"to":5}', b'{"to":"' + b"0" * 17):
+        assert answered(payload) is None
 
 
 def test_descriptions_have_their_units() -> None:

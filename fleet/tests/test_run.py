@@ -3,15 +3,19 @@
 from __future__ import annotations
 
 import json
+import sqlite3
+import time
 from collections import deque
 from pathlib import Path
-from typing import Any, Callable, Deque, Dict, List, Tuple
+from typing import Any, Callable, Deque, Dict, List, Optional, Sequence, Tuple
 
 import bootkeep
 import pytest
-from conftest import Folder, agent, goal, option
+from conftest import PATH, Folder, agent, goal, option
 
-from sender.answers import digest
+from sender import machines
+from sender import run as run_module
+from sender.answers import Answer, digest, read_answer
 from sender.courier import Came
 from sender.goals import Goal
 from sender.ledger import Ledger
@@ -60,10 +64,17 @@ def sender(ledger: Ledger, machine: Folder) -> Sender:
     return Sender(ledger, Hand({"m1": machine}), "sender", 0.01, 0.05)
 
 
-def add(ledger: Ledger, *goals: Goal) -> None:
+@pytest.fixture
+def pair(ledger: Ledger, machine: Folder, tmp_path: Path) -> Sender:
+    """A sender over two machines."""
+    other = Folder(tmp_path / "other", {0: option("a"), 1: option("b")}, [1, 0])
+    return Sender(ledger, Hand({"m1": machine, "m2": other}), "sender", 0.01, 0.05)
+
+
+def add(ledger: Ledger, *goals: Goal, to: Sequence[str] = ("m1",)) -> None:
     with ledger.transaction():
         for one in goals:
-            ledger.add_job(one, ["m1"])
+            ledger.add_job(one, to)
 
 
 def run(sender: Sender) -> bool:
@@ -236,6 +247,145 @@ def test_what_is_no_reply_is_told(sender: Sender) -> None:
     assert troubled(sender).startswith("what it said is no reply: ")
 
 
+def hostile(sender: Sender, make: Callable[[Dict[str, Any]], bytes]) -> None:
+    """Lets m1 reply by what is made of the true reply, and m2 truly, which has to come to its goal."""
+    courier: Any = sender.courier
+
+    def reply(number: int, payload: bytes) -> List[bytes]:
+        return [make(json.loads(payload)) if courier.sent[-1][0] == "m1" else payload]
+
+    courier.replies = reply
+
+
+@pytest.mark.parametrize(
+    "members",
+    [
+        {"entry": "12345"},
+        {"entry": "FFFFFFFFFFFFFFFFFFFF"},
+        {"entry": "-1"},
+        {"request": 1 << 64},
+        {"outcome": "\ud800"},
+        {"reply": ["applied"]},
+    ],
+    ids=str,
+)
+def test_a_hostile_reply_is_the_trouble_of_its_machine_alone(
+    pair: Sender, members: Dict[str, Any]
+) -> None:
+    def make(held: Dict[str, Any]) -> bytes:
+        held["replies"] = [{**it, **members} for it in held["replies"]]
+        return json.dumps(held).encode()
+
+    hostile(pair, make)
+    add(pair.ledger, goal("first", "new"), to=["m1", "m2"])
+    assert run(pair)
+    assert pair.ledger.trouble("m2") is None
+    assert pair.ledger.one("SELECT state FROM goal WHERE machine = 'm2'") == ("reached",)
+    if members != {"outcome": "\ud800"}:
+        assert (pair.ledger.trouble("m1") or "").startswith(("what it said", "it tells of"))
+
+
+@pytest.mark.parametrize(
+    "shown",
+    [
+        {"entry": "12345"},
+        {"entry": "FFFFFFFFFFFFFFFFFFFF"},
+        {"entry": "0" * 2000 + "1\x1b[2J"},
+    ],
+    ids=str,
+)
+@pytest.mark.parametrize("kind", ["first", "next", "remove"])
+def test_a_hostile_number_ends_no_sender(pair: Sender, kind: str, shown: Dict[str, Any]) -> None:
+    def make(held: Dict[str, Any]) -> bytes:
+        held["show"]["entries"][0].update(shown)
+        return json.dumps(held).encode()
+
+    hostile(pair, make)
+    add(pair.ledger, goal(kind, "a"), to=["m1", "m2"])
+    assert run(pair)
+    assert "isn't a number of an entry" in (pair.ledger.trouble("m1") or "")
+    assert pair.ledger.one("SELECT state FROM goal WHERE machine = 'm2'") == ("reached",)
+
+
+@pytest.mark.parametrize("following", [(1 << 32) - 2, (1 << 32) - 1])
+def test_a_hostile_next_number_ends_no_sender(pair: Sender, following: int) -> None:
+    """The last number of all, or the one before it, is adopted, and two requests are to be sent."""
+
+    def make(held: Dict[str, Any]) -> bytes:
+        return json.dumps({**held, "next": following, "replies": []}).encode()
+
+    hostile(pair, make)
+    script = [bootkeep.frame_make(0, bootkeep.Request.FIRST, number) for number in (0, 1)]
+    add(pair.ledger, Goal("send", frames=tuple(script)), to=["m1", "m2"])
+    assert run(pair)
+    told = pair.ledger.told("m1")
+    assert told is not None and told["next"] == following
+    with pair.ledger.transaction():
+        pair.ledger.adopt("m1", told)
+    assert run(pair)
+    assert "no number left" in (pair.ledger.trouble("m1") or "")
+    assert pair.ledger.one("SELECT state FROM goal WHERE machine = 'm2'") == ("reached",)
+
+
+def test_what_fails_for_one_machine_fails_for_it_alone(
+    pair: Sender, monkeypatch: pytest.MonkeyPatch
+) -> None:
+    """Whatever it is, and with nothing of it kept."""
+    take = machines.take
+
+    def fail(ledger: Ledger, name: str, answer: Answer) -> Optional[str]:
+        trouble = take(ledger, name, answer)
+        if name == "m1":
+            raise OverflowError("\x1b too large")
+        return trouble
+
+    monkeypatch.setattr(machines, "take", fail)
+    add(pair.ledger, goal("first", "new"), to=["m1", "m2"])
+    assert run(pair)
+    assert pair.ledger.trouble("m1") == (
+        "what it said can't be taken: OverflowError: \\u001b too large"
+    )
+    assert pair.ledger.one("SELECT COUNT(*) FROM request WHERE machine = 'm1'") == (0,)
+    assert pair.ledger.one("SELECT state FROM goal WHERE machine = 'm2'") == ("reached",)
+
+
+def test_the_trouble_of_the_ledger_is_the_senders(
+    pair: Sender, monkeypatch: pytest.MonkeyPatch
+) -> None:
+    def fail(*_: object) -> None:
+        raise sqlite3.OperationalError("database or disk is full")
+
+    monkeypatch.setattr(machines, "take", fail)
+    add(pair.ledger, goal("first", "new"))
+    with pytest.raises(sqlite3.OperationalError):
+        run(pair)
+
+
+def test_only_what_was_asked_for_is_read(sender: Sender, monkeypatch: pytest.MonkeyPatch) -> None:
+    """A flood of large replies, of machines that are asked nothing or something else, costs next to nothing, and those
+    that are read are read while no transaction is open."""
+    read: List[bytes] = []
+
+    def reading(payload: bytes) -> Answer:
+        assert not sender.ledger.db.in_transaction
+        read.append(payload)
+        return read_answer(payload)
+
+    monkeypatch.setattr(run_module, "read_answer", reading)
+    ledger = sender.ledger
+    add(ledger, goal("first", "a"))
+    sender.turn([])
+    large = json.dumps({"to": digest(b"other"), "error": "x" * 700_000}).encode()
+    came = [Came("m1", large)] * 500 + [Came("m2", large)] * 500 + [Came("m9", large)] * 500
+    asked = sender.held["m1"].asked
+    good = json.dumps({"to": asked, "status": 0, "refused": {"words": "busy", "do": "wait"}})
+    began = time.process_time()
+    sender.turn(came + [Came("m1", good.encode())] * 500)
+    assert time.process_time() - began < 1
+    assert read == [good.encode()]
+    assert run(sender) and ledger.all_reached()
+
+
 def test_a_reply_of_nobody_changes_nothing(sender: Sender) -> None:
     courier: Any = sender.courier
     courier.came += [Came("m9", b"{}"), Came("m2", b"nonsense")]
@@ -274,10 +424,33 @@ def test_a_machine_that_has_just_come_is_asked_at_once(sender: Sender) -> None:
     held = sender.held["m1"]
     held.due, held.sent = 900.0, 5
     reply = agent.update(b"", *(str(it) for it in (_folder(sender).state, _folder(sender).place)))
+    said = sender._read([Came("m1", reply.encode())])
     with ledger.transaction():
-        sender._take(Came("m1", reply.encode()), 101)
+        sender._take(said[0], 101)
     assert held.due <= 101 + sender.first_pause
     assert (held.sent, held.asked) == (0, digest(held.payload))
+
+
+def test_a_clock_that_is_set_back_stops_nothing(
+    sender: Sender, machine: Folder, monkeypatch: pytest.MonkeyPatch
+) -> None:
+    add(sender.ledger, goal("first", "a"))
+    assert run(sender)
+    day = time.time()
+    monkeypatch.setattr(time, "time", lambda: day - 3600)
+    add(sender.ledger, goal("first", "b"))
+    assert sender.run(True, 10, lambda: False)
+    assert machine.order() == [1, 0]
+
+
+def test_large_frames_are_sent_a_few_at_once(sender: Sender) -> None:
+    """A broker takes no message without end."""
+    large = bootkeep.option_make(bootkeep.OPTION_ACTIVE, "large", [PATH], bytes(100_000))
+    frame = bootkeep.frame_make(0, bootkeep.Request.REPLACE, 0, large)
+    add(sender.ledger, Goal("send", frames=(frame,) * 9))
+    assert run(sender) and sender.ledger.all_reached()
+    assert max(len(it) for it in frames(sender)) <= 1 << 19
+    assert sum(len(it) for it in frames(sender)) == 9 * len(frame)
 
 
 def test_pauses_grow_twice(ledger: Ledger) -> None:
