@@ -14,8 +14,12 @@
  * DESCRIPTION
  *
  * Bytes go in and bytes come out. The calls are those of Bootkeep's proved libraries: each returns for every input,
- * accepts exactly what the formats say, and tells the first fault of anything else by number. The formats, to the
- * byte, are in docs/formats.md, and what the calls mean is in docs/library.md.
+ * accepts exactly what the formats say, and tells the first fault of anything else by number. What each call does is
+ * said here. docs/c.md leads to a first program, and docs/formats.md has the formats to the byte; both are in the
+ * sources, as is all that is named in docs/ here.
+ *
+ * The calls are on values alone: they read and write no machine. To change one, call `bootvars`, which keeps a journal
+ * over a loss of power, and takes a change back by `bootvars undo`.
  *
  * Each call answers a status, BOOTKEEP_DONE if all went well. Everything else that it tells goes to places of the
  * caller, so there is never anything to free: a program closes the keepers that it opened, and that is all.
@@ -33,6 +37,12 @@
  * `out` may be NULL.
  *
  * What else a call tells, as `*taken`, is written at BOOTKEEP_DONE alone.
+ *
+ * PROCESSORS
+ *
+ * The libraries are for x86-64 (level x86-64-v2), in ELF and by the System V convention: another processor's compiler
+ * is stopped here by an `#error`. What links COFF objects alone, as EDK2 does with MSVC or CLANGPDB, and Rust for
+ * x86_64-unknown-uefi, can't link them.
  *
  * REFUSALS
  *
@@ -73,6 +83,13 @@
 
 #ifndef BOOTKEEP_H
 #define BOOTKEEP_H
+
+/* The structs below are laid out for 64 bits, and no library is built for another processor. x32 has pointers of 32. */
+#if !defined(__x86_64__) && !defined(_M_X64)
+#error "libbootkeep is built for x86-64 alone: this compiler makes code for another processor"
+#elif defined(__ILP32__)
+#error "libbootkeep is built for x86-64 with pointers of 64 bits: this compiler makes code for x32"
+#endif
 
 #include <stddef.h>
 #include <stdint.h>
@@ -202,6 +219,16 @@ struct bootkeep_refusal {
 #define BOOTKEEP_TEXT_BAD_END 0x0204
 /* The text isn't UTF-8 from this place on. This comes before any other fault of a text. */
 #define BOOTKEEP_TEXT_NOT_UTF8 0x0205
+/*
+ * These are of bootkeep_path_parse alone, which reads the names of nodes too. No node has the name at this place.
+ */
+#define BOOTKEEP_TEXT_UNKNOWN_NAME 0x0206
+/* The argument at this place isn't what the node has there. */
+#define BOOTKEEP_TEXT_BAD_ARGUMENT 0x0207
+/* At this place the segment ends before it has all its arguments, or has one more. */
+#define BOOTKEEP_TEXT_BAD_COUNT 0x0208
+/* What the arguments of the segment at this place say is no data of its node. */
+#define BOOTKEEP_TEXT_BAD_DATA 0x0209
 
 /*
  * Of a load option. Only BOOTKEEP_OPTION_PATH and BOOTKEEP_OPTION_NOT_UTF8 have a place, and the first has a fault
@@ -227,6 +254,8 @@ struct bootkeep_refusal {
 #define BOOTKEEP_OPTION_LIST_TOO_LONG 0x0307
 /* The description isn't UTF-8 from this place of it on. */
 #define BOOTKEEP_OPTION_NOT_UTF8 0x0308
+/* Of bootkeep_option_description_utf8: half of a pair of units stands alone in the description, which is no text. */
+#define BOOTKEEP_OPTION_NOT_UTF16 0x0309
 
 /*
  * Of a set file. The place is that of the record with the fault.
@@ -324,8 +353,9 @@ uint32_t bootkeep_outcome_word(uint32_t outcome, uint8_t *out, size_t cap, size_
 
 /*
  * The text of the device path at the start of the bytes (UEFI 2.10, 10.3 and 10.6), in the one spelling that is
- * printed, and in `*taken` how many bytes the path takes. What comes after its end is left. A fault of the path is told
- * even if there is no memory.
+ * printed, and in `*taken` how many bytes the path takes. What comes after its end is left: if the path is to be all of
+ * the bytes, compare `*taken` with `bytes_len`. bootkeep_text_path and bootkeep_path_parse read the text. A fault of
+ * the path is told even if there is no memory.
  *
  *     BOOTKEEP_DONE, BOOTKEEP_NO_ROOM, BOOTKEEP_NO_MEMORY
  *     BOOTKEEP_REFUSED   a number of paths
@@ -337,7 +367,8 @@ uint32_t bootkeep_path_text(const uint8_t *bytes, size_t bytes_len, uint8_t *out
 /*
  * The text of the device path for a person, as `bootvars show` prints it: that of bootkeep_path_text, with its name and
  * its fields for each node of the standard's table whose text can be read back as the node. It is UTF-8: names of files
- * may have characters past ASCII. All else is as there.
+ * may have characters past ASCII. bootkeep_path_parse reads it as the same path; bootkeep_text_path refuses most of the
+ * names. All else is as there.
  *
  *     BOOTKEEP_DONE, BOOTKEEP_NO_ROOM, BOOTKEEP_NO_MEMORY
  *     BOOTKEEP_REFUSED   a number of paths
@@ -356,8 +387,21 @@ uint32_t bootkeep_path_check(const uint8_t *bytes, size_t bytes_len, size_t *tak
     BOOTKEEP_CHECKED BOOTKEEP_NONNULL((3, 4));
 
 /*
- * The bytes of the device path that the text stands for. The text of each path stands for that path, and other
- * spellings besides: docs/formats.md has the grammar.
+ * The bytes of the device path that the text stands for: the one to call for what a person wrote. It reads each text
+ * that bootkeep_path_text and bootkeep_path_names give, as the path of which they gave it, and other spellings besides:
+ * docs/formats.md has the grammar. What the first one gives has the same bytes for good; a later version may know more
+ * names.
+ *
+ *     BOOTKEEP_DONE, BOOTKEEP_NO_ROOM, BOOTKEEP_NO_MEMORY
+ *     BOOTKEEP_REFUSED   a number of texts
+ */
+uint32_t bootkeep_path_parse(const uint8_t *text, size_t text_len, uint8_t *out, size_t cap, size_t *len,
+                             struct bootkeep_refusal *refusal) BOOTKEEP_CHECKED BOOTKEEP_NONNULL((5, 6));
+
+/*
+ * The same for texts as bootkeep_path_text gives them, and other spellings of these: it refuses the names of most
+ * nodes, so that what a person copies from `bootvars show` isn't read. It takes a text and gives a path, where
+ * bootkeep_path_text takes a path and gives a text.
  *
  *     BOOTKEEP_DONE, BOOTKEEP_NO_ROOM, BOOTKEEP_NO_MEMORY
  *     BOOTKEEP_REFUSED   a number of texts
@@ -412,8 +456,10 @@ uint32_t bootkeep_option_parts(const uint8_t *bytes, size_t bytes_len, struct bo
 #endif
 
 /*
- * The description of the load option that the bytes are, as one line of ASCII: units that don't print are shown by
- * their numbers, as docs/formats.md says. A fault of the option is told even if there is no memory.
+ * The description of the load option that the bytes are, as one line of ASCII, for a terminal or a log: units that
+ * don't print are shown by their numbers, as docs/formats.md says. bootkeep_option_make takes these for characters of a
+ * name: it is to be given what bootkeep_option_description_utf8 gives. A fault of the option is told even if there is
+ * no memory.
  *
  *     BOOTKEEP_DONE, BOOTKEEP_NO_ROOM, BOOTKEEP_NO_MEMORY
  *     BOOTKEEP_REFUSED   a number of load options
@@ -422,8 +468,19 @@ uint32_t bootkeep_option_description(const uint8_t *bytes, size_t bytes_len, uin
                                      struct bootkeep_refusal *refusal) BOOTKEEP_CHECKED BOOTKEEP_NONNULL((5, 6));
 
 /*
+ * The description of the load option that the bytes are, in UTF-8, all of its characters as they are, also those that a
+ * terminal acts on. bootkeep_option_make makes the same description of it. Of one that is no text, which is refused,
+ * bootkeep_option_parts tells where the units are, and bootkeep_option_make_units takes them.
+ *
+ *     BOOTKEEP_DONE, BOOTKEEP_NO_ROOM, BOOTKEEP_NO_MEMORY
+ *     BOOTKEEP_REFUSED   a number of load options; otherwise BOOTKEEP_OPTION_NOT_UTF16
+ */
+uint32_t bootkeep_option_description_utf8(const uint8_t *bytes, size_t bytes_len, uint8_t *out, size_t cap, size_t *len,
+                                          struct bootkeep_refusal *refusal) BOOTKEEP_CHECKED BOOTKEEP_NONNULL((5, 6));
+
+/*
  * The load option of these parts: its attributes, its description, which is UTF-8 and has no zero at its end, the list
- * of its device paths, as their bytes one after the other, each as bootkeep_text_path gives it, and its optional data.
+ * of its device paths, as their bytes one after the other, each as bootkeep_path_parse gives it, and its optional data.
  *
  *     BOOTKEEP_DONE, BOOTKEEP_NO_ROOM, BOOTKEEP_NO_MEMORY
  *     BOOTKEEP_REFUSED   BOOTKEEP_OPTION_NOT_UTF8; otherwise BOOTKEEP_OPTION_PATH, with its place in the list;
@@ -433,6 +490,19 @@ uint32_t bootkeep_option_description(const uint8_t *bytes, size_t bytes_len, uin
 uint32_t bootkeep_option_make(uint32_t attributes, const uint8_t *description, size_t description_len,
                               const uint8_t *list, size_t list_len, const uint8_t *optional, size_t optional_len,
                               uint8_t *out, size_t cap, size_t *len, struct bootkeep_refusal *refusal)
+    BOOTKEEP_CHECKED BOOTKEEP_NONNULL((10, 11));
+
+/*
+ * The same with the units of the description as they are stored, whether or not they are a text, and without the zero
+ * unit that closes it. `units_len` counts units. So each option can be made again of its parts, to the byte.
+ *
+ *     BOOTKEEP_DONE, BOOTKEEP_NO_ROOM, BOOTKEEP_NO_MEMORY
+ *     BOOTKEEP_REFUSED   BOOTKEEP_OPTION_PATH, with its place in the list; otherwise BOOTKEEP_OPTION_ZERO_UNIT,
+ *                        BOOTKEEP_OPTION_EMPTY_LIST or BOOTKEEP_OPTION_LIST_TOO_LONG, in this order
+ */
+uint32_t bootkeep_option_make_units(uint32_t attributes, const uint16_t *units, size_t units_len, const uint8_t *list,
+                                    size_t list_len, const uint8_t *optional, size_t optional_len, uint8_t *out,
+                                    size_t cap, size_t *len, struct bootkeep_refusal *refusal)
     BOOTKEEP_CHECKED BOOTKEEP_NONNULL((10, 11));
 
 /* ---- Frames ----------------------------------------------------------------------------------------------------- */
@@ -461,7 +531,8 @@ uint32_t bootkeep_option_make(uint32_t attributes, const uint8_t *description, s
 
 /*
  * The frame of the request with this number. Of `entry`, the bytes of the load option and the numbers of the order it
- * has what its kind takes; the others aren't looked at, and may be 0 and NULL.
+ * has what its kind takes; the others aren't looked at, and may be 0 and NULL. An `entry` of 0 is Boot0000, and an
+ * order of no numbers empties BootOrder: no call knows that they were forgotten.
  *
  *     BOOTKEEP_DONE, BOOTKEEP_NO_ROOM, BOOTKEEP_NO_MEMORY
  *     BOOTKEEP_REFUSED   BOOTKEEP_FRAME_BAD_KIND; otherwise a number of load options; otherwise
@@ -631,6 +702,9 @@ struct bootkeep_change {
  * they did before all of them, or do after them. The data of a variable before and after is in the two sets. `cap` and
  * `*len` count changes.
  *
+ * BootKeepState isn't among them, and firmware refuses it: a program that makes the changes of a keeper on a machine
+ * keeps that state elsewhere, and together with them, as is said at bootkeep_keeper_set.
+ *
  *     BOOTKEEP_DONE, BOOTKEEP_NO_ROOM, BOOTKEEP_NO_MEMORY
  *     BOOTKEEP_REFUSED   a number of sets, of `from`; otherwise one of `to`
  */
@@ -780,7 +854,13 @@ uint32_t bootkeep_keeper_restart_reply(struct bootkeep_keeper *keeper, struct bo
                                        size_t cap, size_t *len) BOOTKEEP_CHECKED BOOTKEEP_NONNULL((1, 2, 5));
 
 /*
- * The variables of the machine as they are to be stored: the bytes of a set file.
+ * The variables of the machine as they are to be stored, BootKeepState among them: the bytes of a set file. Store all
+ * of them, after each event. In BootKeepState are the number of the request that is to be applied next and what came of
+ * the last ones: without it the next delivery of a request applies it again.
+ *
+ * A file can hold it; firmware refuses it. So a program that makes the changes on a machine has to keep BootKeepState
+ * elsewhere, and together with the changes that are still to be made, so that after a cut between two of them it makes
+ * the others before it delivers anything. `bootvars update` does that: it is the call for a machine.
  *
  *     BOOTKEEP_DONE, BOOTKEEP_NO_ROOM, BOOTKEEP_NO_MEMORY, BOOTKEEP_CLOSED
  */

@@ -8,7 +8,9 @@ const ARCHIVE: &str = "libbootkeep.a";
 
 fn main() {
     println!("cargo:rerun-if-changed=build.rs");
-    println!("cargo:rerun-if-env-changed=BOOTKEEP_LIBRARY_DIR");
+    for variable in ["BOOTKEEP_LIBRARY_DIR", "PKG_CONFIG_PATH", "PKG_CONFIG_LIBDIR", "PKG_CONFIG_SYSROOT_DIR"] {
+        println!("cargo:rerun-if-env-changed={variable}");
+    }
     let folder = env::var("BOOTKEEP_LIBRARY_DIR").ok().or_else(installed).unwrap_or_default();
     // Cargo calls this in the crate's folder, and not in that in which it was called itself.
     if !Path::new(&folder).is_absolute() || !Path::new(&folder).join(ARCHIVE).is_file() {

@@ -202,12 +202,19 @@ static uint32_t once_other(struct call *call)
         status = bootkeep_path_names(GIVEN(0), OUT(0), &taken, &call->refusal);
     else if (is(call, "path_check"))
         status = bootkeep_path_check(GIVEN(0), &taken, &call->refusal);
+    else if (is(call, "path_parse"))
+        status = bootkeep_path_parse(GIVEN(0), OUT(0), &call->refusal);
     else if (is(call, "text_path"))
         status = bootkeep_text_path(GIVEN(0), OUT(0), &call->refusal);
     else if (is(call, "option_parts"))
         status = bootkeep_option_parts(GIVEN(0), &call->parts, &call->refusal);
     else if (is(call, "option_description"))
         status = bootkeep_option_description(GIVEN(0), OUT(0), &call->refusal);
+    else if (is(call, "option_description_utf8"))
+        status = bootkeep_option_description_utf8(GIVEN(0), OUT(0), &call->refusal);
+    else if (is(call, "option_make_units"))
+        status = bootkeep_option_make_units(number_at(call, 0, 0, 4), (const uint16_t *)(const void *)call->given[1].at,
+                                            call->given[1].len / 2, GIVEN(2), GIVEN(3), OUT(0), &call->refusal);
     else if (is(call, "option_make"))
         status = bootkeep_option_make(number_at(call, 0, 0, 4), GIVEN(1), GIVEN(2), GIVEN(3), OUT(0), &call->refusal);
     else if (is(call, "frame_make"))

@@ -101,10 +101,34 @@ def option_make(attributes: bytes, description: bytes, paths: bytes, optional: b
     )
 
 
+def option_make_units(attributes: bytes, units: bytes, paths: bytes, optional: bytes) -> str:
+    number = int.from_bytes(attributes, "little")
+    return digits(bootkeep.option_make_units(number, units, [paths] if paths else [], optional))
+
+
+def option_description_utf8(data: bytes) -> str:
+    """The description of an option. The module has none in the place of one that is no text, so that is told here."""
+    description = bootkeep.option_parts(data).description
+    if description is None:
+        raise bootkeep.Refused(bootkeep.Kind.OPTION_NOT_UTF16)
+    return digits(description.encode())
+
+
 def frame_make(numbers: bytes, option: bytes, order: bytes) -> str:
+    """The frame of a request. Which kinds there are, and which parts each has, the module's types say, so that a kind that
+    there isn't is answered here."""
     number, kind = numbers_in(numbers[:8], 4)
-    entry = int.from_bytes(numbers[8:], "little")
-    return digits(bootkeep.frame_make(number, kind, entry, option, numbers_in(order, 2)))
+    requests = bootkeep.Request
+    if kind not in list(requests):
+        raise bootkeep.Refused(bootkeep.Kind.FRAME_BAD_KIND)
+    request, entry = requests(kind), int.from_bytes(numbers[8:], "little")
+    if request == requests.ORDER:
+        return digits(bootkeep.frame_make(number, request, order=numbers_in(order, 2)))
+    if request in (requests.ADD, requests.REPLACE):
+        return digits(bootkeep.frame_make(number, request, entry=entry, option=option))
+    if request in (requests.ADD_FREE, requests.ADD_FIRST):
+        return digits(bootkeep.frame_make(number, request, option=option))
+    return digits(bootkeep.frame_make(number, request, entry=entry))
 
 
 def set_variables(data: bytes) -> str:
@@ -161,10 +185,15 @@ CALLS: Dict[str, Callable[..., str]] = {
     "refusal_word": word(bootkeep.refusal_word),
     "outcome_word": word(bootkeep.outcome_word),
     "path_check": lambda data: str(bootkeep.path_check(data)),
-    "text_path": lambda text: digits(bootkeep.path_parse(text_of(text))),
+    "path_parse": lambda text: digits(bootkeep.path_parse(text_of(text))),
+    "text_path": lambda text: digits(bootkeep.text_path(text_of(text))),
     "option_parts": option_parts,
-    "option_description": lambda data: digits(bootkeep.option_parts(data).description.encode()),
+    "option_description": lambda data: digits(
+        bootkeep.option_parts(data).description_line.encode()
+    ),
+    "option_description_utf8": option_description_utf8,
     "option_make": option_make,
+    "option_make_units": option_make_units,
     "frame_make": frame_make,
     "set_plan": set_plan,
     "set_variables": set_variables,

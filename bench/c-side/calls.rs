@@ -93,9 +93,15 @@ fn made(name: &str, given: &[Vec<u8>]) -> Result<String, Error> {
         "path_text" => path::text(first).map(|(text, taken)| format!("{} {taken}", digits(text.as_bytes()))),
         "path_names" => path::names(first).map(|(text, taken)| format!("{} {taken}", digits(text.as_bytes()))),
         "path_check" => path::check(first).map(|taken| taken.to_string()),
-        "text_path" => path::parse(text_of(first, Fault::TextNotUtf8)?).map(|bytes| digits(&bytes)),
+        "path_parse" => path::parse(text_of(first, Fault::TextNotUtf8)?).map(|bytes| digits(&bytes)),
+        "text_path" => path::parse_text(text_of(first, Fault::TextNotUtf8)?).map(|bytes| digits(&bytes)),
         "option_parts" => option_parts(first),
-        "option_description" => option::description(first).map(|text| digits(text.as_bytes())),
+        "option_description" => option::description_line(first).map(|text| digits(text.as_bytes())),
+        "option_description_utf8" => option::description(first).map(|text| digits(text.as_bytes())),
+        "option_make_units" => {
+            let units: Vec<u16> = given[1].chunks_exact(2).map(|pair| number(pair) as u16).collect();
+            option::make_units(number(first), &units, &given[2], &given[3]).map(|bytes| digits(&bytes))
+        }
         "option_make" => {
             let description = text_of(&given[1], Fault::OptionNotUtf8)?;
             option::make(number(first), description, &given[2], &given[3]).map(|bytes| digits(&bytes))
@@ -194,6 +200,7 @@ fn stands_for(variable: BootVariable) -> u32 {
         BootVariable::Entry(number) => number.into(),
         BootVariable::Order => VARIABLE_ORDER,
         BootVariable::Next => VARIABLE_NEXT,
+        other => panic!("no such variable: {other}"),
     }
 }
 

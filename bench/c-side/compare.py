@@ -195,6 +195,12 @@ def places_of(option: bytes) -> tuple[int, ...]:
     return 6, end - 6, end + 2, length, optional, len(option) - optional
 
 
+def units_of(option: bytes) -> bytes:
+    """The units of the description of a load option that is one."""
+    start, length, *_ = places_of(option)
+    return option[start : start + length]
+
+
 def paths_of(option: bytes) -> bytes:
     """The list of paths of a load option that is one."""
     _, _, start, length, _, _ = places_of(option)
@@ -306,13 +312,58 @@ class Cases:
     def option_case(self) -> tuple[str, list[str]]:
         data = damage(self.chance, self.chance.choice(self.options))
         status, out, told = self.side.ask("option", self.side.file("option", data))
-        lines = f"option_description {digits(data)}\noption_parts {digits(data)}"
+        calls = ("option_description", "option_description_utf8", "option_parts")
+        lines = "\n".join(f"{call} {digits(data)}" for call in calls)
         if status:
-            return lines, [self.side.refusal("option", told)] * 2
+            return lines, [self.side.refusal("option", told)] * len(calls)
         described = line_of(r"^description (.*)$", out)[1]
         attributes = int(line_of(r"^attributes (\w+)$", out)[1], 16)
         places = " ".join(map(str, places_of(data)))
-        return lines, [f"done {digits(described.encode())}", f"done {attributes} {places}"]
+        return lines, [
+            f"done {digits(described.encode())}",
+            self.described(units_of(data)),
+            f"done {attributes} {places}",
+        ]
+
+    def described(self, units: bytes) -> str:
+        """The description in UTF-8, or why there is none."""
+        try:
+            return f"done {digits(units.decode('utf-16-le').encode())}"
+        except UnicodeDecodeError:
+            return self.refused("OPTION_NOT_UTF16")
+
+    def description_case(self) -> tuple[str, list[str]]:
+        """A description of any units: it is shown, and an option is made of it again."""
+        units = number_bytes(
+            self.chance.choice([0x41, 0xF6, 0x1B, 0xD83D, 0xDC27, 0xDBFF, 0xDFFF, 0xFFFF])
+            for _ in range(self.chance.choice([0, 1, 2, 3, 8, 300]))
+        )
+        if self.chance.randrange(4) == 0:
+            units += number_bytes([0, 0x41])
+        attributes = self.chance.getrandbits(32).to_bytes(4, "little")
+        paths = self.chance.choice(self.paths)
+        optional = self.chance.randbytes(self.chance.randrange(9))
+        line = f"option_make_units {digits(attributes)} {digits(units)} {digits(paths)} {digits(optional)}"
+        if b"\0\0" in (units[at : at + 2] for at in range(0, len(units), 2)):
+            return line, [self.refused("OPTION_ZERO_UNIT")]
+        option = attributes + len(paths).to_bytes(2, "little") + units + b"\0\0" + paths + optional
+        lines = f"{line}\noption_description_utf8 {digits(option)}"
+        return lines, [f"done {digits(option)}", self.described(units)]
+
+    def parse_case(self) -> tuple[str, list[str]]:
+        """A text for a person, or an exact one, is read as its path: what the cases of the repository say."""
+        if self.chance.randrange(3) == 0:
+            path = self.chance.choice(self.paths)
+            text = self.text(path)
+        else:
+            data, text = self.chance.choice(self.names)
+            path = data[: taken_of(data, self.side.ask("path", data.hex())[1])]
+        spelled = text.encode()
+        if self.chance.randrange(4) == 0:
+            spelled += b"\xff"
+            fault = f"refused {self.side.kinds['TEXT_NOT_UTF8']} 0 {len(spelled) - 1} {NO_PLACE}"
+            return f"path_parse {digits(spelled)}", [fault]
+        return f"path_parse {digits(spelled)}", [f"done {digits(path)}"]
 
     def plan_case(self) -> tuple[str, list[str]]:
         data = damage(self.chance, self.set)
@@ -671,6 +722,8 @@ def main() -> int:
             cases.names_case,
             cases.word_case,
             cases.named_case,
+            cases.description_case,
+            cases.parse_case,
         ]
         made = [maker() for _ in range(given.cases) for maker in makers]
     asked = "".join(f"{line}\n" for line, _ in made)

@@ -3,12 +3,14 @@
 
 #include "files.h"
 
+#include <errno.h>
 #include <fcntl.h>
 #include <libgen.h>
 #include <stdio.h>
 #include <stdlib.h>
 #include <string.h>
 #include <sys/file.h>
+#include <sys/stat.h>
 #include <unistd.h>
 
 enum { PIECE = 65536 };
@@ -45,6 +47,8 @@ static int write_whole(int file, const uint8_t *bytes, size_t len)
 {
     while (len > 0) {
         ssize_t put = write(file, bytes, len);
+        if (put < 0 && errno == EINTR)
+            continue;
         if (put < 0)
             return -1;
         bytes += put;
@@ -67,7 +71,9 @@ int lock_folder(const char *name)
 {
     int folder = open_folder(name);
 
-    if (folder >= 0 && flock(folder, LOCK_EX) != 0) {
+    while (folder >= 0 && flock(folder, LOCK_EX) != 0) {
+        if (errno == EINTR)
+            continue;
         close(folder);
         return -1;
     }
@@ -85,6 +91,30 @@ static int store_folder(const char *name)
     return failed ? -1 : 0;
 }
 
+/*
+ * Makes the file `other`, which is to take the place of a file, with the rights and the owner of that one. What a
+ * program that was killed left under this name goes. No link is followed: what it leads to isn't touched.
+ */
+static int make_other(const char *name, const char *other)
+{
+    struct stat old;
+    int file, is_new = lstat(name, &old) != 0;
+
+    if (is_new ? errno != ENOENT : !S_ISREG(old.st_mode))
+        return -1;
+    if (unlink(other) != 0 && errno != ENOENT)
+        return -1;
+    file = open(other, O_WRONLY | O_CREAT | O_EXCL | O_NOFOLLOW | O_CLOEXEC, is_new ? 0666 : 0600);
+    if (file < 0 || is_new)
+        return file;
+    if (fchown(file, old.st_uid, old.st_gid) != 0 || fchmod(file, old.st_mode & 07777) != 0) {
+        close(file);
+        unlink(other);
+        return -1;
+    }
+    return file;
+}
+
 int replace_whole(const char *name, const uint8_t *bytes, size_t len)
 {
     char other[4096];
@@ -92,7 +122,7 @@ int replace_whole(const char *name, const uint8_t *bytes, size_t len)
 
     if (snprintf(other, sizeof other, "%s.new", name) >= (int)sizeof other)
         return -1;
-    file = open(other, O_WRONLY | O_CREAT | O_TRUNC, 0666);
+    file = make_other(name, other);
     if (file < 0)
         return -1;
     failed = write_whole(file, bytes, len) != 0;

@@ -12,7 +12,8 @@ uint8_t *read_whole(const char *name, size_t *len);
  * process, which unlocks the folder; below 0 if it can't be locked. */
 int lock_folder(const char *name);
 
-/* Replaces a file by one of these bytes, which is there as a whole or not at all, also if power fails. 0 if it is. */
+/* Replaces a file by one of these bytes, which is there as a whole or not at all, also if power fails, and has the
+ * rights and the owner of the file. The folder is locked meanwhile, by lock_folder. 0 if it is; a link is refused. */
 int replace_whole(const char *name, const uint8_t *bytes, size_t len);
 
 #endif

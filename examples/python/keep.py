@@ -5,11 +5,14 @@ program is killed: the frames are then sent again. Programs over files of one fo
 keep.py SET <FRAMES
 """
 
+from __future__ import annotations
+
 import fcntl
 import os
+import stat
 import sys
 from collections.abc import Iterator
-from contextlib import contextmanager
+from contextlib import contextmanager, suppress
 from pathlib import Path
 from typing import BinaryIO
 
@@ -40,10 +43,26 @@ def opened(folder: Path) -> Iterator[int]:
         os.close(number)
 
 
+def make_other(path: Path, other: Path) -> int:
+    """Makes the file `other`, which is to take the place of a file, with the rights and the owner of that one. What a
+    program that was killed left under this name goes. No link is followed: what it leads to isn't touched.
+    """
+    old = path.lstat()
+    if not stat.S_ISREG(old.st_mode):
+        raise ValueError(f"{path} is no file")
+    with suppress(FileNotFoundError):
+        other.unlink()
+    flags = os.O_WRONLY | os.O_CREAT | os.O_EXCL | os.O_NOFOLLOW
+    number = os.open(other, flags, 0o600)
+    os.fchown(number, old.st_uid, old.st_gid)
+    os.fchmod(number, stat.S_IMODE(old.st_mode))
+    return number
+
+
 def replace(path: Path, data: bytes) -> None:
     """Replaces a file by one of these bytes, which is there as a whole or not at all, also if power fails."""
     other = path.with_name(path.name + ".new")
-    with other.open("wb") as file:
+    with os.fdopen(make_other(path, other), "wb") as file:
         file.write(data)
         file.flush()
         os.fsync(file.fileno())

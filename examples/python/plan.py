@@ -14,7 +14,8 @@ def show(variables: bytes) -> None:
     first = [] if plan.next is None else [(plan.next, "next")]
     for number, when in [*first, *((number, "normal") for number in plan.normal)]:
         name = f"Boot{number:04X}"
-        print(name, when, bootkeep.option_parts(bootkeep.set_get(variables, name)).description)
+        option = bootkeep.option_parts(bootkeep.set_get(variables, name))
+        print(name, when, option.description_line)
 
 
 def main() -> None:

@@ -88,7 +88,7 @@ class Wanted(NamedTuple):
 
     def __str__(self) -> str:
         if self.option is not None:
-            return bootkeep.option(self.option).description or "without a description"
+            return bootkeep.option(self.option).description_line or "without a description"
         return " ".join([self.description or "", *self.paths]).strip()
 
     def to_json(self) -> Dict[str, Any]:

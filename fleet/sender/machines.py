@@ -109,7 +109,8 @@ def _check_number(number: int) -> None:
 
 def _frame(number: int, ask: Ask) -> bytes:
     try:
-        return bootkeep.frame_make(number, ask.asked.kind, ask.asked.entry or 0, ask.option)
+        kind = bootkeep.Request(ask.asked.kind)
+        return bootkeep.frame_make(number, kind, entry=ask.asked.entry, option=ask.option or None)
     except bootkeep.Refused as why:
         raise Trouble(f"request {number}, {request_words(ask.asked)}, has no frame: {why}") from why
 

@@ -159,7 +159,7 @@ def test_goals_are_made_of_words(fleet: Path) -> None:
 def test_what_is_refused_is_told(
     fleet: Path, monkeypatch: pytest.MonkeyPatch, words: "list[str]", why: str
 ) -> None:
-    frame = bootkeep.frame_make(0, bootkeep.Request.REMOVE, 1)
+    frame = bootkeep.frame_make(0, bootkeep.Request.REMOVE, entry=1)
     (fleet / "bad").write_bytes(b"nonsense")
     (fleet / "cut").write_bytes(frame + frame[:-1])
     bad = frame[:3] + b"\x09" + frame[4:]
@@ -172,7 +172,7 @@ def test_what_is_refused_is_told(
 
 
 def test_a_stream_and_a_script_are_the_same_requests(fleet: Path) -> None:
-    frames = [bootkeep.frame_make(9, bootkeep.Request.REMOVE, number) for number in range(3)]
+    frames = [bootkeep.frame_make(9, bootkeep.Request.REMOVE, entry=number) for number in range(3)]
     (fleet / "stream").write_bytes(b"".join(frames))
     (fleet / "script").write_text("".join(f"deliver {frame.hex()}\n" for frame in frames))
     for name in ("stream", "script"):

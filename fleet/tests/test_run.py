@@ -154,7 +154,9 @@ def test_a_sender_that_was_killed_goes_on(sender: Sender, machine: Folder) -> No
 
 
 def test_frames_of_a_script_are_sent_64_at_once(sender: Sender, machine: Folder) -> None:
-    script = [bootkeep.frame_make(0, bootkeep.Request.FIRST, number % 2) for number in range(70)]
+    script = [
+        bootkeep.frame_make(0, bootkeep.Request.FIRST, entry=number % 2) for number in range(70)
+    ]
     add(sender.ledger, Goal("send", frames=tuple(script)))
     assert run(sender) and sender.ledger.all_reached()
     assert [len(it) // 14 for it in frames(sender)] == [64, 6]
@@ -179,7 +181,9 @@ def test_another_journal_is_told(sender: Sender, machine: Folder) -> None:
 
 def test_another_ledger_is_told(sender: Sender, machine: Folder) -> None:
     agent.update(
-        bootkeep.frame_make(0, bootkeep.Request.FIRST, 0), str(machine.state), str(machine.place)
+        bootkeep.frame_make(0, bootkeep.Request.FIRST, entry=0),
+        str(machine.state),
+        str(machine.place),
     )
     add(sender.ledger, goal("first", "b"))
     assert troubled(sender) == "its next number is 1, and the ledger's is 0"
@@ -187,7 +191,7 @@ def test_another_ledger_is_told(sender: Sender, machine: Folder) -> None:
 
 def test_another_request_of_the_number_is_told(sender: Sender, machine: Folder) -> None:
     """Somebody else's request takes the number between the look and the request."""
-    other = bootkeep.frame_make(0, bootkeep.Request.NEXT, 1)
+    other = bootkeep.frame_make(0, bootkeep.Request.NEXT, entry=1)
 
     def come_before(number: int, payload: bytes) -> List[bytes]:
         if payload.startswith(b"BQ"):
@@ -315,7 +319,7 @@ def test_a_hostile_next_number_ends_no_sender(pair: Sender, following: int) -> N
         return json.dumps({**held, "next": following, "replies": []}).encode()
 
     hostile(pair, make)
-    script = [bootkeep.frame_make(0, bootkeep.Request.FIRST, number) for number in (0, 1)]
+    script = [bootkeep.frame_make(0, bootkeep.Request.FIRST, entry=number) for number in (0, 1)]
     add(pair.ledger, Goal("send", frames=tuple(script)), to=["m1", "m2"])
     assert run(pair)
     told = pair.ledger.told("m1")
@@ -446,7 +450,7 @@ def test_a_clock_that_is_set_back_stops_nothing(
 def test_large_frames_are_sent_a_few_at_once(sender: Sender) -> None:
     """A broker takes no message without end."""
     large = bootkeep.option_make(bootkeep.OPTION_ACTIVE, "large", [PATH], bytes(100_000))
-    frame = bootkeep.frame_make(0, bootkeep.Request.REPLACE, 0, large)
+    frame = bootkeep.frame_make(0, bootkeep.Request.REPLACE, entry=0, option=large)
     add(sender.ledger, Goal("send", frames=(frame,) * 9))
     assert run(sender) and sender.ledger.all_reached()
     assert max(len(it) for it in frames(sender)) <= 1 << 19

@@ -15,8 +15,8 @@ What isn't what it has to be is refused by :class:`Refused`, with the number and
 ``MemoryError`` is raised where memory is refused, and ``KeyError`` where a set has no variable of a name.
 
 The calls of ``include/bootkeep.h`` that have no keeper have their names here, without ``bootkeep_``, and return what
-they tell; but :func:`path_parse` is ``bootkeep_text_path``, :func:`option_parts` has the description too, and
-:func:`library_version` is ``bootkeep_version``.
+they tell; but :func:`option_parts` has the description too, as a text and as a line, and :func:`library_version` is
+``bootkeep_version``.
 
 The shared library is found by the environment's ``BOOTKEEP_LIBRARY``, beside this file, or where the system looks for
 ``libbootkeep.so.1``; ``./build-c FOLDER`` makes it, and a wheel of this package has it.
@@ -24,7 +24,7 @@ The shared library is found by the environment's ``BOOTKEEP_LIBRARY``, beside th
 
 from __future__ import annotations
 
-from ._faults import Closed, Error, Refused, outcome_word, refusal_word, status_word
+from ._faults import BytesLeft, Closed, Error, Refused, outcome_word, refusal_word, status_word
 from ._keepers import Keeper, Reply, frame_make, run
 from ._library import library_version
 from ._numbers import (
@@ -48,7 +48,7 @@ from ._numbers import (
     VERSION,
     WORD_MAX,
 )
-from ._options import LoadOption, option_make, option_parts
+from ._options import LoadOption, option_make, option_make_units, option_parts
 from ._paths import (
     path_check,
     path_names,
@@ -56,6 +56,7 @@ from ._paths import (
     path_parse,
     path_text,
     path_text_and_len,
+    text_path,
 )
 from ._sets import (
     AtRisk,
@@ -89,6 +90,7 @@ __all__ = [
     "VERSION",
     "WORD_MAX",
     "AtRisk",
+    "BytesLeft",
     "Change",
     "ChangeKind",
     "Closed",
@@ -111,6 +113,7 @@ __all__ = [
     "library_version",
     "option",
     "option_make",
+    "option_make_units",
     "option_parts",
     "outcome_word",
     "path_check",
@@ -141,7 +144,7 @@ __version__ = "0.2.0"
 
 # The names of before, for one version.
 plan, entries_at_risk, check_path = set_plan, set_at_risk, path_check
-option, text_path = option_parts, path_parse
+option = option_parts
 
 # To those who use them, all of these are of the package.
 for _name in __all__:

@@ -61,6 +61,17 @@ class Closed(Error):
         return type(self), ()
 
 
+class BytesLeft(Error, ValueError):
+    """Bytes come after a device path that has to be all of them: ``count``, at ``place``."""
+
+    def __init__(self, place: int, count: int) -> None:
+        self.place, self.count = place, count
+        super().__init__(f"bytes come after the path: {count} at {place}")
+
+    def __reduce__(self) -> Tuple[Any, ...]:
+        return type(self), (self.place, self.count)
+
+
 class Refused(Error, ValueError):
     """What was handed in isn't what it has to be.
 

@@ -8,7 +8,7 @@ import warnings
 from ctypes import byref, c_size_t, c_uint16
 from dataclasses import dataclass
 from types import TracebackType
-from typing import Any, Callable, List, Optional, Sequence, Tuple, Union
+from typing import Any, Callable, Dict, List, Optional, Sequence, Tuple
 
 from ._buffers import ROOM, Bytes, bytes_in, bytes_of, number_of, numbers_of
 from ._faults import Refused, failure, fault_word, number_in, outcome_word, refused
@@ -28,26 +28,62 @@ from ._numbers import (
 from ._sets import Plan
 
 
+#: Which parts a request of each kind has.
+_PARTS: Dict[Request, Tuple[str, ...]] = {
+    Request.ADD: ("entry", "option"),
+    Request.REPLACE: ("entry", "option"),
+    Request.REMOVE: ("entry",),
+    Request.ORDER: ("order",),
+    Request.NEXT: ("entry",),
+    Request.ADD_FREE: ("option",),
+    Request.ADD_FIRST: ("option",),
+    Request.FIRST: ("entry",),
+}
+
+
+def _check_parts(number: int, request: Request, given: Dict[str, object]) -> None:
+    """Raises ``TypeError`` unless these are the parts of a request of this kind, which stands behind its number."""
+    if not isinstance(request, Request) or isinstance(number, Request):
+        raise TypeError("a number and then a Request are wanted, as in frame_make(0, Request.NEXT)")
+    for name, part in given.items():
+        is_wanted = name in _PARTS[request]
+        if is_wanted != (part is not None):
+            verb = "needs" if is_wanted else "doesn't take"
+            raise TypeError(f"Request.{request.name} {verb} the argument {name}")
+    if isinstance(given["order"], (str, bytes, bytearray, memoryview)):
+        raise TypeError("order is the numbers of entries, and neither bytes nor a text")
+
+
 def frame_make(
     number: int,
-    request: Union[Request, int],
-    entry: int = 0,
-    option: Bytes = b"",
-    order: Sequence[int] = (),
+    request: Request,
+    *,
+    entry: Optional[int] = None,
+    option: Optional[Bytes] = None,
+    order: Optional[Sequence[int]] = None,
 ) -> bytes:
-    """The frame of a request with this number. Of the entry, the bytes of a load option and the numbers of an order it
-    has what its kind takes. ``Refused`` has ``FRAME_BAD_KIND``, otherwise a kind ``OPTION_..``, otherwise
-    ``FRAME_TOO_LONG`` or ``FRAME_BAD_NUMBER``; ``OverflowError`` is of a number with too many bits.
+    """The frame of a request with this number. ``entry`` is the number of an entry, ``option`` the bytes of a load
+    option, and ``order`` numbers of entries; which of them a kind of request has, no more and no less::
+
+        ADD, REPLACE          entry and option
+        REMOVE, NEXT, FIRST   entry
+        ADD_FREE, ADD_FIRST   option
+        ORDER                 order, which may be empty: BootOrder is empty then
+
+    ``TypeError`` is of a part that is missing or too much, and of what is no :class:`Request`. ``Refused`` has a kind
+    ``OPTION_..``, otherwise ``FRAME_TOO_LONG`` or ``FRAME_BAD_NUMBER``; ``OverflowError`` is of a number with too many
+    bits.
     """
-    refusal = RawRefusal()
-    numbers = (c_uint16 * max(len(order), 1))(*(number_in(one, 16) for one in order))
+    _check_parts(number, request, {"entry": entry, "option": option, "order": order})
+    refusal, listed = RawRefusal(), () if order is None else order
+    numbers = (c_uint16 * max(len(listed), 1))(*(number_in(one, 16) for one in listed))
     given = (
         number_in(number, 32),
-        number_in(request, 32),
-        number_in(entry, 16),
-        *bytes_in(option),
+        request,
+        0 if entry is None else number_in(entry, 16),
+        *bytes_in(b"" if option is None else option),
         numbers,
-        len(order),
+        len(listed),
     )
     return bytes_of(
         lambda *out: library.bootkeep_frame_make(*given, *out, byref(refusal)), refusal=refusal
@@ -168,6 +204,7 @@ class Keeper:
     def __init__(self, variables: Bytes) -> None:
         self._handle = RawKeeper()
         self._lock = threading.Lock()
+        self._set_len = len(bytes_in(variables)[0])
         refusal = RawRefusal()
         status = library.bootkeep_keeper_open(
             byref(self._handle), *bytes_in(variables), byref(refusal)
@@ -221,9 +258,13 @@ class Keeper:
     def set(self) -> bytes:
         """The variables of the machine as they are to be stored: the bytes of a set file."""
         with self._lock:
-            return bytes_of(
-                lambda *out: library.bootkeep_keeper_set(byref(self._handle), *out), 4096
+            # It grows by little from one event to the next.
+            variables = bytes_of(
+                lambda *out: library.bootkeep_keeper_set(byref(self._handle), *out),
+                self._set_len + 4096,
             )
+            self._set_len = len(variables)
+            return variables
 
     @property
     def next_number(self) -> int:

@@ -6,7 +6,7 @@ from ctypes import byref, c_size_t
 from typing import Callable, Tuple
 
 from ._buffers import Bytes, bytes_in, bytes_of, utf8
-from ._faults import failure
+from ._faults import BytesLeft, failure
 from ._library import RawRefusal, library
 from ._numbers import DONE
 
@@ -18,9 +18,10 @@ def path_text_and_len(data: Bytes) -> Tuple[str, int]:
 
 
 def path_text(data: Bytes) -> str:
-    """The text of the device path at the start of the bytes (UEFI 2.10, 10.3 and 10.6), in the one spelling that is
-    printed. ``Refused`` as of :func:`path_text_and_len`."""
-    return path_text_and_len(data)[0]
+    """The text of the device path that the bytes are, all of them (UEFI 2.10, 10.3 and 10.6), in the one spelling that is
+    printed. ``Refused`` as of :func:`path_text_and_len`; :class:`BytesLeft` if bytes come after the path.
+    """
+    return _whole(path_text_and_len(data), data)
 
 
 def path_names_and_len(data: Bytes) -> Tuple[str, int]:
@@ -30,9 +31,19 @@ def path_names_and_len(data: Bytes) -> Tuple[str, int]:
 
 
 def path_names(data: Bytes) -> str:
-    """The text for a person of the device path at the start of the bytes: each node of the standard has its name and
-    its fields (UEFI 2.10, 10.3), and no call reads it."""
-    return path_names_and_len(data)[0]
+    """The text for a person of the device path that the bytes are, all of them: each node of the standard has its name
+    and its fields (UEFI 2.10, 10.3). :func:`path_parse` reads it. ``Refused`` and :class:`BytesLeft` as of
+    :func:`path_text`."""
+    return _whole(path_names_and_len(data), data)
+
+
+def _whole(read: Tuple[str, int], data: Bytes) -> str:
+    """The text, unless bytes come after the path of which it is."""
+    text, end = read
+    count = len(bytes_in(data)[0]) - end
+    if count > 0:
+        raise BytesLeft(end, count)
+    return text
 
 
 def _text_and_len(call: Callable[..., int], data: Bytes) -> Tuple[str, int]:
@@ -52,9 +63,19 @@ def path_check(data: Bytes) -> int:
 
 
 def path_parse(text: str) -> bytes:
-    """The bytes of the device path that the text stands for: that of :func:`path_text`, and other spellings besides.
-    ``Refused`` has a kind ``TEXT_..`` and the place in the text, in bytes of its UTF-8."""
+    """The bytes of the device path that the text stands for: that of :func:`path_text` or :func:`path_names`, and other
+    spellings besides. ``Refused`` has a kind ``TEXT_..`` and the place in the text, in bytes of its UTF-8.
+    """
+    return _parsed(library.bootkeep_path_parse, text)
+
+
+def text_path(text: str) -> bytes:
+    """The same for texts as :func:`path_text` gives them, and other spellings of these: the names of most nodes are
+    refused."""
+    return _parsed(library.bootkeep_text_path, text)
+
+
+def _parsed(call: Callable[..., int], text: str) -> bytes:
+    """The bytes of the device path of which a call reads the text."""
     refusal, given = RawRefusal(), bytes_in(utf8(text))
-    return bytes_of(
-        lambda *out: library.bootkeep_text_path(*given, *out, byref(refusal)), refusal=refusal
-    )
+    return bytes_of(lambda *out: call(*given, *out, byref(refusal)), refusal=refusal)

@@ -102,17 +102,17 @@ def set_remove(variables: Bytes, name: str) -> bytes:
     )
 
 
-def set_variables(variables: Bytes) -> Dict[str, memoryview]:
-    """The variables of a set file, all its bytes, in the order of their names. Their data isn't copied."""
+def set_variables(variables: Bytes) -> Dict[str, bytes]:
+    """The data of each variable of a set file, all its bytes, by their names, in the order of these."""
     refusal, given = RawRefusal(), bytes_in(variables)
     places = items_of(
         RawVariable,
         lambda *out: library.bootkeep_set_variables(*given, *out, byref(refusal)),
         refusal,
     )
-    held = memoryview(given[0])
+    held = given[0]
     return {
-        str(held[place.name : place.name + place.name_len], "ascii"): held[
+        held[place.name : place.name + place.name_len].decode("ascii"): held[
             place.data : place.data + place.data_len
         ]
         for place in places
@@ -169,7 +169,8 @@ def set_named(variables: Bytes) -> Tuple[NamedEntry, ...]:
 class Change:
     """A change of one variable of the boot manager."""
 
-    #: The name of the variable: ``Boot####``, ``BootOrder`` or ``BootNext``.
+    #: The name of the variable: ``Boot####``, ``BootOrder`` or ``BootNext``. Of another variable, which a later library
+    #: may tell, it is a text that is the name of none: ``variable 0x00010003``.
     name: str
     #: What becomes of it: a :class:`ChangeKind` if this module knows it.
     kind: int
@@ -190,5 +191,8 @@ def set_changes(before: Bytes, after: Bytes) -> Tuple[Change, ...]:
 
 
 def _variable_name(number: int) -> str:
-    """The name of the variable for which a number stands."""
-    return {VARIABLE_ORDER: "BootOrder", VARIABLE_NEXT: "BootNext"}.get(number, f"Boot{number:04X}")
+    """The name of the variable for which a number stands. What this module doesn't know isn't an entry."""
+    if number < NO_ENTRY:
+        return f"Boot{number:04X}"
+    names = {VARIABLE_ORDER: "BootOrder", VARIABLE_NEXT: "BootNext"}
+    return names.get(number, f"variable {number:#010x}")

@@ -5,6 +5,7 @@ from __future__ import annotations
 import copy
 import doctest
 import gc
+import itertools
 import os
 import pickle
 import subprocess
@@ -16,7 +17,7 @@ from pathlib import Path
 from typing import Any, Callable, List, Optional
 
 import bootkeep
-from bootkeep import Kind, Outcome, ReplyKind, Request
+from bootkeep import Kind, Outcome, ReplyKind, Request, _sets
 
 ROOT = Path(__file__).resolve().parents[2]
 SET = (ROOT / "examples/set").read_bytes()
@@ -41,7 +42,7 @@ def frames(stream: bytes) -> List[bytes]:
 
 def removal(number: int) -> bytes:
     """A request that does nothing, since there is no such entry."""
-    return bootkeep.frame_make(number, Request.REMOVE, 0xFFFF)
+    return bootkeep.frame_make(number, Request.REMOVE, entry=0xFFFF)
 
 
 class Values(unittest.TestCase):
@@ -62,9 +63,21 @@ class Values(unittest.TestCase):
         for data in (bytearray(PATH), memoryview(PATH), memoryview(spread)[::2]):
             self.assertEqual(bootkeep.path_text(data), TEXT)
 
+    def test_a_path_is_all_of_the_bytes(self) -> None:
+        for call in (bootkeep.path_text, bootkeep.path_names):
+            self.assertEqual(call(PATH), TEXT)
+            for rest in (b"r", PATH):
+                with self.assertRaises(bootkeep.BytesLeft) as caught:
+                    call(memoryview(PATH + rest))
+                why = pickle.loads(pickle.dumps(caught.exception))
+                self.assertEqual((why.place, why.count), (len(PATH), len(rest)))
+                self.assertIsInstance(why, ValueError)
+
     def test_an_option_has_its_parts(self) -> None:
         made = bootkeep.option_make(bootkeep.OPTION_ACTIVE, "Bööt", [TEXT, PATH], b"\1\0")
         option = bootkeep.option_parts(made)
+        self.assertEqual(option.description, "Bööt")
+        self.assertEqual(option.description_line, "B\\00f6\\00f6t")
         self.assertEqual(option.description_bytes.decode("utf-16-le"), "Bööt")
         self.assertEqual((option.paths, option.optional), ((PATH, PATH), b"\1\0"))
         self.assertTrue(option.is_normal)
@@ -73,11 +86,49 @@ class Values(unittest.TestCase):
         )
         self.assertEqual((app.is_active, app.is_normal), (True, False))
 
+    def test_a_description_goes_both_ways(self) -> None:
+        for text in ("", "Linux", "Bööt \\00f6", "\N{PENGUIN}\uffff\x1b", "\\"):
+            made = bootkeep.option_make(5, text, [PATH], b"x")
+            option = bootkeep.option_parts(made)
+            self.assertEqual(option.description, text)
+            self.assertEqual(option.description_bytes, text.encode("utf-16-le"))
+            assert option.description is not None
+            parts = (option.attributes, option.description, option.paths, option.optional)
+            self.assertEqual(bootkeep.option_make(*parts), made)
+
+    def test_units_that_are_no_text_go_both_ways(self) -> None:
+        for units in ([0xD83D], [0xDC27], [0xDC27, 0xD83D], [0x41, 0xD83D, 0x42], [0xD83D] * 3):
+            data = b"".join(unit.to_bytes(2, "little") for unit in units)
+            made = bootkeep.option_make_units(5, data, [TEXT, PATH], b"x")
+            self.assertEqual(made, b"\5\0\0\0" + b"\x2c\0" + data + b"\0\0" + PATH + PATH + b"x")
+            option = bootkeep.option_parts(made)
+            self.assertEqual((option.description, option.description_bytes), (None, data))
+            none: Any = option.description
+            self.assertRaises(TypeError, bootkeep.option_make, 5, none, [PATH])
+
+    def test_each_option_is_made_again_of_its_parts(self) -> None:
+        for name, data in bootkeep.set_variables(SET).items():
+            if name.startswith("Boot0") and bootkeep.set_entry(SET, int(name[4:], 16)) != 2:
+                it = bootkeep.option_parts(data)
+                parts = (it.attributes, it.description_bytes, it.paths, it.optional)
+                self.assertEqual(bootkeep.option_make_units(*parts), data)
+
+    def test_what_is_printed_for_a_person_is_read(self) -> None:
+        name = "\\Größe.efi\0".encode("utf-16-le")
+        file = bytes([4, 4, 4 + len(name), 0]) + name
+        for path in (PATH, bytes.fromhex("0302080001000200") + file + bytes.fromhex("7fff0400")):
+            text = bootkeep.path_names(path)
+            self.assertEqual(bootkeep.path_parse(text), path)
+            self.assertEqual(bootkeep.path_parse(bootkeep.path_text(path)), path)
+        self.assertEqual(text, "Scsi(0x1,0x2)/File(\\Größe.efi)")
+        self.assertEqual(bootkeep.option_parts(bootkeep.option_make(1, "", [text])).paths, (path,))
+
     def test_the_variables_are_those_that_are_got(self) -> None:
         variables = bootkeep.set_variables(SET)
         self.assertEqual(list(variables), sorted(variables))
         for name, data in variables.items():
             self.assertEqual(bootkeep.set_get(SET, name), data)
+            self.assertIs(type(data), bytes)
         with_one = bootkeep.set_put(SET, "Nothing", b"1")
         self.assertEqual(bootkeep.set_variables(with_one)["Nothing"], b"1")
         self.assertEqual(bootkeep.set_remove(with_one, "Nothing"), SET)
@@ -89,6 +140,15 @@ class Values(unittest.TestCase):
         changes = [(it.name, it.kind) for it in bootkeep.set_changes(SET, after)]
         wanted = [("Boot00AF", 1), ("BootNext", 3)]
         self.assertEqual(changes, wanted)
+
+    def test_a_number_that_is_not_known_is_no_entry(self) -> None:
+        numbers = {0: "Boot0000", 0xFFFF: "BootFFFF", 0x10001: "BootOrder", 0x10002: "BootNext"}
+        for number, name in numbers.items():
+            self.assertEqual(_sets._variable_name(number), name)
+        for number in (0x10000, 0x10003, 0xFFFFFFFF):
+            name = _sets._variable_name(number)
+            self.assertEqual(name, f"variable 0x{number:08x}")
+            self.assertRaises(KeyError, bootkeep.set_get, SET, name)
 
     def test_states_are_of_entries(self) -> None:
         plan = bootkeep.set_plan(SET)
@@ -108,6 +168,7 @@ class Values(unittest.TestCase):
         self.assertEqual(bootkeep.entries_at_risk(SET), bootkeep.set_at_risk(SET))
         self.assertEqual(bootkeep.check_path(PATH), bootkeep.path_check(PATH))
         self.assertEqual(bootkeep.text_path(TEXT), bootkeep.path_parse(TEXT))
+        self.assertRaises(bootkeep.Refused, bootkeep.text_path, "Scsi(0x1,0x2)")
         made = bootkeep.option_make(bootkeep.OPTION_ACTIVE, "", [PATH])
         self.assertEqual(bootkeep.option(made), bootkeep.option_parts(made))
 
@@ -138,6 +199,24 @@ class Faults(unittest.TestCase):
         self.assertEqual((why.inner_kind, why.inner_place), (Kind.PATH_SHORT_HEADER, 0))
         self.assertEqual(str(why), "OPTION_PATH at 8: PATH_SHORT_HEADER at 0")
 
+    def test_faults_of_names_have_their_places(self) -> None:
+        kinds = {
+            "Scsi(0x1,0x2)/Scssi(0x1,0x2)": (Kind.TEXT_UNKNOWN_NAME, 14),
+            "Scsi(0x1,pun)": (Kind.TEXT_BAD_ARGUMENT, 9),
+            "Scsi(0x1)": (Kind.TEXT_BAD_COUNT, 8),
+            "Scsi": (Kind.TEXT_BAD_SEGMENT, 0),
+        }
+        for text, (kind, place) in kinds.items():
+            why = self.refused(bootkeep.path_parse, text)
+            self.assertEqual((why.kind, why.place), (kind, place), text)
+
+    def test_a_unit_has_two_bytes(self) -> None:
+        self.assertRaises(ValueError, bootkeep.option_make_units, 1, b"abc", [PATH])
+        why = self.refused(bootkeep.option_make_units, 1, b"a\0\0\0", [PATH])
+        self.assertEqual((why.kind, why.place), (Kind.OPTION_ZERO_UNIT, None))
+        why = self.refused(bootkeep.option_make_units, 1, b"", [])
+        self.assertEqual(why.kind, Kind.OPTION_EMPTY_LIST)
+
     def test_a_surrogate_is_no_text(self) -> None:
         why = self.refused(bootkeep.path_parse, "ö\ud800")
         self.assertEqual((why.kind, why.place), (Kind.TEXT_NOT_UTF8, 2))
@@ -164,8 +243,55 @@ class Faults(unittest.TestCase):
         self.assertRaises(OverflowError, bootkeep.set_entry, SET, 0x10000)
         self.assertRaises(OverflowError, bootkeep.option_make, -1, "", [PATH])
         self.assertRaises(OverflowError, bootkeep.frame_make, 0, Request.ORDER, order=[0x10000])
+        self.assertRaises(OverflowError, bootkeep.frame_make, 0, Request.REMOVE, entry=0x10000)
         fraction: Any = 1.5
         self.assertRaises(TypeError, bootkeep.set_entry, SET, fraction)
+
+    def test_a_request_has_the_parts_of_its_kind_alone(self) -> None:
+        parts = {"entry": 0, "option": bootkeep.option_make(1, "", [PATH]), "order": [0]}
+        takes = {
+            Request.ADD: {"entry", "option"},
+            Request.REPLACE: {"entry", "option"},
+            Request.REMOVE: {"entry"},
+            Request.ORDER: {"order"},
+            Request.NEXT: {"entry"},
+            Request.ADD_FREE: {"option"},
+            Request.ADD_FIRST: {"option"},
+            Request.FIRST: {"entry"},
+        }
+        self.assertEqual(set(takes), set(Request))
+        for kind, wanted in takes.items():
+            for count in range(len(parts) + 1):
+                for names in itertools.combinations(parts, count):
+                    given: Any = {name: parts[name] for name in names}
+                    with self.subTest(kind=kind, given=names):
+                        if set(names) == wanted:
+                            self.assertEqual(bootkeep.frame_make(7, kind, **given)[3], kind)
+                        else:
+                            self.assertRaises(TypeError, bootkeep.frame_make, 7, kind, **given)
+
+    def test_a_request_says_which_part_is_missing(self) -> None:
+        with self.assertRaisesRegex(TypeError, r"Request\.REMOVE needs the argument entry"):
+            bootkeep.frame_make(0, Request.REMOVE)
+        with self.assertRaisesRegex(TypeError, r"Request\.NEXT doesn't take the argument option"):
+            bootkeep.frame_make(0, Request.NEXT, entry=1, option=b"")
+
+    def test_the_number_and_the_kind_are_not_exchanged(self) -> None:
+        make: Any = bootkeep.frame_make
+        for words in ((Request.ADD, 3), (3, 3), (Request.ADD, Request.REMOVE), (3, 77)):
+            self.assertRaises(TypeError, make, *words, entry=1)
+        self.assertRaises(TypeError, make, 0, Request.REMOVE, 1)
+
+    def test_an_order_is_numbers(self) -> None:
+        self.assertEqual(len(bootkeep.frame_make(0, Request.ORDER, order=[])), HEADER)
+        for order in (b"\1\0", bytearray(b"\1\0"), memoryview(b"\1\0"), "01"):
+            given: Any = order
+            self.assertRaises(TypeError, bootkeep.frame_make, 0, Request.ORDER, order=given)
+
+    def test_one_path_is_not_a_list_of_paths(self) -> None:
+        for path in (TEXT, PATH, bytearray(PATH), memoryview(PATH)):
+            given: Any = path
+            self.assertRaises(TypeError, bootkeep.option_make, 1, "", given)
 
     def test_a_library_that_is_missing_says_how_to_name_it(self) -> None:
         env = {**os.environ, "BOOTKEEP_LIBRARY": "/nowhere/libbootkeep.so.1"}
@@ -204,7 +330,7 @@ class Keepers(unittest.TestCase):
             added = keeper.deliver(bootkeep.frame_make(0, Request.ADD_FIRST, option=option))
             self.assertEqual((added.outcome, added.next_number), (Outcome.DONE, 1))
             self.assertEqual(added.entry, bootkeep.set_lowest_free(SET))
-            first = keeper.deliver(bootkeep.frame_make(1, Request.FIRST, last))
+            first = keeper.deliver(bootkeep.frame_make(1, Request.FIRST, entry=last))
             self.assertEqual(str(first), "applied Done 2")
             normal = bootkeep.set_plan(keeper.set).normal
             self.assertEqual(normal, (last, added.entry, *others))

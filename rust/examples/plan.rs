@@ -10,7 +10,7 @@ fn main() -> Result<(), Box<dyn std::error::Error>> {
     println!("{plan}");
     for number in plan.normal {
         let entry = set::get(&variables, &format!("Boot{number:04X}"))?;
-        println!("{}", option::description(&entry)?);
+        println!("{}", option::description_line(&entry)?);
     }
     Ok(())
 }

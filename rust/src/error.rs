@@ -3,6 +3,7 @@
 use crate::library::{RawRefusal, WordOf};
 use crate::numbers::{NO_KIND, NO_PLACE};
 use std::fmt;
+use std::hash::{Hash, Hasher};
 
 /// Why a call has no answer.
 #[derive(Clone, Copy, Debug, PartialEq, Eq)]
@@ -33,9 +34,9 @@ pub struct Refusal {
 
 impl Refusal {
     pub(crate) fn of(told: &RawRefusal) -> Refusal {
-        let inner = (Fault::of(told.inner_kind), place_of(told.inner_place));
+        let inner = (Fault::from(told.inner_kind), place_of(told.inner_place));
         Refusal {
-            fault: Fault::of(told.kind),
+            fault: Fault::from(told.kind),
             place: place_of(told.place),
             within: if told.inner_kind == NO_KIND { None } else { Some(inner) },
         }
@@ -61,8 +62,10 @@ fn place_of(place: usize) -> Option<usize> {
 
 macro_rules! faults {
     ($($name:ident = $number:literal,)*) => {
-        /// A fault, by the numbers of `include/bootkeep.h`, which says what each means. None is ever given out again.
-        #[derive(Clone, Copy, Debug, PartialEq, Eq, Hash)]
+        /// A fault, by the numbers of `include/bootkeep.h`, which says what each means. None is ever given out again. Two
+        /// are the same if their numbers are, so [`Fault::Other`] with a number that is known is the known one; `from`
+        /// makes that of a number.
+        #[derive(Clone, Copy, Debug)]
         #[non_exhaustive]
         #[allow(missing_docs)]
         pub enum Fault {
@@ -71,14 +74,16 @@ macro_rules! faults {
             Other(u32),
         }
 
-        impl Fault {
-            pub(crate) fn of(number: u32) -> Fault {
+        impl From<u32> for Fault {
+            fn from(number: u32) -> Fault {
                 match number {
                     $($number => Fault::$name,)*
                     other => Fault::Other(other),
                 }
             }
+        }
 
+        impl Fault {
             /// Its number.
             pub fn number(self) -> u32 {
                 match self {
@@ -101,6 +106,10 @@ faults! {
     TextOutOfRange = 0x0203,
     TextBadEnd = 0x0204,
     TextNotUtf8 = 0x0205,
+    TextUnknownName = 0x0206,
+    TextBadArgument = 0x0207,
+    TextBadCount = 0x0208,
+    TextBadData = 0x0209,
     OptionShort = 0x0301,
     OptionNoTerminator = 0x0302,
     OptionListPastEnd = 0x0303,
@@ -109,6 +118,7 @@ faults! {
     OptionZeroUnit = 0x0306,
     OptionListTooLong = 0x0307,
     OptionNotUtf8 = 0x0308,
+    OptionNotUtf16 = 0x0309,
     SetBadMagic = 0x0401,
     SetTruncated = 0x0402,
     SetBadName = 0x0403,
@@ -133,6 +143,20 @@ faults! {
     FrameBadNumber = 0x0807,
     FrameBadPayload = 0x0808,
     FrameOption = 0x0809,
+}
+
+impl PartialEq for Fault {
+    fn eq(&self, other: &Fault) -> bool {
+        self.number() == other.number()
+    }
+}
+
+impl Eq for Fault {}
+
+impl Hash for Fault {
+    fn hash<H: Hasher>(&self, state: &mut H) {
+        self.number().hash(state);
+    }
 }
 
 impl fmt::Display for Refusal {

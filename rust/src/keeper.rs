@@ -75,7 +75,7 @@ impl Reply {
         let (outcome, entry, next_number) = (outcome(told.outcome), entry_number(told.entry), told.next_number);
         match told.kind {
             REPLY_MALFORMED => {
-                Reply::Malformed { fault: Fault::of(told.fault), option: Refusal::if_any(&told.option_fault) }
+                Reply::Malformed { fault: Fault::from(told.fault), option: Refusal::if_any(&told.option_fault) }
             }
             REPLY_REPEAT => Reply::Repeat { outcome, entry },
             REPLY_OLD => Reply::Old,

@@ -11,7 +11,7 @@
 //! println!("{plan}");
 //! for number in plan.normal {
 //!     let option = bootkeep::set::get(&set, &format!("Boot{number:04X}"))?;
-//!     println!("{}", bootkeep::option::description(&option)?);
+//!     println!("{}", bootkeep::option::description_line(&option)?);
 //! }
 //! # Ok(())
 //! # }
@@ -80,6 +80,11 @@ pub fn run(set: &[u8], stream: &[u8]) -> Result<(Vec<u8>, String), Error> {
 /// The word of a number, or the number if the library has no word for it.
 fn word(of: library::WordOf, number: u32) -> String {
     library::word(of, number).map_or_else(|_| format!("{number:#06x}"), ascii)
+}
+
+/// A text of the library in UTF-8.
+fn utf8(text: Vec<u8>) -> String {
+    String::from_utf8(text).unwrap_or_else(|error| String::from_utf8_lossy(error.as_bytes()).into_owned())
 }
 
 /// A text of the library, which is ASCII.

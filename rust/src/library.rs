@@ -96,10 +96,13 @@ extern "C" {
     fn bootkeep_path_text(bytes: *const u8, bytes_len: usize, out: *mut u8, cap: usize, len: *mut usize, taken: *mut usize, refusal: *mut RawRefusal) -> u32;
     fn bootkeep_path_names(bytes: *const u8, bytes_len: usize, out: *mut u8, cap: usize, len: *mut usize, taken: *mut usize, refusal: *mut RawRefusal) -> u32;
     fn bootkeep_path_check(bytes: *const u8, bytes_len: usize, taken: *mut usize, refusal: *mut RawRefusal) -> u32;
+    fn bootkeep_path_parse(text: *const u8, text_len: usize, out: *mut u8, cap: usize, len: *mut usize, refusal: *mut RawRefusal) -> u32;
     fn bootkeep_text_path(text: *const u8, text_len: usize, out: *mut u8, cap: usize, len: *mut usize, refusal: *mut RawRefusal) -> u32;
     fn bootkeep_option_parts(bytes: *const u8, bytes_len: usize, parts: *mut RawParts, refusal: *mut RawRefusal) -> u32;
     fn bootkeep_option_description(bytes: *const u8, bytes_len: usize, out: *mut u8, cap: usize, len: *mut usize, refusal: *mut RawRefusal) -> u32;
+    fn bootkeep_option_description_utf8(bytes: *const u8, bytes_len: usize, out: *mut u8, cap: usize, len: *mut usize, refusal: *mut RawRefusal) -> u32;
     fn bootkeep_option_make(attributes: u32, description: *const u8, description_len: usize, list: *const u8, list_len: usize, optional: *const u8, optional_len: usize, out: *mut u8, cap: usize, len: *mut usize, refusal: *mut RawRefusal) -> u32;
+    fn bootkeep_option_make_units(attributes: u32, units: *const u16, units_len: usize, list: *const u8, list_len: usize, optional: *const u8, optional_len: usize, out: *mut u8, cap: usize, len: *mut usize, refusal: *mut RawRefusal) -> u32;
     fn bootkeep_frame_make(number: u32, kind: u32, entry: u16, option: *const u8, option_len: usize, order: *const u16, order_len: usize, out: *mut u8, cap: usize, len: *mut usize, refusal: *mut RawRefusal) -> u32;
     fn bootkeep_set_plan(set: *const u8, set_len: usize, numbers: *mut u16, cap: usize, len: *mut usize, next: *mut u32, refusal: *mut RawRefusal) -> u32;
     fn bootkeep_set_at_risk(set: *const u8, set_len: usize, numbers: *mut u16, cap: usize, len: *mut usize, unnamed: *mut usize, refusal: *mut RawRefusal) -> u32;
@@ -211,6 +214,12 @@ pub(crate) fn path_check(bytes: &[u8]) -> Result<usize, Error> {
     told(|taken, refusal| unsafe { bootkeep_path_check(bytes.as_ptr(), bytes.len(), taken, refusal) })
 }
 
+pub(crate) fn path_parse(text: &str) -> Result<Vec<u8>, Error> {
+    given_alone(ROOM, |out, len, refusal| unsafe {
+        bootkeep_path_parse(text.as_ptr(), text.len(), out.as_mut_ptr(), out.len(), len, refusal)
+    })
+}
+
 pub(crate) fn text_path(text: &str) -> Result<Vec<u8>, Error> {
     given_alone(ROOM, |out, len, refusal| unsafe {
         bootkeep_text_path(text.as_ptr(), text.len(), out.as_mut_ptr(), out.len(), len, refusal)
@@ -227,12 +236,41 @@ pub(crate) fn option_description(bytes: &[u8]) -> Result<Vec<u8>, Error> {
     })
 }
 
+pub(crate) fn option_description_utf8(bytes: &[u8]) -> Result<Vec<u8>, Error> {
+    given_alone(ROOM, |out, len, refusal| unsafe {
+        bootkeep_option_description_utf8(bytes.as_ptr(), bytes.len(), out.as_mut_ptr(), out.len(), len, refusal)
+    })
+}
+
 pub(crate) fn option_make(attributes: u32, description: &str, list: &[u8], optional: &[u8]) -> Result<Vec<u8>, Error> {
     given_alone(description.len() * 2 + list.len() + optional.len() + ROOM, |out, len, refusal| unsafe {
         bootkeep_option_make(
             attributes,
             description.as_ptr(),
             description.len(),
+            list.as_ptr(),
+            list.len(),
+            optional.as_ptr(),
+            optional.len(),
+            out.as_mut_ptr(),
+            out.len(),
+            len,
+            refusal,
+        )
+    })
+}
+
+pub(crate) fn option_make_units(
+    attributes: u32,
+    units: &[u16],
+    list: &[u8],
+    optional: &[u8],
+) -> Result<Vec<u8>, Error> {
+    given_alone(units.len() * 2 + list.len() + optional.len() + ROOM, |out, len, refusal| unsafe {
+        bootkeep_option_make_units(
+            attributes,
+            units.as_ptr(),
+            units.len(),
             list.as_ptr(),
             list.len(),
             optional.as_ptr(),
@@ -391,22 +429,25 @@ pub(crate) enum Event<'a> {
     Restart,
 }
 
-/// A keeper that is open, and closed when it is dropped.
-pub(crate) struct Handle(Box<RawKeeper>);
+/// A keeper that is open, and closed when it is dropped, and how many bytes its set had when it was last given.
+pub(crate) struct Handle {
+    raw: Box<RawKeeper>,
+    set_len: usize,
+}
 
 // All that a keeper holds is its own, and `&mut` gives it to one thread at a time.
 unsafe impl Send for Handle {}
 
 impl Handle {
     pub(crate) fn open(set: &[u8]) -> Result<Handle, Error> {
-        let mut handle = Handle(Box::new(RawKeeper { is_open: 0, at: ptr::null_mut() }));
-        let keeper: *mut RawKeeper = &mut *handle.0;
+        let mut handle = Handle { raw: Box::new(RawKeeper { is_open: 0, at: ptr::null_mut() }), set_len: set.len() };
+        let keeper: *mut RawKeeper = &mut *handle.raw;
         told(|_told: &mut (), refusal| unsafe { bootkeep_keeper_open(keeper, set.as_ptr(), set.len(), refusal) })?;
         Ok(handle)
     }
 
     pub(crate) fn event(&mut self, event: &Event<'_>) -> Result<(Vec<u16>, RawReply), Error> {
-        let keeper: *mut RawKeeper = &mut *self.0;
+        let keeper: *mut RawKeeper = &mut *self.raw;
         given(ROOM, |numbers: &mut [u16], len, reply: &mut RawReply, _refusal| unsafe {
             reply.size = size_of::<RawReply>();
             let (at, cap) = (numbers.as_mut_ptr(), numbers.len());
@@ -422,19 +463,23 @@ impl Handle {
     }
 
     pub(crate) fn set(&mut self) -> Result<Vec<u8>, Error> {
-        let keeper: *mut RawKeeper = &mut *self.0;
-        given_alone(ROOM, |out, len, _refusal| unsafe { bootkeep_keeper_set(keeper, out.as_mut_ptr(), out.len(), len) })
+        let keeper: *mut RawKeeper = &mut *self.raw;
+        let set = given_alone(self.set_len + ROOM, |out, len, _refusal| unsafe {
+            bootkeep_keeper_set(keeper, out.as_mut_ptr(), out.len(), len)
+        })?;
+        self.set_len = set.len();
+        Ok(set)
     }
 
     pub(crate) fn next_number(&mut self) -> Result<u32, Error> {
-        let keeper: *mut RawKeeper = &mut *self.0;
+        let keeper: *mut RawKeeper = &mut *self.raw;
         told(|number, _refusal| unsafe { bootkeep_keeper_next_number(keeper, number) })
     }
 }
 
 impl Drop for Handle {
     fn drop(&mut self) {
-        let keeper: *mut RawKeeper = &mut *self.0;
+        let keeper: *mut RawKeeper = &mut *self.raw;
         // It may be closed already, if it couldn't be opened.
         let _status = unsafe { bootkeep_keeper_close(keeper) };
     }

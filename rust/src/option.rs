@@ -30,6 +30,11 @@ pub struct Parts<'a> {
 }
 
 impl<'a> Parts<'a> {
+    /// The units of the description, which [`make_units`] takes.
+    pub fn units(&self) -> Vec<u16> {
+        self.description.chunks_exact(2).map(|pair| u16::from_le_bytes([pair[0], pair[1]])).collect()
+    }
+
     /// The device paths of the list, each as its bytes.
     ///
     /// # Errors
@@ -63,13 +68,24 @@ pub fn parts(bytes: &[u8]) -> Result<Parts<'_>, Error> {
     })
 }
 
-/// The description of the load option that the bytes are, as one line of ASCII: units that don't print are shown by
-/// their numbers.
+/// The description of the load option that the bytes are, of which [`make`] makes the same one. All characters are as
+/// they are, also those that a terminal acts on.
+///
+/// # Errors
+///
+/// Those of [`parts`]; [`OptionNotUtf16`](crate::Fault::OptionNotUtf16) if it is no text, as half of a pair of units
+/// stands alone: [`Parts::units`] has these then; [`Error::NoMemory`].
+pub fn description(bytes: &[u8]) -> Result<String, Error> {
+    Ok(crate::utf8(library::option_description_utf8(bytes)?))
+}
+
+/// The description of the load option that the bytes are, as one line of ASCII, for a terminal or a log: units that don't
+/// print are shown by their numbers.
 ///
 /// # Errors
 ///
 /// Those of [`parts`]; [`Error::NoMemory`].
-pub fn description(bytes: &[u8]) -> Result<String, Error> {
+pub fn description_line(bytes: &[u8]) -> Result<String, Error> {
     Ok(crate::ascii(library::option_description(bytes)?))
 }
 
@@ -82,4 +98,14 @@ pub fn description(bytes: &[u8]) -> Result<String, Error> {
 /// [`OptionListTooLong`](crate::Fault::OptionListTooLong), in this order; [`Error::NoMemory`].
 pub fn make(attributes: u32, description: &str, list: &[u8], optional: &[u8]) -> Result<Vec<u8>, Error> {
     library::option_make(attributes, description, list, optional)
+}
+
+/// The same of the units of a description, whether or not they are a text, and without the zero unit that closes it: so
+/// each option can be made again of its [`parts`], to the byte.
+///
+/// # Errors
+///
+/// Those of [`make`].
+pub fn make_units(attributes: u32, units: &[u16], list: &[u8], optional: &[u8]) -> Result<Vec<u8>, Error> {
+    library::option_make_units(attributes, units, list, optional)
 }

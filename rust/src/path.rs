@@ -15,14 +15,14 @@ pub fn text(bytes: &[u8]) -> Result<(String, usize), Error> {
 }
 
 /// The text for a person of the device path at the start of the bytes, and how many bytes it takes: each node of the
-/// standard has its name and its fields (UEFI 2.10, 10.3), and no call reads it.
+/// standard has its name and its fields (UEFI 2.10, 10.3). [`parse`] reads it.
 ///
 /// # Errors
 ///
 /// Those of [`text`].
 pub fn names(bytes: &[u8]) -> Result<(String, usize), Error> {
     let (text, taken) = library::path_names(bytes)?;
-    Ok((String::from_utf8_lossy(&text).into_owned(), taken))
+    Ok((crate::utf8(text), taken))
 }
 
 /// How many bytes the device path at the start of the bytes takes (UEFI 2.10, 10.3).
@@ -34,11 +34,20 @@ pub fn check(bytes: &[u8]) -> Result<usize, Error> {
     library::path_check(bytes)
 }
 
-/// The bytes of the device path that the text stands for: that of [`text`], and other spellings besides.
+/// The bytes of the device path that the text stands for: that of [`text`] or [`names`], and other spellings besides.
 ///
 /// # Errors
 ///
 /// A fault `Text..`, at its place in the text, in bytes; [`Error::NoMemory`].
 pub fn parse(text: &str) -> Result<Vec<u8>, Error> {
+    library::path_parse(text)
+}
+
+/// The same for texts as [`text`] gives them, and other spellings of these: the names of most nodes are refused.
+///
+/// # Errors
+///
+/// Those of [`parse`].
+pub fn parse_text(text: &str) -> Result<Vec<u8>, Error> {
     library::text_path(text)
 }

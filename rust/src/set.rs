@@ -83,6 +83,7 @@ pub struct NamedEntry {
 
 /// A variable of the boot manager.
 #[derive(Clone, Copy, Debug, PartialEq, Eq)]
+#[non_exhaustive]
 pub enum BootVariable {
     /// Boot####.
     Entry(u16),
@@ -90,6 +91,8 @@ pub enum BootVariable {
     Order,
     /// BootNext.
     Next,
+    /// A variable that this crate doesn't know. Its text is the name of none.
+    Other(u32),
 }
 
 impl fmt::Display for BootVariable {
@@ -98,6 +101,7 @@ impl fmt::Display for BootVariable {
             BootVariable::Entry(number) => write!(formatter, "Boot{number:04X}"),
             BootVariable::Order => formatter.write_str("BootOrder"),
             BootVariable::Next => formatter.write_str("BootNext"),
+            BootVariable::Other(number) => write!(formatter, "variable {number:#010x}"),
         }
     }
 }
@@ -225,8 +229,7 @@ fn variable(number: u32) -> BootVariable {
     match number {
         VARIABLE_ORDER => BootVariable::Order,
         VARIABLE_NEXT => BootVariable::Next,
-        // No other number is above those of entries.
-        number => BootVariable::Entry(number as u16),
+        number => entry_number(number).map_or(BootVariable::Other(number), BootVariable::Entry),
     }
 }
 
@@ -236,5 +239,22 @@ fn kind(number: u32) -> ChangeKind {
         CHANGE_REPLACED => ChangeKind::Replaced,
         CHANGE_REMOVED => ChangeKind::Removed,
         other => ChangeKind::Other(other),
+    }
+}
+
+#[cfg(test)]
+mod tests {
+    use super::*;
+
+    #[test]
+    fn a_number_that_is_not_known_is_no_entry() {
+        let known = [(0, "Boot0000"), (0xFFFF, "BootFFFF"), (VARIABLE_ORDER, "BootOrder"), (VARIABLE_NEXT, "BootNext")];
+        for (number, name) in known {
+            assert_eq!(variable(number).to_string(), name);
+        }
+        for number in [NO_ENTRY, 0x0001_0003, u32::MAX] {
+            assert_eq!(variable(number), BootVariable::Other(number));
+        }
+        assert_eq!(variable(0x0001_0003).to_string(), "variable 0x00010003");
     }
 }

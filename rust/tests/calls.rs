@@ -3,6 +3,7 @@
 use bootkeep::frame::{self, Request};
 use bootkeep::set::{BootVariable, ChangeKind, EntryState};
 use bootkeep::{option, path, set, Error, Fault, Keeper, Outcome, Reply};
+use std::collections::HashSet;
 
 const SET: &[u8] = include_bytes!("../../examples/set");
 const STREAM: &[u8] = include_bytes!("../../examples/stream");
@@ -27,6 +28,47 @@ fn an_option_has_its_parts_again() {
     assert_eq!(parts.paths().unwrap(), [&path::parse(TEXT).unwrap()[..]]);
     assert_eq!(option::make(1, "a\0", parts.list, b"").unwrap_err(), refused(Fault::OptionZeroUnit));
     assert_eq!(option::make(1, "a", b"", b"").unwrap_err(), refused(Fault::OptionEmptyList));
+}
+
+#[test]
+fn a_description_goes_both_ways() {
+    let list = path::parse(TEXT).unwrap();
+    for text in ["", "Linux", "Bööt \\00f6", "\u{1f427}\u{ffff}\u{1b}", "\\"] {
+        let made = option::make(5, text, &list, b"x").unwrap();
+        assert_eq!(option::description(&made).unwrap(), text);
+        let parts = option::parts(&made).unwrap();
+        assert_eq!(parts.units(), text.encode_utf16().collect::<Vec<_>>());
+        assert_eq!(option::make(parts.attributes, &option::description(&made).unwrap(), parts.list, b"x"), Ok(made));
+    }
+    assert_eq!(option::description_line(&new_option()).unwrap(), r"B\00f6\00f6t");
+}
+
+#[test]
+fn units_that_are_no_text_go_both_ways() {
+    let list = path::parse(TEXT).unwrap();
+    for units in [&[0xd83d][..], &[0xdc27], &[0xdc27, 0xd83d], &[0x41, 0xd83d, 0x42]] {
+        let made = option::make_units(5, units, &list, b"x").unwrap();
+        let parts = option::parts(&made).unwrap();
+        assert_eq!(
+            (parts.attributes, parts.units(), parts.list, parts.optional),
+            (5, units.to_vec(), &list[..], &b"x"[..])
+        );
+        assert_eq!(option::description(&made).unwrap_err(), refused(Fault::OptionNotUtf16));
+    }
+    assert_eq!(option::make_units(1, &[0x41, 0], &list, b"").unwrap_err(), refused(Fault::OptionZeroUnit));
+}
+
+#[test]
+fn what_is_printed_for_a_person_is_read() {
+    let text = r"Scsi(0x1,0x2)/File(\Größe.efi)";
+    let bytes = path::parse(text).unwrap();
+    assert_eq!(bytes[..8], [3, 2, 8, 0, 1, 0, 2, 0]);
+    assert_eq!(path::names(&bytes).unwrap(), (text.to_owned(), bytes.len()));
+    let exact = path::text(&bytes).unwrap().0;
+    assert_eq!((path::parse(&exact), path::parse_text(&exact)), (Ok(bytes.clone()), Ok(bytes)));
+    assert!(path::parse_text(text).is_err());
+    let unknown = bootkeep::Refusal { fault: Fault::TextUnknownName, place: Some(14), within: None };
+    assert_eq!(path::parse("Scsi(0x1,0x2)/Scssi(0x1,0x2)"), Err(Error::Refused(unknown)));
 }
 
 fn refused(fault: Fault) -> Error {
@@ -54,10 +96,11 @@ fn a_variable_is_put_and_removed() {
 #[test]
 fn an_entry_is_put_first() {
     let number = set::lowest_free(SET).unwrap().unwrap();
-    let mut order = number.to_le_bytes().to_vec();
-    order.extend(set::get(SET, "BootOrder").unwrap());
-    let after = set::put(SET, &format!("Boot{number:04X}"), &new_option()).unwrap();
-    let after = set::put(&after, "BootOrder", &order).unwrap();
+    let frame = frame::make(0, Request::AddFirst(&new_option())).unwrap();
+    let (after, _) = bootkeep::run(SET, &frame).unwrap();
+    let after = set::remove(&after, "BootKeepState").unwrap();
+    let order = set::get(&after, "BootOrder").unwrap();
+    assert_eq!(order.chunks(2).filter(|one| *one == number.to_le_bytes()).count(), 1);
     assert_eq!(set::plan(&after).unwrap().normal[0], number);
     assert_eq!(set::entry(&after, number), Ok(EntryState::Normal));
     let added = (BootVariable::Entry(number), ChangeKind::Added);
@@ -117,6 +160,9 @@ fn a_request_puts_an_entry_first() {
 fn faults_have_words() {
     assert_eq!(path::check(b"").unwrap_err().to_string(), "PathNoEnd at 0");
     assert_eq!(Fault::Other(0xFFFF).to_string(), "0xffff");
+    assert_eq!(Fault::Other(Fault::PathNoEnd.number()), Fault::PathNoEnd);
+    assert_eq!(HashSet::from([Fault::Other(0x0101), Fault::from(0x0101), Fault::PathNoEnd]).len(), 1);
+    assert_ne!(Fault::from(0xFFFF), Fault::PathNoEnd);
     let within = option::parts(&[1, 0, 0, 0, 1, 0, 0, 0, 0x7f]).unwrap_err();
     assert_eq!(within.to_string(), "OptionPath at 8: PathShortHeader at 0");
 }

@@ -11,3 +11,4 @@ pub mod EntryStates
 pub mod NamesOfChanges
 pub mod NamedEntries
 pub mod PlacesInSets
+pub mod NamedTexts

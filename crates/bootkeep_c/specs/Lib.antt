@@ -4,7 +4,9 @@ pub mod Refusals
 pub mod Buffer
 pub mod Answers
 pub mod Texts
+pub mod NamedTexts
 pub mod Parts
+pub mod Descriptions
 pub mod Making
 pub mod Frames
 pub mod Plans

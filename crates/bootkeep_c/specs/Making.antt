@@ -17,16 +17,20 @@ use Rattle.bootkeep_c.specs.Refusals.{at_place, path_failure, list_failure, opti
 abbrev pub text_units : List ℕ → List ℕ
 text_units text = flat_map encode_utf16 (chars text)
 
--- The bytes are the load option of these parts: its attributes, its description, a text, the bytes of its paths, one path
--- after the other, and its optional data.
-pub record IsOptionOf (attributes : ℕ) (description list optional bytes : List ℕ) : Type 0 where
+-- The bytes are the load option of these parts: its attributes, the units of its description, the bytes of its paths, one
+-- path after the other, and its optional data.
+pub record IsOptionOfUnits (attributes : ℕ) (units list optional bytes : List ℕ) : Type 0 where
   pub option : OptionParts
-  pub is_text : IsUtf8 description
   pub attributes_are : option.attributes ≡ attributes
-  pub description_is : option.description ≡ text_units description
+  pub description_is : option.description ≡ units
   pub list_is : list_bytes option.paths ≡ list
   pub optional_is : option.optional ≡ optional
   pub spelled : SpellsOption bytes option
+
+-- the same, with a text as the description
+pub record IsOptionOf (attributes : ℕ) (description list optional bytes : List ℕ) : Type 0 where
+  pub is_text : IsUtf8 description
+  pub of_units : IsOptionOfUnits attributes (text_units description) list optional bytes
 
 -- the bytes are these paths, one after the other
 pub record ArePathsOf (list : List ℕ) (paths : List (List (List Node))) : Type 0 where
@@ -54,11 +58,16 @@ IsPartsFault units paths _ = ⊥
 abbrev pub not_a_text : ℕ → Failure
 not_a_text place = at_place 0x0308 place
 
--- Why parts make no load option: the description isn't UTF-8, or it is and the list isn't paths, or both are and make none.
+-- Why units and paths make no load option: the list isn't paths, or they are some and make none.
+abbrev pub IsUnitsFailure : List ℕ → List ℕ → Failure → Type 0
+IsUnitsFailure units list failed =
+    ((place : ℕ) × (path_fault : PathFault) × HasBadPath list place path_fault
+    × (failed ≡ list_failure place (path_failure path_fault)))
+    ⊎ ((paths : List (List (List Node))) × ArePathsOf list paths
+    × (option_fault : OptionFault) × IsPartsFault units paths option_fault × (failed ≡ option_failure option_fault))
+
+-- Why parts make no load option: the description isn't UTF-8, or it is and its units and the paths make none.
 abbrev pub IsMakeFailure : List ℕ → List ℕ → Failure → Type 0
 IsMakeFailure description list failed =
     ((¬ IsUtf8 description) × (place : ℕ) × IsValidUpTo description place × (failed ≡ not_a_text place))
-    ⊎ ((IsUtf8 description × (place : ℕ) × (path_fault : PathFault) × HasBadPath list place path_fault
-    × (failed ≡ list_failure place (path_failure path_fault)))
-    ⊎ (IsUtf8 description × (paths : List (List (List Node))) × ArePathsOf list paths
-    × (option_fault : OptionFault) × IsPartsFault (text_units description) paths option_fault × (failed ≡ option_failure option_fault)))
+    ⊎ (IsUtf8 description × IsUnitsFailure (text_units description) list failed)

@@ -4,6 +4,8 @@ use Rattle.uefi_path.specs.declared.fault.PathFault.{PathFault}
 use Rattle.uefi_path.specs.declared.fault.PathFault.TheVariants as path
 use Rattle.uefi_text.specs.declared.fault.TextFault.{TextFault}
 use Rattle.uefi_text.specs.declared.fault.TextFault.TheVariants as text
+use Rattle.uefi_names.specs.declared.fault.NamedFault.{NamedFault}
+use Rattle.uefi_names.specs.declared.fault.NamedFault.TheVariants as named
 use Rattle.uefi_option.specs.declared.fault.OptionFault.{OptionFault}
 use Rattle.uefi_option.specs.declared.fault.OptionFault.TheVariants as option
 use Rattle.uefi_vars.specs.declared.fault.SetFault.{SetFault}
@@ -59,6 +61,15 @@ text_failure (text.BadNumber place) = at_place 0x0202 place
 text_failure (text.OutOfRange place) = at_place 0x0203 place
 text_failure (text.BadEnd place) = at_place 0x0204 place
 text_failure text.OutOfMemory = failure.Memory
+
+abbrev pub named_failure : NamedFault → Failure
+named_failure (named.BadSegment place) = at_place 0x0201 place
+named_failure (named.UnknownName place nearest) = at_place 0x0206 place
+named_failure (named.BadArgument place field) = at_place 0x0207 place
+named_failure (named.BadCount place) = at_place 0x0208 place
+named_failure (named.BadData place) = at_place 0x0209 place
+named_failure (named.Exact fault) = text_failure fault
+named_failure named.OutOfMemory = failure.Memory
 
 -- bytes that aren't UTF-8 from this place on
 abbrev pub not_utf8 : ℕ → Failure

@@ -36,7 +36,11 @@ text_word kind =
     else (if kind == 0x0203 then Some (codes "TextOutOfRange")
     else (if kind == 0x0204 then Some (codes "TextBadEnd")
     else (if kind == 0x0205 then Some (codes "TextNotUtf8")
-    else None))))
+    else (if kind == 0x0206 then Some (codes "TextUnknownName")
+    else (if kind == 0x0207 then Some (codes "TextBadArgument")
+    else (if kind == 0x0208 then Some (codes "TextBadCount")
+    else (if kind == 0x0209 then Some (codes "TextBadData")
+    else None))))))))
 
 abbrev pub option_word : ℕ → Option (List ℕ)
 option_word kind =
@@ -48,7 +52,8 @@ option_word kind =
     else (if kind == 0x0306 then Some (codes "OptionZeroUnit")
     else (if kind == 0x0307 then Some (codes "OptionListTooLong")
     else (if kind == 0x0308 then Some (codes "OptionNotUtf8")
-    else None)))))))
+    else (if kind == 0x0309 then Some (codes "OptionNotUtf16")
+    else None))))))))
 
 abbrev pub set_word : ℕ → Option (List ℕ)
 set_word kind =

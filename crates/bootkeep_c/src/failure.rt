@@ -2,7 +2,7 @@
 
 ghost use Rattle.std.specs.Prelude.{◌≡◌};
 ghost use Rattle.bootkeep_c.specs.declared.failure.Failure.TheVariants as failure;
-ghost use Rattle.bootkeep_c.specs.Refusals.{at_place, bare, path_failure, text_failure, list_failure, option_failure, set_failure, vars_failure, open_failure, put_failure, feed_failure, frame_failure, Tells};
+ghost use Rattle.bootkeep_c.specs.Refusals.{at_place, bare, path_failure, text_failure, named_failure, list_failure, option_failure, set_failure, vars_failure, open_failure, put_failure, feed_failure, frame_failure, Tells};
 
 use crate::refusal::{
     FRAME_BAD_KIND, FRAME_BAD_MAGIC, FRAME_BAD_NUMBER, FRAME_BAD_PAYLOAD, FRAME_BAD_SIZE,
@@ -11,12 +11,14 @@ use crate::refusal::{
     OPTION_ZERO_UNIT, PATH_BAD_END, PATH_BAD_LENGTH, PATH_NO_END, PATH_PAST_END, PATH_SHORT_HEADER,
     PUT_BAD_NAME, PUT_DATA_TOO_LONG, PUT_EMPTY_DATA, Refusal, SET_BAD_DATA, SET_BAD_MAGIC,
     SET_BAD_NAME, SET_NOT_RISING, SET_TRUNCATED, STREAM_BAD_MAGIC, STREAM_BAD_VERSION,
-    STREAM_TOO_LONG, TEXT_BAD_END, TEXT_BAD_NUMBER, TEXT_BAD_SEGMENT, TEXT_OUT_OF_RANGE,
-    VARS_BAD_NEXT, VARS_BAD_ORDER, VARS_BAD_STATE,
+    STREAM_TOO_LONG, TEXT_BAD_ARGUMENT, TEXT_BAD_COUNT, TEXT_BAD_DATA, TEXT_BAD_END,
+    TEXT_BAD_NUMBER, TEXT_BAD_SEGMENT, TEXT_OUT_OF_RANGE, TEXT_UNKNOWN_NAME, VARS_BAD_NEXT,
+    VARS_BAD_ORDER, VARS_BAD_STATE,
 };
 use crate::status::{NO_MEMORY, REFUSED};
 use boot_requests::{FeedFault, FrameFault, OpenFault};
 use std::alloc::{AllocError, AllocFailed};
+use uefi_names::NamedFault;
 use uefi_option::OptionFault;
 use uefi_path::PathFault;
 use uefi_text::TextFault;
@@ -121,6 +123,22 @@ impl From<TextFault> for Failure {
             TextFault::OutOfRange(place) => Failure::at(TEXT_OUT_OF_RANGE, place),
             TextFault::BadEnd(place) => Failure::at(TEXT_BAD_END, place),
             TextFault::OutOfMemory => Failure::Memory,
+        }
+    }
+}
+
+impl From<NamedFault> for Failure {
+    ghost from_gives = { λ fault made. made ≡ named_failure fault };
+
+    fn from(fault: NamedFault) -> Failure {
+        match fault {
+            NamedFault::BadSegment(place) => Failure::at(TEXT_BAD_SEGMENT, place),
+            NamedFault::UnknownName(place, _) => Failure::at(TEXT_UNKNOWN_NAME, place),
+            NamedFault::BadArgument(place, _) => Failure::at(TEXT_BAD_ARGUMENT, place),
+            NamedFault::BadCount(place) => Failure::at(TEXT_BAD_COUNT, place),
+            NamedFault::BadData(place) => Failure::at(TEXT_BAD_DATA, place),
+            NamedFault::Exact(fault) => Failure::from(fault),
+            NamedFault::OutOfMemory => Failure::Memory,
         }
     }
 }

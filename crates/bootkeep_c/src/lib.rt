@@ -8,6 +8,7 @@
 mod answer;
 mod buffer;
 mod change;
+mod description;
 mod entry;
 mod failure;
 mod frame;
@@ -19,6 +20,7 @@ mod limits;
 mod making;
 mod named;
 mod named_path;
+mod named_text;
 mod open;
 mod option;
 mod path;
@@ -33,6 +35,7 @@ mod version;
 mod word;
 
 pub use change::{ChangeNumbers, bootkeep_set_changes};
+pub use description::bootkeep_option_description_utf8;
 pub use entry::{EntryState, bootkeep_set_entry, bootkeep_set_lowest_free};
 pub use failure::Failure;
 pub use frame::{Asked, bootkeep_frame_make};
@@ -46,9 +49,10 @@ pub use keeper_reply::{
     bootkeep_keeper_deliver_reply, bootkeep_keeper_hand_reply, bootkeep_keeper_prepare_reply,
     bootkeep_keeper_restart_reply,
 };
-pub use making::bootkeep_option_make;
+pub use making::{bootkeep_option_make, bootkeep_option_make_units};
 pub use named::{NamedEntry, bootkeep_set_named};
 pub use named_path::bootkeep_path_names;
+pub use named_text::bootkeep_path_parse;
 pub use option::{OptionPlaces, bootkeep_option_description, bootkeep_option_parts};
 pub use path::{bootkeep_path_check, bootkeep_path_text};
 pub use refusal::Refusal;

@@ -6,7 +6,7 @@ ghost use Rattle.uefi_path.specs.declared.fault.PathFault.{PathFault};
 ghost use Rattle.bootkeep_c.specs.declared.failure.Failure.{Failure};
 ghost use Rattle.bootkeep_c.specs.Refusals.{path_failure, list_failure};
 ghost use Rattle.bootkeep_c.specs.Answers.{Answers};
-ghost use Rattle.bootkeep_c.specs.Making.{text_units, IsOptionOf, ArePathsOf, HasBadPath, not_a_text, IsMakeFailure};
+ghost use Rattle.bootkeep_c.specs.Making.{text_units, IsOptionOf, IsOptionOfUnits, ArePathsOf, HasBadPath, not_a_text, IsMakeFailure, IsUnitsFailure};
 
 use crate::answer::answer;
 use crate::failure::Failure;
@@ -36,6 +36,26 @@ pub extern "C" fn bootkeep_option_make(
     answer(made, out, len, refusal)
 }
 
+/// The load option of these parts (UEFI 2.10, 3.1.3): the description is the units that are stored, without the zero
+/// unit that closes it, and the list the bytes of the paths, one path after the other.
+#[unsafe(no_mangle)]
+pub extern "C" fn bootkeep_option_make_units(
+    alloc: Global,
+    attributes: u32,
+    units: &[u16],
+    list: &[u8],
+    optional: &[u8],
+    out: &mut [u8],
+    len: &mut usize,
+    refusal: &mut Refusal,
+) -> u32
+    ensures { Answers (IsOptionOfUnits attributes units.now list.now optional.now)
+        (IsUnitsFailure units.now list.now) result out.old out.new len.old len.new refusal.old refusal.new }
+{
+    let made = option_of_units(alloc, attributes, units, list, optional);
+    answer(made, out, len, refusal)
+}
+
 /// The bytes of the load option of these parts.
 fn option_of(
     alloc: Global,
@@ -49,8 +69,23 @@ fn option_of(
     ensures fault { IfErr result (λ failed. failed ≢ Failure.Memory → IsMakeFailure description.now list.now failed) }
 {
     let units = units_of(alloc, text_of(description)?)?;
+    option_of_units(alloc, attributes, &units, list, optional)
+}
+
+/// The bytes of the load option of these units and parts.
+fn option_of_units(
+    alloc: Global,
+    attributes: u32,
+    units: &[u16],
+    list: &[u8],
+    optional: &[u8],
+) -> Result<Vec<u8>, Failure>
+    ensures made { IfOk result (λ bytes.
+        IsOptionOfUnits attributes units.now list.now optional.now bytes.items) }
+    ensures fault { IfErr result (λ failed. failed ≢ Failure.Memory → IsUnitsFailure units.now list.now failed) }
+{
     let paths = read_paths(alloc, list)?;
-    let option = make_option(alloc, attributes, &units, &paths, optional)?;
+    let option = make_option(alloc, attributes, units, &paths, optional)?;
     Ok(write_option(alloc, &option)?)
 }
 

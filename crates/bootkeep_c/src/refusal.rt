@@ -36,6 +36,18 @@ pub const TEXT_BAD_END: u32 = 0x0204;
 /// The text isn't UTF-8 from the place on.
 pub const TEXT_NOT_UTF8: u32 = 0x0205;
 
+/// [`NamedFault::UnknownName`](uefi_names::NamedFault::UnknownName).
+pub const TEXT_UNKNOWN_NAME: u32 = 0x0206;
+
+/// [`NamedFault::BadArgument`](uefi_names::NamedFault::BadArgument).
+pub const TEXT_BAD_ARGUMENT: u32 = 0x0207;
+
+/// [`NamedFault::BadCount`](uefi_names::NamedFault::BadCount).
+pub const TEXT_BAD_COUNT: u32 = 0x0208;
+
+/// [`NamedFault::BadData`](uefi_names::NamedFault::BadData).
+pub const TEXT_BAD_DATA: u32 = 0x0209;
+
 /// [`OptionFault::Short`](uefi_option::OptionFault::Short).
 pub const OPTION_SHORT: u32 = 0x0301;
 
@@ -59,6 +71,9 @@ pub const OPTION_LIST_TOO_LONG: u32 = 0x0307;
 
 /// The description of which an option is to be made isn't UTF-8 from the place on.
 pub const OPTION_NOT_UTF8: u32 = 0x0308;
+
+/// The units of the description are no text: a half of a pair stands alone.
+pub const OPTION_NOT_UTF16: u32 = 0x0309;
 
 /// [`SetFault::BadMagic`](uefi_vars::SetFault::BadMagic).
 pub const SET_BAD_MAGIC: u32 = 0x0401;

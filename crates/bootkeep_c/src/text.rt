@@ -76,7 +76,7 @@ fn spelled(alloc: Global, text: &[u8]) -> Result<Vec<u8>, Failure>
 }
 
 /// The text that the bytes are, if they are UTF-8.
-fn text_of(bytes: &[u8]) -> Result<&str, Failure>
+pub(crate) fn text_of(bytes: &[u8]) -> Result<&str, Failure>
     ensures found { IfOk result (λ text. (text.now ≡ bytes.now) × IsUtf8 bytes.now) }
     ensures fault { IfErr result (λ failed. (¬ IsUtf8 bytes.now)
         × (place : ℕ) × IsValidUpTo bytes.now place × (failed ≡ not_utf8 place)) }
