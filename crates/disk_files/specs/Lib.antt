@@ -1,2 +1,5 @@
 -- What these contracts are in terms of.
 pub mod FilePath
+pub mod DeviceLinks
+pub mod Search
+pub mod Device

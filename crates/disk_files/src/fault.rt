@@ -3,11 +3,13 @@
 ghost use Rattle.std.specs.Prelude.{◌≡◌};
 ghost use Rattle.disk_files.specs.declared.fault.DiskFault.TheVariants as disk;
 
+use crate::words::{MountsWords, NameWords};
 use partitions::{LoaderNameFault, MountsFault, PartitionFault};
 use std::alloc::{AllocError, AllocFailed};
 use thiserror::Error;
 
-/// Why there is no path of a file. Its `Display` goes on from what the file or the device is called.
+/// Why there is no path of a file. Its `Display` goes on from what the file or the device is called. Its texts are as
+/// messages show them, since those that the system tells may be anybody's.
 #[derive(Debug, Drop, Error)]
 pub enum DiskFault {
     /// A folder is there.
@@ -36,6 +38,12 @@ pub enum DiskFault {
         /// The name of the device.
         device: String,
     },
+    /// What is named as a device is none.
+    #[error("it is no block device: a disk or a partition of this machine is wanted, as /dev/sda")]
+    NoBlockDevice,
+    /// The device that is named isn't the one that the system knows by its name.
+    #[error("it isn't the device that the system knows by this name: name the one in /dev")]
+    OtherDevice,
     /// A device that is named isn't there.
     #[error("the system has no disk or partition of this name")]
     NoDevice,
@@ -46,7 +54,7 @@ pub enum DiskFault {
     #[error("it is partition {0}, and --part names another one")]
     OtherPartition(u32),
     /// The system tells no identity of a partition.
-    #[error("its partition, {0}, has no identity that the system tells (PARTUUID)")]
+    #[error("of its partition, {0}, the system doesn't tell what it is known by (PARTUUID)")]
     NoIdentity(String),
     /// A file of /sys has no number.
     #[error("it has no number")]
@@ -55,13 +63,13 @@ pub enum DiskFault {
     #[error("it has more than {0} bytes")]
     TooMuch(usize),
     /// The text of mounts has a fault.
-    #[error("it isn't what Linux tells of mounts: {0}")]
+    #[error("it isn't what Linux tells of mounts: {words}", words = MountsWords(.0))]
     Mounts(MountsFault),
     /// A partition has no node.
-    #[error("its partition can't be in a path: {0}")]
+    #[error("its partition can't be in a path: {words}", words = .0.words())]
     Partition(PartitionFault),
     /// A name can't be one in an EFI System Partition.
-    #[error("its name can't be one that firmware reads: {0}")]
+    #[error("its name can't be one that firmware reads: {words}", words = NameWords(.0))]
     Name(LoaderNameFault),
     /// Memory was refused.
     #[error("out of memory")]

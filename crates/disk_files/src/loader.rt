@@ -56,7 +56,7 @@ impl<R: Files + AllocGlobal> System<'_, R> {
     /// The file, which has to be a regular one. What is mounted there only once somebody looks is mounted by this.
     fn file(&self) -> Result<FoundFile, Failure> {
         let from_read = |error| Failure::from_read(self.alloc(), self.name, error);
-        let path = self.path_of_file()?;
+        let path = self.path_of_name()?;
         let metadata = fs::metadata(self.rt, path.as_str()).map_err(from_read)?;
         if metadata.is_dir() {
             return Err(self.refused(DiskFault::Folder));
@@ -71,19 +71,9 @@ impl<R: Files + AllocGlobal> System<'_, R> {
         })
     }
 
-    /// The path by which the file can be opened.
-    fn path_of_file(&self) -> Result<String, Failure> {
-        if self.root.is_empty() {
-            return Ok(String::from_str(self.alloc(), self.name)?);
-        }
-        let slash = if self.name.starts_with('/') { "" } else { "/" };
-        let root = self.root.trim_end_matches('/');
-        Ok(format!(in self.alloc(); "{root}{slash}{}", self.name)?)
-    }
-
     /// The partition that the file is on, and its name there.
     fn place_of(&self, file: &FoundFile) -> Result<(Partition, Vec<u8>), Failure> {
-        let seen = self.mounts()?;
+        let seen = self.seen_mounts()?;
         let path = self.path_by(&seen, &file.path)?;
         let Some(mount) = leading_mount(&seen.mounts, path.as_bytes()) else {
             return Err(self.refused(DiskFault::NotMounted));
@@ -107,6 +97,7 @@ impl<R: Files + AllocGlobal> System<'_, R> {
             return Ok(());
         }
         let point = String::from_utf8_lossy(self.alloc(), &mount.point)?;
+        let point = self.shown(&point)?;
         Err(self.refused(DiskFault::Covered(point)))
     }
 
@@ -115,14 +106,18 @@ impl<R: Files + AllocGlobal> System<'_, R> {
         let DeviceNumber { major, minor } = mount.device;
         let link = self.path(format!(in self.alloc(); "/sys/dev/block/{major}:{minor}")?.as_str())?;
         let kind = String::from_utf8_lossy(self.alloc(), &mount.kind)?;
+        let kind = self.shown(&kind)?;
         let Some(whole) = self.resolved_if_there(&link)? else {
             return Err(self.refused(DiskFault::NoDisk(kind)));
         };
         let folder = whole.as_path().as_str();
-        match self.partition_number(folder)? {
-            Some(number) => self.partition(folder, number),
+        match self.partition_folder(folder)? {
+            Some(folder) => self.partition(&folder),
             None => match self.uevent(folder, "DEVNAME")? {
-                Some(device) => Err(self.refused(DiskFault::NoPartition { kind, device })),
+                Some(device) => {
+                    let device = self.shown(&device)?;
+                    Err(self.refused(DiskFault::NoPartition { kind, device }))
+                }
                 None => Err(self.refused(DiskFault::NoDisk(kind))),
             },
         }

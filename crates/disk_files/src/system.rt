@@ -3,10 +3,11 @@
 use crate::fault::DiskFault;
 use partitions::{read_number, uevent_value};
 use std::alloc::{AllocError, Global};
+use std::fs;
 use std::io::{self, ErrorKind};
 use std::path::PathBuf;
 use std::rt::Files;
-use var_places::{Failure, resolved};
+use var_places::{Failure, resolved, shown};
 use whole_files::read_file;
 
 /// How many bytes a file of /sys has at most: a page.
@@ -41,6 +42,33 @@ impl<R: Files + AllocGlobal> System<'_, R> {
         format!(in self.alloc(); "{root}{path}")
     }
 
+    /// The path by which the file or the device that the user names can be opened: below that folder, if there is one.
+    pub(crate) fn path_of_name(&self) -> Result<String, AllocError> {
+        if self.root.is_empty() {
+            return String::from_str(self.alloc(), self.name);
+        }
+        let slash = if self.name.starts_with('/') { "" } else { "/" };
+        let root = self.root.trim_end_matches('/');
+        format!(in self.alloc(); "{root}{slash}{}", self.name)
+    }
+
+    /// The path of that folder without links, and without a slash at its end.
+    pub(crate) fn front(&self) -> Result<String, Failure> {
+        if self.root.is_empty() {
+            return Ok(String::new(self.alloc()));
+        }
+        let Some(root) = self.resolved_if_there(self.root)? else {
+            return Err(Failure::from_read(self.alloc(), self.root, ErrorKind::NotFound.into()));
+        };
+        let front = root.as_path().as_str().trim_end_matches('/');
+        Ok(String::from_str(self.alloc(), front)?)
+    }
+
+    /// A text that the system tells, which may be anybody's, as messages show it.
+    pub(crate) fn shown(&self, text: &str) -> Result<String, AllocError> {
+        shown(self.alloc(), text)
+    }
+
     /// The path without links, from the root on, of what is at a path: `None` if nothing is there.
     pub(crate) fn resolved_if_there(&self, path: &str) -> Result<Option<PathBuf>, Failure> {
         match resolved(self.rt, path) {
@@ -50,12 +78,21 @@ impl<R: Files + AllocGlobal> System<'_, R> {
         }
     }
 
-    /// The bytes of the file at a path, if one is there.
+    /// The bytes of the file at a path, if one is there. What is no regular file isn't opened: a pipe without a writer would
+    /// be waited for, and opening a device may do something.
     pub(crate) fn read_if_there(
         &self,
         path: &str,
         limit: usize,
     ) -> Result<Option<Vec<u8>>, Failure> {
+        match fs::metadata(self.rt, path) {
+            Ok(found) if !found.is_file() => {
+                return Err(Failure::from_fault(self.alloc(), path, DiskFault::Irregular));
+            }
+            Ok(_) => {}
+            Err(error) if is_missing(error.kind()) => return Ok(None),
+            Err(error) => return Err(Failure::from_read(self.alloc(), path, error)),
+        }
         match read_file(self.rt, path, limit) {
             Ok(Some(bytes)) => Ok(Some(bytes)),
             Ok(None) => Err(Failure::from_fault(self.alloc(), path, DiskFault::TooMuch(limit))),

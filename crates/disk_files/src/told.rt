@@ -2,67 +2,100 @@
 
 ghost use Rattle.std.specs.Prelude.{◌≡◌, IfOk};
 
+use crate::device_links::linked_identity;
 use crate::fault::DiskFault;
 use crate::system::System;
-use partitions::{Partition, PartitionId, read_partition_id};
-use std::fs;
-use std::io::ErrorKind;
+use partitions::{DeviceNumber, Partition, PartitionId, read_device, read_partition_id};
 use std::path::Path;
 use std::rt::Files;
 use var_places::Failure;
 
-/// The folder with a link to each partition, named by what it is known by.
-const BY_PARTUUID: &str = "/dev/disk/by-partuuid";
-
 /// The file that only the folder of a partition has: its number.
 const NUMBER: &str = "partition";
+
+/// The file that only the folder of a device has: the device's number.
+const DEVICE: &str = "dev";
 
 /// The file that tells how large the blocks of a disk are, in the folder of the disk.
 const BLOCK_SIZE: &str = "queue/logical_block_size";
 
+/// A folder of /sys that is of a partition.
+#[derive(Debug, Drop)]
+pub(crate) struct PartitionFolder {
+    /// The path of the folder.
+    pub(crate) path: String,
+    /// The number of the partition, as a file of the folder tells it.
+    pub(crate) number: u32,
+}
+
 impl<R: Files + AllocGlobal> System<'_, R> {
-    /// The number of the partition that a folder of /sys is of: `None` if it is of something else.
-    pub(crate) fn partition_number(&self, folder: &str) -> Result<Option<u32>, Failure> {
-        let Some(number) = self.number_if_there(folder, NUMBER)? else {
+    /// The folder at this path, if it is of a partition: with the number that it tells.
+    pub(crate) fn partition_folder(&self, path: &str) -> Result<Option<PartitionFolder>, Failure> {
+        let Some(number) = self.number_if_there(path, NUMBER)? else {
             return Ok(None);
         };
         match u32::try_from(number) {
-            Ok(number) => Ok(Some(number)),
-            Err(_) => Err(self.without_number(folder, NUMBER)),
+            Ok(number) => Ok(Some(PartitionFolder {
+                path: String::from_str(self.alloc(), path)?,
+                number,
+            })),
+            Err(_) => Err(self.without_number(path, NUMBER)),
         }
     }
 
-    /// The partition of this number that a folder of /sys is of.
-    pub(crate) fn partition(&self, folder: &str, number: u32) -> Result<Partition, Failure>
-        ensures { IfOk result (λ partition. partition.number ≡ number) }
+    /// The partition that a folder is of.
+    pub(crate) fn partition(&self, folder: &PartitionFolder) -> Result<Partition, Failure>
+        ensures { IfOk result (λ partition. partition.number ≡ folder.now.number) }
     {
-        match self.identity(folder)? {
-            Some(id) => self.identified(folder, number, id),
+        match self.identity(&folder.path)? {
+            Some(id) => self.identified(folder, id),
             None => {
-                let name = self.device_name(folder)?;
+                let name = self.device_name(&folder.path)?;
+                let name = self.shown(&name)?;
                 Err(self.refused(DiskFault::NoIdentity(name)))
             }
         }
     }
 
-    /// The partition of this number and identity that a folder of /sys is of. The folder of its disk is the one above.
+    /// The partition that a folder is of, which is known by this. The folder of its disk is the one above.
     pub(crate) fn identified(
         &self,
-        folder: &str,
-        number: u32,
+        folder: &PartitionFolder,
         id: PartitionId,
     ) -> Result<Partition, Failure>
-        ensures number { IfOk result (λ partition. partition.number ≡ number) }
-        ensures id { IfOk result (λ partition. partition.id ≡ id) }
+        ensures { IfOk result (λ partition. partition.number ≡ folder.now.number) }
     {
-        let disk = Path::new(folder).parent().unwrap_or(Path::new("/"));
+        let path = folder.path.as_str();
+        let disk = Path::new(path).parent().unwrap_or(Path::new("/"));
         Ok(Partition {
             id,
-            number,
-            start: self.number(folder, "start")?,
-            size: self.number(folder, "size")?,
+            number: folder.number,
+            start: self.number(path, "start")?,
+            size: self.number(path, "size")?,
             block_size: self.number(disk.as_str(), BLOCK_SIZE)?,
         })
+    }
+
+    /// The number of the device that a folder of /sys is of.
+    pub(crate) fn device_number(&self, folder: &str) -> Result<DeviceNumber, Failure> {
+        match self.device_number_if_there(folder)? {
+            Some(number) => Ok(number),
+            None => Err(self.without_number(folder, DEVICE)),
+        }
+    }
+
+    /// The number of the device that a folder of /sys is of: `None` if it is of none.
+    pub(crate) fn device_number_if_there(
+        &self,
+        folder: &str,
+    ) -> Result<Option<DeviceNumber>, Failure> {
+        let Some(text) = self.text_if_there(folder, DEVICE)? else {
+            return Ok(None);
+        };
+        match read_device(text.trim_ascii_end()) {
+            Some(number) => Ok(Some(number)),
+            None => Err(self.without_number(folder, DEVICE)),
+        }
     }
 
     /// The name that the kernel has for the device that a folder of /sys is of.
@@ -77,42 +110,22 @@ impl<R: Files + AllocGlobal> System<'_, R> {
     }
 
     /// What the partition that a folder of /sys is of is known by: as the kernel tells it, or else by the links of udev.
-    pub(crate) fn identity(&self, folder: &str) -> Result<Option<PartitionId>, Failure> {
-        if let Some(text) = self.uevent(folder, "PARTUUID")?
-            && let Some(id) = read_partition_id(&text)
-        {
+    fn identity(&self, folder: &str) -> Result<Option<PartitionId>, Failure> {
+        if let Some(id) = self.told_identity(folder)? {
             return Ok(Some(id));
         }
-        let device = self.device_name(folder)?;
-        self.linked_identity(&device)
-    }
-
-    /// What the partition of this name is known by, by the name of a link to it.
-    fn linked_identity(&self, device: &str) -> Result<Option<PartitionId>, Failure> {
-        let folder = self.path(BY_PARTUUID)?;
-        let links = match fs::read_dir(&(self.rt, self.alloc()), folder.as_str()) {
-            Ok(links) => links,
-            Err(error) if error.kind() == ErrorKind::NotFound => return Ok(None),
-            Err(error) => return Err(Failure::from_read(self.alloc(), &folder, error)),
+        let Some(links) = self.device_links()? else {
+            return Ok(None);
         };
-        for link in links {
-            let link = link.map_err(|error| Failure::from_read(self.alloc(), &folder, error))?;
-            if let Some(id) = read_partition_id(link.file_name())
-                && self.leads_to(&folder, link.file_name(), device)?
-            {
-                return Ok(Some(id));
-            }
-        }
-        Ok(None)
+        let device = self.device_name(folder)?;
+        Ok(linked_identity(&links, &device))
     }
 
-    /// Whether a link in a folder leads to the device of this name.
-    fn leads_to(&self, folder: &str, link: &str, device: &str) -> Result<bool, Failure> {
-        let path = format!(in self.alloc(); "{folder}/{link}")?;
-        match fs::read_link(self.rt, path.as_str()) {
-            Ok(target) => Ok(target.as_path().file_name() == Some(device)),
-            Err(error) if error.kind() == ErrorKind::OutOfMemory => Err(Failure::Memory),
-            Err(_) => Ok(false),
+    /// What the kernel tells that the partition is known by that a folder of /sys is of.
+    pub(crate) fn told_identity(&self, folder: &str) -> Result<Option<PartitionId>, Failure> {
+        match self.uevent(folder, "PARTUUID")? {
+            Some(text) => Ok(read_partition_id(&text)),
+            None => Ok(None),
         }
     }
 }

@@ -28,21 +28,22 @@ abbrev pub when : Bool → Finding → List Finding
 when true found = found ∷ []
 when false found = []
 
--- of a load option, in an entry that BootNext names or doesn't: what BootNext names is tried whatever its attributes are
-abbrev pub option_findings_of : Bool → OptionFacts → List Finding
-option_findings_of is_next option =
+-- of a load option, in an entry that BootNext names or doesn't, and that nothing names or something does: what BootNext names
+-- is tried whatever its attributes are, and what nothing names isn't tried though it were active
+abbrev pub option_findings_of : Bool → Bool → OptionFacts → List Finding
+option_findings_of is_next is_unnamed option =
     (((finding.Leads option.lead ∷ [] ++ when option.is_twin finding.Twin)
-    ++ when (not is_next && is_inactive option.attributes) finding.Inactive)
+    ++ when ((not is_next && not is_unnamed) && is_inactive option.attributes) finding.Inactive)
     ++ when (not is_next && is_of_other_category option.attributes) finding.OtherCategory)
     ++ when (is_hidden option.attributes) finding.Hidden
 
-abbrev pub held_findings_of : Bool → Held → List Finding
-held_findings_of is_next held.NoOption = finding.Undecodable ∷ []
-held_findings_of is_next (held.Option option) = option_findings_of is_next option
+abbrev pub held_findings_of : Bool → Bool → Held → List Finding
+held_findings_of is_next is_unnamed held.NoOption = finding.Undecodable ∷ []
+held_findings_of is_next is_unnamed (held.Option option) = option_findings_of is_next is_unnamed option
 
 -- all of them
 abbrev pub findings_of : Facts → List Finding
-findings_of facts = held_findings_of facts.is_next facts.held ++ when facts.is_unnamed finding.Unnamed
+findings_of facts = held_findings_of facts.is_next facts.is_unnamed facts.held ++ when facts.is_unnamed finding.Unnamed
 
 -- the finding says of nothing that it is wrong
 abbrev pub IsNoFault : Finding → Type 0

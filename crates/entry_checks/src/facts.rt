@@ -41,7 +41,7 @@ pub struct OptionFacts {
 }
 
 /// What is found of an entry of which this is known, in the order in which it is told. An entry that BootNext names is tried
-/// whatever its attributes are (UEFI 2.10, 3.1.3 and 3.3).
+/// whatever its attributes are (UEFI 2.10, 3.1.3 and 3.3), and one that nothing names isn't tried though it be active.
 ///
 /// # Errors
 ///
@@ -52,25 +52,27 @@ pub fn findings(alloc: Global, facts: &Facts) -> Result<Vec<Finding>, AllocError
     let mut found = Vec::new(alloc);
     match facts.held {
         Held::NoOption => found.push(Finding::Undecodable)?,
-        Held::Option(option) => push_option(facts.is_next, option, &mut found)?,
+        Held::Option(option) => push_option(facts, option, &mut found)?,
     }
     push_if(facts.is_unnamed, Finding::Unnamed, &mut found)?;
     Ok(found)
 }
 
-/// Appends what is found of the load option of an entry that BootNext names, or doesn't.
+/// Appends what is found of the load option of an entry of which this is known.
 fn push_option(
-    is_next: bool,
+    facts: &Facts,
     option: OptionFacts,
     found: &mut Vec<Finding>,
 ) -> Result<(), AllocError>
-    ensures { OnOk result (found.new.items ≡ found.old.items ++ option_findings_of is_next option) }
+    ensures { OnOk result (found.new.items ≡ found.old.items
+        ++ option_findings_of facts.now.is_next facts.now.is_unnamed option) }
 {
     let attributes = option.attributes;
+    let is_next = facts.is_next;
     found.push(Finding::Leads(option.lead))?;
     push_if(option.is_twin, Finding::Twin, found)?;
     push_if(
-        !is_next && is_inactive(attributes),
+        !is_next && !facts.is_unnamed && is_inactive(attributes),
         Finding::Inactive,
         found,
     )?;

@@ -10,7 +10,7 @@ use crate::lead::Lead;
 pub enum Finding {
     /// Its data is no load option.
     Undecodable,
-    /// It isn't active, and BootNext doesn't name it.
+    /// BootOrder names it, and it isn't active; and BootNext doesn't name it.
     Inactive,
     /// It isn't of the category of the normal boot, and BootNext doesn't name it.
     OtherCategory,
@@ -27,7 +27,7 @@ pub enum Finding {
 /// What a finding says of its entry.
 #[derive(Clone, Copy, Debug, PartialEq, Eq)]
 pub enum Weight {
-    /// The entry can't be started, or a boot doesn't try it by itself though it is in an order, or it is one too many.
+    /// The entry can't be started, or no boot tries it by itself though BootOrder names it, or it is one too many.
     Fault,
     /// Nothing is wrong.
     Remark,
@@ -91,6 +91,14 @@ impl Lead {
                 "its partition is there, and firmware seeks its own file name on it",
             ),
             Lead::NoPartition => fault("no_partition", "its partition isn't on this machine"),
+            Lead::Several => unseen(
+                "several_partitions",
+                "not looked at: several partitions have one PARTUUID, and firmware may take any",
+            ),
+            Lead::Untold => unseen(
+                "untold",
+                "not looked at: the system doesn't tell what its partitions are known by",
+            ),
             Lead::Unmounted => unseen("not_mounted", "not looked at: its partition isn't mounted"),
             Lead::Closed => unseen("not_readable", "not looked at: its folder may not be read"),
             Lead::Unsigned => unseen("unsigned", "not looked at: its partition has no signature"),

@@ -17,6 +17,10 @@ pub enum Lead {
     Partition,
     /// No partition of this machine is known by what the path has.
     NoPartition,
+    /// Several partitions of this machine are known by what the path has.
+    Several,
+    /// This machine doesn't tell what its partitions are known by.
+    Untold,
     /// The path's partition is known by nothing.
     Unsigned,
     /// Behind the partition the path goes on, and not by one file.

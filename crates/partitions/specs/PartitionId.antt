@@ -27,10 +27,15 @@ IsPartitionId text (Mbr signature number) = mbr_id_of text ≡ Some (Mbr signatu
 abbrev pub guid_of : List ℕ → Guid
 guid_of bytes = record { 0 = bytes }
 
+-- the signature of a master boot record with the number of a partition: 0 is that of every disk without a signature, so it
+-- tells none from others
+abbrev pub signed : ℕ → ℕ → Option PartitionId
+signed signature number = if signature == 0 then None else Some (Mbr signature number)
+
 -- what the partition is known by that a node is of: 2 says that the signature is a GUID, 1 that it is that of a master boot
 -- record, in the first four bytes
 abbrev pub id_of_node : HardDriveParts → Option PartitionId
 id_of_node node =
     if node.signature_kind == 2 then Some (Gpt (guid_of node.signature))
-    else (if node.signature_kind == 1 then Some (Mbr (from_le_bytes w32 (take 4 node.signature)) node.partition)
+    else (if node.signature_kind == 1 then signed (from_le_bytes w32 (take 4 node.signature)) node.partition
     else None)

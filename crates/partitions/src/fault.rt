@@ -84,6 +84,51 @@ pub enum PartitionFault {
     /// The number that it is known by isn't its own.
     #[error("OtherNumber")]
     OtherNumber,
+    /// It is in a master boot record without a signature: firmware can't tell its disk from others.
+    #[error("NoSignature")]
+    NoSignature,
+    /// It is in a master boot record, and its number is above 4: firmware has no node for it.
+    #[error("NotPrimary")]
+    NotPrimary,
+}
+
+impl MountFault {
+    /// What is wrong, in words for a person that go on from what the line is called.
+    pub fn words(self) -> &'static str {
+        match self {
+            MountFault::Cut => "it ends too early",
+            MountFault::BadId => "its first field is no number of 32 bits",
+            MountFault::BadParent => "its second field is no number of 32 bits",
+            MountFault::BadDevice => "its third field isn't MAJOR:MINOR",
+            MountFault::BadRoot =>
+                "a backslash in its fourth field isn't before three octal digits of a byte",
+            MountFault::BadPoint =>
+                "a backslash in its fifth field isn't before three octal digits of a byte",
+            MountFault::BadKind =>
+                "a backslash in the type of its file system isn't before three octal digits of a byte",
+            MountFault::OutOfMemory => "out of memory",
+        }
+    }
+}
+
+impl PartitionFault {
+    /// What is wrong, in words for a person that go on from what the partition is called.
+    pub fn words(self) -> &'static str {
+        match self {
+            PartitionFault::NoNumber => "its number is 0, which stands for a whole disk",
+            PartitionFault::BadBlockSize => "a block of its disk isn't a multiple of 512 bytes",
+            PartitionFault::UnevenStart => "it doesn't begin where a block of its disk does",
+            PartitionFault::UnevenSize => "it doesn't end where a block of its disk does",
+            PartitionFault::OtherNumber => "its PARTUUID has the number of another partition",
+            PartitionFault::NoSignature => {
+                "the master boot record of its disk has no signature, by which firmware finds the disk: give it one, as by \
+                 `sfdisk --disk-id`"
+            }
+            PartitionFault::NotPrimary => {
+                "in a master boot record firmware finds the partitions 1 to 4 alone: use one of these, or a GUID partition table"
+            }
+        }
+    }
 }
 
 impl From<AllocError> for MountFault {

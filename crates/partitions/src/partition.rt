@@ -1,7 +1,7 @@
 //! Partitions, and the nodes of a path that they are.
 
 ghost use Rattle.std.specs.Prelude.{◌≡◌, ◌*◌, ◌++◌, replicate, IfOk};
-ghost use Rattle.partitions.specs.Partition.{node_of, node_at};
+ghost use Rattle.partitions.specs.Partition.{node_of, node_at, mbr_node_at};
 
 use crate::fault::PartitionFault;
 use crate::partition_id::PartitionId;
@@ -9,6 +9,9 @@ use uefi_path::HardDriveNode;
 
 /// How many bytes Linux counts by, where it tells of disks, whatever blocks a disk has.
 pub const SECTOR_LEN: u64 = 512;
+
+/// How many partitions a master boot record has itself, which are those that a node can be of (UEFI 2.10, 10.3.5.1).
+const PRIMARY_COUNT: u32 = 4;
 
 /// A partition, as /sys tells of it.
 #[derive(Clone, Copy, Debug, PartialEq, Eq)]
@@ -32,8 +35,9 @@ impl Partition {
     ///
     /// The first of these: [`PartitionFault::NoNumber`] if its number is zero, [`PartitionFault::BadBlockSize`] if the
     /// size of a block isn't a multiple of 512, or is zero, [`PartitionFault::UnevenStart`] and
-    /// [`PartitionFault::UnevenSize`] if it doesn't begin and end where a block does, and
-    /// [`PartitionFault::OtherNumber`] if it is known by another number.
+    /// [`PartitionFault::UnevenSize`] if it doesn't begin and end where a block does,
+    /// [`PartitionFault::OtherNumber`] if it is known by another number, and in a master boot record
+    /// [`PartitionFault::NoSignature`] if the signature is zero, and [`PartitionFault::NotPrimary`] if the number is above 4.
     pub fn node(&self) -> Result<HardDriveNode, PartitionFault>
         ensures node { result ≡ node_of self.now }
         ensures whole_blocks { IfOk result (λ node.
@@ -69,18 +73,36 @@ impl Partition {
                 HardDriveNode::FORMAT_GPT,
                 HardDriveNode::SIGNATURE_GUID,
             )),
-            PartitionId::Mbr { signature, number } if number == self.number => Ok(
-                HardDriveNode::new(
-                    number,
-                    start,
-                    size,
-                    padded(signature.to_le_bytes()),
-                    HardDriveNode::FORMAT_MBR,
-                    HardDriveNode::SIGNATURE_MBR,
-                ),
-            ),
+            PartitionId::Mbr { signature, number } if number == self.number => {
+                self.mbr_node_at(start, size, signature)
+            }
             PartitionId::Mbr { .. } => Err(PartitionFault::OtherNumber),
         }
+    }
+
+    /// The node with this start and size in a master boot record of this signature.
+    fn mbr_node_at(
+        &self,
+        start: u64,
+        size: u64,
+        signature: u32,
+    ) -> Result<HardDriveNode, PartitionFault>
+        ensures { result ≡ mbr_node_at self.now start size signature }
+    {
+        if signature == 0 {
+            return Err(PartitionFault::NoSignature);
+        }
+        if self.number > PRIMARY_COUNT {
+            return Err(PartitionFault::NotPrimary);
+        }
+        Ok(HardDriveNode::new(
+            self.number,
+            start,
+            size,
+            padded(signature.to_le_bytes()),
+            HardDriveNode::FORMAT_MBR,
+            HardDriveNode::SIGNATURE_MBR,
+        ))
     }
 }
 

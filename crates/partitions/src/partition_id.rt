@@ -2,7 +2,7 @@
 
 ghost use Rattle.std.specs.Prelude.{◌≡◌, Some, IfSome};
 ghost use Rattle.partitions.specs.declared.partition_id.PartitionId.{PartitionId};
-ghost use Rattle.partitions.specs.PartitionId.{IsPartitionId, mbr_id_of, id_of_node};
+ghost use Rattle.partitions.specs.PartitionId.{IsPartitionId, mbr_id_of, id_of_node, signed};
 
 use crate::cut::cut;
 use crate::number::{HEXADECIMAL, number_u32};
@@ -34,7 +34,8 @@ pub enum PartitionId {
 
 impl PartitionId {
     /// What the partition is known by that a node is of (UEFI 2.10, 10.3.5.1): the GUID that is its signature, or the first
-    /// four bytes of the signature with the number of the partition. `None` if the node has neither.
+    /// four bytes of the signature with the number of the partition. `None` if the node has neither, or if those bytes are
+    /// zero, which many disks have in the place of a signature.
     pub fn from_node(node: &HardDriveNode) -> Option<PartitionId>
         ensures { result ≡ id_of_node node.now }
     {
@@ -43,13 +44,21 @@ impl PartitionId {
             HardDriveNode::SIGNATURE_GUID => Some(PartitionId::Gpt(Guid(signature))),
             HardDriveNode::SIGNATURE_MBR => {
                 let [a, b, c, d, ..] = signature;
-                Some(PartitionId::Mbr {
-                    signature: u32::from_le_bytes([a, b, c, d]),
-                    number: node.partition(),
-                })
+                signed(u32::from_le_bytes([a, b, c, d]), node.partition())
             }
             _ => None,
         }
+    }
+}
+
+/// What the partition of this number is known by in a master boot record of this signature, if that is one.
+fn signed(signature: u32, number: u32) -> Option<PartitionId>
+    ensures { result ≡ signed signature number }
+{
+    if signature == 0 {
+        None
+    } else {
+        Some(PartitionId::Mbr { signature, number })
     }
 }
 

@@ -1,2 +1,3 @@
 -- What contracts are in terms of.
 pub mod Look
+pub mod Verdict

@@ -4,11 +4,16 @@ use Rattle.entry_checks.specs.declared.lead.Lead.{Lead}
 use Rattle.entry_checks.specs.declared.lead.Lead.TheVariants as lead
 use Rattle.entry_checks.specs.declared.target.Target.{Target}
 use Rattle.entry_checks.specs.declared.target.Target.TheVariants as target
+use Rattle.disk_files.specs.declared.found.PartitionSearch.{PartitionSearch}
+use Rattle.disk_files.specs.declared.found.PartitionSearch.TheVariants as search
 
--- of a partition: that it is there or not, or has no signature by which it could be sought
+-- of a partition: that it is there or not or several times, or can't be sought, as it has no signature or the machine tells
+-- nothing
 abbrev pub OfPartition : Lead → Type 0
 OfPartition lead.Partition = Unit {0}
 OfPartition lead.NoPartition = Unit {0}
+OfPartition lead.Several = Unit {0}
+OfPartition lead.Untold = Unit {0}
 OfPartition lead.Unsigned = Unit {0}
 OfPartition _ = ⊥
 
@@ -20,6 +25,8 @@ OfFile lead.Folder = Unit {0}
 OfFile lead.Unmounted = Unit {0}
 OfFile lead.Closed = Unit {0}
 OfFile lead.NoPartition = Unit {0}
+OfFile lead.Several = Unit {0}
+OfFile lead.Untold = Unit {0}
 OfFile lead.Unsigned = Unit {0}
 OfFile _ = ⊥
 
@@ -28,3 +35,11 @@ abbrev pub CanBe : Target → Lead → Type 0
 CanBe (target.File partition name) found = OfFile found
 CanBe (target.Partition partition) found = OfPartition found
 CanBe (target.Unseen told) found = found ≡ told
+
+-- what a search says that doesn't come to one partition
+abbrev pub IsTold : PartitionSearch → Lead → Type 0
+IsTold search.Missing found = found ≡ lead.NoPartition
+IsTold (search.Several one other) found = found ≡ lead.Several
+IsTold search.Untold found = found ≡ lead.Untold
+IsTold search.Unsigned found = found ≡ lead.Unsigned
+IsTold (search.Found one) found = Unit {0}

@@ -1,5 +1,10 @@
 //! What is found of the variables of a place.
 
+ghost use Rattle.std.specs.Prelude.{◌≡◌, ◌↔◌, IsTrue};
+ghost use Rattle.std.specs.List.{AllByRecursion};
+ghost use Rattle.entry_checks.specs.Facts.{IsNoFault};
+ghost use Rattle.place_checks.specs.Verdict.{has_entry, IsFirstFine};
+
 use crate::check::Verdict;
 use crate::entry::{LookedEntry, look_at_entry};
 use crate::machine::Machine;
@@ -40,26 +45,44 @@ pub(crate) struct Found {
 
 impl Found {
     /// Whether nothing is wrong with it.
-    pub(crate) fn is_ok(&self) -> bool {
+    pub(crate) fn is_ok(&self) -> bool
+        ensures { IsTrue result ↔ AllByRecursion IsNoFault self.now.findings.items }
+    {
         is_ok(&self.findings)
     }
 }
 
 impl Checked {
     /// What is said of the next boot: by the first entry of the plan, which is told first.
-    pub(crate) fn verdict(&self) -> Verdict {
-        match self.found.first() {
-            Some(found) if self.has_plan() && found.is_ok() => Verdict::Fine,
-            _ => Verdict::Wrong,
+    pub(crate) fn verdict(&self) -> Verdict
+        ensures { (result ≡ Verdict.Fine) ↔
+            (IsTrue (has_entry self.now.plan) × IsFirstFine self.now.found.items) }
+    {
+        if self.has_plan() && is_first_ok(&self.found) {
+            Verdict::Fine
+        } else {
+            Verdict::Wrong
         }
     }
 
     /// Whether the next boot tries an entry.
-    fn has_plan(&self) -> bool {
+    fn has_plan(&self) -> bool
+        ensures { result ≡ has_entry self.now.plan }
+    {
         match &self.plan {
             Some(plan) => plan.next.is_some() || !plan.normal.is_empty(),
             None => false,
         }
+    }
+}
+
+/// Whether there is an entry, and nothing is wrong with the first one.
+fn is_first_ok(found: &[Found]) -> bool
+    ensures { IsTrue result ↔ IsFirstFine found.now }
+{
+    match found {
+        [first, ..] => first.is_ok(),
+        [] => false,
     }
 }
 
@@ -72,7 +95,7 @@ pub(crate) fn check_vars<R: Files + AllocGlobal>(
     let alloc = rt.alloc();
     let plan = plan_if_any(alloc, vars)?;
     let numbers = told_numbers(alloc, vars, plan.as_ref())?;
-    let entries = look_at_entries(&Machine { rt, root }, vars, &numbers)?;
+    let entries = look_at_entries(&mut Machine::new(rt, root), vars, &numbers)?;
     let found = find_in_entries(alloc, vars, &entries)?;
     Ok(Checked {
         plan,
@@ -112,7 +135,7 @@ fn told_numbers(
 
 /// Looks where the entries of these numbers lead.
 fn look_at_entries<R: Files + AllocGlobal>(
-    machine: &Machine<'_, R>,
+    machine: &mut Machine<'_, R>,
     vars: &Vars,
     numbers: &[u16],
 ) -> Result<Vec<LookedEntry>, Failure> {

@@ -30,7 +30,7 @@ pub(crate) struct LookedEntry {
 
 /// Looks at the entry of this number, which has these bytes.
 pub(crate) fn look_at_entry<R: Files + AllocGlobal>(
-    machine: &Machine<'_, R>,
+    machine: &mut Machine<'_, R>,
     number: u16,
     bytes: &[u8],
 ) -> Result<LookedEntry, Failure> {
@@ -63,7 +63,7 @@ fn undecodable(
 
 /// Looks at the entry of this number, which has this load option.
 fn look_at_option<R: Files + AllocGlobal>(
-    machine: &Machine<'_, R>,
+    machine: &mut Machine<'_, R>,
     number: u16,
     option: &LoadOption,
 ) -> Result<LookedEntry, Failure> {
@@ -90,7 +90,7 @@ fn look_at_option<R: Files + AllocGlobal>(
 
 /// Looks where a path leads. If that is no file that could be looked at, the text of the path tells where.
 fn look_at_path<R: Files + AllocGlobal>(
-    machine: &Machine<'_, R>,
+    machine: &mut Machine<'_, R>,
     path: &Path,
 ) -> Result<Seen, Failure> {
     let mut seen = machine.look(path_target(path))?;

@@ -1,11 +1,14 @@
 //! The machine on which files are sought.
 
 ghost use Rattle.std.specs.Prelude.{◌≡◌, IfOk};
-ghost use Rattle.place_checks.specs.Look.{CanBe, OfPartition, OfFile};
+ghost use Rattle.place_checks.specs.Look.{CanBe, OfPartition, OfFile, IsTold};
 
-use disk_files::{FoundPartition, find_partition, mounted_folders};
+use disk_files::{
+    PartitionSearch, SeenMounts, SeenPartitions, find_partition, machine_mounts,
+    machine_partitions, mounted_folders,
+};
 use entry_checks::{Lead, Target, name_among};
-use partitions::PartitionId;
+use partitions::DeviceNumber;
 use std::alloc::{AllocError, Global};
 use std::fs;
 use std::io::{self, ErrorKind};
@@ -19,12 +22,16 @@ const SEPARATOR: char = '\\';
 /// The path of all that a file system has.
 const ROOT: &str = "/";
 
-/// The machine whose root a folder stands for, or this one.
-#[derive(Clone, Copy)]
+/// The machine whose root a folder stands for, or this one. What it tells is read once, when it is first needed.
+#[derive(Drop)]
 pub(crate) struct Machine<'a, R> {
     pub(crate) rt: &'a R,
     /// The path of the folder, or nothing.
-    pub(crate) root: &'a str,
+    root: &'a str,
+    /// Its partitions, once they are read.
+    partitions: Option<SeenPartitions>,
+    /// What is mounted, once that is read.
+    mounts: Option<SeenMounts>,
 }
 
 /// Where a path leads.
@@ -33,6 +40,15 @@ pub(crate) struct Seen {
     pub(crate) lead: Lead,
     /// What was looked at, if the path doesn't say it.
     pub(crate) detail: String,
+}
+
+/// A partition that the machine has.
+#[derive(Drop)]
+struct Device {
+    /// What the kernel calls it.
+    name: String,
+    /// Its number.
+    number: DeviceNumber,
 }
 
 /// What the next name of a path leads to.
@@ -68,9 +84,41 @@ impl Seen {
     }
 }
 
-impl<R: Files + AllocGlobal> Machine<'_, R> {
+impl<'a, R: Files + AllocGlobal> Machine<'a, R> {
+    /// The machine whose root this folder stands for, or this one if the path is empty.
+    pub(crate) fn new(rt: &'a R, root: &'a str) -> Machine<'a, R> {
+        Machine {
+            rt,
+            root,
+            partitions: None,
+            mounts: None,
+        }
+    }
+
+    /// Its partitions.
+    fn partitions(&mut self) -> Result<&SeenPartitions, Failure> {
+        if self.partitions.is_none() {
+            self.partitions = Some(machine_partitions(self.rt, self.root)?);
+        }
+        match &self.partitions {
+            Some(seen) => Ok(seen),
+            None => unreachable!(),
+        }
+    }
+
+    /// What is mounted.
+    fn mounts(&mut self) -> Result<&SeenMounts, Failure> {
+        if self.mounts.is_none() {
+            self.mounts = Some(machine_mounts(self.rt, self.root)?);
+        }
+        match &self.mounts {
+            Some(seen) => Ok(seen),
+            None => unreachable!(),
+        }
+    }
+
     /// Looks where a path leads.
-    pub(crate) fn look(&self, target: Target<'_>) -> Result<Seen, Failure>
+    pub(crate) fn look(&mut self, target: Target<'_>) -> Result<Seen, Failure>
         ensures { IfOk result (λ seen. CanBe target.entry seen.lead) }
     {
         match target {
@@ -81,51 +129,50 @@ impl<R: Files + AllocGlobal> Machine<'_, R> {
     }
 
     /// Looks whether a partition is on the machine.
-    fn look_at_partition(&self, partition: &HardDriveNode) -> Result<Seen, Failure>
+    fn look_at_partition(&mut self, partition: &HardDriveNode) -> Result<Seen, Failure>
         ensures { IfOk result (λ seen. OfPartition seen.lead) }
     {
         let alloc = self.rt.alloc();
-        if PartitionId::from_node(partition).is_none() {
-            return Ok(Seen::bare(alloc, Lead::Unsigned));
-        }
-        match find_partition(self.rt, self.root, partition)? {
-            Some(_) => Ok(Seen::bare(alloc, Lead::Partition)),
-            None => Ok(Seen::bare(alloc, Lead::NoPartition)),
+        match find_partition(self.partitions()?, partition) {
+            PartitionSearch::Found(_) => Ok(Seen::bare(alloc, Lead::Partition)),
+            found => Ok(without_partition(alloc, found)?),
         }
     }
 
     /// Looks whether a file of this name is on a partition.
-    fn look_at_file(&self, partition: &HardDriveNode, name: &[u16]) -> Result<Seen, Failure>
+    fn look_at_file(&mut self, partition: &HardDriveNode, name: &[u16]) -> Result<Seen, Failure>
         ensures { IfOk result (λ seen. OfFile seen.lead) }
     {
         let alloc = self.rt.alloc();
-        if PartitionId::from_node(partition).is_none() {
-            return Ok(Seen::bare(alloc, Lead::Unsigned));
-        }
-        match find_partition(self.rt, self.root, partition)? {
-            Some(found) => self.look_on_partition(&found, name),
-            None => Ok(Seen::bare(alloc, Lead::NoPartition)),
-        }
+        let device = match find_partition(self.partitions()?, partition) {
+            PartitionSearch::Found(found) => Device {
+                name: found.name.clone()?,
+                number: found.device,
+            },
+            found => return Ok(without_partition(alloc, found)?),
+        };
+        self.look_on_partition(&device, name)
     }
 
     /// Looks whether a file of this name is on a partition that the machine has.
-    fn look_on_partition(&self, found: &FoundPartition, name: &[u16]) -> Result<Seen, Failure>
+    fn look_on_partition(&mut self, device: &Device, name: &[u16]) -> Result<Seen, Failure>
         ensures { IfOk result (λ seen. OfFile seen.lead) }
     {
         let alloc = self.rt.alloc();
         let name = String::from_utf16_lossy(alloc, name)?;
-        match self.mounted_at(found)? {
+        match self.mounted_at(device.number)? {
             Some(folder) => self.look_in_folder(folder, &name),
             None => {
-                let device = format!(in alloc; "/dev/{}", found.name)?;
+                let device = format!(in alloc; "/dev/{}", device.name)?;
                 Ok(Seen::at(alloc, Lead::Unmounted, &device)?)
             }
         }
     }
 
-    /// The folder at which the root of a partition's file system is mounted, if it is.
-    fn mounted_at(&self, found: &FoundPartition) -> Result<Option<String>, Failure> {
-        let folders = mounted_folders(self.rt, self.root, found.device)?;
+    /// The folder at which the root of the file system on a device is mounted, if it is.
+    fn mounted_at(&mut self, device: DeviceNumber) -> Result<Option<String>, Failure> {
+        let alloc = self.rt.alloc();
+        let folders = mounted_folders(alloc, self.mounts()?, device)?;
         match folders.iter().find(|folder| folder.top.as_str() == ROOT) {
             Some(folder) => Ok(Some(folder.path.clone()?)),
             None => Ok(None),
@@ -189,6 +236,25 @@ impl<R: Files + AllocGlobal> Machine<'_, R> {
             }
         }
         Ok(names)
+    }
+}
+
+/// Where a path leads whose partition is sought, if this comes of it, which isn't one partition.
+fn without_partition(alloc: Global, found: PartitionSearch<'_>) -> Result<Seen, AllocError>
+    ensures told { IfOk result (λ seen. IsTold found.entry seen.lead) }
+    ensures partition { IfOk result (λ seen. OfPartition seen.lead) }
+    ensures file { IfOk result (λ seen. OfFile seen.lead) }
+{
+    match found {
+        PartitionSearch::Several(one, other) => {
+            let names = format!(in alloc; "/dev/{} and /dev/{}", one.name, other.name)?;
+            Seen::at(alloc, Lead::Several, &names)
+        }
+        PartitionSearch::Untold => Ok(Seen::bare(alloc, Lead::Untold)),
+        PartitionSearch::Unsigned => Ok(Seen::bare(alloc, Lead::Unsigned)),
+        PartitionSearch::Missing | PartitionSearch::Found(_) => {
+            Ok(Seen::bare(alloc, Lead::NoPartition))
+        }
     }
 }
 
