@@ -33,8 +33,8 @@ class Case(NamedTuple):
 
     @property
     def is_of_program(self) -> bool:
-        """Whether the program alone runs it, since what makes calls takes minutes for it."""
-        return self.members.get("slow") == "program"
+        """Whether the program alone runs it: what makes calls takes minutes for it, or has files without rights."""
+        return self.members.get("slow") == "program" or "modes" in self.members
 
 
 def read_cases(file: Path) -> List[Case]:

@@ -14,15 +14,28 @@ from case_files import Case, Stated, bytes_of, text_of
 SECONDS = 300
 """After how many seconds a command line has no answer."""
 
+IN_MEMORY = (
+    "in_memory",
+    "refused",
+    "locked",
+    "hidden",
+    "forbidden",
+    "after_names",
+    "after_rename",
+)
+"""The members of a case that only files in memory can have."""
+PIPE = "a named pipe"
+
 
 def runs_in_a_folder(case: Case) -> bool:
     """Whether a case needs a folder and no more.
 
-    Others have files elsewhere, or some that are refused, locked or hidden."""
+    Others have files elsewhere, or some that are refused, locked or hidden, or that somebody else changes.
+    """
     members = case.members
-    if any(name in members for name in ("in_memory", "refused", "locked", "hidden")):
+    if any(name in members for name in IN_MEMORY):
         return False
-    stated = ("files", "texts", "after", "links", "unchecked")
+    stated = ("files", "texts", "after", "links", "devices", "unchecked")
     return not any(path.startswith("/") for name in stated for path in members.get(name, []))
 
 
@@ -101,31 +114,44 @@ class Contents:
         self.files = {path: bytes_of(it) for path, it in stated.items() if path[-1] != "/"}
         texts: Dict[str, Stated] = members.get("texts", {})
         self.files.update({path: text_of(it).encode() for path, it in texts.items()})
+        self.devices: List[str] = members.get("devices", [])
+        for path in self.devices:
+            self.files.pop(path, None)
         self.folders = {path.rstrip("/") for path in stated if path[-1] == "/"}
         self.links: Dict[str, str] = members.get("links", {})
+        self.fifos: List[str] = members.get("fifos", [])
         self.modes = {path: int(it, 8) for path, it in members.get("modes", {}).items()}
         self.after: Dict[str, Stated] = members.get("after", {})
         self.unchecked: List[str] = members.get("unchecked", [])
 
     def make(self, home: Path) -> None:
-        """Makes the files, the folders and the links."""
+        """Makes the files, the folders, the links and the pipes, with their rights."""
         for path in self.folders:
             (home / path).mkdir(parents=True, exist_ok=True)
         for path, content in self.files.items():
             (home / path).parent.mkdir(parents=True, exist_ok=True)
             (home / path).write_bytes(content)
+        for path in self.devices:
+            (home / path).parent.mkdir(parents=True, exist_ok=True)
+            os.mkfifo(home / path)
         for path, target in self.links.items():
             (home / path).parent.mkdir(parents=True, exist_ok=True)
             (home / path).symlink_to(target)
+        for path in self.fifos:
+            (home / path).parent.mkdir(parents=True, exist_ok=True)
+            os.mkfifo(home / path)
         for path, mode in self.modes.items():
-            (home / path).chmod(mode)
+            if (home / path).exists():
+                (home / path).chmod(mode)
 
     def unlike(self, home: Path) -> List[str]:
         """What isn't so after it."""
         found, due = self._found(home), self._due()
         for path in self.unchecked:
-            found.pop(path, None)
-            due.pop(path, None)
+            found[path] = due[path] = "unchecked"
+            if path in self.modes:
+                due[path] = _rights(self.modes[path])
+                found[path] = _rights(stat.S_IMODE((home / path).lstat().st_mode))
         unlike = []
         for path in sorted({*found, *due}):
             one, other = found.get(path, "nothing"), due.get(path, "nothing")
@@ -140,6 +166,8 @@ class Contents:
             status = (home / path).lstat()
             if stat.S_ISLNK(status.st_mode):
                 found[path] = f"a link to {os.readlink(home / path)}"
+            elif stat.S_ISFIFO(status.st_mode):
+                found[path] = PIPE
             elif not stat.S_ISDIR(status.st_mode):
                 mode = stat.S_IMODE(status.st_mode) if path in self.modes else None
                 found[path] = _in_words((home / path).read_bytes(), mode)
@@ -155,12 +183,20 @@ class Contents:
                 files[path] = bytes_of(stated)
         due = {path: _in_words(it, self.modes.get(path)) for path, it in files.items()}
         due.update({path: f"a link to {target}" for path, target in self.links.items()})
+        due.update({path: PIPE for path in [*self.devices, *self.fifos]})
         return due
 
     def _unlike_folders(self, home: Path) -> List[str]:
         """Which of the folders are gone, and which are there without a reason."""
         known = set(self.folders)
-        for path in [*self.files, *self.folders, *self.after, *self.links]:
+        for path in [
+            *self.files,
+            *self.folders,
+            *self.after,
+            *self.links,
+            *self.devices,
+            *self.fifos,
+        ]:
             known.update(str(folder) for folder in Path(path).parents)
         found = {path for path in _below(home) if stat.S_ISDIR((home / path).lstat().st_mode)}
         gone = [f"{path}: no folder" for path in sorted(self.folders - found)]
@@ -177,5 +213,10 @@ def _below(home: Path) -> Set[str]:
 
 def _in_words(content: bytes, mode: Optional[int]) -> str:
     """What a file has, and its rights, if they matter."""
-    rights = "" if mode is None else f", rights {mode:o}"
+    rights = "" if mode is None else f", {_rights(mode)}"
     return f"{len(content)} bytes{rights}: {content.hex()}"
+
+
+def _rights(mode: int) -> str:
+    """The rights of a file, in words."""
+    return f"rights {mode:o}"

@@ -27,7 +27,7 @@ if [[ $1 == --help ]]; then
     echo 'Usage: a program'
     exit
 fi
-if [[ $1 == show && -e $2 ]]; then
+if [[ $1 == show || $1 == explain ]] && [[ -e $2 ]]; then
     shown=$(cat -- "$2")
 fi
 echo "{kind} {name}: $*${{shown:+ has $shown}}"

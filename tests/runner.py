@@ -28,7 +28,7 @@ CRATE = "case_runner"
 LIBRARIES = (
     "uefi_path uefi_text uefi_names uefi_option partitions uefi_vars var_stores boot_requests "
     "whole_files boot_journal boot_edits boot_commands boot_texts var_places boot_history "
-    "disk_files var_commands serde_json hex anyhow"
+    "boot_updates disk_files place_edits var_commands serde_json hex anyhow"
 )
 """What it stands on."""
 
@@ -157,8 +157,9 @@ def all_jobs(programs: Programs, quick: bool) -> List[Job]:
         jobs += wrong_jobs(programs, file, cases)
     for file, cases in files.items():
         others = [case for case in cases if not case.is_slow]
-        shares = min(processors(), len(others) // SHARE + 1)
-        jobs += jobs_of_calls(programs.case_runner, "cases", file, others, shares)
+        calls = [case for case in others if not case.is_of_program]
+        shares = min(processors(), len(calls) // SHARE + 1)
+        jobs += jobs_of_calls(programs.case_runner, "cases", file, calls, shares)
         jobs += jobs_of_command_lines(programs, file, others)
     jobs.append(text_job(programs.case_runner, ["checks"], "checks.txt"))
     jobs.append(text_job(programs.case_runner, ["node-table", str(TABLE)], "node-table.txt"))

@@ -66,7 +66,9 @@ def unproved_programs(folder: Path) -> runner.Programs:
     """What runs the cases, and the two programs, unproved."""
     with ThreadPoolExecutor() as pool:
         case_runner = pool.submit(compiled_runner, folder)
-        programs = {it: pool.submit(trying.compiled, ROOT, it, ["show"], folder) for it in PROGRAMS}
+        programs = {
+            it: pool.submit(trying.compiled, ROOT, it, trying.WAITS[it], folder) for it in PROGRAMS
+        }
         return runner.Programs(
             case_runner.result(), {name: [it.result()] for name, it in programs.items()}
         )

@@ -104,7 +104,7 @@ def run_unproved(program: str, words: List[str]) -> int:
     say(program, "this answer is of the program that isn't proved yet")
     with tempfile.TemporaryDirectory(prefix="bootkeep-") as folder:
         try:
-            file = trying.compiled(ROOT, program, ["show"], Path(folder))
+            file = trying.compiled(ROOT, program, trying.WAITS[program], Path(folder))
             status = subprocess.run([file, *words], check=False).returncode
             status = 128 - status if status < 0 else status
         except trying.NotTried:

@@ -24,6 +24,9 @@ COMPILED_WITHIN = 600
 ANSWERED_WITHIN = 20
 """The same for a copy of it that is asked for its help."""
 
+WAITS = {"bootkeep": ["show"], "bootvars": ["explain"]}
+"""The words of each program before the path of a file at which it waits if that is a FIFO."""
+
 TRIED = re.compile(rb"(?:^|(?<=\n))(?:checked: .*\n)?run=ended status=(\d+) .*proved=no\n\Z")
 """The end of what `rt try` says of a program that ended, on standard error after what that said itself."""
 

@@ -8,15 +8,19 @@ use crate::folder::{history_path, make_history};
 use crate::owner::{HEAD_MAX, Owner, owner_of};
 use crate::reader::read_record;
 use crate::record::Record;
+use crate::stands::{Standing, standing_of};
 use crate::writer::write_record;
 use boot_journal::MachineName;
 use std::alloc::{AllocError, Global};
-use std::fs::{self, File};
+use std::fs;
 use std::io::{self, ErrorKind, Read};
 use std::path::{Path, PathBuf};
 use std::rt::Files;
+use uefi_vars::Vars;
 use var_places::{Failure, Reason};
-use whole_files::{LIMIT, OutputFile, read_file, replace_file, sync_folder};
+use whole_files::{
+    LIMIT, OutputFile, RegularFile, open_regular, read_regular, replace_file, sync_folder,
+};
 
 /// How many records of each machine are kept.
 pub const KEPT_MAX: usize = 16;
@@ -32,14 +36,14 @@ pub struct KeptRecord {
 
 /// Keeps a record in the state folder at this path, and gives its number. It has a file of its own in the folder `history`
 /// there, which is made if it isn't there, for its owner alone. Once that file is on the disk, of the other records of the
-/// machine only the last fifteen stay. The caller keeps others from the state folder, as by its lock, and makes the change
-/// afterwards.
+/// machine only the last fifteen stay: but for those that can't be read or removed, which keep no change from being made.
+/// The caller keeps others from the state folder, as by its lock, and makes the change afterwards.
 ///
 /// # Errors
 ///
-/// [`Failure::Read`] and [`Failure::Write`] if something can't be read, written or removed, [`Failure::Refused`] if the
-/// record would have more than [`LIMIT`] bytes, or there is no number after those of the files that are there, and
-/// [`Failure::Memory`] if memory was refused. If the file of an earlier record can't be removed, the new one is kept.
+/// [`Failure::Read`] and [`Failure::Write`] if the folder can't be read, or the record can't be written, [`Failure::Refused`]
+/// if it would have more than [`LIMIT`] bytes, or there is no number after those of the files that are there, and
+/// [`Failure::Memory`] if memory was refused.
 pub fn push<R: Files<File: OutputFile> + AllocGlobal>(
     rt: &R,
     state: &str,
@@ -121,6 +125,37 @@ pub fn records<R: Files<File: OutputFile> + AllocGlobal>(
     Ok(found)
 }
 
+/// Those of the [`records`] that an undoing may need of the machine, which keeps these variables now: down to the last one
+/// whose change stands. Earlier ones aren't read.
+///
+/// # Errors
+///
+/// As of [`newest`], for each file that is read.
+pub fn records_to_undo<R: Files<File: OutputFile> + AllocGlobal>(
+    rt: &R,
+    state: &str,
+    machine: &MachineName,
+    now: &Vars,
+) -> Result<Vec<KeptRecord>, Failure> {
+    let alloc = rt.alloc();
+    let folder = history_path(alloc, state)?;
+    let folder = folder.as_path();
+    let mut found = Vec::new(alloc);
+    for number in numbers(rt, folder)?.iter().rev() {
+        if let Some(record) = own_record(rt, folder, *number, machine)? {
+            let stands = standing_of(alloc, &record, now)? == Standing::Unchanged;
+            found.push(KeptRecord {
+                number: *number,
+                record,
+            })?;
+            if stands {
+                break;
+            }
+        }
+    }
+    Ok(found)
+}
+
 /// The numbers of the records in the folder at this path, which rise. There are none if it isn't there.
 fn numbers<R: Files + AllocGlobal>(rt: &R, folder: Path<'_>) -> Result<Vec<u64>, Failure> {
     match try_numbers(rt, folder) {
@@ -184,7 +219,8 @@ fn write<R: Files<File: OutputFile> + AllocGlobal>(
 }
 
 /// Removes the oldest records of the machine of this name, of these numbers, which rise, so that with a new one as many as
-/// are kept are left.
+/// are kept are left. One that can't be read or removed stays: the new one is on the disk already, and the next time it is
+/// tried again. This fails only if memory is refused.
 fn remove_oldest<R: Files<File: OutputFile> + AllocGlobal>(
     rt: &R,
     folder: Path<'_>,
@@ -193,14 +229,25 @@ fn remove_oldest<R: Files<File: OutputFile> + AllocGlobal>(
 ) -> Result<(), Failure> {
     let mut own = Vec::new(rt.alloc());
     for number in numbers {
-        if owner(rt, folder, *number, machine)? == Owner::Own {
+        if is_own(owner(rt, folder, *number, machine))? {
             own.push(*number)?;
         }
     }
     for number in oldest(&own) {
-        remove_file(rt, folder, *number)?;
+        if let Err(Failure::Memory) = remove_file(rt, folder, *number) {
+            return Err(Failure::Memory);
+        }
     }
     Ok(())
+}
+
+/// Whether a record is the machine's own, of which this was told.
+fn is_own(told: Result<Owner, Failure>) -> Result<bool, Failure> {
+    match told {
+        Ok(owner) => Ok(owner == Owner::Own),
+        Err(Failure::Memory) => Err(Failure::Memory),
+        Err(_) => Ok(false),
+    }
 }
 
 /// Of these numbers of a machine's records, which rise, those that don't stay beside a new one.
@@ -230,20 +277,24 @@ fn owner<R: Files + AllocGlobal>(
     number: u64,
     machine: &MachineName,
 ) -> Result<Owner, Failure> {
-    let path = file_path(rt.alloc(), folder, number)?;
-    match read_head(rt, path.as_path()) {
-        Ok(head) => Ok(owner_of(&head, machine)),
-        Err(error) => Err(Failure::from_read(rt.alloc(), path.as_path().as_str(), error)),
+    let alloc = rt.alloc();
+    let path = file_path(alloc, folder, number)?;
+    let path = path.as_path().as_str();
+    match read_head(rt, path) {
+        Ok(Some(head)) => Ok(owner_of(&head, machine)),
+        Ok(None) => Err(Failure::refused(alloc, path, Reason::NoRegularFile)),
+        Err(error) => Err(Failure::from_read(alloc, path, error)),
     }
 }
 
-/// The first bytes of the file at this path, in which the name of a machine is.
-fn read_head<R: Files + AllocGlobal>(rt: &R, path: Path<'_>) -> io::Result<Vec<u8>> {
+/// The first bytes of the file at this path, in which the name of a machine is: `None` if it is no regular file.
+fn read_head<R: Files + AllocGlobal>(rt: &R, path: &str) -> io::Result<Option<Vec<u8>>> {
+    let Some(file) = open_regular(rt, path)? else {
+        return Ok(None);
+    };
     let mut head = Vec::new(rt.alloc());
-    File::open(rt, path)?
-        .take(HEAD_MAX as u64)
-        .read_to_end(&mut head)?;
-    Ok(head)
+    file.take(HEAD_MAX as u64).read_to_end(&mut head)?;
+    Ok(Some(head))
 }
 
 /// The record of this number, if it is of the machine of this name.
@@ -259,9 +310,10 @@ fn own_record<R: Files + AllocGlobal>(
     let alloc = rt.alloc();
     let path = file_path(alloc, folder, number)?;
     let path = path.as_path().as_str();
-    match read_file(rt, path, LIMIT) {
-        Ok(Some(bytes)) => Ok(Some(record_of(alloc, path, &bytes)?)),
-        Ok(None) => Err(Failure::refused(alloc, path, Reason::TooMuch(LIMIT))),
+    match read_regular(rt, path, LIMIT) {
+        Ok(RegularFile::Bytes(bytes)) => Ok(Some(record_of(alloc, path, &bytes)?)),
+        Ok(RegularFile::TooMuch) => Err(Failure::refused(alloc, path, Reason::TooMuch(LIMIT))),
+        Ok(RegularFile::Irregular) => { Err(Failure::refused(alloc, path, Reason::NoRegularFile)) }
         Err(error) => Err(Failure::from_read(alloc, path, error)),
     }
 }

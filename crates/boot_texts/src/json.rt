@@ -99,7 +99,7 @@ impl JsonWriter {
 
     /// Appends what isn't an object.
     fn leaf(&mut self, leaf: Leaf<'_>) -> Result<(), AllocError>
-        ensures { OnOk result (WritesText leaf (string_bytes self.old.line) (string_bytes self.new.line)) }
+        ensures { OnOk result (WritesText leaf.entry (string_bytes self.old.line) (string_bytes self.new.line)) }
     {
         match leaf {
             Leaf::Flag(flag) => self.value(flag),
@@ -112,8 +112,8 @@ impl JsonWriter {
             Leaf::Name(name) => self.words(name),
             Leaf::Entry(Some(entry)) => self.words(entry),
             Leaf::Entry(None) | Leaf::Entries(None) => self.null(),
-            Leaf::Entries(Some(entries)) => self.entries(entries.iter().copied()),
-            Leaf::Numbers(numbers) => self.entries(numbers.iter().copied().map(EntryDigits)),
+            Leaf::Entries(Some(entries)) => self.entries(entries),
+            Leaf::Numbers(numbers) => self.numbers(numbers),
             Leaf::Reason(reason) => self.words(reason),
         }
     }
@@ -135,7 +135,7 @@ impl JsonWriter {
 
     /// Appends a text.
     fn text(&mut self, text: Option<&str>) -> Result<(), AllocError>
-        ensures { OnOk result (string_bytes self.new.line ≡ string_bytes self.old.line ++ text_or_null text) }
+        ensures { OnOk result (string_bytes self.new.line ≡ string_bytes self.old.line ++ text_or_null text.entry) }
     {
         match text {
             Some(text) => append_text(text, &mut self.line),
@@ -155,14 +155,29 @@ impl JsonWriter {
     }
 
     /// Appends a list of entries.
-    fn entries<I: Iterator<Item = EntryDigits>>(&mut self, entries: I) -> Result<(), AllocError> {
+    fn entries(&mut self, entries: &[EntryDigits]) -> Result<(), AllocError> {
         self.open('[')?;
         for entry in entries {
-            self.begin_item()?;
-            self.words(entry)?;
-            self.needs_comma = true;
+            self.item(*entry)?;
         }
         self.close(']')
+    }
+
+    /// The same of entries by their numbers.
+    fn numbers(&mut self, numbers: &[u16]) -> Result<(), AllocError> {
+        self.open('[')?;
+        for number in numbers {
+            self.item(EntryDigits(*number))?;
+        }
+        self.close(']')
+    }
+
+    /// Appends an item of a list, a text that is what is shown of a value.
+    fn item<D: Display + Drop>(&mut self, value: D) -> Result<(), AllocError> {
+        self.begin_item()?;
+        self.words(value)?;
+        self.needs_comma = true;
+        Ok(())
     }
 
     /// Appends a text that is what is shown of a value.

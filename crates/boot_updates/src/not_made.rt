@@ -66,7 +66,7 @@ impl NotMade {
             (Some(Refused::Script(_)), _) => Remedy::SendAgain,
             (Some(Refused::LeftOut | Refused::Open(_)), _) => Remedy::MendMachine,
             (None, Failure::TakenBack(_) | Failure::Memory) => Remedy::SendAgain,
-            (None, Failure::Busy(_)) => Remedy::Wait,
+            (None, Failure::Busy(_) | Failure::Held(_)) => Remedy::Wait,
             (None, _) => Remedy::MendMachine,
         }
     }
@@ -80,7 +80,7 @@ fn word_of(failure: &Failure) -> &'static str {
         Failure::Write { .. } | Failure::Change { .. } => "Write",
         Failure::TakenBack(_) => "TakenBack",
         Failure::Unsettled(_) => "Unsettled",
-        Failure::Busy(_) => "Busy",
+        Failure::Busy(_) | Failure::Held(_) => "Busy",
         Failure::Memory => "OutOfMemory",
         Failure::Closed => "Closed",
         Failure::Run { .. } | Failure::Refused { .. } => "Refused",

@@ -4,7 +4,8 @@ use crate::boot_identity::boot_id;
 use crate::history::copies;
 use crate::kept_vars::{KeptVars, kept_of};
 use crate::machine_words::MachineWords;
-use crate::owner::{name_of_machine, own_journal};
+use crate::moves::Moves;
+use crate::owner::{identity_of, own_journal};
 use crate::state_folder::{StoredJournal, stored_with_notes};
 use crate::storage::{Place, PlaceStorage};
 use crate::told::tell_of_settling;
@@ -15,15 +16,15 @@ use std::rc::Rc;
 use std::rt::Files;
 use uefi_vars::Vars;
 use var_places::{
-    Failure, FileKind, Reason, STANDARD, check_damage, file_kind, is_folder, name_of, no_place,
-    read, read_folder, variable_file,
+    Failure, FileKind, Reason, STANDARD, check_damage, file_kind, is_folder, lock_place_file,
+    lock_place_folder, name_of, no_place, read_folder, read_variables, variable_file,
 };
-use whole_files::{OutputFile, lock_file};
+use whole_files::OutputFile;
 
 /// A machine in a place, with its journal.
 pub type Machine<'a, R> = Recorded<PlaceStorage<'a, R>>;
 
-/// A place that was read, and what its machine keeps. A variable file is locked until this is dropped.
+/// A place that was read, and what its machine keeps. It is locked until this is dropped.
 #[derive(Drop)]
 pub struct OpenedPlace<F> {
     pub(crate) place: Place<F>,
@@ -47,18 +48,19 @@ impl<F> OpenedPlace<F> {
     }
 }
 
-/// The folder or the variable file at the path of the words. Tells on standard error what is left out of its variables.
+/// The folder or the variable file at the path of the words, locked: another state folder doesn't keep its changes from this
+/// place. Tells on standard error what is left out of its variables.
 ///
 /// # Errors
 ///
 /// [`Failure::Read`] and [`Failure::Write`] with the system's reason; [`Failure::Refused`] if it is neither of the two, or is
-/// damaged; and [`Failure::Memory`] if memory was refused.
+/// damaged; [`Failure::Held`] if somebody else has its lock; and [`Failure::Memory`] if memory was refused.
 pub fn open_place<R: Files<File: OutputFile> + Input + Eprint + AllocGlobal>(
     rt: &R,
     words: &MachineWords<'_>,
 ) -> Result<OpenedPlace<R::File>, Failure> {
     if is_folder(rt, words.place)? {
-        open_folder(rt, words.place)
+        open_folder(rt, words)
     } else {
         open_file(rt, words)
     }
@@ -109,7 +111,7 @@ fn storage_of<'a, R: Files<File: OutputFile> + AllocGlobal>(
     opened: OpenedPlace<R::File>,
     journal_path: &str,
 ) -> Result<OpenedStorage<'a, R>, Failure> {
-    let machine = name_of_machine(rt, words, opened.kept.is_folder)?;
+    let identity = identity_of(rt, words, opened.kept.is_folder)?;
     let journal = String::from_str(rt.alloc(), journal_path)?;
     let notes = Rc::new(rt.alloc(), RefCell::new(None))?;
     let OpenedPlace { place, kept } = opened;
@@ -117,9 +119,11 @@ fn storage_of<'a, R: Files<File: OutputFile> + AllocGlobal>(
         storage: PlaceStorage {
             rt,
             place,
-            machine,
+            identity,
             journal,
             notes,
+            moves: Moves::Idle,
+            begun: Vec::new(rt.alloc()),
         },
         vars: kept.vars,
     })
@@ -132,7 +136,10 @@ fn machine_over<'a, R: Files<File: OutputFile> + Input + Print + Eprint + AllocG
     boot: &BootId,
 ) -> Result<Machine<'a, R>, Failure> {
     let journal = journal_for(words, &opened, boot)?;
-    let OpenedStorage { storage, vars } = opened;
+    let OpenedStorage { mut storage, vars } = opened;
+    if !journal.is_idle() {
+        storage.moves = Moves::Settling;
+    }
     Ok(Recorded::new(storage.rt.alloc(), storage, vars, journal)?)
 }
 
@@ -164,17 +171,23 @@ struct OpenedStorage<'a, R: Files> {
     vars: Vars,
 }
 
-/// The folder at this path as a place.
-fn open_folder<R: Files + Eprint + AllocGlobal>(
+/// The folder at the path of the words as a place. It is locked before it is read.
+fn open_folder<R: Files<File: OutputFile> + Eprint + AllocGlobal>(
     rt: &R,
-    path: &str,
+    words: &MachineWords<'_>,
 ) -> Result<OpenedPlace<R::File>, Failure> {
     let alloc = rt.alloc();
+    let path = words.place;
+    let lock = lock_place_folder(rt, path)?;
     let folder = read_folder(rt, path)?;
     let kept = kept_of(alloc, path, true, folder.found.copy(alloc)?)?;
     let path = String::from_str(alloc, path)?;
     Ok(OpenedPlace {
-        place: Place::Folder { path, folder },
+        place: Place::Folder {
+            path,
+            folder,
+            _lock: lock,
+        },
         kept,
     })
 }
@@ -189,7 +202,7 @@ fn open_file<R: Files<File: OutputFile> + Input + Eprint + AllocGlobal>(
     if path == STANDARD {
         return Err(Failure::refused(alloc, name_of(path), Reason::Standard));
     }
-    let lock = lock_file(rt, path).map_err(|error| Failure::from_write(alloc, path, error))?;
+    let lock = lock_place_file(rt, path)?;
     let kept = kept_of_file(rt, words)?;
     let path = String::from_str(alloc, path)?;
     Ok(OpenedPlace {
@@ -205,7 +218,7 @@ fn kept_of_file<R: Files + Input + Eprint + AllocGlobal>(
 ) -> Result<KeptVars, Failure> {
     let alloc = rt.alloc();
     let path = words.place;
-    let bytes = read(rt, path)?;
+    let bytes = read_variables(rt, path)?;
     check_kind(alloc, path, &bytes)?;
     if !words.force {
         check_damage(alloc, path, &bytes)?;

@@ -4,26 +4,70 @@ use crate::machine_words::MachineWords;
 use crate::storage::PlaceStorage;
 use boot_journal::{AttributesFault, Journal, JournalFile, MachineName};
 use std::alloc::Global;
+use std::io;
 use std::rt::Files;
 use uefi_vars::Vars;
-use var_places::{Failure, Quoted, machine_name};
+use var_places::{Failure, MachineIdentity, PRODUCT_UUID, Quoted, machine_identity};
 use whole_files::OutputFile;
+
+/// What a machine is called.
+#[derive(Drop)]
+pub(crate) struct Identity {
+    /// Its name.
+    pub(crate) name: MachineName,
+    /// What earlier versions called it, where that was something else.
+    pub(crate) former: Vec<String>,
+    /// Why what should name it can't be read, if that is so.
+    pub(crate) unread: Option<io::Error>,
+}
 
 /// What the machine of the place is called: what `--machine` says, or what the system or the place's path says.
 ///
 /// # Errors
 ///
-/// [`Failure::Words`] if `--machine` is no name, and those of [`machine_name`].
+/// [`Failure::Words`] if `--machine` is no name, and those of [`machine_identity`].
 pub fn name_of_machine<R: Files + AllocGlobal>(
     rt: &R,
     words: &MachineWords<'_>,
     is_folder: bool,
 ) -> Result<MachineName, Failure> {
+    Ok(identity_of(rt, words, is_folder)?.name)
+}
+
+/// The same, with what else is known of its name.
+///
+/// # Errors
+///
+/// As of [`name_of_machine`].
+pub(crate) fn identity_of<R: Files + AllocGlobal>(
+    rt: &R,
+    words: &MachineWords<'_>,
+    is_folder: bool,
+) -> Result<Identity, Failure> {
     let alloc = rt.alloc();
-    let text = match words.machine {
-        Some(text) => String::from_str(alloc, text)?,
-        None => machine_name(rt, words.place, is_folder)?,
-    };
+    match words.machine {
+        Some(text) => Ok(Identity {
+            name: name_of_text(alloc, text)?,
+            former: Vec::new(alloc),
+            unread: None,
+        }),
+        None => {
+            let MachineIdentity {
+                name,
+                former,
+                unread,
+            } = machine_identity(rt, words.place, is_folder)?;
+            Ok(Identity {
+                name: name_of_text(alloc, name.as_str())?,
+                former,
+                unread,
+            })
+        }
+    }
+}
+
+/// The name of a machine that is this text.
+fn name_of_text(alloc: Global, text: &str) -> Result<MachineName, Failure> {
     match MachineName::new(Vec::from_slice(alloc, text.as_bytes())?) {
         Some(name) => Ok(name),
         None => Err(Failure::from_word(
@@ -40,11 +84,14 @@ pub(crate) struct OwnJournal {
     pub(crate) journal: Journal,
     /// Whether its file is yet to be replaced by one that names the machine.
     pub(crate) is_unnamed: bool,
+    /// Whether it was another machine's, so that what is kept beside it is that machine's too.
+    pub(crate) was_others: bool,
 }
 
 /// The journal of the storage's machine, of what was stored: a new one if nothing was. A journal that names no machine is
-/// taken, and so is another machine's by `--adopt` if nothing is left to do: both are replaced by one that names this
-/// machine. What `there` has under the name of a variable begins with its attributes.
+/// taken, and so is one that an earlier version of this program made of the machine under another name, whatever is left to
+/// do, and another machine's by `--adopt` if nothing is left to do: all are replaced by one that names this machine. What
+/// `there` has under the name of a variable begins with its attributes.
 ///
 /// # Errors
 ///
@@ -59,16 +106,19 @@ pub(crate) fn own_journal<R: Files<File: OutputFile> + Input + Print + AllocGlob
     let path = storage.journal.as_str();
     let owner = Owner {
         words,
-        machine: &storage.machine,
+        identity: &storage.identity,
         path,
     };
     let OwnJournal {
         journal,
         is_unnamed,
+        was_others,
     } = owner.take(storage.rt.alloc(), stored, there)?;
-    if is_unnamed {
+    if was_others {
         // The identity was that of another journal.
         let _ = storage.notes.try_replace(None);
+    }
+    if is_unnamed {
         storage.replace(&journal)?;
     }
     Ok(journal)
@@ -80,7 +130,7 @@ pub(crate) struct Owner<'a, 'w> {
     /// The words that name them.
     pub(crate) words: &'a MachineWords<'w>,
     /// What the machine is called.
-    pub(crate) machine: &'a MachineName,
+    pub(crate) identity: &'a Identity,
     /// The path of the journal.
     pub(crate) path: &'a str,
 }
@@ -101,25 +151,25 @@ impl Owner<'_, '_> {
             return Ok(OwnJournal {
                 journal: Journal::new(),
                 is_unnamed: false,
+                was_others: false,
             });
         };
-        match machine {
-            Some(machine) if machine.as_bytes() == self.machine.as_bytes() => Ok(OwnJournal {
-                journal,
-                is_unnamed: false,
-            }),
-            Some(machine) => {
-                self.check_adoption(alloc, &machine, &journal)?;
-                Ok(OwnJournal {
-                    journal,
-                    is_unnamed: true,
-                })
-            }
-            None => Ok(OwnJournal {
+        let Some(machine) = machine else {
+            return Ok(OwnJournal {
                 journal: self.with_attributes(alloc, &journal, there)?,
                 is_unnamed: true,
-            }),
+                was_others: true,
+            });
+        };
+        let standing = self.identity.names(&machine);
+        if standing == Names::Another {
+            self.check_adoption(alloc, &machine, &journal)?;
         }
+        Ok(OwnJournal {
+            journal,
+            is_unnamed: standing != Names::This,
+            was_others: standing == Names::Another,
+        })
     }
 
     /// The journal of a file without a name: its changes have no attributes, and get those that are there.
@@ -137,13 +187,17 @@ impl Owner<'_, '_> {
             })
     }
 
-    /// Refuses the journal of another machine, unless it is to be taken over and has nothing left to do.
+    /// Refuses the journal of another machine, unless it is to be taken over and has nothing left to do. If the machine's
+    /// UUID can't be read, nobody knows whether it is another one.
     fn check_adoption(
         &self,
         alloc: Global,
         machine: &MachineName,
         journal: &Journal,
     ) -> Result<(), Failure> {
+        if let Some(error) = &self.identity.unread {
+            return Err(self.unread(alloc, machine, error));
+        }
         let is_adopted = self.words.adopt;
         if is_adopted && journal.is_idle() {
             return Ok(());
@@ -154,12 +208,49 @@ impl Owner<'_, '_> {
             "give each machine a folder of its own, or take this one over by --adopt"
         };
         let theirs = Quoted(text_of(machine));
-        let own = Quoted(text_of(self.machine));
+        let own = Quoted(text_of(&self.identity.name));
         Err(Failure::from_fault(
             alloc,
             self.path,
             format_args!("it is the journal of machine {theirs}, and this is {own}: {why}"),
         ))
+    }
+
+    /// What it is to the program that the journal names this machine, and which one this is can't be read for this reason.
+    fn unread(&self, alloc: Global, machine: &MachineName, error: &io::Error) -> Failure {
+        let theirs = Quoted(text_of(machine));
+        Failure::from_fault(
+            alloc,
+            self.path,
+            format_args!(
+                "it is the journal of machine {theirs}, and which one this is can't be read of {PRODUCT_UUID}: {error}: be root, or name it by --machine"
+            ),
+        )
+    }
+}
+
+/// Whom the name of a machine names.
+#[derive(Clone, Copy, Debug, PartialEq, Eq)]
+pub(crate) enum Names {
+    /// This machine.
+    This,
+    /// This machine, as earlier versions called it.
+    Former,
+    /// Another machine.
+    Another,
+}
+
+impl Identity {
+    /// Whom this name names.
+    pub(crate) fn names(&self, machine: &MachineName) -> Names {
+        let name = machine.as_bytes();
+        if name == self.name.as_bytes() {
+            Names::This
+        } else if self.former.iter().any(|former| former.as_bytes() == name) {
+            Names::Former
+        } else {
+            Names::Another
+        }
     }
 }
 

@@ -7,7 +7,7 @@ ghost use Rattle.boot_journal.specs.Store.{with_state, stands_for};
 use crate::boot_identity::boot_id;
 use crate::kept_vars::KeptVars;
 use crate::machine_words::MachineWords;
-use crate::owner::{OwnJournal, Owner, name_of_machine};
+use crate::owner::{Names, OwnJournal, Owner, identity_of};
 use crate::state_folder::{StoredJournal, journal_path, stored_with_notes};
 use crate::values::set_value;
 use boot_journal::{BootId, Change, Journal, JournalFile, MachineName};
@@ -51,6 +51,27 @@ pub fn stands_for<R: Files + Eprint + AllocGlobal>(
     Ok(stands_with_notes(rt, words, kept)?.settled)
 }
 
+/// What the machine of the words stands for, if it keeps this now, and an earlier update has left something to do by a
+/// journal that is its own, and that the user may read: otherwise `None`. Nothing is changed.
+///
+/// # Errors
+///
+/// As of [`stands_for`], but that another machine's journal counts as none.
+pub fn left_to_do<R: Files + Eprint + AllocGlobal>(
+    rt: &R,
+    words: &MachineWords<'_>,
+    kept: &KeptVars,
+) -> Result<Option<Vars>, Failure> {
+    let path = journal_path(rt.alloc(), words.state)?;
+    let Some(StoredJournal { file, .. }) = readable_journal(rt, path.as_path().as_str())? else {
+        return Ok(None);
+    };
+    if !is_left_to(rt, words, kept.is_folder, &file)? {
+        return Ok(None);
+    }
+    Ok(Some(stands_for(rt, words, kept)?.vars))
+}
+
 /// The same as of [`stands_for`], with what is kept beside the journal.
 ///
 /// # Errors
@@ -68,19 +89,20 @@ pub(crate) fn stands_with_notes<R: Files + Eprint + AllocGlobal>(
         Some(StoredJournal { notes, file }) => (Some(file), notes),
         None => (None, None),
     };
-    let machine = name_of_machine(rt, words, kept.is_folder)?;
+    let identity = identity_of(rt, words, kept.is_folder)?;
     let owner = Owner {
         words,
-        machine: &machine,
+        identity: &identity,
         path,
     };
     let OwnJournal {
         journal,
-        is_unnamed,
+        is_unnamed: _,
+        was_others,
     } = owner.take(alloc, file, &kept.vars)?;
     Ok(SettledMachine {
         settled: settled_vars(rt, words, kept, &journal)?,
-        notes: if is_unnamed { None } else { notes },
+        notes: if was_others { None } else { notes },
     })
 }
 
@@ -132,14 +154,28 @@ fn may_be_read(stored: &Result<Option<StoredJournal>, Failure>) -> bool {
     }
 }
 
-/// Whether an earlier update of the machine of this name has left something to do, by the journal that was stored: one that
-/// names no machine counts as its own.
-pub fn is_left_to(machine: &MachineName, stored: &JournalFile) -> bool {
-    let is_own = match &stored.machine {
-        Some(name) => name.as_bytes() == machine.as_bytes(),
-        None => true,
-    };
-    is_own && !stored.journal.is_idle()
+/// Whether an earlier update of this machine has left something to do, by the journal that was stored: one that names no
+/// machine counts as its own.
+///
+/// # Errors
+///
+/// As of [`name_of_machine`](crate::name_of_machine).
+pub fn is_left_to<R: Files + AllocGlobal>(
+    rt: &R,
+    words: &MachineWords<'_>,
+    is_folder: bool,
+    stored: &JournalFile,
+) -> Result<bool, Failure> {
+    if stored.journal.is_idle() {
+        return Ok(false);
+    }
+    match &stored.machine {
+        Some(machine) => {
+            let identity = identity_of(rt, words, is_folder)?;
+            Ok(identity.names(machine) != Names::Another)
+        }
+        None => Ok(true),
+    }
 }
 
 /// The variables with the journal's BootKeepState. This fails only if memory is refused.

@@ -1,17 +1,30 @@
 //! The folder that has the journal of a machine.
 
+ghost use Rattle.std.specs.Prelude.{◌≡◌};
+ghost use Rattle.boot_updates.specs.StateAccess.{access_fault};
+
 use boot_journal::{JournalFault, JournalFile, read_journal};
 use boot_notes::{Notes, NotesFault, SplitNotes, split_notes};
 use std::alloc::{AllocError, Global};
-use std::fs::{File, OpenFile};
+use std::fs::{self, File, Metadata, OpenFile};
 use std::io::{self, ErrorKind};
+use std::os::unix::fs::MetadataExt;
 use std::path::{Path, PathBuf};
 use std::rt::Files;
 use var_places::{Failure, Reason, shown};
-use whole_files::{LIMIT, OutputFile, read_file};
+use whole_files::{LIMIT, OutputFile, RegularFile, read_regular};
 
 /// The name of the journal's file.
 const JOURNAL: &str = "journal";
+
+/// What belongs, where Linux shows it, to the user as whom this program runs.
+const OWN_PROCESS: &str = "/proc/self";
+
+/// The user who may write everything anyway.
+const ROOT: u32 = 0;
+
+/// The rights of a folder's group and of others to write it.
+const OTHERS_WRITE: u32 = 0o022;
 
 /// A folder with a journal, of which the lock is held. It ends when this is dropped.
 #[derive(Drop)]
@@ -26,19 +39,26 @@ pub struct StateFolder<F> {
 ///
 /// # Errors
 ///
-/// [`Failure::Read`] if it can't be opened or locked, [`Failure::Refused`] if it is no folder, [`Failure::Busy`] if another
-/// update has the lock, and [`Failure::Memory`] if memory was refused.
+/// [`Failure::Read`] if it can't be opened or locked, [`Failure::Refused`] if it is no folder, or somebody else than root and
+/// the user may write it, who then could have anything done to the machine; [`Failure::Busy`] if another update has the lock,
+/// and [`Failure::Memory`] if memory was refused.
 pub fn lock_folder<R: Files<File: OutputFile> + AllocGlobal>(
     rt: &R,
     path: &str,
 ) -> Result<StateFolder<R::File>, Failure> {
     let alloc = rt.alloc();
     match try_lock_folder(rt, path) {
-        Ok(Some(lock)) => Ok(StateFolder {
+        Ok(Taken::Locked(lock)) => Ok(StateFolder {
             journal: journal_path(alloc, path)?,
             _lock: lock,
         }),
-        Ok(None) => Err(Failure::Busy(shown(alloc, path)?)),
+        Ok(Taken::Busy) => Err(Failure::Busy(shown(alloc, path)?)),
+        Ok(Taken::Refused(AccessFault::Shared)) => {
+            Err(Failure::refused(alloc, path, Reason::SharedState))
+        }
+        Ok(Taken::Refused(AccessFault::Foreign)) => {
+            Err(Failure::refused(alloc, path, Reason::ForeignState))
+        }
         Err(error) if error.kind() == ErrorKind::NotADirectory => {
             Err(Failure::refused(alloc, path, Reason::NoFolder))
         }
@@ -46,17 +66,62 @@ pub fn lock_folder<R: Files<File: OutputFile> + AllocGlobal>(
     }
 }
 
-/// The folder at this path, open and locked: `None` if somebody else has the lock.
-fn try_lock_folder<R: Files<File: OutputFile>>(rt: &R, path: &str) -> io::Result<Option<R::File>> {
+/// What came of locking a folder.
+#[derive(Drop)]
+enum Taken<F> {
+    /// It is open and locked.
+    Locked(F),
+    /// Somebody else has the lock.
+    Busy,
+    /// Somebody else may write it.
+    Refused(AccessFault),
+}
+
+/// Opens the folder at this path, and locks it.
+fn try_lock_folder<R: Files<File: OutputFile>>(rt: &R, path: &str) -> io::Result<Taken<R::File>> {
     let folder = File::open(rt, path)?;
-    if !folder.metadata()?.is_dir() {
+    let found = folder.metadata()?;
+    if !found.is_dir() {
         return Err(io::Error::from(ErrorKind::NotADirectory));
     }
+    if let Some(fault) = fault_of(rt, &found) {
+        return Ok(Taken::Refused(fault));
+    }
     Ok(if folder.try_lock()? {
-        Some(folder)
+        Taken::Locked(folder)
     } else {
-        None
+        Taken::Busy
     })
+}
+
+/// Why a folder isn't kept from others.
+#[derive(Clone, Copy, Debug, PartialEq, Eq)]
+enum AccessFault {
+    /// Its group or others may write it.
+    Shared,
+    /// Its owner is neither root nor the user.
+    Foreign,
+}
+
+/// Why this folder isn't kept from others, if that is so. Which user this is, is told by what belongs to this process; where
+/// that isn't shown, only root's folder counts as kept from others.
+fn fault_of<R: Files>(rt: &R, folder: &Metadata) -> Option<AccessFault> {
+    let user = fs::metadata(rt, OWN_PROCESS).map_or(ROOT, |process| process.uid());
+    access_fault(folder.mode(), folder.uid(), user)
+}
+
+/// Why a folder with these rights and this owner isn't kept from others than this user and root, if that is so.
+fn access_fault(mode: u32, owner: u32, user: u32) -> Option<AccessFault>
+    ensures { result ≡ access_fault mode owner user }
+{
+    if owner != ROOT && owner != user {
+        return Some(AccessFault::Foreign);
+    }
+    if mode & OTHERS_WRITE == 0 {
+        None
+    } else {
+        Some(AccessFault::Shared)
+    }
 }
 
 impl<F> StateFolder<F> {
@@ -106,9 +171,10 @@ pub(crate) fn stored_with_notes<R: Files + AllocGlobal>(
     path: &str,
 ) -> Result<Option<StoredJournal>, Failure> {
     let alloc = rt.alloc();
-    match read_file(rt, path, LIMIT) {
-        Ok(Some(bytes)) => Ok(Some(journal_of(alloc, path, &bytes)?)),
-        Ok(None) => Err(Failure::refused(alloc, path, Reason::TooMuch(LIMIT))),
+    match read_regular(rt, path, LIMIT) {
+        Ok(RegularFile::Bytes(bytes)) => Ok(Some(journal_of(alloc, path, &bytes)?)),
+        Ok(RegularFile::TooMuch) => Err(Failure::refused(alloc, path, Reason::TooMuch(LIMIT))),
+        Ok(RegularFile::Irregular) => Err(Failure::refused(alloc, path, Reason::NoRegularFile)),
         Err(error) if error.kind() == ErrorKind::NotFound => Ok(None),
         Err(error) => Err(Failure::from_read(alloc, path, error)),
     }

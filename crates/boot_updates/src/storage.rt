@@ -1,15 +1,19 @@
 //! A place and a journal, as what a machine's updates are made in.
 
+use crate::moves::{Moves, Way};
 use crate::notes::KeptNotes;
-use crate::variable_file::{is_in_file, set_in_file};
-use boot_journal::{CallError, Change, Journal, MachineName, Storage, write_journal};
+use crate::owner::Identity;
+use crate::variable_file::{change_in_file, is_in_file, set_in_file};
+use boot_journal::{CallError, Change, Journal, Storage, write_journal};
 use boot_notes::{Notes, with_notes};
 use std::alloc::{AllocError, Global};
-use std::io::{self, ErrorKind};
+use std::io::ErrorKind;
 use std::rc::Rc;
 use std::rt::Files;
-use var_places::{Failure, Folder, has_value, set_variable};
-use whole_files::{FileLock, LIMIT, OutputFile, read_file, replace_file};
+use var_places::{
+    ChangeFault, Failure, Folder, KeptChange, Reason, change_variable, has_value, set_variable,
+};
+use whole_files::{FileLock, LIMIT, OutputFile, RegularFile, read_regular, replace_file};
 
 /// Where the variables of a machine are.
 #[derive(Drop)]
@@ -20,6 +24,8 @@ pub(crate) enum Place<F> {
         path: String,
         /// What it showed.
         folder: Folder,
+        /// The folder, which is open and locked from before it is read until the update ends.
+        _lock: F,
     },
     /// In an emulator's variable file.
     File {
@@ -38,18 +44,27 @@ pub struct PlaceStorage<'a, R: Files> {
     /// The place.
     pub(crate) place: Place<R::File>,
     /// What its machine is called.
-    pub(crate) machine: MachineName,
+    pub(crate) identity: Identity,
     /// The path of the journal.
     pub(crate) journal: String,
     /// What is kept beside the journal.
     pub(crate) notes: Rc<KeptNotes>,
+    /// What is being done.
+    pub(crate) moves: Moves,
+    /// The names of the variables that this run has begun to write, since its changes are made for the first time.
+    pub(crate) begun: Vec<String>,
 }
 
 impl<R: Files<File: OutputFile> + Input + Print + AllocGlobal> Storage for PlaceStorage<'_, R> {
     type Refusal = Failure;
 
     fn make(&mut self, change: &Change) -> Result<(), CallError<Failure>> {
-        make_in(self.rt, &mut self.place, change).map_err(call_error)
+        let has_begun = self.begun.iter().any(|name| name.as_str() == change.name());
+        match self.moves.way(has_begun) {
+            Way::Whatever => make_in(self.rt, &mut self.place, change).map_err(call_error),
+            Way::IfUnchanged => self.make_first(change).map_err(call_error),
+            Way::NotAtAll => Ok(()),
+        }
     }
 
     fn has_made(&mut self, change: &Change) -> bool {
@@ -57,12 +72,48 @@ impl<R: Files<File: OutputFile> + Input + Print + AllocGlobal> Storage for Place
     }
 
     fn replace_journal(&mut self, journal: &Journal) -> Result<(), CallError<Failure>> {
-        self.replace(journal).map_err(call_error)
+        let is_idle = journal.is_idle();
+        if !is_idle {
+            // Also if that fails: it may be there nevertheless, and is taken back then.
+            self.moves = self.moves.after(is_idle);
+        }
+        self.replace(journal).map_err(call_error)?;
+        if is_idle {
+            self.moves = self.moves.after(is_idle);
+            self.begun.clear();
+        }
+        Ok(())
     }
 
     fn has_replaced(&mut self, journal: &Journal) -> bool {
         self.may_have(journal)
     }
+}
+
+impl<R: Files<File: OutputFile> + Input + Print + AllocGlobal> PlaceStorage<'_, R> {
+    /// Makes the change for the first time, if the variable is what was read of it.
+    fn make_first(&mut self, change: &Change) -> Result<(), Failure> {
+        let alloc = self.rt.alloc();
+        self.begun.push(String::from_str(alloc, change.name())?)?;
+        let made = make_first_in(self.rt, &mut self.place, change);
+        if let Err(failure) = &made
+            && is_untouched(failure)
+        {
+            let _ = self.begun.pop();
+        }
+        made
+    }
+}
+
+/// Whether a change failed so before anything was written.
+fn is_untouched(failure: &Failure) -> bool {
+    matches!(
+        failure,
+        Failure::Refused {
+            reason: Reason::ChangedMeanwhile | Reason::NotWritten,
+            ..
+        }
+    )
 }
 
 impl<R: Files<File: OutputFile> + AllocGlobal> PlaceStorage<'_, R> {
@@ -110,7 +161,7 @@ impl<R: Files<File: OutputFile> + AllocGlobal> PlaceStorage<'_, R> {
     /// The bytes of the journal's file, with what is kept beside the journal. This fails only when out of memory.
     fn file_of(&self, journal: &Journal) -> Result<Vec<u8>, AllocError> {
         let alloc = self.rt.alloc();
-        let file = write_journal(alloc, &self.machine, journal)?;
+        let file = write_journal(alloc, &self.identity.name, journal)?;
         let Ok(notes) = self.notes.try_borrow() else {
             return Err(AllocError);
         };
@@ -126,15 +177,35 @@ impl<R: Files<File: OutputFile> + AllocGlobal> PlaceStorage<'_, R> {
         let Ok(bytes) = self.file_of(journal) else {
             return true;
         };
-        match read_file(self.rt, self.journal.as_str(), LIMIT) {
-            Ok(Some(stored)) => stored == bytes,
-            Ok(None) => false,
+        match read_regular(self.rt, self.journal.as_str(), LIMIT) {
+            Ok(RegularFile::Bytes(stored)) => stored == bytes,
+            Ok(RegularFile::TooMuch | RegularFile::Irregular) => false,
             Err(error) => error.kind() != ErrorKind::NotFound,
         }
     }
 }
 
-/// Makes the change in the place.
+/// Makes the change in the place, if the variable is what was read of it.
+fn make_first_in<R: Files<File: OutputFile> + Input + Print + AllocGlobal>(
+    rt: &R,
+    place: &mut Place<R::File>,
+    change: &Change,
+) -> Result<(), Failure> {
+    let kept = KeptChange {
+        name: change.name(),
+        before: change.before(),
+        after: change.after(),
+    };
+    match place {
+        Place::Folder { path, folder, .. } => match change_variable(rt, folder, path, &kept) {
+            Ok(()) => Ok(()),
+            Err(fault) => Err(from_change(rt.alloc(), path, kept.name, fault)),
+        },
+        Place::File { path, lock } => change_in_file(rt, path, lock, &kept),
+    }
+}
+
+/// Makes the change in the place, whatever is there.
 fn make_in<R: Files<File: OutputFile> + Input + Print + AllocGlobal>(
     rt: &R,
     place: &mut Place<R::File>,
@@ -142,9 +213,9 @@ fn make_in<R: Files<File: OutputFile> + Input + Print + AllocGlobal>(
 ) -> Result<(), Failure> {
     let (name, kept) = (change.name(), change.after());
     match place {
-        Place::Folder { path, folder } => match set_variable(rt, folder, path, name, kept) {
+        Place::Folder { path, folder, .. } => match set_variable(rt, folder, path, name, kept) {
             Ok(()) => Ok(()),
-            Err(error) => Err(from_change(rt.alloc(), path, name, error)),
+            Err(error) => Err(from_change(rt.alloc(), path, name, ChangeFault::System(error))),
         },
         Place::File { path, lock } => set_in_file(rt, path, lock, name, kept),
     }
@@ -158,7 +229,7 @@ fn is_made_in<R: Files + Input + AllocGlobal>(
 ) -> bool {
     let (name, kept) = (change.name(), change.after());
     match place {
-        Place::Folder { path, folder } => {
+        Place::Folder { path, folder, .. } => {
             has_value(rt, folder, path, name, kept).unwrap_or(false)
         }
         Place::File { path, .. } => is_in_file(rt, path, name, kept).unwrap_or(false),
@@ -183,9 +254,14 @@ fn call_error(failure: Failure) -> CallError<Failure> {
 }
 
 /// What it is to the program that the variable of this name can't be changed in the folder at this path.
-fn from_change(alloc: Global, path: &str, name: &str, error: io::Error) -> Failure {
-    match format!(in alloc; "{path}: {name}") {
-        Ok(name) => Failure::from_write(alloc, name.as_str(), error),
-        Err(AllocError) => Failure::Memory,
+pub(crate) fn from_change(alloc: Global, path: &str, name: &str, fault: ChangeFault) -> Failure {
+    let Ok(name) = format!(in alloc; "{path}: {name}") else {
+        return Failure::Memory;
+    };
+    let name = name.as_str();
+    match fault {
+        ChangeFault::Changed => Failure::refused(alloc, name, Reason::ChangedMeanwhile),
+        ChangeFault::Irregular => Failure::refused(alloc, name, Reason::NotWritten),
+        ChangeFault::System(error) => Failure::from_write(alloc, name, error),
     }
 }

@@ -1,10 +1,13 @@
 //! Changes of single variables of an emulator's variable file.
 
+use crate::storage::from_change;
 use crate::values::set_value;
 use std::alloc::Global;
 use std::rt::Files;
 use uefi_vars::{ATTRIBUTES_LEN, Vars};
-use var_places::{Failure, changed_variable_file, from_store, read};
+use var_places::{
+    ChangeFault, Failure, KeptChange, changed_variable_file, from_store, read_variables,
+};
 use var_stores::{read_store, store_attributes, store_vars};
 use whole_files::{FileLock, OutputFile, rewrite_file};
 
@@ -22,7 +25,43 @@ pub(crate) fn set_in_file<R: Files<File: OutputFile> + Input + Print + AllocGlob
     name: &str,
     kept: Option<&[u8]>,
 ) -> Result<(), Failure> {
-    match changed_file(rt, path, name, kept)? {
+    let bytes = read_variables(rt, path)?;
+    let stored = read_stored(rt.alloc(), path, &bytes)?;
+    let changed = changed_file(rt.alloc(), path, (bytes.as_slice(), &stored), name, kept)?;
+    rewrite(rt, path, lock, changed)
+}
+
+/// Makes the change in the file at this path as [`set_in_file`] does, if the variable is what was read of it: a program that
+/// takes no lock may have changed it since.
+///
+/// # Errors
+///
+/// As of [`set_in_file`], and [`Failure::Refused`] if it isn't.
+pub(crate) fn change_in_file<R: Files<File: OutputFile> + Input + Print + AllocGlobal>(
+    rt: &R,
+    path: &str,
+    lock: &mut FileLock<R::File>,
+    change: &KeptChange<'_>,
+) -> Result<(), Failure> {
+    let alloc = rt.alloc();
+    let (name, after) = (change.name, change.after);
+    let bytes = read_variables(rt, path)?;
+    let stored = read_stored(alloc, path, &bytes)?;
+    if !stored.keeps(name, change.before) && !stored.keeps(name, after) {
+        return Err(from_change(alloc, path, name, ChangeFault::Changed));
+    }
+    let changed = changed_file(alloc, path, (bytes.as_slice(), &stored), name, after)?;
+    rewrite(rt, path, lock, changed)
+}
+
+/// Replaces the file at this path by these bytes, if there are some.
+fn rewrite<R: Files<File: OutputFile> + AllocGlobal>(
+    rt: &R,
+    path: &str,
+    lock: &mut FileLock<R::File>,
+    bytes: Option<Vec<u8>>,
+) -> Result<(), Failure> {
+    match bytes {
         Some(bytes) => rewrite_file(rt, lock, &bytes).map_err(|error| Failure::from_write(
             rt.alloc(),
             path,
@@ -32,25 +71,24 @@ pub(crate) fn set_in_file<R: Files<File: OutputFile> + Input + Print + AllocGlob
     }
 }
 
-/// What the file at this path is to be, for the variable to be kept so: `None` if it is.
-fn changed_file<R: Files + Input + AllocGlobal>(
-    rt: &R,
+/// What the file at this path is to be, which has these bytes and this is stored in, for the variable to be kept so: `None`
+/// if it is.
+fn changed_file(
+    alloc: Global,
     path: &str,
+    (bytes, stored): (&[u8], &Stored),
     name: &str,
     kept: Option<&[u8]>,
 ) -> Result<Option<Vec<u8>>, Failure> {
-    let alloc = rt.alloc();
-    let bytes = read(rt, path)?;
-    let stored = read_stored(alloc, path, &bytes)?;
     if stored.keeps(name, kept) {
         return Ok(None);
     }
     if stored.has_data(name, kept) {
         // Its attributes are others, and a record with the same data isn't written anew.
-        let bytes = with_variable(alloc, path, &bytes, name, None)?;
+        let bytes = with_variable(alloc, path, bytes, name, None)?;
         return Ok(Some(with_variable(alloc, path, &bytes, name, kept)?));
     }
-    Ok(Some(with_variable(alloc, path, &bytes, name, kept)?))
+    Ok(Some(with_variable(alloc, path, bytes, name, kept)?))
 }
 
 /// The file at this path, which has these bytes, with the variable kept so, or without it.
@@ -84,7 +122,7 @@ pub(crate) fn is_in_file<R: Files + Input + AllocGlobal>(
     name: &str,
     kept: Option<&[u8]>,
 ) -> Result<bool, Failure> {
-    let bytes = read(rt, path)?;
+    let bytes = read_variables(rt, path)?;
     Ok(read_stored(rt.alloc(), path, &bytes)?.keeps(name, kept))
 }
 

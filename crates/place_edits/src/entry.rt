@@ -2,7 +2,7 @@
 
 use boot_texts::EntryName;
 use std::rt::Files;
-use var_places::{Failure, lock, name_of, read_place, write};
+use var_places::{Failure, check_output, lock, name_of, read_place, write};
 use whole_files::OutputFile;
 
 /// Makes a file of the bytes of an entry of a place: the data of its variable, without attributes.
@@ -10,7 +10,8 @@ use whole_files::OutputFile;
 /// # Errors
 ///
 /// [`Failure::Run`] if there is no such entry; [`Failure::Read`] and [`Failure::Refused`] if the place can't be read;
-/// [`Failure::Write`] if the file can't be made; and [`Failure::Memory`] if memory was refused.
+/// [`Failure::Refused`] also if it is the file that is to be made; [`Failure::Write`] if the file can't be made; and
+/// [`Failure::Memory`] if memory was refused.
 pub fn get_entry<R: Files<File: OutputFile> + Input + Print + Eprint + AllocGlobal>(
     rt: &R,
     place: &str,
@@ -19,6 +20,7 @@ pub fn get_entry<R: Files<File: OutputFile> + Input + Print + Eprint + AllocGlob
 ) -> Result<(), Failure> {
     let output = lock(rt, out);
     let vars = read_place(rt, place)?;
+    check_output(rt, out, place)?;
     match vars.entry(entry) {
         Some(bytes) => write(rt, output?, bytes),
         None => {

@@ -9,13 +9,13 @@ use crate::left_out::check_edit;
 use boot_edits::{EditAnswer, make_edit};
 use boot_journal::settle;
 use boot_updates::{
-    KeptVars, MachineWords, from_settling, is_left_to, name_of_machine, open_machine, open_place,
-    read_kept, set_of, stored_journal,
+    KeptVars, MachineWords, from_settling, is_left_to, open_machine, open_place, read_kept, set_of,
+    stored_journal,
 };
 use std::alloc::{AllocError, Global};
 use std::rt::{Clock, Files};
 use uefi_vars::{Vars, boot_changes, write_set};
-use var_places::{Failure, changed_variable_file, lock, note, read, set_vars, write};
+use var_places::{Failure, changed_variable_file, lock_place, note, read, set_vars, write};
 use whole_files::OutputFile;
 
 /// Makes the change in an emulator's variable file, which is locked meanwhile, after what an earlier update has left to do
@@ -30,7 +30,7 @@ pub(crate) fn edit_variable_file<
     let machine = &words.machine;
     let folder = folder_if_any(rt, machine)?;
     if let Some(folder) = &folder {
-        settle_left(rt, machine, folder.journal())?;
+        settle_left(rt, machine, false, folder.journal())?;
     }
     let led = edit_locked_file(rt, words, folder.is_some())?;
     without_attributes(rt.alloc(), words, led)
@@ -43,7 +43,7 @@ fn edit_locked_file<R: Files<File: OutputFile> + Clock + Input + Print + Eprint 
     is_kept: bool,
 ) -> Result<Led<EditAnswer>, Failure> {
     let machine = &words.machine;
-    let output = lock(rt, machine.place)?;
+    let output = lock_place(rt, machine.place)?;
     let kept = read_kept(rt, machine)?;
     let led = edited(rt.alloc(), words, &kept)?;
     if let Some(bytes) = changed_file(rt, machine, &kept, (&led.from, &led.to))? {
@@ -65,7 +65,7 @@ fn edited(
     run_over(alloc, words, &kept.vars)
 }
 
-/// Does what an earlier update of the variable file has left to do, by the journal at this path.
+/// Does what an earlier update of the machine, in a folder or a variable file, has left to do, by the journal at this path.
 ///
 /// # Errors
 ///
@@ -73,13 +73,14 @@ fn edited(
 pub(crate) fn settle_left<R: Files<File: OutputFile> + Input + Print + Eprint + AllocGlobal>(
     rt: &R,
     machine: &MachineWords<'_>,
+    is_folder: bool,
     journal_path: &str,
 ) -> Result<(), Failure> {
     let alloc = rt.alloc();
     let Some(stored) = stored_journal(rt, journal_path)? else {
         return Ok(());
     };
-    if !is_left_to(&name_of_machine(rt, machine, false)?, &stored) {
+    if !is_left_to(rt, machine, is_folder, &stored)? {
         return Ok(());
     }
     let (mut kept, boot) = open_machine(rt, machine, open_place(rt, machine)?, journal_path)?;
@@ -130,7 +131,7 @@ pub(crate) fn edit_set_file<R: Files<File: OutputFile> + Input + Print + Eprint 
     if words.dry_run {
         return edited_set(rt, words);
     }
-    let output = lock(rt, place)?;
+    let output = lock_place(rt, place)?;
     let led = edited_set(rt, words)?;
     if is_changed(rt.alloc(), &led.from, &led.to)? {
         write(rt, output, &write_set(rt.alloc(), &led.to)?)?;

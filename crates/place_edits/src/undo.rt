@@ -4,15 +4,15 @@ use crate::file_edits::{changed_file, settle_left};
 use crate::place_kind::{PlaceKind, place_kind};
 use crate::undo_run::{ChangedSince, UndoFault, UndoRun, Undone};
 use crate::written::Written;
-use boot_history::{records, remove, time_text};
-use boot_journal::{CallError, CommandError, Run, command, settle};
+use boot_history::{records_to_undo, remove, time_text};
+use boot_journal::{CallError, CommandError, Machine, Run, command, settle};
 use boot_updates::{
     KeptVars, MachineWords, SettledVars, changes_text, from_settling, from_updating, lock_folder,
     name_of_machine, open_machine, open_place, read_kept, stands_for, tell_of_due,
 };
 use std::rt::Files;
 use uefi_vars::Vars;
-use var_places::{Failure, lock, note, print, write};
+use var_places::{Failure, lock_place, note, print, write};
 use whole_files::OutputFile;
 
 /// The words of an undoing.
@@ -100,7 +100,7 @@ fn undo_machine<R: Files<File: OutputFile> + Input + Print + Eprint + AllocGloba
     let left_out = opened.copy_left_out(alloc)?;
     let (mut kept, boot) = open_machine(rt, machine, opened, journal_path)?;
     settle(alloc, &mut kept, &boot).map_err(|error| from_settling(alloc, machine, error))?;
-    let changes = records(rt, machine.state, &name)?;
+    let changes = records_to_undo(rt, machine.state, &name, &kept.read_vars(alloc)?)?;
     let run = UndoRun {
         rt,
         words,
@@ -123,8 +123,8 @@ fn undo_file<R: Files<File: OutputFile> + Input + Print + Eprint + AllocGlobal>(
 ) -> Result<Undone, Failure> {
     let machine = &words.machine;
     let folder = lock_folder(rt, machine.state)?;
-    settle_left(rt, machine, folder.journal())?;
-    let output = lock(rt, machine.place)?;
+    settle_left(rt, machine, false, folder.journal())?;
+    let output = lock_place(rt, machine.place)?;
     let kept = read_kept(rt, machine)?;
     let undone = undone_over(rt, words, &kept, &kept.vars)?;
     if let Some(bytes) = changed_file(rt, machine, &kept, (&undone.led.from, &undone.led.to))? {
@@ -157,7 +157,7 @@ fn undone_over<R: Files<File: OutputFile> + Print + Eprint + AllocGlobal>(
 ) -> Result<Undone, Failure> {
     let machine = &words.machine;
     let name = name_of_machine(rt, machine, kept.is_folder)?;
-    let changes = records(rt, machine.state, &name)?;
+    let changes = records_to_undo(rt, machine.state, &name, vars)?;
     let run = UndoRun {
         rt,
         words,

@@ -1,19 +1,23 @@
 //! The command `write`, which makes the boot variables of a place those of a set.
 
+use crate::file_edits::settle_left;
 use crate::history::{folder_if_any, keep_before};
+use crate::place_kind::{PlaceKind, place_kind};
 use crate::takeable::{Takeable, takeable_part, tell_of_missing};
 use crate::written::Written;
 use boot_journal::{AttributesFault, with_attributes};
 use boot_texts::{change_report, diff_json, diff_report, naming_change};
-use boot_updates::{KeptVars, MachineWords, StateFolder, kept_of, tell_of_coming};
+use boot_updates::{
+    KeptVars, MachineWords, StateFolder, kept_of, left_to_do, set_of, tell_of_coming, tell_of_due,
+};
 use std::alloc::{AllocError, Global};
 use std::rt::{Clock, Files};
 use std::{fs, io};
 use uefi_vars::{BootChange, KEEP_STATE, Vars, boot_changes, entry_number};
 use var_places::{
-    Failure, FileKind, Folder, Reason, STANDARD, changed_set, changed_variable_file, check_damage,
-    file_kind, is_folder, lock, make_change, name_of, no_place, note, print, read, read_folder,
-    set_vars, shown, variable_file, write,
+    Failure, FileKind, Folder, Reason, changed_set, changed_variable_file, check_damage, file_kind,
+    is_folder, lock_place, lock_place_folder, make_change, name_of, no_place, note, print, read,
+    read_folder, read_variables, set_vars, shown, variable_file, write,
 };
 use whole_files::OutputFile;
 
@@ -38,31 +42,31 @@ pub struct WriteWords<'a> {
 
 /// Makes the boot variables of a place those of a set, and prints each change; or prints how the two differ, for a dry run.
 /// Entries that would have to be stored in a folder and that firmware refuses are left out, which is told. Tells on standard
-/// error which entries will be in no order, and aren't so before. Of a folder and a variable file the state folder keeps what
-/// was there before, for [`undo_change`](crate::undo_change).
+/// error which entries will be in no order, and aren't so before. What an earlier update of the machine has left to do, by the
+/// journal in the state folder, is done first: otherwise the next settling would write over what is written. Of a folder and
+/// a variable file the state folder keeps what was there before, for [`undo_change`](crate::undo_change).
 ///
 /// # Errors
 ///
-/// [`Failure::Refused`] if the set is none, is damaged or has no entry, or the place is none, is damaged or doesn't take
-/// the changes; [`Failure::Busy`] if an update is at work; [`Failure::Read`], [`Failure::Write`] and [`Failure::Change`] with the
-/// system's reason; and [`Failure::Memory`] if memory was refused.
+/// [`Failure::Refused`] if the set is none, is damaged or has no entry, or the place or the journal is none, is damaged or
+/// doesn't take the changes; [`Failure::Busy`] if an update is at work; [`Failure::Words`] if the identity of the start is needed
+/// and isn't given, or it or the machine's name isn't one; [`Failure::TakenBack`] and [`Failure::Unsettled`] if the system
+/// refused what was left to do, and nothing else is done; [`Failure::Read`], [`Failure::Write`] and [`Failure::Change`] with
+/// the system's reason; and [`Failure::Memory`] if memory was refused.
 pub fn write_place<R: Files<File: OutputFile> + Clock + Input + Print + Eprint + AllocGlobal>(
     rt: &R,
     words: &WriteWords<'_>,
 ) -> Result<Written, Failure> {
-    let place = words.machine.place;
     let to = read_set_file(rt, words.set)?;
     if !words.empty && !has_entry(&to) {
         return Err(Failure::refused(rt.alloc(), name_of(words.set), Reason::NoEntry));
     }
-    if place == STANDARD {
-        return Err(Failure::refused(rt.alloc(), name_of(place), Reason::Standard));
-    }
-    if is_folder(rt, place)? {
-        write_folder(rt, words, &to)
-    } else {
-        write_to_file(rt, words, &to)?;
-        Ok(Written::Whole)
+    match place_kind(rt, words.machine.place)? {
+        PlaceKind::Folder => write_folder(rt, words, &to),
+        kind => {
+            write_to_file(rt, words, kind, &to)?;
+            Ok(Written::Whole)
+        }
     }
 }
 
@@ -76,6 +80,25 @@ fn state_folder<R: Files<File: OutputFile> + Eprint + AllocGlobal>(
     } else {
         Ok(None)
     }
+}
+
+/// What a set would hold of a machine that keeps this now, once what an earlier update has left to do is done, which is
+/// told: `None` if nothing is left to do.
+fn after_due<R: Files + Eprint + AllocGlobal>(
+    rt: &R,
+    words: &WriteWords<'_>,
+    kept: &KeptVars,
+) -> Result<Option<Vars>, Failure> {
+    let machine = &words.machine;
+    let Some(vars) = left_to_do(rt, machine, kept)? else {
+        return Ok(None);
+    };
+    tell_of_due(rt, machine.state);
+    let mut set = set_of(rt.alloc(), machine.place, &vars)?;
+    for name in &kept.left_out {
+        set.remove(name.as_str());
+    }
+    Ok(Some(set))
 }
 
 /// Keeps in the state folder, which is locked, what the machine keeps before it has the boot variables of a set, and what
@@ -109,7 +132,7 @@ fn read_set_file<R: Files + Input + AllocGlobal>(rt: &R, path: &str) -> Result<V
     if is_folder(rt, path)? {
         return Err(Failure::refused(alloc, name, Reason::Folder));
     }
-    let bytes = read(rt, path)?;
+    let bytes = read_variables(rt, path)?;
     match file_kind(&bytes) {
         FileKind::Set => set_vars(alloc, name, &bytes),
         FileKind::VariableFile => Err(Failure::refused(alloc, name, Reason::VariableFile)),
@@ -147,15 +170,19 @@ fn note_unnamed<R: Eprint + AllocGlobal>(
 fn write_to_file<R: Files<File: OutputFile> + Clock + Input + Print + Eprint + AllocGlobal>(
     rt: &R,
     words: &WriteWords<'_>,
+    kind: PlaceKind,
     to: &Vars,
 ) -> Result<(), Failure> {
-    let place = words.machine.place;
-    check_regular(rt, place)?;
     if words.dry_run {
         let planned = plan_file(rt, words, to)?;
         return print(rt, planned.change.report.as_bytes());
     }
     let folder = state_folder(rt, words)?;
+    if kind == PlaceKind::VariableFile
+        && let Some(folder) = &folder
+    {
+        settle_left(rt, &words.machine, false, folder.journal())?;
+    }
     change_file(rt, words, to, folder.is_some())
 }
 
@@ -166,7 +193,7 @@ fn change_file<R: Files<File: OutputFile> + Clock + Input + Print + Eprint + All
     to: &Vars,
     is_kept: bool,
 ) -> Result<(), Failure> {
-    let output = lock(rt, words.machine.place)?;
+    let output = lock_place(rt, words.machine.place)?;
     let planned = plan_file(rt, words, to)?;
     if planned.change.is_some {
         if is_kept && let Some(kept) = &planned.kept {
@@ -210,7 +237,12 @@ fn plan_file<R: Files + Input + Eprint + AllocGlobal>(
         check_damage(alloc, place, &bytes)?;
     }
     let FileVars { vars, kept } = file_vars(rt, place, &bytes)?;
-    let change = plan_change(rt, words, &bytes, (&vars, to))?;
+    let due = match &kept {
+        Some(kept) if words.dry_run => after_due(rt, words, kept)?,
+        _ => None,
+    };
+    let from = due.as_ref().unwrap_or(&vars);
+    let change = plan_change(rt, words, &bytes, (from, to))?;
     Ok(PlannedFile { change, kept })
 }
 
@@ -287,15 +319,6 @@ fn changed_bytes<R: Eprint + AllocGlobal>(
     }
 }
 
-/// Refuses a path at which no regular file is, and which so can't be replaced.
-fn check_regular<R: Files + AllocGlobal>(rt: &R, path: &str) -> Result<(), Failure> {
-    match fs::metadata(rt, path) {
-        Ok(found) if found.is_file() => Ok(()),
-        Ok(_) => Err(Failure::refused(rt.alloc(), path, Reason::Irregular)),
-        Err(error) => Err(Failure::from_read(rt.alloc(), path, error)),
-    }
-}
-
 /// What tells of the changes from the one set to the other: JSON, all that `diff` shows for a dry run, or the lines of the
 /// changes alone.
 fn report(
@@ -323,7 +346,7 @@ fn change_lines(alloc: Global, changes: &[BootChange<'_>]) -> Result<String, All
 }
 
 /// Writes to a folder, one variable after the other.
-fn write_folder<R: Files<File: OutputFile> + Clock + Print + Eprint + AllocGlobal>(
+fn write_folder<R: Files<File: OutputFile> + Clock + Input + Print + Eprint + AllocGlobal>(
     rt: &R,
     words: &WriteWords<'_>,
     to: &Vars,
@@ -332,6 +355,9 @@ fn write_folder<R: Files<File: OutputFile> + Clock + Print + Eprint + AllocGloba
         return plan_folder(rt, words, to);
     }
     let state = state_folder(rt, words)?;
+    if let Some(state) = &state {
+        settle_left(rt, &words.machine, true, state.journal())?;
+    }
     change_folder(rt, words, to, state.is_some())
 }
 
@@ -342,7 +368,8 @@ fn plan_folder<R: Files + Print + Eprint + AllocGlobal>(
     to: &Vars,
 ) -> Result<Written, Failure> {
     let folder = read_folder(rt, words.machine.place)?;
-    let from = &folder.found.vars;
+    let due = after_due(rt, words, &kept_in(rt.alloc(), words, &folder)?)?;
+    let from = due.as_ref().unwrap_or(&folder.found.vars);
     let takeable = told_takeable(rt, words, from, to)?;
     let changes = boot_changes(rt.alloc(), from, &takeable.vars)?;
     print(
@@ -359,6 +386,7 @@ fn change_folder<R: Files<File: OutputFile> + Clock + Print + Eprint + AllocGlob
     to: &Vars,
     is_kept: bool,
 ) -> Result<Written, Failure> {
+    let _lock = lock_place_folder(rt, words.machine.place)?;
     let folder = read_folder(rt, words.machine.place)?;
     let takeable = told_takeable(rt, words, &folder.found.vars, to)?;
     if is_kept {
@@ -389,9 +417,12 @@ fn keep_folder<R: Files<File: OutputFile> + Clock + Eprint + AllocGlobal>(
     folder: &Folder,
     to: &Vars,
 ) -> Result<(), Failure> {
-    let alloc = rt.alloc();
-    let kept = kept_of(alloc, words.machine.place, true, folder.found.copy(alloc)?)?;
-    keep(rt, words, &kept, to)
+    keep(rt, words, &kept_in(rt.alloc(), words, folder)?, to)
+}
+
+/// What the machine keeps whose variables are in a folder.
+fn kept_in(alloc: Global, words: &WriteWords<'_>, folder: &Folder) -> Result<KeptVars, Failure> {
+    kept_of(alloc, words.machine.place, true, folder.found.copy(alloc)?)
 }
 
 /// Makes the boot variables of a folder those of a set, and prints the changes.

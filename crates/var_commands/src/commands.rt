@@ -411,9 +411,10 @@ static WRITE_COMMANDS: [CommandRow; 1] = [CommandRow {
             ..ArgRow::FLAG
         },
         ArgRow {
-            help: "The folder that keeps what was there before, in place of /var/lib/bootkeep if that is there",
+            help: "The folder that keeps what is left to do and what was there before, in place of /var/lib/bootkeep if that is there",
             ..STATE
         },
+        BOOT_ID,
         MACHINE,
         FORCE,
     ],

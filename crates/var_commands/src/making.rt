@@ -15,21 +15,58 @@ use std::alloc::{AllocError, Global};
 use std::rt::Files;
 use uefi_path::Path;
 use uefi_text::path_text;
-use var_places::{Failure, Quoted, Reason, lock, name_of, no_option, print, read, write};
+use var_places::{
+    Failure, Quoted, Reason, check_output, lock, name_of, no_option, print, read, write,
+};
 use whole_files::OutputFile;
 
 /// Makes a file with the load option of these words. Tells on standard error which paths had doubled backslashes.
 ///
 /// # Errors
 ///
-/// Those of [`option_of_words`], and [`Failure::Write`] if the option can't be written.
+/// Those of [`option_of_words`]; [`Failure::Refused`] if the file is one that the words name, and [`Failure::Write`] if the
+/// option can't be written.
 pub(crate) fn make_option<R: Files<File: OutputFile> + Input + Print + Eprint + AllocGlobal>(
     rt: &R,
     words: &LoadOptionWords<'_>,
     out: &str,
 ) -> Result<(), Failure> {
     let bytes = option_of_words(rt, words)?;
-    write(rt, lock(rt, out)?, &bytes)
+    let output = lock(rt, out)?;
+    check_inputs(rt, words, out)?;
+    write(rt, output, &bytes)
+}
+
+/// Refuses an output that is the file with the optional data, or the one that firmware is to load.
+fn check_inputs<R: Files + AllocGlobal>(
+    rt: &R,
+    words: &LoadOptionWords<'_>,
+    out: &str,
+) -> Result<(), Failure> {
+    if let OptionalWords::File(file) = words.optional {
+        check_output(rt, out, file)?;
+    }
+    if let PathWords::Loader(
+        LoaderWords {
+            file,
+            disk: None,
+            root,
+            ..
+        },
+    ) = words.paths
+    {
+        check_output(rt, out, below(rt.alloc(), root, file)?.as_str())?;
+    }
+    Ok(())
+}
+
+/// The path of a file below a root, which may be nothing. This fails only when out of memory.
+fn below(alloc: Global, root: &str, file: &str) -> Result<String, AllocError> {
+    if root.is_empty() {
+        String::from_str(alloc, file)
+    } else {
+        format!(in alloc; "{root}/{file}")
+    }
 }
 
 /// The bytes of the load option of these words.

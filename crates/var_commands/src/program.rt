@@ -22,8 +22,8 @@ use uefi_vars::{
     BOOT_NEXT, BOOT_ORDER, Changes, KEEP_STATE, Vars, boot_changes, entry_number, write_set,
 };
 use var_places::{
-    Failure, Output, Reason, SHOWN_MAX, STANDARD, Shortened, has_keep_state, lock, name_of, print,
-    read_place, write,
+    Failure, FileKind, Output, Reason, SHOWN_MAX, STANDARD, Shortened, check_output, file_kind,
+    has_keep_state, is_same_file, lock, name_of, print, read, read_place, write,
 };
 use whole_files::OutputFile;
 
@@ -289,8 +289,8 @@ fn update_place<R: Files<File: OutputFile> + Clock + Input + Print + Eprint + Al
     }
 }
 
-/// Makes a set file of the variables of a place. It is locked before the place is read, which may be the same file. A set
-/// file with BootKeepState is replaced only by one that has it too.
+/// Makes a set file of the variables of a place. It is locked before the place is read, which may be the same file if that
+/// is a set file too. A set file with BootKeepState is replaced only by one that has it too.
 fn make_set<R: Files<File: OutputFile> + Input + Print + Eprint + AllocGlobal>(
     rt: &R,
     place: &str,
@@ -299,7 +299,20 @@ fn make_set<R: Files<File: OutputFile> + Input + Print + Eprint + AllocGlobal>(
 ) -> Result<(), Failure> {
     let output = lock(rt, out);
     let vars = read_vars(rt, place, boot_only)?;
+    check_own_place(rt, place, out)?;
     write_vars(rt, out, output?, &vars)
+}
+
+/// Refuses to replace the place by a set of it, unless it is a set file already.
+fn check_own_place<R: Files + Input + AllocGlobal>(
+    rt: &R,
+    place: &str,
+    out: &str,
+) -> Result<(), Failure> {
+    if is_same_file(rt, out, place) && matches!(file_kind(&read(rt, out)?), FileKind::Set) {
+        return Ok(());
+    }
+    check_output(rt, out, place)
 }
 
 /// The variables of a place, or the boot variables alone.

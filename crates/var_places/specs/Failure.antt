@@ -14,5 +14,6 @@ status_of (failure.TakenBack text) = 3
 status_of failure.Memory = 4
 status_of (failure.Refused name reason) = 5
 status_of (failure.Busy name) = 7
+status_of (failure.Held name) = 7
 status_of (failure.Unsettled text) = 8
 status_of failure.Closed = 141

@@ -1,4 +1,5 @@
 pub mod Failure
 pub mod FileKind
 pub mod Folder
+pub mod Input
 pub mod Machine

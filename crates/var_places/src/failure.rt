@@ -63,6 +63,9 @@ pub enum Failure {
     /// Another update has the lock of the folder of this name, as messages show it.
     #[error("{0}: another update has its lock: try again after it")]
     Busy(String),
+    /// Somebody else has the lock of the place of this name, as messages show it.
+    #[error("{0}: another program has its lock, which `fuser -v` tells: try again after it")]
+    Held(String),
     /// Memory was refused.
     #[error("out of memory")]
     Memory,
@@ -82,7 +85,7 @@ pub enum Failure {
 impl Failure {
     /// The status that the program ends with: 1 if a script or the variables that it is run over are refused, 2 if the words
     /// of the command line are wrong, 3 if a file or a variable can't be read or changed, 4 if memory was refused, 5 if an
-    /// input is refused, 7 if another update has the lock, 8 if an update was neither made nor taken back, and 141 if nobody
+    /// input is refused, 7 if somebody else has a lock, 8 if an update was neither made nor taken back, and 141 if nobody
     /// reads standard output any more, as of a program that SIGPIPE ended.
     pub fn status(&self) -> u8
         ensures { result ≡ status_of self.now }
@@ -96,7 +99,7 @@ impl Failure {
             | Failure::TakenBack(_) => 3,
             Failure::Memory => 4,
             Failure::Refused { .. } => 5,
-            Failure::Busy(_) => 7,
+            Failure::Busy(_) | Failure::Held(_) => 7,
             Failure::Unsettled(_) => 8,
             Failure::Closed => 141,
         }
@@ -130,6 +133,14 @@ impl Failure {
     pub fn refused(alloc: Global, name: &str, reason: Reason) -> Failure {
         match shown(alloc, name) {
             Ok(name) => Failure::Refused { name, reason },
+            Err(AllocError) => Failure::Memory,
+        }
+    }
+
+    /// What it is to the program that somebody else has the lock of the place of this name.
+    pub fn held(alloc: Global, name: &str) -> Failure {
+        match shown(alloc, name) {
+            Ok(name) => Failure::Held(name),
             Err(AllocError) => Failure::Memory,
         }
     }

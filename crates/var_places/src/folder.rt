@@ -13,13 +13,13 @@ use crate::reason::Reason;
 use std::alloc::{AllocError, Global};
 use std::collections::BTreeMap;
 use std::fs;
-use std::io::{self, ErrorKind};
+use std::io::ErrorKind;
 use std::path::{Path, PathBuf};
 use std::rt::Files;
 use thiserror::Error;
 use uefi_text::{GuidText, read_guid};
 use uefi_vars::{ATTRIBUTES_LEN, DATA_MAX, GLOBAL_VENDOR, KEEP_STATE, PutFault, Vars};
-use whole_files::read_file;
+use whole_files::{RegularFile, read_regular};
 
 /// How many bytes a GUID and the hyphen before it have in a file's name.
 const VENDOR_LEN: usize = 37;
@@ -32,6 +32,17 @@ pub struct Folder {
     /// The name of the file of each variable of the standard's vendor, by the variable's name: also of those that are
     /// left out.
     files: BTreeMap<String, String>,
+}
+
+/// What was read of a variable.
+#[derive(Drop)]
+pub(crate) enum Was {
+    /// There was no file.
+    Nothing,
+    /// Its file had these bytes.
+    Bytes(Vec<u8>),
+    /// It was left out.
+    LeftOut,
 }
 
 /// Why a variable isn't read.
@@ -51,12 +62,14 @@ pub enum LeftOut {
     KeepState,
 }
 
-/// The variables that the folder at this path shows. Tells on standard error what is left out.
+/// The variables that the folder at this path shows. Tells on standard error what is left out. A variable that goes away
+/// while the folder is read isn't there.
 ///
 /// # Errors
 ///
-/// [`Failure::Read`] if the folder or the file of one of its variables can't be read, [`Failure::Refused`] if it has a
-/// variable twice, or no file of a variable and isn't on an efivarfs, and [`Failure::Memory`] if memory was refused.
+/// [`Failure::Read`] if the folder or the file of one of its variables can't be read, [`Failure::Refused`] if what shows a
+/// variable is a pipe, a device or a socket, if it has a variable twice, or no file of a variable and isn't on an efivarfs,
+/// and [`Failure::Memory`] if memory was refused.
 pub fn read_folder<R: Files + Eprint + AllocGlobal>(rt: &R, path: &str) -> Result<Folder, Failure> {
     let mut folder = Folder {
         found: PlaceVars::new(rt.alloc()),
@@ -118,9 +131,11 @@ fn add_variable<R: Files + Eprint + AllocGlobal>(
     if let Some(first) = folder.files.get(name) {
         return Err(Failure::refused(alloc, path, Reason::Twice(first.clone()?)));
     }
-    let bytes = file_of(rt, path, file)?;
+    let Some(bytes) = file_of(rt, path, file)? else {
+        return Ok(());
+    };
     folder.add_file(alloc, name, file)?;
-    if let Some(why) = keep(&mut folder.found, name, bytes.as_deref())? {
+    if let Some(why) = keep(&mut folder.found, name, bytes.as_slice())? {
         folder.found.leave_out(alloc, name)?;
         let file = Quoted(file);
         note(rt, path, format_args!("{file} is left out: {why}"));
@@ -128,25 +143,46 @@ fn add_variable<R: Files + Eprint + AllocGlobal>(
     Ok(())
 }
 
-/// The bytes of the file of this name in the folder at this path: `None` if they are more than attributes and a value
-/// that a set can hold.
+/// What the file of a variable has.
+#[derive(Drop)]
+enum FileBytes {
+    /// These bytes.
+    Whole(Vec<u8>),
+    /// More than attributes and a value that a set can hold.
+    TooMuch,
+}
+
+impl FileBytes {
+    /// The bytes, unless they are too many.
+    fn as_slice(&self) -> Option<&[u8]> {
+        match self {
+            FileBytes::Whole(bytes) => Some(bytes.as_slice()),
+            FileBytes::TooMuch => None,
+        }
+    }
+}
+
+/// What the file of this name has in the folder at this path: `None` if it is there no more.
 fn file_of<R: Files + AllocGlobal>(
     rt: &R,
     path: &str,
     file: &str,
-) -> Result<Option<Vec<u8>>, Failure> {
+) -> Result<Option<FileBytes>, Failure> {
     let alloc = rt.alloc();
     let whole = Path::new(path).join(alloc, file)?;
-    read_file(rt, whole.as_path().as_str(), ATTRIBUTES_LEN + DATA_MAX).map_err(|error| from_file(
-        alloc, path, file, error,
-    ))
-}
-
-/// What it is to the program that the file of this name in the folder at this path can't be read.
-fn from_file(alloc: Global, path: &str, file: &str, error: io::Error) -> Failure {
-    match path_with_front(alloc, path, file) {
-        Ok(name) => Failure::from_read(alloc, name.as_path().as_str(), error),
-        Err(AllocError) => Failure::Memory,
+    match read_regular(rt, whole.as_path().as_str(), ATTRIBUTES_LEN + DATA_MAX) {
+        Ok(RegularFile::Bytes(bytes)) => Ok(Some(FileBytes::Whole(bytes))),
+        Ok(RegularFile::TooMuch) => Ok(Some(FileBytes::TooMuch)),
+        Ok(RegularFile::Irregular) => {
+            let name = path_with_front(alloc, path, file)?;
+            let name = name.as_path().as_str();
+            Err(Failure::refused(alloc, name, Reason::NoRegularFile))
+        }
+        Err(error) if error.kind() == ErrorKind::NotFound => Ok(None),
+        Err(error) => {
+            let name = path_with_front(alloc, path, file)?;
+            Err(Failure::from_read(alloc, name.as_path().as_str(), error))
+        }
     }
 }
 
@@ -211,9 +247,23 @@ impl Folder {
         Ok(())
     }
 
-    /// Whether a file shows the variable of this name, also one that is left out.
-    pub(crate) fn has_file(&self, name: &str) -> bool {
-        self.files.contains_key(name)
+    /// What was read of the variable of this name: its file's bytes.
+    ///
+    /// # Errors
+    ///
+    /// [`AllocError`] if memory was refused.
+    pub(crate) fn was(&self, alloc: Global, name: &str) -> Result<Was, AllocError> {
+        if !self.files.contains_key(name) {
+            return Ok(Was::Nothing);
+        }
+        match (self.found.attributes.get(name), self.found.vars.get(name)) {
+            (Some(attributes), Some(value)) => {
+                let mut bytes = Vec::from_slice(alloc, attributes)?;
+                bytes.extend_from_slice(value)?;
+                Ok(Was::Bytes(bytes))
+            }
+            _ => Ok(Was::LeftOut),
+        }
     }
 
     /// The path of the file of the variable of this name in the folder at this path: the file that shows it, or the one

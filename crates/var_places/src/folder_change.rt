@@ -4,53 +4,158 @@ ghost use Rattle.std.specs.Prelude.{◌≡◌, ◌++◌, ◌↔◌, IsTrue, IfOk
 ghost use Rattle.std.specs.Option.{option_map};
 ghost use Rattle.var_places.specs.Folder.{IsAsWanted, attributes_for};
 
-use crate::folder::Folder;
+use crate::folder::{Folder, Was};
 use std::alloc::{AllocError, Global};
 use std::fs::{self, File, OpenFile, OpenOptions};
 use std::io::{self, ErrorKind, Write};
 use std::path::Path;
 use std::rt::Files;
 use uefi_vars::{ATTRIBUTES_LEN, BOOT_ATTRIBUTES, BootChange, DATA_MAX, Vars, laws as vars_laws};
-use whole_files::{read_file, sync_file, sync_folder};
+use whole_files::{RegularFile, read_regular, sync_file, sync_folder};
+
+/// What is to be kept of a variable, and what was: its attributes in four bytes and then its value, or nothing if it isn't
+/// there.
+#[derive(Clone, Copy, Debug)]
+pub struct KeptChange<'a> {
+    /// Its name, which has no slash.
+    pub name: &'a str,
+    /// What was kept of it when it was read.
+    pub before: Option<&'a [u8]>,
+    /// What is to be kept of it.
+    pub after: Option<&'a [u8]>,
+}
+
+/// Why a variable isn't changed.
+#[derive(Debug, Drop)]
+pub enum ChangeFault {
+    /// It isn't what was read of it any more: something else has changed it, made it or taken it out.
+    Changed,
+    /// What shows it is a link, a pipe, a device or a socket, and nothing is written through it.
+    Irregular,
+    /// The system's reason, also that memory was refused.
+    System(io::Error),
+}
+
+impl From<io::Error> for ChangeFault {
+    fn from(error: io::Error) -> ChangeFault {
+        ChangeFault::System(error)
+    }
+}
+
+impl From<AllocError> for ChangeFault {
+    fn from(refusal: AllocError) -> ChangeFault {
+        ChangeFault::System(io::Error::from(refusal))
+    }
+}
+
+impl ChangeFault {
+    /// The same as a reason of the system. Each text has at most the 80 bytes that such a reason can have.
+    fn into_error(self) -> io::Error {
+        match self {
+            ChangeFault::Changed => io::Error::new(
+                ErrorKind::ResourceBusy,
+                "something else has changed it since it was read: look at it, and try again",
+            ),
+            ChangeFault::Irregular => io::Error::new(
+                ErrorKind::InvalidInput,
+                "its file is a link, a pipe, a device or a socket: take it away",
+            ),
+            ChangeFault::System(error) => error,
+        }
+    }
+}
 
 /// Makes one change in the folder at this path, of which this was read: by one write of the attributes and the value,
 /// as efivarfs wants it, to a file that isn't cut before, or by removing the file. A variable that is replaced keeps
 /// the attributes that its file had, and one that is new, or had been left out, gets [`BOOT_ATTRIBUTES`]. Then it is
-/// brought to the disk, if the folder is on one: firmware keeps what efivarfs has.
+/// brought to the disk, if the folder is on one: firmware keeps what efivarfs has. What isn't as it was read stays, unless
+/// it was left out.
 ///
 /// # Errors
 ///
-/// The system's, if the file can't be opened, written or removed, and that memory was refused. The variable is as it
-/// was then, and a file that was to be made is gone. The system's too, if the change can't be brought to the disk: it
-/// is made then, and a cut may undo it.
+/// The system's, if the file can't be opened, written or removed, and that memory was refused; and those of
+/// [`ChangeFault`], as such a reason. The variable is as it was then, and a file that was to be made is gone, if it can be
+/// removed. The system's too, if the change can't be brought to the disk: it is made then, and a cut may undo it.
 pub fn make_change<R: Files + AllocGlobal>(
     rt: &R,
     folder: &Folder,
     path: &str,
     change: &BootChange<'_>,
 ) -> io::Result<()> {
+    let alloc = rt.alloc();
     let name = change.name;
-    let file = folder.path_of(rt.alloc(), path, name)?;
-    match change.after {
-        Some(value) => {
-            let bytes = file_bytes(rt.alloc(), &folder.found.attributes, name, value)?;
-            store(rt, file.as_path(), &bytes, !folder.has_file(name))?;
-        }
-        None => fs::remove_file(rt, file.as_path())?,
+    let bytes = match change.after {
+        Some(value) => Some(file_bytes(alloc, &folder.found.attributes, name, value)?),
+        None => None,
+    };
+    let after = bytes.as_deref();
+    let file = folder.path_of(alloc, path, name)?;
+    let file = file.as_path();
+    let changed = match folder.was(alloc, name)? {
+        Was::LeftOut => return set_variable(rt, folder, path, name, after),
+        Was::Nothing => change_file(rt, path, file, None, after),
+        Was::Bytes(before) => change_file(rt, path, file, Some(before.as_slice()), after),
+    };
+    changed.map_err(|fault| fault.into_error())
+}
+
+/// Makes one change in the folder at this path, of which this was read, if the variable is what was read of it: what
+/// something else has made of it meanwhile stays, and is refused. Nothing is written if it is what it is to be already.
+/// Either way it is brought to the disk, as by [`make_change`].
+///
+/// # Errors
+///
+/// [`ChangeFault::Changed`] and [`ChangeFault::Irregular`], and nothing was written then; and otherwise as of
+/// [`set_variable`].
+pub fn change_variable<R: Files + AllocGlobal>(
+    rt: &R,
+    folder: &Folder,
+    path: &str,
+    change: &KeptChange<'_>,
+) -> Result<(), ChangeFault> {
+    let file = folder.path_of(rt.alloc(), path, change.name)?;
+    change_file(rt, path, file.as_path(), change.before, change.after)
+}
+
+/// The same for the file of a variable in the folder at this path.
+fn change_file<R: Files + AllocGlobal>(
+    rt: &R,
+    path: &str,
+    file: Path<'_>,
+    before: Option<&[u8]>,
+    after: Option<&[u8]>,
+) -> Result<(), ChangeFault> {
+    let found = find(rt, file)?;
+    if found.is(after) {
+        // Whoever wrote it may have been killed before it was on the disk.
+        return Ok(sync_found(rt, path, file, &found)?);
     }
-    // Also if no file was made or removed: a change before may have been cut off.
-    sync_folder(rt, path)
+    if !found.is(before) {
+        return Err(ChangeFault::Changed);
+    }
+    match put(rt, file, after, &found) {
+        Ok(()) => Ok(sync_folder(rt, path)?),
+        // Somebody else has made it since it was looked at, or has taken it out.
+        Err(error) if is_elses(&error) => Err(ChangeFault::Changed),
+        Err(error) => Err(ChangeFault::System(error)),
+    }
+}
+
+/// Whether a file couldn't be made since it is there, or couldn't be opened or removed since it isn't.
+fn is_elses(error: &io::Error) -> bool {
+    matches!(error.kind(), ErrorKind::AlreadyExists | ErrorKind::NotFound)
 }
 
 /// Sets the variable of this name to what is to be kept of it, which is its attributes in four bytes and then its
-/// value, or takes it out if that is `None`, whatever is there. Nothing is written if it is so already. Either way it
-/// is brought to the disk, as by [`make_change`]. The folder is what was read of this path, and the name has no slash.
+/// value, or takes it out if that is `None`, whatever is there, unless what shows it is no regular file. Nothing is written
+/// if it is so already. Either way it is brought to the disk, as by [`make_change`]. The folder is what was read of this
+/// path, and the name has no slash.
 ///
 /// # Errors
 ///
 /// The system's, if the file can't be opened, read, written or removed, and that memory was refused. The variable is as
-/// it was then, and a file that was to be made is gone. The system's too, if the change can't be brought to the disk,
-/// as of [`make_change`].
+/// it was then, and a file that was to be made is gone, if it can be removed. The system's too, if the change can't be
+/// brought to the disk, as of [`make_change`]. [`ChangeFault::Irregular`], as such a reason.
 pub fn set_variable<R: Files + AllocGlobal>(
     rt: &R,
     folder: &Folder,
@@ -59,20 +164,35 @@ pub fn set_variable<R: Files + AllocGlobal>(
     kept: Option<&[u8]>,
 ) -> io::Result<()> {
     let file = folder.path_of(rt.alloc(), path, name)?;
-    let found = find(rt, file.as_path())?;
-    match kept {
-        // Whoever wrote it may have been killed before it was on the disk.
-        Some(_) if found.is(kept) => sync_file(&File::open(rt, file.as_path())?)?,
-        None if found.is(kept) => {}
-        Some(bytes) => store(rt, file.as_path(), bytes, matches!(found, Found::Nothing))?,
-        None => fs::remove_file(rt, file.as_path())?,
+    let file = file.as_path();
+    let found = find(rt, file).map_err(|fault| fault.into_error())?;
+    if found.is(kept) {
+        return sync_found(rt, path, file, &found);
+    }
+    put(rt, file, kept, &found)?;
+    sync_folder(rt, path)
+}
+
+/// Brings what was found of a variable to the disk.
+fn sync_found<R: Files>(rt: &R, path: &str, file: Path<'_>, found: &Found) -> io::Result<()> {
+    if !matches!(found, Found::Nothing) {
+        sync_file(&File::open(rt, file)?)?;
     }
     sync_folder(rt, path)
 }
 
+/// Stores what is to be kept in the file at this path, where this was found, or removes it.
+fn put<R: Files>(rt: &R, file: Path<'_>, kept: Option<&[u8]>, found: &Found) -> io::Result<()> {
+    match kept {
+        Some(bytes) => store(rt, file, bytes, matches!(found, Found::Nothing)),
+        None => fs::remove_file(rt, file),
+    }
+}
+
 /// Whether this is kept of the variable of this name, its attributes in four bytes and then its value, or it isn't
 /// there if that is `None`. Of a variable with more than [`DATA_MAX`] bytes something else is kept, whatever is asked
-/// for. The folder is what was read of this path, and the name has no slash.
+/// for, and so is where what shows it is no regular file. The folder is what was read of this path, and the name has no
+/// slash.
 ///
 /// # Errors
 ///
@@ -85,7 +205,11 @@ pub fn has_value<R: Files + AllocGlobal>(
     kept: Option<&[u8]>,
 ) -> io::Result<bool> {
     let file = folder.path_of(rt.alloc(), path, name)?;
-    Ok(find(rt, file.as_path())?.is(kept))
+    match find(rt, file.as_path()) {
+        Ok(found) => Ok(found.is(kept)),
+        Err(ChangeFault::System(error)) => Err(error),
+        Err(ChangeFault::Changed | ChangeFault::Irregular) => Ok(false),
+    }
 }
 
 /// What is at the path of a variable's file.
@@ -112,23 +236,32 @@ impl Found {
     }
 }
 
-/// Looks at the path of a variable's file.
-fn find<R: Files + AllocGlobal>(rt: &R, path: Path<'_>) -> io::Result<Found> {
-    match read_file(rt, path.as_str(), ATTRIBUTES_LEN + DATA_MAX) {
-        Ok(Some(bytes)) => Ok(Found::Bytes(bytes)),
-        Ok(None) => Ok(Found::TooMuch),
+/// Looks at the path of a variable's file. A link isn't followed: what is found is going to be written.
+fn find<R: Files + AllocGlobal>(rt: &R, path: Path<'_>) -> Result<Found, ChangeFault> {
+    match fs::symlink_metadata(rt, path) {
+        Ok(found) if found.is_symlink() => return Err(ChangeFault::Irregular),
+        Ok(_) => {}
+        Err(error) if error.kind() == ErrorKind::NotFound => return Ok(Found::Nothing),
+        Err(error) => return Err(ChangeFault::System(error)),
+    }
+    match read_regular(rt, path.as_str(), ATTRIBUTES_LEN + DATA_MAX) {
+        Ok(RegularFile::Bytes(bytes)) => Ok(Found::Bytes(bytes)),
+        Ok(RegularFile::TooMuch) => Ok(Found::TooMuch),
+        Ok(RegularFile::Irregular) => Err(ChangeFault::Irregular),
         Err(error) if error.kind() == ErrorKind::NotFound => Ok(Found::Nothing),
-        Err(error) => Err(error),
+        Err(error) => Err(ChangeFault::System(error)),
     }
 }
 
-/// Stores the bytes in the file at this path, which is made if it is new, and brings it to the disk.
+/// Stores the bytes in the file at this path, which is made if it is new, and brings it to the disk. If it is new and
+/// nothing is written, it is removed again.
 fn store<R: Files>(rt: &R, path: Path<'_>, bytes: &[u8], is_new: bool) -> io::Result<()> {
     let mut how = OpenOptions::new();
-    let mut file = how.write(true).create(is_new).open(rt, path)?;
+    let mut file = how.write(true).create_new(is_new).open(rt, path)?;
     let written = write_once(&mut file, bytes);
-    if written.is_err() && is_new && file.metadata()?.len() == 0 {
-        fs::remove_file(rt, path)?;
+    if written.is_err() && is_new && file.metadata().is_ok_and(|made| made.len() == 0) {
+        // If that fails too, the write's own reason tells more.
+        let _ = fs::remove_file(rt, path);
     }
     written?;
     sync_file(&file)

@@ -3,7 +3,7 @@
 use crate::failure::Failure;
 use crate::file_place::file_vars;
 use crate::folder::read_folder;
-use crate::input::{STANDARD, name_of, read};
+use crate::input::{STANDARD, name_of, read_variables};
 use std::fs;
 use std::rt::Files;
 use uefi_vars::Vars;
@@ -37,6 +37,6 @@ pub fn read_place<R: Files + Input + Eprint + AllocGlobal>(
     if is_folder(rt, path)? {
         return Ok(read_folder(rt, path)?.found.vars);
     }
-    let bytes = read(rt, path)?;
+    let bytes = read_variables(rt, path)?;
     file_vars(rt, name_of(path), &bytes)
 }

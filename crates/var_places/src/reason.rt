@@ -31,6 +31,14 @@ pub enum Reason {
     /// A file is given where a folder has to be.
     #[error("it is no folder")]
     NoFolder,
+    /// A state folder may be written by others than its owner.
+    #[error("its group or others may write it, and so what is done by its journal: take that from them by \
+        `chmod go-w`, or name another folder")]
+    SharedState,
+    /// A state folder belongs to another user.
+    #[error("it belongs to another user, who may write what is done by its journal: make it yours by `chown`, or name \
+        another folder")]
+    ForeignState,
     /// A journal has a fault, in words.
     #[error("the journal is damaged: {0}")]
     DamagedJournal(String),
@@ -100,6 +108,18 @@ pub enum Reason {
     /// A set has no entry.
     #[error("no entry is in it, so all entries would be taken out: give --empty if that is meant")]
     NoEntry,
+    /// What shows a variable, or is kept beside one, is no regular file.
+    #[error("it is a pipe, a device or a socket, and isn't read: take it away")]
+    NoRegularFile,
+    /// A place is a pipe, a device or a socket.
+    #[error("it is a pipe, a device or a socket, and isn't read: name a folder or a file, or give - and standard input")]
+    NoPlaceFile,
+    /// A variable isn't what was read of it any more.
+    #[error("something else has changed it since it was read, and it stays as that left it: look at it, and try again")]
+    ChangedMeanwhile,
+    /// What shows a variable is no regular file, and is to be changed.
+    #[error("its file is a link, a pipe, a device or a socket, and isn't written: take it away")]
+    NotWritten,
     /// What is to be replaced is no regular file.
     #[error("it is neither a folder nor a regular file, and can't be written")]
     Irregular,

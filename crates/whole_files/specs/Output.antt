@@ -1,5 +1,5 @@
 -- Under which name a file is written first that is to replace another.
-use Rattle.std.specs.Prelude.{◌≡◌, ◌≢◌, ◌<◌, ◌≤◌, ℕ, List, ◌++◌, take, Some, codes, IsCharBoundary}
+use Rattle.std.specs.Prelude.{◌≡◌, ◌≢◌, ◌<◌, ◌≤◌, ℕ, Bool, true, false, List, ◌++◌, take, Some, codes, IsCharBoundary}
 use Rattle.std.specs.Path.{path_file_name, path_with_file_name}
 
 -- the last place, up to this number, at which a character of the text begins, or the text ends
@@ -16,3 +16,11 @@ IsNewName name new =
 abbrev pub IsBeside : List ℕ → List ℕ → Type 0
 IsBeside path beside = (name : List ℕ) × (new : List ℕ) × (path_file_name path ≡ Some name) × IsNewName name new
     × (new ≢ name) × (beside ≡ path_with_file_name path new)
+
+-- which rights a new file keeps of those of the old one, if it has its owner, and if it has its group: all; without the bit
+-- by which the owner's rights are lent; without the group's rights and the bit by which they are lent
+abbrev pub kept_bits : Bool → Bool → ℕ
+kept_bits true true = 4095
+kept_bits false true = 2047
+kept_bits true false = 3015
+kept_bits false false = 967

@@ -1,11 +1,12 @@
 //! Files that are read whole up to a limit, locked, and replaced whole.
 //!
 //! [`read_file`] and [`read_input`] read what has at most so many bytes; of a file of the user's that is [`LIMIT`].
+//! [`read_regular`] and [`open_regular`] open nothing but a regular file, where somebody else may have put something else.
 //! [`write_file`] replaces a whole file, which [`lock_file`] has locked: whoever changes a file this way reads it in
-//! between, and nobody's change is lost. [`rewrite_file`] keeps the lock, for one change after the other, and
-//! [`replace_file`] replaces a file that the caller keeps others from by other means. [`sync_file`] and
-//! [`sync_folder`] bring to the disk what was written otherwise; [`folder_of`] tells which folder has a name. What fails is
-//! told by the system's reason.
+//! between, and nobody's change is lost. [`try_lock_file`] doesn't wait for the lock, and [`rewrite_file`] keeps it, for
+//! one change after the other. [`replace_file`] replaces a file of the program's own, that the caller keeps others from by
+//! other means. [`sync_file`] and [`sync_folder`] bring to the disk what was written otherwise; [`folder_of`] tells which
+//! folder has a name. What fails is told by the system's reason.
 #![tactic(auto)]
 
 mod input;
@@ -13,7 +14,7 @@ mod lock;
 mod output;
 mod sync;
 
-pub use input::{LIMIT, read_file, read_input};
-pub use lock::{FileLock, OutputFile, folder_of, lock_file};
+pub use input::{LIMIT, RegularFile, open_regular, read_file, read_input, read_regular};
+pub use lock::{FileLock, OutputFile, folder_of, lock_file, try_lock_file};
 pub use output::{replace_file, rewrite_file, write_file};
 pub use sync::{sync_file, sync_folder};

@@ -79,26 +79,87 @@ pub fn lock_file<R: Files<File: OutputFile> + AllocGlobal>(
     rt: &R,
     path: &str,
 ) -> io::Result<FileLock<R::File>> {
+    match lock_in_turns(rt, path, Patience::Waits)? {
+        Some(lock) => Ok(lock),
+        None => Err(io::Error::from(ErrorKind::ResourceBusy)),
+    }
+}
+
+/// The same without waiting: `None` if somebody else has the lock, who may be anybody that can read what is to be locked.
+///
+/// # Errors
+///
+/// As of [`lock_file`].
+pub fn try_lock_file<R: Files<File: OutputFile> + AllocGlobal>(
+    rt: &R,
+    path: &str,
+) -> io::Result<Option<FileLock<R::File>>> {
+    lock_in_turns(rt, path, Patience::Leaves)
+}
+
+/// What is done if somebody else has a lock.
+#[derive(Clone, Copy)]
+enum Patience {
+    /// It is waited for.
+    Waits,
+    /// The lock isn't taken.
+    Leaves,
+}
+
+impl Patience {
+    /// Locks what is open here, and tells whether it is locked.
+    fn lock<F: OutputFile>(self, file: &F) -> io::Result<bool> {
+        match self {
+            Patience::Waits => {
+                file.lock()?;
+                Ok(true)
+            }
+            Patience::Leaves => file.try_lock(),
+        }
+    }
+}
+
+/// What came of one try to lock what a path leads to.
+#[derive(Drop)]
+enum Turn<F> {
+    /// It is locked.
+    Locked(FileLock<F>),
+    /// Somebody else has the lock.
+    Held,
+    /// The path leads to something else by now.
+    Elsewhere,
+}
+
+/// Locks what the path leads to, as often as that is another file once the lock is there: `None` if somebody else has the
+/// lock, and that isn't waited for.
+fn lock_in_turns<R: Files<File: OutputFile> + AllocGlobal>(
+    rt: &R,
+    path: &str,
+    patience: Patience,
+) -> io::Result<Option<FileLock<R::File>>> {
     for _ in 0..TURNS {
-        if let Some(lock) = lock_once(rt, path)? {
-            return Ok(lock);
+        match lock_once(rt, path, patience)? {
+            Turn::Locked(lock) => return Ok(Some(lock)),
+            Turn::Held => return Ok(None),
+            Turn::Elsewhere => {}
         }
     }
     Err(io::Error::from(ErrorKind::ResourceBusy))
 }
 
-/// Locks what the path leads to, or gives none if it leads elsewhere once the lock is there.
+/// Locks what the path leads to.
 fn lock_once<R: Files<File: OutputFile> + AllocGlobal>(
     rt: &R,
     path: &str,
-) -> io::Result<Option<FileLock<R::File>>> {
+    patience: Patience,
+) -> io::Result<Turn<R::File>> {
     match fs::metadata(rt, path) {
-        Ok(found) if found.is_file() => lock_regular(rt, path),
-        Ok(_) => Ok(Some(FileLock {
+        Ok(found) if found.is_file() => lock_regular(rt, path, patience),
+        Ok(_) => Ok(Turn::Locked(FileLock {
             path: PathBuf::from_str(rt.alloc(), path)?,
             found: Found::Other,
         })),
-        Err(error) if error.kind() == ErrorKind::NotFound => lock_nothing(rt, path),
+        Err(error) if error.kind() == ErrorKind::NotFound => lock_nothing(rt, path, patience),
         Err(error) => Err(error),
     }
 }
@@ -107,20 +168,23 @@ fn lock_once<R: Files<File: OutputFile> + AllocGlobal>(
 fn lock_regular<R: Files<File: OutputFile> + AllocGlobal>(
     rt: &R,
     path: &str,
-) -> io::Result<Option<FileLock<R::File>>> {
+    patience: Patience,
+) -> io::Result<Turn<R::File>> {
     let file = match OpenOptions::new().write(true).open(rt, path) {
         Ok(file) => file,
         // It has been removed since it was looked at.
-        Err(error) if error.kind() == ErrorKind::NotFound => return Ok(None),
+        Err(error) if error.kind() == ErrorKind::NotFound => return Ok(Turn::Elsewhere),
         Err(error) => return Err(error),
     };
-    file.lock()?;
+    if !patience.lock(&file)? {
+        return Ok(Turn::Held);
+    }
     let locked = file.metadata()?;
     let path = end_of_links(rt, path)?;
     if !locked.is_file() || !leads_to(rt, path.as_path(), Some(&locked))? {
-        return Ok(None);
+        return Ok(Turn::Elsewhere);
     }
-    Ok(Some(FileLock {
+    Ok(Turn::Locked(FileLock {
         path,
         found: Found::Regular(file),
     }))
@@ -130,14 +194,17 @@ fn lock_regular<R: Files<File: OutputFile> + AllocGlobal>(
 fn lock_nothing<R: Files<File: OutputFile> + AllocGlobal>(
     rt: &R,
     path: &str,
-) -> io::Result<Option<FileLock<R::File>>> {
+    patience: Patience,
+) -> io::Result<Turn<R::File>> {
     let path = end_of_links(rt, path)?;
     let folder = File::open(rt, folder_of(path.as_path()))?;
-    folder.lock()?;
-    if !leads_to(rt, path.as_path(), None)? {
-        return Ok(None);
+    if !patience.lock(&folder)? {
+        return Ok(Turn::Held);
     }
-    Ok(Some(FileLock {
+    if !leads_to(rt, path.as_path(), None)? {
+        return Ok(Turn::Elsewhere);
+    }
+    Ok(Turn::Locked(FileLock {
         path,
         found: Found::Nothing(folder),
     }))

@@ -1,17 +1,17 @@
 //! Files that are replaced whole.
 
-ghost use Rattle.std.specs.Prelude.{◌≡◌, IfOk, IfSome, OnOk, MatchOption};
+ghost use Rattle.std.specs.Prelude.{◌≡◌, IfOk, IfSome, OnOk, MatchOption, bit_and};
 ghost use Rattle.std.specs.Io.KnownBytes.{Appends};
 ghost use Rattle.std.specs.Path.{path_bytes, path_buf_bytes, path_file_name};
 ghost use Rattle.std.specs.String.{string_bytes};
-ghost use Rattle.whole_files.specs.Output.{IsNewName, IsBeside};
+ghost use Rattle.whole_files.specs.Output.{IsNewName, IsBeside, kept_bits};
 
 use crate::lock::{FileLock, Found, OutputFile, folder_of, leads_to};
 use crate::sync::{sync_file, sync_folder};
 use std::alloc::{AllocError, Global};
-use std::fs::{self, Metadata, OpenFile, OpenOptions};
+use std::fs::{self, Metadata, OpenFile, OpenOptions, Permissions};
 use std::io::{self, ErrorKind, Write};
-use std::os::unix::fs::{MetadataExt, OpenOptionsExt};
+use std::os::unix::fs::{MetadataExt, OpenOptionsExt, PermissionsExt};
 use std::path::{Path, PathBuf};
 use std::rt::Files;
 
@@ -21,8 +21,39 @@ const NAME_MAX: usize = 255;
 /// The rights of a new file that replaces no other, of which the system takes away those that the user's mask names.
 const MODE: u32 = 0o666;
 
-/// The rights of a new file that is to replace another one, whose rights it gets before a byte is in it.
+/// The rights of a new file that is its owner's alone, or is to replace another one, whose rights it gets before a byte is
+/// in it.
 const PRIVATE_MODE: u32 = 0o600;
+
+/// What a file of the program's own keeps of the rights of the one that it replaces: nobody but its owner may write it.
+const OWN_MODE: u32 = 0o755;
+
+/// Whose a file is.
+#[derive(Clone, Copy)]
+enum Kind {
+    /// The user's: a new one has the rights that the user's mask leaves.
+    Users,
+    /// The program's own: a new one is for its owner alone.
+    Own,
+}
+
+impl Kind {
+    /// The rights with which a new file is made that replaces another one, or none.
+    fn first_mode(self, replaces: bool) -> u32 {
+        match self {
+            Kind::Users if !replaces => MODE,
+            _ => PRIVATE_MODE,
+        }
+    }
+
+    /// What it keeps of these rights of the file that it replaces.
+    fn of_old(self, mode: u32) -> u32 {
+        match self {
+            Kind::Users => mode,
+            Kind::Own => mode & OWN_MODE,
+        }
+    }
+}
 
 /// Makes these bytes the file of a lock, so that it is never left half written: they are written to a new file beside
 /// it, which then takes its name. So the path leads to the old file or to the new one, whatever happens meanwhile, and
@@ -32,8 +63,9 @@ const PRIVATE_MODE: u32 = 0o600;
 /// Until then the new file's name is `.bootkeep-` followed by the name of the file, of both together as many characters
 /// as fit in 255 bytes. **What has that name is removed**, since a call that was killed may have left it.
 ///
-/// The new file has the rights of the old one, and its owner and group if the user may give them away; access lists and
-/// extended attributes aren't kept. What isn't a regular file, like a pipe or a device, can't be replaced this way, and
+/// The new file has the rights of the old one, and its owner and group if the user may give them away; what others would
+/// have in the place of a group or an owner that is lost, they don't get. Access lists and extended attributes aren't
+/// kept. What isn't a regular file, like a pipe or a device, can't be replaced this way, and
 /// the bytes are written straight to it.
 ///
 /// # Errors
@@ -48,8 +80,8 @@ pub fn write_file<R: Files<File: OutputFile> + AllocGlobal>(
 ) -> io::Result<()> {
     let path = lock.path.as_path();
     match &lock.found {
-        Found::Regular(file) => place(rt, path, Some(&file.metadata()?), bytes),
-        Found::Nothing(_) => place(rt, path, None, bytes),
+        Found::Regular(file) => place(rt, Kind::Users, path, Some(&file.metadata()?), bytes),
+        Found::Nothing(_) => place(rt, Kind::Users, path, None, bytes),
         Found::Other => overwrite(rt, path, bytes),
     }
 }
@@ -79,7 +111,9 @@ pub fn rewrite_file<R: Files<File: OutputFile> + AllocGlobal>(
 }
 
 /// Replaces the file at this path as [`write_file`] does, or makes it, without a lock: the caller keeps others from it
-/// by other means, as by the lock of its folder, which it has already. A link isn't followed.
+/// by other means, as by the lock of its folder, which it has already. A link isn't followed. It is a file of the program's
+/// own: a new one is for its owner alone, whatever the user's mask is, and of the rights of an old one those of others to
+/// write it aren't kept.
 ///
 /// # Errors
 ///
@@ -92,9 +126,15 @@ pub fn replace_file<R: Files<File: OutputFile> + AllocGlobal>(
 ) -> io::Result<()> {
     let path = Path::new(path);
     match fs::symlink_metadata(rt, path) {
-        Ok(old) if old.is_file() => place(rt, path, Some(&old), bytes),
+        Ok(old) if old.is_file() => place(rt, Kind::Own, path, Some(&old), bytes),
         Ok(_) => Err(io::Error::from(ErrorKind::AlreadyExists)),
-        Err(error) if error.kind() == ErrorKind::NotFound => place(rt, path, None, bytes),
+        Err(error) if error.kind() == ErrorKind::NotFound => place(
+            rt,
+            Kind::Own,
+            path,
+            None,
+            bytes,
+        ),
         Err(error) => Err(error),
     }
 }
@@ -112,23 +152,25 @@ fn overwrite<R: Files>(rt: &R, path: Path<'_>, bytes: &[u8]) -> io::Result<()> {
 /// Puts a new file with these bytes at the path, in the place of the old one if there is one. No link is there.
 fn place<R: Files<File: OutputFile> + AllocGlobal>(
     rt: &R,
+    kind: Kind,
     path: Path<'_>,
     old: Option<&Metadata>,
     bytes: &[u8],
 ) -> io::Result<()> {
-    let (new, mut file) = create_beside(rt, path, old)?;
+    let (new, mut file) = create_beside(rt, kind, path, old)?;
     complete_or_discard(rt, new.as_path(), &mut file, (path, old), bytes)?;
     sync_folder(rt, folder_of(path).as_str())
 }
 
-/// Puts a new file with these bytes at the path as [`place`] does, locked, but for bringing its name to the disk.
+/// Puts a new file of the user's with these bytes at the path as [`place`] does, locked, but for bringing its name to the
+/// disk.
 fn place_locked<R: Files<File: OutputFile> + AllocGlobal>(
     rt: &R,
     path: Path<'_>,
     old: Option<&Metadata>,
     bytes: &[u8],
 ) -> io::Result<R::File> {
-    let (new, mut file) = create_beside(rt, path, old)?;
+    let (new, mut file) = create_beside(rt, Kind::Users, path, old)?;
     if let Err(error) = lock_at_once(&file) {
         let _ = discard(rt, new.as_path(), &file);
         return Err(error);
@@ -149,6 +191,7 @@ fn lock_at_once<F: OutputFile>(file: &F) -> io::Result<()> {
 /// Makes a new file in the folder of the path, in the place of one of the same name that is left there.
 fn create_beside<R: Files<File: OutputFile> + AllocGlobal>(
     rt: &R,
+    kind: Kind,
     path: Path<'_>,
     old: Option<&Metadata>,
 ) -> io::Result<(PathBuf, R::File)>
@@ -158,10 +201,11 @@ fn create_beside<R: Files<File: OutputFile> + AllocGlobal>(
         return Err(io::Error::from(ErrorKind::InvalidFilename));
     };
     match fs::remove_file(rt, new.as_path()) {
+        Err(error) if error.kind() == ErrorKind::IsADirectory => return Err(in_the_way(error)),
         Err(error) if error.kind() != ErrorKind::NotFound => return Err(error),
         _ => {}
     }
-    let mode = if old.is_some() { PRIVATE_MODE } else { MODE };
+    let mode = kind.first_mode(old.is_some());
     let mut how = OpenOptions::new();
     let file = how
         .write(true)
@@ -169,9 +213,17 @@ fn create_beside<R: Files<File: OutputFile> + AllocGlobal>(
         .mode(mode)
         .open(rt, new.as_path())?;
     if let Some(old) = old {
-        keep_access(&file, old);
+        keep_access(&file, kind, old);
     }
     Ok((new, file))
+}
+
+/// What it is that the new file's name is that of a folder.
+fn in_the_way(error: io::Error) -> io::Error {
+    io::Error::new(
+        error.kind(),
+        "a folder has the name of the new file, .bootkeep- and its own: take it away",
+    )
 }
 
 /// The path of the new file, in the folder of the path. There is none if it is that path itself, which isn't to be half
@@ -202,11 +254,29 @@ fn new_name(alloc: Global, own: &str) -> Result<String, AllocError>
 }
 
 /// Gives the new file the group, the owner and the rights of the old one, each if the user may and the file system has
-/// them. The rights come last, since a change of the owner takes some of them away.
-fn keep_access<F: OutputFile>(file: &F, old: &Metadata) {
-    let _ = file.chown(None, Some(old.gid()));
-    let _ = file.chown(Some(old.uid()), None);
-    let _ = file.set_permissions(old.permissions());
+/// them. The rights come last, since a change of the owner takes some of them away. Who has the right owner and group
+/// already isn't asked to be given them: a sandbox may end a program that asks.
+fn keep_access<F: OutputFile>(file: &F, kind: Kind, old: &Metadata) {
+    let new = file.metadata().ok();
+    let has_group = new.as_ref().is_some_and(|new| new.gid() == old.gid());
+    let has_owner = new.as_ref().is_some_and(|new| new.uid() == old.uid());
+    let keeps_group = has_group || file.chown(None, Some(old.gid())).is_ok();
+    let keeps_owner = has_owner || file.chown(Some(old.uid()), None).is_ok();
+    let mode = kept_mode(kind.of_old(old.mode()), keeps_owner, keeps_group);
+    let _ = file.set_permissions(Permissions::from_mode(mode));
+}
+
+/// What a new file has of the rights of an old one, of which it may have lost the owner or the group: what they had isn't
+/// given to those who have taken their place, as `cp -p` does.
+fn kept_mode(mode: u32, keeps_owner: bool, keeps_group: bool) -> u32
+    ensures { result ≡ bit_and mode (kept_bits keeps_owner keeps_group) }
+{
+    match (keeps_owner, keeps_group) {
+        (true, true) => mode & 0o7777,
+        (false, true) => mode & 0o3777,
+        (true, false) => mode & 0o5707,
+        (false, false) => mode & 0o1707,
+    }
 }
 
 /// Completes the new file, or removes it if that fails.
