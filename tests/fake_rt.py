@@ -4,6 +4,7 @@
 What it makes are shell scripts that say which program they stand for. FAKE_RT has words that change what it does:
 
     refuse-try     no program compiles
+    slow-try       a program compiles for a minute
     hide-program   what `rt try` runs can't be found, so no copy can be taken
     long-output    `rt try` doesn't say how the program ended
     refuse-run     a proof of a program fails
@@ -48,6 +49,8 @@ def write_program(path: Path, kind: str) -> None:
 
 def try_program(words: List[str]) -> int:
     """`rt try`: compiles the program in a temporary folder, and runs it there with the words."""
+    if "slow-try" in MODES:
+        time.sleep(60)
     if "refuse-try" in MODES:
         print("error: it has no main\nrun=none proved=no", file=sys.stderr)
         return 1

@@ -11,6 +11,7 @@ import time
 import unittest
 from pathlib import Path
 from typing import Dict, List, Tuple
+from unittest import mock
 
 TESTS = Path(__file__).resolve().parent
 ROOT = TESTS.parent
@@ -19,6 +20,7 @@ sys.path.insert(0, str(ROOT / "tools"))
 import building  # noqa: E402
 import progress  # noqa: E402
 import repository  # noqa: E402
+import trying  # noqa: E402
 
 NOT_PROVED = "this answer is of the program that isn't proved yet"
 
@@ -279,6 +281,24 @@ class WithoutCopy(Clone):
             called = self.call("bootkeep", "show", modes=mode)
             self.assertEqual(called.stdout, "proved bootkeep: show\n")
             (self.root / "crates" / "low" / "src" / "lib.rt").write_text(f"// {mode}\n")
+
+
+class Compiling(Clone):
+    """Programs that `rt try` doesn't compile in time, or at all."""
+
+    def why(self, modes: str) -> str:
+        """Why there is no program within a second."""
+        around = mock.patch.dict(os.environ, self.environment(modes))
+        with around, mock.patch.object(trying, "COMPILED_WITHIN", 1):
+            with self.assertRaises(trying.NotTried) as raised:
+                trying.build(self.root, "bootvars", ["explain"], self.folder)
+        return str(raised.exception)
+
+    def test_one_that_takes_too_long(self) -> None:
+        self.assertIn("it wasn't compiled within", self.why("slow-try"))
+
+    def test_one_that_is_refused(self) -> None:
+        self.assertIn("error: it has no main", self.why("refuse-try"))
 
 
 class Programs(unittest.TestCase):

@@ -87,7 +87,7 @@ def build(tree: Path, crate: str, waits_on: List[str], into: Path) -> Path:
             if made is None:
                 said.seek(0)
                 why = said.read().decode(errors="replace")
-                raise NotTried(why or "the program that was compiled isn't found while it runs")
+                raise NotTried(why or "`rt try` compiled nothing, and doesn't say why")
     _check_answers(made)
     return made
 
@@ -95,9 +95,17 @@ def build(tree: Path, crate: str, waits_on: List[str], into: Path) -> Path:
 def _copy_of_running(
     trying: "subprocess.Popen[bytes]", words: List[str], folder: Path, copy: Path
 ) -> Optional[Path]:
-    """Copies the program that runs with these words, as soon as it waits on the FIFO that the last of them names."""
+    """Copies the program that runs with these words, as soon as it waits on the FIFO that the last of them names: None if
+    `rt try` ends before.
+
+    Raises NotTried if that takes too long, or the program isn't found."""
     until = time.monotonic() + COMPILED_WITHIN
-    while trying.poll() is None and time.monotonic() < until:
+    while trying.poll() is None:
+        if time.monotonic() > until:
+            minutes = COMPILED_WITHIN // 60
+            raise NotTried(
+                f"it wasn't compiled within {minutes} minutes: try again when the machine has less to do"
+            )
         time.sleep(0.1)
         try:
             fifo = os.open(words[-1], os.O_WRONLY | os.O_NONBLOCK)
@@ -106,7 +114,7 @@ def _copy_of_running(
         try:
             program = _running(words, folder)
             if program is None:
-                return None
+                raise NotTried("the program that was compiled isn't found while it runs")
             copy.write_bytes(program.read_bytes())
             copy.chmod(0o755)
             return copy
