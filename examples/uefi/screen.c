@@ -12,7 +12,9 @@ void screen_begin(void)
 {
     SIMPLE_TEXT_OUTPUT_INTERFACE *console = ST->ConOut;
 
-    if (EFI_ERROR(console->QueryMode(console, (UINTN)console->Mode->Mode, &columns, &lines))) {
+    /* Each console has so many (UEFI 2.10, 12.4). Of one that tells of fewer, what doesn't fit isn't shown. */
+    if (EFI_ERROR(console->QueryMode(console, (UINTN)console->Mode->Mode, &columns, &lines)) || columns < 80 ||
+        lines < 25) {
         columns = 80;
         lines = 25;
     }
