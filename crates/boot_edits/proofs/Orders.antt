@@ -1,8 +1,8 @@
 -- Orders that are made of one another number by number, and what is in them.
-use Rattle.std.proofs.Common.{◌≡◌, ℕ, ◌+◌, ◌<◌, ◌==◌, ◌&&◌, ◌||◌, not, Bool, true, false, cond, List, [], ◌∷◌, ◌++◌, length, take, get_or}
-use Rattle.std.proofs.Common.{refl, sym, ap, ◌∙◌, inl, inr}
+use Rattle.std.proofs.Common.{◌≡◌, ℕ, ◌+◌, ◌<◌, ◌≤◌, ◌==◌, ◌&&◌, ◌||◌, not, Bool, true, false, cond, List, [], ◌∷◌, ◌++◌, length, take, get_or}
+use Rattle.std.proofs.Common.{refl, sym, ap, ◌∙◌, inl, inr, arith}
 use Rattle.std.proofs.lemmas.Bool.{cases_eq, cases_Bool, cond-true, cond-false, eqb-true}
-use Rattle.std.proofs.lemmas.List.{append-nil}
+use Rattle.std.proofs.lemmas.List.{append-nil, length-append}
 use Rattle.std.proofs.lemmas.List.Elements.{filter_more}
 use Rattle.std.proofs.lemmas.List.Folds.{list_any-append}
 use Rattle.std.proofs.lemmas.Map.Views.{any-filter_same}
@@ -75,7 +75,22 @@ with_last_once numbers number once = elim (cases_Bool (is_in numbers number)) [
   | inr new ↦ ap repeats (cond-false _ _ _ new) ∙ repeats_none numbers number once new
 ]
 
+pub with_last_fits : (numbers : List ℕ) (number : ℕ) → length (with_last numbers number) ≤ length numbers + 1
+with_last_fits numbers number = elim (is_in numbers number) as (λ b. length (cond b numbers (numbers ++ number ∷ [])) ≤ length numbers + 1) [
+  | true ↦ omega arith
+  | false ↦ omega (arith, length-append numbers (number ∷ []))
+]
+
 module _ (test : ℕ → Bool) where
+  -- it isn't longer than both together
+  pub extended_fits : (numbers order : List ℕ) → length (extended test numbers order) ≤ length numbers + length order
+  extended_fits numbers [] = omega arith
+  extended_fits numbers (first ∷ order) =
+      elim (test first) as (λ b. length (extended test (cond b (with_last numbers first) numbers) order) ≤ length numbers + length (first ∷ order)) [
+        | true ↦ omega (arith, with_last_fits numbers first, extended_fits (with_last numbers first) order)
+        | false ↦ omega (arith, extended_fits numbers order)
+      ]
+
   pub extended_has : (numbers order : List ℕ) (number : ℕ) →
       is_in (extended test numbers order) number ≡ (is_in numbers number || (test number && is_in order number))
   extended_has numbers [] number = sym (none (is_in numbers number) (test number))

@@ -17,15 +17,15 @@ use Rattle.boot_edits.specs.declared.addition.Position.TheVariants.{First, Last,
 use Rattle.boot_edits.specs.declared.answer.EditAnswer.{EditAnswer}
 use Rattle.boot_edits.specs.declared.answer.EditAnswer.TheVariants.{Done, Added, Present}
 use Rattle.boot_edits.specs.declared.edit.Edit.{Edit}
-use Rattle.boot_edits.specs.declared.edit.Edit.TheVariants.{Add, Remove, First as FirstOf, Order, Next, Activate, Deactivate}
+use Rattle.boot_edits.specs.declared.edit.Edit.TheVariants.{Add, Remove, First as FirstOf, Order, Unrepeat, Next, Activate, Deactivate}
 use Rattle.boot_edits.specs.declared.fault.EditFault.{EditFault}
 use Rattle.boot_edits.specs.declared.fault.EditFault.TheVariants.{BadOption}
 use Rattle.boot_edits.specs.Addition.{placed, IsSame, IsLowestSame, IsPresent, IsWanted, IsNewNumber, StoresPlaced, IsPlaced, IsEntryAdded}
 use Rattle.boot_edits.specs.Addition.{IsAdded, IsAdditionDone, IsNumberFault, IsOrderFault, IsPlaceFault, IsRoomFaultAt, IsAdditionFault}
-use Rattle.boot_edits.specs.Edit.{IsRemoved, IsRemoveFault, IsFrontOrder, IsNewOrder, IsOrderOf, IsReordered, IsReorderFault, IsNextSet}
+use Rattle.boot_edits.specs.Edit.{IsRemoved, IsRemoveFault, IsFrontOrder, IsNewOrder, IsOrderOf, IsReordered, IsReorderFault, IsUnrepeated, IsNextSet}
 use Rattle.boot_edits.specs.Edit.{IsNextFault, IsEdited, IsEditFault}
 use Rattle.boot_edits.specs.Lists.{IsMissing, IsStale, IsNoOption}
-use Rattle.boot_edits.specs.Orders.{extended, next_without_all}
+use Rattle.boot_edits.specs.Orders.{extended, each_once, next_without_all}
 use Rattle.boot_edits.specs.Parts.{BootParts, parts_of, Becomes, IsOtherName, entries_with, entries_changed, is_stored, IsOldOrder}
 use Rattle.boot_edits.specs.Readings.{HasOneReading}
 use Rattle.boot_edits.proofs.Lists.{HasOneFault, fine_or_not, one_first}
@@ -143,6 +143,13 @@ module _ (one : HasOneReading) (vars : Variables) where
     one_reorder_fault once f g (inl p) (inr q) = absurd (fine_or_not IsRefused numbers q.0 f p)
     one_reorder_fault once f g (inr p) (inl q) = absurd (fine_or_not IsRefused numbers p.0 g q)
     one_reorder_fault once f g (inr p) (inr q) = p.1 ∙ sym q.1
+
+  -- ---- the order with each number once
+
+  unrepeated_once : (a b : Variables) → IsUnrepeated vars a → IsUnrepeated vars b → a ≡ b
+  unrepeated_once a b p q =
+      let order = one.order vars p.order q.order p.has_order q.has_order in
+      one_becomes vars _ a b (subst (λ (o : List ℕ). IsOrderOf vars (each_once o) a) order p.becomes) q.becomes
 
   -- ---- the next entry
 
@@ -298,6 +305,7 @@ module _ (one : HasOneReading) (vars : Variables) where
         (one_new new.only new.entries.now) a b p.1 q.1,
     p.0 ∙ sym q.0,
   )
+  edited_once Unrepeat a b x y p q = (unrepeated_once a b p.1 q.1, p.0 ∙ sym q.0)
   edited_once (Next next) a b x y p q = (next_once next a b p.1 q.1, p.0 ∙ sym q.0)
   edited_once (Activate numbers) a b x y p q = (one_becomes vars _ a b p.1.becomes q.1.becomes, p.0 ∙ sym q.0)
   edited_once (Deactivate numbers) a b x y p q = (one_becomes vars _ a b p.1.becomes q.1.becomes, p.0 ∙ sym q.0)
@@ -308,6 +316,7 @@ module _ (one : HasOneReading) (vars : Variables) where
   edited_or_not (FirstOf numbers) to x f p q = reorder_or_not (IsMissing vars) numbers.now (IsFrontOrder vars numbers.now) (one_front numbers.now) to f p.1 q
   edited_or_not (Order new) to x f p q =
       reorder_or_not (IsStale new.stale vars) new.entries.now (IsNewOrder vars new.only new.entries.now) (one_new new.only new.entries.now) to f p.1 q
+  edited_or_not Unrepeat to x f p q = one.bad_order vars p.1.order q.1 p.1.has_order
   edited_or_not (Next next) to x f p q = next_or_not next to f p.1 q
   edited_or_not (Activate numbers) to x f p q = fine_or_not (IsNoOption vars) numbers.now p.1.fine f q
   edited_or_not (Deactivate numbers) to x f p q = fine_or_not (IsNoOption vars) numbers.now p.1.fine f q
@@ -320,6 +329,7 @@ module _ (one : HasOneReading) (vars : Variables) where
   one_edit_fault (Order new) f g p q =
       one_reorder_fault (IsStale new.stale vars) new.entries.now (IsNewOrder vars new.only new.entries.now)
       (one_new new.only new.entries.now) (one_stale new.stale) f g p q
+  one_edit_fault Unrepeat f g p q = p.0 ∙ sym q.0
   one_edit_fault (Next next) f g p q = one_next_fault next f g p q
   one_edit_fault (Activate numbers) f g p q = one_first (IsNoOption vars) numbers.now one_no_option f g p q
   one_edit_fault (Deactivate numbers) f g p q = one_first (IsNoOption vars) numbers.now one_no_option f g p q
@@ -334,6 +344,7 @@ others_kept vars (Add addition) to (Present n) p name other = ap (λ (m : Variab
 others_kept vars (Remove numbers) to x p name other = p.1.becomes.others name other
 others_kept vars (FirstOf numbers) to x p name other = p.1.becomes.others name other
 others_kept vars (Order new) to x p name other = p.1.becomes.others name other
+others_kept vars Unrepeat to x p name other = p.1.becomes.others name other
 others_kept vars (Next None) to x p name other = p.1.others name other
 others_kept vars (Next (Some n)) to x p name other = p.1.1.others name other
 others_kept vars (Activate numbers) to x p name other = p.1.becomes.others name other

@@ -7,12 +7,12 @@ use Rattle.boot_requests.specs.Apply.{without_all, in_front}
 use Rattle.boot_edits.specs.declared.answer.EditAnswer.{EditAnswer}
 use Rattle.boot_edits.specs.declared.answer.EditAnswer.TheVariants.{Done}
 use Rattle.boot_edits.specs.declared.edit.Edit.{Edit}
-use Rattle.boot_edits.specs.declared.edit.Edit.TheVariants.{Add, Remove, First, Order, Next, Activate, Deactivate}
+use Rattle.boot_edits.specs.declared.edit.Edit.TheVariants.{Add, Remove, First, Order, Unrepeat, Next, Activate, Deactivate}
 use Rattle.boot_edits.specs.declared.fault.EditFault.{EditFault}
 use Rattle.boot_edits.specs.declared.fault.EditFault.TheVariants.{BadOrder, BadNext, OrderTooLong}
 use Rattle.boot_edits.specs.Addition.{IsAdditionDone, IsAdditionFault}
 use Rattle.boot_edits.specs.Lists.{IsMissing, IsStale, IsNoOption, AreFine, IsFirstFault}
-use Rattle.boot_edits.specs.Orders.{extended, next_without_all}
+use Rattle.boot_edits.specs.Orders.{extended, each_once, next_without_all}
 use Rattle.boot_edits.specs.Parts.{parts_of, Becomes, entries_changed, is_stored, IsOldOrder}
 use Rattle.boot_edits.specs.Switch.{switched}
 
@@ -67,6 +67,16 @@ IsReorderFault IsRefused numbers IsSo f =
     IsFirstFault IsRefused numbers f
     ⊎ (AreFine IsRefused numbers × (f ≡ OrderTooLong) × ((order : List ℕ) × IsSo order × (order_max < length order)))
 
+-- ---- the order has each number once
+
+pub record IsUnrepeated (vars to : Variables) : Type 0 where
+  pub order : List ℕ
+  pub has_order : HasOrder vars order
+  pub becomes : IsOrderOf vars (each_once order) to
+
+abbrev pub IsUnrepeatFault : Variables → EditFault → Type 0
+IsUnrepeatFault vars f = (f ≡ BadOrder) × HasBadOrder vars
+
 -- ---- BootNext names an entry, or is gone
 
 abbrev pub IsNextOf : Variables → Option ℕ → Variables → Type 0
@@ -97,6 +107,7 @@ IsEdited vars (First numbers) to answer =
     (answer ≡ Done) × IsReordered vars (IsMissing vars) numbers.now (IsFrontOrder vars numbers.now) to
 IsEdited vars (Order new) to answer =
     (answer ≡ Done) × IsReordered vars (IsStale new.stale vars) new.entries.now (IsNewOrder vars new.only new.entries.now) to
+IsEdited vars Unrepeat to answer = (answer ≡ Done) × IsUnrepeated vars to
 IsEdited vars (Next next) to answer = (answer ≡ Done) × IsNextSet vars next to
 IsEdited vars (Activate numbers) to answer = (answer ≡ Done) × AreSwitched vars true numbers.now to
 IsEdited vars (Deactivate numbers) to answer = (answer ≡ Done) × AreSwitched vars false numbers.now to
@@ -108,6 +119,7 @@ IsEditFault vars (Remove numbers) f = IsRemoveFault vars numbers.now f
 IsEditFault vars (First numbers) f = IsReorderFault (IsMissing vars) numbers.now (IsFrontOrder vars numbers.now) f
 IsEditFault vars (Order new) f =
     IsReorderFault (IsStale new.stale vars) new.entries.now (IsNewOrder vars new.only new.entries.now) f
+IsEditFault vars Unrepeat f = IsUnrepeatFault vars f
 IsEditFault vars (Next next) f = IsNextFault vars next f
 IsEditFault vars (Activate numbers) f = IsFirstFault (IsNoOption vars) numbers.now f
 IsEditFault vars (Deactivate numbers) f = IsFirstFault (IsNoOption vars) numbers.now f

@@ -11,7 +11,7 @@ use crate::answer::EditAnswer;
 use crate::fault::EditFault;
 use crate::next::set_next;
 use crate::remove::remove;
-use crate::reorder::{NewOrder, put_first, set_order};
+use crate::reorder::{NewOrder, put_first, set_order, unrepeat};
 use std::alloc::Global;
 use uefi_vars::Vars;
 
@@ -27,6 +27,8 @@ pub enum Edit<'a> {
     First(&'a [u16]),
     /// BootOrder becomes another one.
     Order(NewOrder<'a>),
+    /// BootOrder has each of its numbers once, where that is first, numbers without an entry too.
+    Unrepeat,
     /// BootNext names this entry, or is deleted. One that can't be read is replaced.
     Next(Option<u16>),
     /// These entries get the attribute LOAD_OPTION_ACTIVE (3.1.3). All other bits of them stay.
@@ -47,7 +49,7 @@ pub enum Edit<'a> {
 ///
 /// For [`Edit::Remove`] then [`EditFault::BadOrder`] if BootOrder can't be read, and [`EditFault::BadNext`] if BootNext can't.
 /// For [`Edit::First`] and [`Edit::Order`] then [`EditFault::OrderTooLong`] if BootOrder would have more than
-/// [`ORDER_MAX`](uefi_vars::ORDER_MAX) numbers.
+/// [`ORDER_MAX`](uefi_vars::ORDER_MAX) numbers. For [`Edit::Unrepeat`] [`EditFault::BadOrder`] if it can't be read.
 ///
 /// For [`Edit::Add`] [`EditFault::BadOption`] if the bytes are no load option; otherwise, if it is new,
 /// [`EditFault::Taken`] or [`EditFault::NoFree`] if there is no number for it; otherwise [`EditFault::OptionTooLong`] if it
@@ -69,6 +71,7 @@ pub fn make_edit(
         Edit::Remove(numbers) => done(remove(alloc, vars, numbers)),
         Edit::First(numbers) => done(put_first(alloc, vars, numbers)),
         Edit::Order(new) => done(set_order(alloc, vars, new)),
+        Edit::Unrepeat => done(unrepeat(alloc, vars)),
         Edit::Next(next) => done(set_next(alloc, vars, *next)),
         Edit::Activate(numbers) => done(set_active(alloc, vars, numbers, true)),
         Edit::Deactivate(numbers) => done(set_active(alloc, vars, numbers, false)),

@@ -6,7 +6,7 @@ ghost use Rattle.uefi_vars.specs.NameChanges.{with_data};
 ghost use Rattle.uefi_vars.specs.Order.{order_max, stored_order, HasOrder, HasBadOrder};
 ghost use Rattle.boot_requests.specs.Apply.{without_all, in_front};
 ghost use Rattle.boot_edits.specs.declared.fault.EditFault.{EditFault};
-ghost use Rattle.boot_edits.specs.Orders.{extended};
+ghost use Rattle.boot_edits.specs.Orders.{extended, each_once};
 ghost use Rattle.boot_edits.specs.Parts.{is_stored, IsOldOrder};
 ghost use Rattle.boot_edits.specs.Steps.{Tells};
 
@@ -90,6 +90,18 @@ pub(crate) fn extended(
         }
     }
     Ok(new)
+}
+
+/// These numbers, each where it is first.
+pub(crate) fn each_once(alloc: Global, numbers: &[u16]) -> Result<Vec<u16>, AllocError>
+    ensures { IfOk result (λ order. order.items ≡ each_once numbers.now) }
+{
+    let mut met = BTreeSet::new(alloc);
+    let mut order = Vec::new(alloc);
+    for number in numbers {
+        push_new(&mut order, &mut met, *number)?;
+    }
+    Ok(order)
 }
 
 /// Makes BootOrder these numbers. An empty one is deleted.

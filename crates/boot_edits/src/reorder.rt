@@ -4,12 +4,13 @@ ghost use Rattle.std.specs.Prelude.{◌≡◌, ◌≢◌, ◌<◌, ◌≤◌, le
 ghost use Rattle.uefi_vars.specs.Order.{order_max};
 ghost use Rattle.boot_edits.specs.declared.fault.EditFault.{EditFault};
 ghost use Rattle.boot_edits.specs.Edit.{IsFrontOrder, IsNewOrder, IsReordered, IsReorderFault, IsOrderOf};
+ghost use Rattle.boot_edits.specs.Edit.{IsUnrepeated, IsUnrepeatFault};
 ghost use Rattle.boot_edits.specs.Lists.{IsMissing, IsStale};
 ghost use Rattle.boot_edits.specs.Needs.{order_need};
 
 use crate::fault::EditFault;
 use crate::listed::{Need, check_each};
-use crate::order::{extended, in_front, old_order, store_order};
+use crate::order::{each_once, extended, in_front, known_order, old_order, store_order};
 use std::alloc::{AllocError, Global};
 use uefi_vars::Vars;
 
@@ -71,6 +72,17 @@ fn new_order(alloc: Global, vars: &Vars, new: &NewOrder<'_>) -> Result<Vec<u16>,
     }
     let old = old_order(alloc, vars)?;
     extended(alloc, vars, new.entries, &old)
+}
+
+/// Leaves each number of BootOrder where it is first, and nowhere else.
+pub(crate) fn unrepeat(alloc: Global, vars: &Vars) -> Result<Vars, EditFault>
+    ensures done { IfOk result (IsUnrepeated vars.now) }
+    ensures refused { IfErr result (λ fault.
+        fault ≢ EditFault.OutOfMemory → IsUnrepeatFault vars.now fault) }
+{
+    let old = known_order(alloc, vars)?;
+    let order = each_once(alloc, &old)?;
+    with_order(alloc, vars, &order)
 }
 
 /// The variables with this BootOrder.

@@ -40,6 +40,7 @@ fn changed_by<'a>(edit: &Edit<'_>, left_out: &'a [String]) -> Option<&'a str> {
         Edit::First(entries) | Edit::Order(NewOrder { entries, .. }) => {
             entry_among(left_out, entries).or_else(|| left_out_name(left_out, BOOT_ORDER))
         }
+        Edit::Unrepeat => left_out_name(left_out, BOOT_ORDER),
         Edit::Next(Some(entry)) => left_out_entry(left_out, *entry).or_else(|| left_out_name(
             left_out, BOOT_NEXT,
         )),
