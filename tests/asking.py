@@ -14,6 +14,9 @@ from typing import Any, Dict, List, Mapping, NamedTuple, Optional, Sequence, Tup
 FULL = "/dev/full"
 """What takes no byte."""
 
+KEEPS_FILES = ["setpriv", "--bounding-set=-chown"]
+"""What runs a program so that it may give no file away."""
+
 SHOWN = 400
 """How many characters of an answer are told."""
 
@@ -42,6 +45,8 @@ class Surroundings(NamedTuple):
     """Whether nobody reads standard output."""
     memory: Optional[int] = None
     """How many MiB it has at most, if that is limited."""
+    keeps_files: bool = False
+    """Whether it may give no file to another user or group, though root runs it."""
     environment: Optional[Mapping[str, str]] = None
     """The variables of its environment, if it has some."""
 
@@ -63,6 +68,9 @@ def ask(
             settings["env"]["ASAN_OPTIONS"] = _sanitizer_options(around.memory, logs)
         elif around.memory is not None:
             settings["executable"], settings["args"] = _limited(program, words, around.memory)
+        elif around.keeps_files:
+            given = [*KEEPS_FILES, os.fspath(program), *map(os.fsdecode, words[1:])]
+            settings["executable"], settings["args"] = given[0], given
         for stream in ("stdout", "stderr"):
             settings[stream] = subprocess.PIPE
             if stream in around.full:

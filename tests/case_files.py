@@ -34,7 +34,13 @@ class Case(NamedTuple):
     @property
     def is_of_program(self) -> bool:
         """Whether the program alone runs it: what makes calls takes minutes for it, or has files without rights."""
-        return self.members.get("slow") == "program" or "modes" in self.members
+        members = self.members
+        return members.get("slow") == "program" or "modes" in members or "owners" in members
+
+    @property
+    def gives_files_away(self) -> bool:
+        """Whether it has files of other users, or of groups."""
+        return "owners" in self.members
 
 
 def read_cases(file: Path) -> List[Case]:

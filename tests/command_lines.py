@@ -2,13 +2,16 @@
 
 from __future__ import annotations
 
+import functools
 import os
+import shutil
 import stat
+import subprocess
 import tempfile
 from pathlib import Path
 from typing import Dict, List, Optional, Set
 
-from asking import Answer, NoAnswer, Surroundings, ask, shown
+from asking import KEEPS_FILES, Answer, NoAnswer, Surroundings, ask, shown
 from case_files import Case, Stated, bytes_of, text_of
 
 SECONDS = 300
@@ -22,6 +25,7 @@ IN_MEMORY = (
     "forbidden",
     "after_names",
     "after_rename",
+    "before_lock",
 )
 """The members of a case that only files in memory can have."""
 PIPE = "a named pipe"
@@ -37,6 +41,19 @@ def runs_in_a_folder(case: Case) -> bool:
         return False
     stated = ("files", "texts", "after", "links", "devices", "unchecked")
     return not any(path.startswith("/") for name in stated for path in members.get(name, []))
+
+
+@functools.lru_cache(maxsize=None)
+def may_give_files_away() -> bool:
+    """Whether this user may, and may run programs that may not."""
+    if shutil.which(KEEPS_FILES[0]) is None:
+        return False
+    with tempfile.TemporaryDirectory(prefix="bootkeep-case-") as folder:
+        try:
+            os.chown(folder, 1, 1)
+        except OSError:
+            return False
+    return subprocess.run([*KEEPS_FILES, "true"], capture_output=True, check=False).returncode == 0
 
 
 def differences(program: Path, case: Case) -> List[str]:
@@ -68,6 +85,7 @@ def _run(program: Path, case: Case, words: str, home: Path) -> Answer:
         full=members.get("full", []),
         closed="closed" in members,
         memory=members.get("memory"),
+        keeps_files="keeps_files" in members,
         environment=members.get("environment"),
     )
     given = [case.call.encode(), *(_word_of(word) for word in members[words])]
@@ -121,6 +139,10 @@ class Contents:
         self.links: Dict[str, str] = members.get("links", {})
         self.fifos: List[str] = members.get("fifos", [])
         self.modes = {path: int(it, 8) for path, it in members.get("modes", {}).items()}
+        changed = {path: int(it, 8) for path, it in members.get("modes_after", {}).items()}
+        self.modes_after = {**self.modes, **changed}
+        self.owners: Dict[str, List[int]] = members.get("owners", {})
+        self.owners_after = {} if "keeps_files" in members else self.owners
         self.after: Dict[str, Stated] = members.get("after", {})
         self.unchecked: List[str] = members.get("unchecked", [])
 
@@ -140,6 +162,8 @@ class Contents:
         for path in self.fifos:
             (home / path).parent.mkdir(parents=True, exist_ok=True)
             os.mkfifo(home / path)
+        for path, (user, group) in self.owners.items():
+            os.chown(home / path, user, group)
         for path, mode in self.modes.items():
             if (home / path).exists():
                 (home / path).chmod(mode)
@@ -149,8 +173,8 @@ class Contents:
         found, due = self._found(home), self._due()
         for path in self.unchecked:
             found[path] = due[path] = "unchecked"
-            if path in self.modes:
-                due[path] = _rights(self.modes[path])
+            if path in self.modes_after:
+                due[path] = _rights(self.modes_after[path])
                 found[path] = _rights(stat.S_IMODE((home / path).lstat().st_mode))
         unlike = []
         for path in sorted({*found, *due}):
@@ -169,8 +193,9 @@ class Contents:
             elif stat.S_ISFIFO(status.st_mode):
                 found[path] = PIPE
             elif not stat.S_ISDIR(status.st_mode):
-                mode = stat.S_IMODE(status.st_mode) if path in self.modes else None
-                found[path] = _in_words((home / path).read_bytes(), mode)
+                mode = stat.S_IMODE(status.st_mode) if path in self.modes_after else None
+                owner = [status.st_uid, status.st_gid] if path in self.owners_after else None
+                found[path] = _in_words((home / path).read_bytes(), mode, owner)
         return found
 
     def _due(self) -> Dict[str, str]:
@@ -181,7 +206,10 @@ class Contents:
                 del files[path]
             else:
                 files[path] = bytes_of(stated)
-        due = {path: _in_words(it, self.modes.get(path)) for path, it in files.items()}
+        due = {
+            path: _in_words(it, self.modes_after.get(path), self.owners_after.get(path))
+            for path, it in files.items()
+        }
         due.update({path: f"a link to {target}" for path, target in self.links.items()})
         due.update({path: PIPE for path in [*self.devices, *self.fifos]})
         return due
@@ -211,10 +239,11 @@ def _below(home: Path) -> Set[str]:
     return below
 
 
-def _in_words(content: bytes, mode: Optional[int]) -> str:
-    """What a file has, and its rights, if they matter."""
+def _in_words(content: bytes, mode: Optional[int], owner: Optional[List[int]]) -> str:
+    """What a file has, and its rights and whose it is, if they matter."""
     rights = "" if mode is None else f", {_rights(mode)}"
-    return f"{len(content)} bytes{rights}: {content.hex()}"
+    whose = "" if owner is None else f", of user {owner[0]} and group {owner[1]}"
+    return f"{len(content)} bytes{rights}{whose}: {content.hex()}"
 
 
 def _rights(mode: int) -> str:

@@ -15,7 +15,7 @@ from typing import Callable, Dict, Iterator, List, NamedTuple, Sequence
 import completion_list
 from asking import NoAnswer, ask, shown
 from case_files import Case, read_cases
-from command_lines import differences, runs_in_a_folder
+from command_lines import differences, may_give_files_away, runs_in_a_folder
 
 TESTS = Path(__file__).resolve().parent
 ROOT = TESTS.parent
@@ -180,9 +180,9 @@ def slow_jobs(programs: Programs, quick: bool, file: Path, cases: List[Case]) ->
         yield left_out(file.name, len(cases))
 
 
-def left_out(subject: str, count: int) -> Job:
+def left_out(subject: str, count: int, why: str = "take long") -> Job:
     """Tells that so many cases or checks are left out."""
-    return Job(subject, lambda: Outcome(0, 0, [f"{count} take long, and are left out"]))
+    return Job(subject, lambda: Outcome(0, 0, [f"{count} {why}, and are left out"]))
 
 
 def jobs_of_calls(
@@ -203,10 +203,13 @@ def is_of_command_lines(cases: List[Case]) -> bool:
 
 def jobs_of_command_lines(programs: Programs, file: Path, cases: List[Case]) -> Iterator[Job]:
     """The cases of a file that each executable of a program runs."""
-    for case in cases:
-        if case.call in programs.commands and runs_in_a_folder(case):
-            for program in programs.commands[case.call]:
-                yield Job(file.name, partial(run_command_line, program, case))
+    lines = [it for it in cases if it.call in programs.commands and runs_in_a_folder(it)]
+    due = [it for it in lines if not it.gives_files_away or may_give_files_away()]
+    for case in due:
+        for program in programs.commands[case.call]:
+            yield Job(file.name, partial(run_command_line, program, case))
+    if len(due) < len(lines):
+        yield left_out(file.name, len(lines) - len(due), "need root")
 
 
 def wrong_jobs(programs: Programs, file: Path, cases: List[Case]) -> Iterator[Job]:

@@ -159,6 +159,18 @@ class CommandLines(WithPrograms):
         self.assertEqual(self.found("[[ $(stat -c %a old) == 640 ]]", **stated), [])
         self.assertEqual(len(self.found("chmod 600 old", **stated)), 1)
 
+    def test_other_modes_after(self) -> None:
+        stated = {"files": {"old": "61"}, "modes": {"old": "640"}, "modes_after": {"old": "600"}}
+        self.assertEqual(self.found("chmod 600 old", **stated), [])
+        self.assertEqual(len(self.found("true", **stated)), 1)
+
+    @unittest.skipUnless(command_lines.may_give_files_away(), "needs root")
+    def test_owners(self) -> None:
+        stated = {"files": {"old": "61"}, "owners": {"old": [1, 2]}}
+        self.assertEqual(self.found("[[ $(stat -c %u:%g old) == 1:2 ]]", **stated), [])
+        self.assertEqual(len(self.found("chown 3 old", **stated)), 1)
+        self.assertEqual(self.found("! chown 3 old 2>/dev/null", keeps_files=True, **stated), [])
+
     def test_surroundings(self) -> None:
         self.assertEqual(self.found("[[ $1 == $'\\xff' ]]", words=[{"hex": "ff"}]), [])
         self.assertEqual(self.found("echo a 2>/dev/null || exit 5", full=["stdout"], status=5), [])
