@@ -12,5 +12,6 @@ mod program;
 mod steps;
 mod stopped;
 mod timeout;
+mod told_once;
 
 pub use program::run;

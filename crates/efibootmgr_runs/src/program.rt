@@ -4,6 +4,7 @@ use crate::fault_words::FaultWords;
 use crate::machine::{Machine, place};
 use crate::steps::make_changes;
 use crate::stopped::{Step, Stopped};
+use crate::told_once::ToldOnce;
 use boot_texts::{EntryName, option_reason};
 use efibootmgr_words::{Asked, HELP, VERSION, WordFault, list_vars, options, read_words};
 use std::alloc::AllocError;
@@ -82,14 +83,23 @@ fn answer<R: Env + Files<File: OutputFile> + Clock + Input + Print + Eprint + Al
         place: place.as_str(),
         command: words,
     };
+    run_steps(&ToldOnce::new(rt), &machine, asked)
+}
+
+/// Makes the changes that are asked for, and lists the variables unless that isn't wanted.
+fn run_steps<R: Files<File: OutputFile> + Clock + Input + Print + Eprint + AllocGlobal>(
+    rt: &R,
+    machine: &Machine<'_>,
+    asked: &Asked<'_>,
+) -> Result<(), Stopped> {
     if let Err(failure) = machine.read(rt) {
         return Err(Stopped::at(Step::Read, failure));
     }
-    make_changes(rt, &machine, asked)?;
+    make_changes(rt, machine, asked)?;
     if asked.quiet {
         return Ok(());
     }
-    list(rt, &machine, asked.verbose)
+    list(rt, machine, asked.verbose)
 }
 
 /// Prints a text.

@@ -3,16 +3,16 @@
 use crate::machine::Machine;
 use crate::new_entry::option_bytes;
 use crate::stopped::{Step, Stopped};
-use crate::timeout::{has_timeout, set_timeout};
+use crate::timeout::set_timeout;
 use boot_edits::{Addition, Edit, NewOrder, Position};
 use boot_texts::EntryName;
+use boot_updates::left_out_entry;
 use efibootmgr_words::Asked;
 use place_edits::{EditWords, change_place};
-use std::alloc::{AllocError, Global};
-use std::collections::BTreeSet;
+use std::alloc::Global;
 use std::rt::{Clock, Files};
-use uefi_vars::{BOOT_NEXT, Vars, boot_order};
-use var_places::Failure;
+use uefi_vars::BOOT_NEXT;
+use var_places::{Failure, PlaceVars};
 use whole_files::OutputFile;
 
 /// Makes each change that is asked for, in the order in which `efibootmgr` makes them.
@@ -78,14 +78,14 @@ fn create<R: Files<File: OutputFile> + Clock + Input + Print + Eprint + AllocGlo
     edit(rt, machine, Step::Create, Edit::Add(addition))
 }
 
-/// Tests whether there is no entry of this number.
+/// Tests whether there is no entry of this number, also none that no set can hold.
 fn check_free<R: Files + Eprint + AllocGlobal>(
     rt: &R,
     machine: &Machine<'_>,
     entry: u16,
 ) -> Result<(), Stopped> {
-    let vars = vars_at(rt, machine, Step::Create)?;
-    if vars.entry(entry).is_none() {
+    let found = found_at(rt, machine, Step::Create)?;
+    if found.vars.entry(entry).is_none() && left_out_entry(&found.left_out, entry).is_none() {
         return Ok(());
     }
     let fault = format!(in rt.alloc(); "{} is there already", EntryName(entry))?;
@@ -99,7 +99,12 @@ fn change_order<R: Files<File: OutputFile> + Clock + Input + Print + Eprint + Al
     asked: &Asked<'_>,
 ) -> Result<(), Stopped> {
     if asked.delete_order {
-        edit(rt, machine, Step::DeleteOrder, order_edit(&[], false))?;
+        let none = NewOrder {
+            entries: &[],
+            stale: false,
+            only: true,
+        };
+        edit(rt, machine, Step::DeleteOrder, Edit::Order(none))?;
     }
     if let Some(order) = &asked.order {
         let new = NewOrder {
@@ -110,56 +115,9 @@ fn change_order<R: Files<File: OutputFile> + Clock + Input + Print + Eprint + Al
         edit(rt, machine, Step::Order, Edit::Order(new))?;
     }
     if asked.remove_repeats {
-        remove_repeats(rt, machine)?;
+        edit(rt, machine, Step::RemoveRepeats, Edit::Unrepeat)?;
     }
     Ok(())
-}
-
-/// The edit that makes these numbers BootOrder, perhaps also those without an entry.
-fn order_edit(entries: &[u16], stale: bool) -> Edit<'_> {
-    Edit::Order(NewOrder {
-        entries,
-        stale,
-        only: true,
-    })
-}
-
-/// Takes each number out of BootOrder that is in it before.
-fn remove_repeats<R: Files<File: OutputFile> + Clock + Input + Print + Eprint + AllocGlobal>(
-    rt: &R,
-    machine: &Machine<'_>,
-) -> Result<(), Stopped> {
-    let alloc = rt.alloc();
-    let vars = vars_at(rt, machine, Step::RemoveRepeats)?;
-    let Ok(order) = boot_order(alloc, &vars) else {
-        return Err(refused(
-            alloc,
-            machine,
-            Step::RemoveRepeats,
-            "BootOrder isn't two bytes for each entry",
-        ));
-    };
-    let once = without_repeats(alloc, &order)?;
-    if once.len() == order.len() {
-        return Ok(());
-    }
-    edit(rt, machine, Step::RemoveRepeats, order_edit(&once, true))
-}
-
-/// The numbers, each where it is first.
-fn without_repeats(alloc: Global, numbers: &[u16]) -> Result<Vec<u16>, AllocError> {
-    let mut met = BTreeSet::new(alloc);
-    let mut once = Vec::new(alloc);
-    for number in numbers {
-        let new = match met.insert(*number) {
-            Ok(new) => new,
-            Err(_) => return Err(AllocError),
-        };
-        if new {
-            once.push(*number)?;
-        }
-    }
-    Ok(once)
 }
 
 /// Takes BootNext and Timeout out, and sets them.
@@ -172,15 +130,13 @@ fn change_next<R: Files<File: OutputFile> + Clock + Input + Print + Eprint + All
         delete_next(rt, machine)?;
     }
     if asked.delete_timeout {
-        delete_timeout(rt, machine)?;
+        change_timeout(rt, machine, Step::DeleteTimeout, None)?;
     }
     if let Some(next) = asked.next {
         edit(rt, machine, Step::Next, Edit::Next(Some(next)))?;
     }
-    if let Some(seconds) = asked.timeout
-        && let Err(failure) = set_timeout(rt, machine, Some(seconds))
-    {
-        return Err(Stopped::at(Step::Timeout, failure));
+    if let Some(seconds) = asked.timeout {
+        change_timeout(rt, machine, Step::Timeout, Some(seconds))?;
     }
     Ok(())
 }
@@ -190,8 +146,8 @@ fn delete_next<R: Files<File: OutputFile> + Clock + Input + Print + Eprint + All
     rt: &R,
     machine: &Machine<'_>,
 ) -> Result<(), Stopped> {
-    let vars = vars_at(rt, machine, Step::DeleteNext)?;
-    if vars.get(BOOT_NEXT).is_none() {
+    let found = found_at(rt, machine, Step::DeleteNext)?;
+    if found.vars.get(BOOT_NEXT).is_none() {
         return Err(refused(
             rt.alloc(),
             machine,
@@ -202,34 +158,27 @@ fn delete_next<R: Files<File: OutputFile> + Clock + Input + Print + Eprint + All
     edit(rt, machine, Step::DeleteNext, Edit::Next(None))
 }
 
-/// Takes Timeout out, which has to be there.
-fn delete_timeout<R: Files + Eprint + AllocGlobal>(
-    rt: &R,
-    machine: &Machine<'_>,
-) -> Result<(), Stopped> {
-    let vars = vars_at(rt, machine, Step::DeleteTimeout)?;
-    if !has_timeout(&vars) {
-        return Err(refused(
-            rt.alloc(),
-            machine,
-            Step::DeleteTimeout,
-            "there is no Timeout",
-        ));
-    }
-    match set_timeout(rt, machine, None) {
-        Ok(()) => Ok(()),
-        Err(failure) => Err(Stopped::at(Step::DeleteTimeout, failure)),
-    }
-}
-
-/// The variables of the machine, which are needed for this.
-fn vars_at<R: Files + Eprint + AllocGlobal>(
+/// Sets Timeout to so many seconds, or takes it out.
+fn change_timeout<R: Files<File: OutputFile> + Eprint + AllocGlobal>(
     rt: &R,
     machine: &Machine<'_>,
     step: Step,
-) -> Result<Vars, Stopped> {
+    seconds: Option<u16>,
+) -> Result<(), Stopped> {
+    match set_timeout(rt, machine, seconds) {
+        Ok(()) => Ok(()),
+        Err(failure) => Err(Stopped::at(step, failure)),
+    }
+}
+
+/// What the machine has, which is needed for this.
+fn found_at<R: Files + Eprint + AllocGlobal>(
+    rt: &R,
+    machine: &Machine<'_>,
+    step: Step,
+) -> Result<PlaceVars, Stopped> {
     match machine.read(rt) {
-        Ok(folder) => Ok(folder.found.vars),
+        Ok(folder) => Ok(folder.found),
         Err(failure) => Err(Stopped::at(step, failure)),
     }
 }
