@@ -41,7 +41,7 @@ fn bare_program<'a>(alloc: Global) -> Command<'a> {
     Command::new(alloc, "bootvars")
         .version(VERSION)
         .propagate_version(true)
-        .about("Reads, compares and writes the UEFI boot variables of a machine")
+        .about("Shows, checks and changes the UEFI boot entries of a machine")
         .after_help(PLACES)
         .subcommand_required(true)
 }
