@@ -1,10 +1,11 @@
 /*
  * An allocator that is preloaded into a program, counts the growths of one call of it, and refuses some of them.
  *
- * The call is what the program does between its first two reads of the clock. A growth is each request for memory, and
+ * The call is what the program does between its first two reads of the clock, or with REFUSE_WHOLE in the environment all
+ * that it does. A growth is each request for memory, and
  * each one for more memory in the place of some; to give memory back, or a part of it, is none. The growths are counted
  * from 1, and refused from the number REFUSE_FROM of the environment to the number REFUSE_TO, both of them too. At the
- * second read of the clock it writes to file descriptor 3 how many were refused.
+ * second read of the clock, or at the end, it writes to file descriptor 3 how many were refused.
  *
  * Each block is cut from one large piece of memory, with its length before it. None is used twice, since a run
  * is short. So a block moves whenever it grows, and the length that was asked for is known exactly.
@@ -32,6 +33,8 @@ static size_t used;
 static unsigned reads;
 static bool counting;
 static unsigned long growths, refused, refuse_from, refuse_to;
+
+static bool whole;
 
 static unsigned long number_of(const char *name)
 {
@@ -135,8 +138,27 @@ void free(void *block)
     (void)block;
 }
 
+__attribute__((constructor)) static void begin(void)
+{
+    whole = getenv("REFUSE_WHOLE");
+    if (whole) {
+        refuse_from = number_of("REFUSE_FROM");
+        refuse_to = number_of("REFUSE_TO");
+        counting = true;
+    }
+}
+
+__attribute__((destructor)) static void end(void)
+{
+    counting = false;
+    if (whole)
+        dprintf(COUNT, "%lu\n", refused);
+}
+
 int clock_gettime(clockid_t clock, struct timespec *time)
 {
+    if (whole)
+        return (int)syscall(SYS_clock_gettime, clock, time);
     reads++;
     if (reads == 1) {
         refuse_from = number_of("REFUSE_FROM");
