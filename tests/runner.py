@@ -28,7 +28,7 @@ CRATE = "case_runner"
 LIBRARIES = (
     "uefi_path uefi_text uefi_names uefi_option partitions uefi_vars var_stores boot_requests "
     "whole_files boot_journal boot_edits boot_commands boot_texts var_places boot_history "
-    "boot_updates disk_files place_edits var_commands serde_json hex anyhow"
+    "machine_changes boot_updates disk_files place_edits var_commands serde_json hex anyhow"
 )
 """What it stands on."""
 

@@ -86,47 +86,47 @@ pub fn newest<R: Files<File: OutputFile> + AllocGlobal>(
     state: &str,
     machine: &MachineName,
 ) -> Result<Option<KeptRecord>, Failure> {
-    let folder = history_path(rt.alloc(), state)?;
-    let folder = folder.as_path();
-    for number in numbers(rt, folder)?.iter().rev() {
-        if let Some(record) = own_record(rt, folder, *number, machine)? {
-            return Ok(Some(KeptRecord {
-                number: *number,
-                record,
-            }));
+    for number in &kept_numbers(rt, state)? {
+        let kept = kept_record(rt, state, *number, machine)?;
+        if kept.is_some() {
+            return Ok(kept);
         }
     }
     Ok(None)
 }
 
-/// The records of the machine of this name in the state folder at this path, the last one first. The caller keeps others
-/// from the state folder.
+/// The numbers of the records that are kept in the state folder at this path, of whatever machine, the last one first.
 ///
 /// # Errors
 ///
-/// As of [`newest`], also for the earlier files.
-pub fn records<R: Files<File: OutputFile> + AllocGlobal>(
-    rt: &R,
-    state: &str,
-    machine: &MachineName,
-) -> Result<Vec<KeptRecord>, Failure> {
-    let alloc = rt.alloc();
-    let folder = history_path(alloc, state)?;
-    let folder = folder.as_path();
-    let mut found = Vec::new(alloc);
-    for number in numbers(rt, folder)?.iter().rev() {
-        if let Some(record) = own_record(rt, folder, *number, machine)? {
-            found.push(KeptRecord {
-                number: *number,
-                record,
-            })?;
-        }
-    }
-    Ok(found)
+/// [`Failure::Read`] if the folder can't be read, and [`Failure::Memory`] if memory was refused.
+pub fn kept_numbers<R: Files + AllocGlobal>(rt: &R, state: &str) -> Result<Vec<u64>, Failure> {
+    let folder = history_path(rt.alloc(), state)?;
+    let mut kept = numbers(rt, folder.as_path())?;
+    kept.reverse();
+    Ok(kept)
 }
 
-/// Those of the [`records`] that an undoing may need of the machine, which keeps these variables now: down to the last one
-/// whose change stands. Earlier ones aren't read.
+/// The record of this number in the state folder at this path: `None` if it is another machine's.
+///
+/// # Errors
+///
+/// As of [`newest`], for its file.
+pub fn kept_record<R: Files<File: OutputFile> + AllocGlobal>(
+    rt: &R,
+    state: &str,
+    number: u64,
+    machine: &MachineName,
+) -> Result<Option<KeptRecord>, Failure> {
+    let folder = history_path(rt.alloc(), state)?;
+    match own_record(rt, folder.as_path(), number, machine)? {
+        Some(record) => Ok(Some(KeptRecord { number, record })),
+        None => Ok(None),
+    }
+}
+
+/// The records that an undoing may need of the machine, which keeps these variables now: those down to the last one whose
+/// change stands, the last one first. Earlier ones aren't read.
 ///
 /// # Errors
 ///
@@ -138,16 +138,11 @@ pub fn records_to_undo<R: Files<File: OutputFile> + AllocGlobal>(
     now: &Vars,
 ) -> Result<Vec<KeptRecord>, Failure> {
     let alloc = rt.alloc();
-    let folder = history_path(alloc, state)?;
-    let folder = folder.as_path();
     let mut found = Vec::new(alloc);
-    for number in numbers(rt, folder)?.iter().rev() {
-        if let Some(record) = own_record(rt, folder, *number, machine)? {
-            let stands = standing_of(alloc, &record, now)? == Standing::Unchanged;
-            found.push(KeptRecord {
-                number: *number,
-                record,
-            })?;
+    for number in &kept_numbers(rt, state)? {
+        if let Some(kept) = kept_record(rt, state, *number, machine)? {
+            let stands = standing_of(alloc, &kept.record, now)? == Standing::Unchanged;
+            found.push(kept)?;
             if stands {
                 break;
             }

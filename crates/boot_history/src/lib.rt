@@ -2,8 +2,9 @@
 //!
 //! A [`Record`] is of one change: the machine, the time, the words of the command, and the boot manager's variables before
 //! and after it (UEFI specification, version 2.10, chapter 3). [`push`] keeps one in a state folder before its change is made,
-//! and the last sixteen of each machine stay; [`newest`], [`records`] and [`records_to_undo`] read them, and [`remove`] takes one away. [`standing_of`]
-//! tells whether a change can be undone: what is there now is what was after it, or before it, or something else.
+//! and the last sixteen of each machine stay; [`newest`], [`kept_record`] and [`records_to_undo`] read them, and [`remove`] takes
+//! one away. [`standing_of`] tells whether a change can be undone: what is there now is what was after it, or before it, or
+//! something else; a start that only used BootNext up changes nothing of that.
 //! [`read_record`] reads a record from the bytes of its file, all of them, and [`write_record`] gives its one spelling.
 #![tactic(auto)]
 
@@ -23,9 +24,11 @@ mod writer;
 
 pub use fault::{RecordFault, WriteFault};
 pub use folder::{DEFAULT_STATE, make_state_folder};
-pub use history::{KEPT_MAX, KeptRecord, newest, push, records, records_to_undo, remove};
+pub use history::{
+    KEPT_MAX, KeptRecord, kept_numbers, kept_record, newest, push, records_to_undo, remove,
+};
 pub use reader::read_record;
 pub use record::Record;
-pub use stands::{Standing, standing_of};
+pub use stands::{Standing, as_used, standing_of, without_next};
 pub use time::{time_now, time_text};
 pub use writer::write_record;

@@ -4,8 +4,9 @@ use crate::not_made::{NotMade, Refused};
 use crate::script::Script;
 use boot_requests::{Event, FrameFault, Request, read_frame};
 use boot_texts::EventPosition;
+use machine_changes::{left_out_entry, left_out_name};
 use std::alloc::{AllocError, Global};
-use uefi_vars::{BOOT_NEXT, BOOT_ORDER, entry_number};
+use uefi_vars::{BOOT_NEXT, BOOT_ORDER};
 use var_places::Failure;
 
 /// Refuses the script if a request in it would change one of the variables of these names, which no set can hold. It is
@@ -72,20 +73,4 @@ fn changed_by_request<'a>(request: &Request, left_out: &'a [String]) -> Option<&
             .find_map(|entry| left_out_entry(left_out, *entry))
             .or_else(|| left_out_name(left_out, BOOT_ORDER)),
     }
-}
-
-/// The name of the entry of this number, if it is one of these.
-pub fn left_out_entry(left_out: &[String], entry: u16) -> Option<&str> {
-    left_out
-        .iter()
-        .map(String::as_str)
-        .find(|name| entry_number(name) == Some(entry))
-}
-
-/// This name, if it is one of these.
-pub fn left_out_name<'a>(left_out: &'a [String], name: &str) -> Option<&'a str> {
-    left_out
-        .iter()
-        .map(String::as_str)
-        .find(|left| *left == name)
 }

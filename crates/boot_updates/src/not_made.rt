@@ -1,7 +1,8 @@
 //! Why updates aren't made, for those who sent them.
 
+use boot_journal::RunFault;
 use boot_requests::{OpenFault, ScriptFault};
-use boot_texts::Remedy;
+use boot_texts::{Remedy, open_reason};
 use std::alloc::{AllocError, AllocFailed, Global};
 use var_places::Failure;
 
@@ -77,7 +78,7 @@ fn word_of(failure: &Failure) -> &'static str {
     match failure {
         Failure::Words(_) => "Words",
         Failure::Read { .. } => "Read",
-        Failure::Write { .. } | Failure::Change { .. } => "Write",
+        Failure::Write { .. } => "Write",
         Failure::TakenBack(_) => "TakenBack",
         Failure::Unsettled(_) => "Unsettled",
         Failure::Busy(_) | Failure::Held(_) => "Busy",
@@ -105,5 +106,33 @@ impl From<AllocError> for NotMade {
 impl<T: Drop> From<AllocFailed<T>> for NotMade {
     fn from(_refusal: AllocFailed<T>) -> NotMade {
         NotMade::from(Failure::Memory)
+    }
+}
+
+/// What keeps an update from being made if the variables of the place, or those that the requests lead to, are refused.
+pub(crate) fn from_run(alloc: Global, place: &str, fault: RunFault) -> NotMade {
+    match fault {
+        RunFault::Open(open) => NotMade::refused(
+            Refused::Open(open),
+            from_open(alloc, place, &open),
+        ),
+        RunFault::NoData => NotMade::from(Failure::from_fault(
+            alloc,
+            place,
+            "a boot variable has no value after its attributes",
+        )),
+        RunFault::TooLong => NotMade::from(Failure::from_fault(
+            alloc,
+            place,
+            "a boot variable would have more than 1048576 bytes, with its four of attributes",
+        )),
+    }
+}
+
+/// What it is to the program that the variables of the place can't be kept.
+fn from_open(alloc: Global, place: &str, fault: &OpenFault) -> Failure {
+    match format!(in alloc; "{fault}: {}", open_reason(fault)) {
+        Ok(text) => Failure::from_run(alloc, place, text.as_str()),
+        Err(AllocError) => Failure::Memory,
     }
 }

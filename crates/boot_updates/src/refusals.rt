@@ -1,13 +1,12 @@
 //! What is told of an update that wasn't made, as JSON.
 
-use crate::machine_words::MachineWords;
 use crate::next_number::next_number;
 use crate::not_made::NotMade;
-use crate::notes::digits_of;
-use crate::state_folder::{StoredJournal, journal_path, stored_with_notes};
-use crate::values::set_value;
 use boot_journal::Journal;
 use boot_texts::{Refusal, refusal_json};
+use machine_changes::{
+    MachineWords, StoredJournal, digits_of, journal_path, set_value, stored_with_notes,
+};
 use std::alloc::{AllocError, Global};
 use std::rt::Files;
 use uefi_vars::{KEEP_STATE, Vars};

@@ -6,10 +6,11 @@ ghost use Rattle.boot_journal.specs.RunFault.{IsOpenRefusal};
 ghost use Rattle.boot_updates.specs.NextNumber.{IsNextOf};
 
 use crate::next_number::next_number;
-use crate::notes::{KeptNotes, Noted, note_run};
+use crate::noted::{Noted, note_run};
 use boot_journal::{AttributesFault, CallError, Requests, Run, RunFault, without_attributes};
 use boot_requests::Answer;
 use boot_texts::naming_change;
+use machine_changes::KeptNotes;
 use std::alloc::{AllocError, Global};
 use uefi_vars::Vars;
 

@@ -1,20 +1,17 @@
 //! The command `update`.
 
-use crate::failures::from_settling;
-use crate::machine_words::MachineWords;
 use crate::not_made::NotMade;
-use crate::opened::{open_machine, open_place};
-use crate::plan::plan_script;
 use crate::refusals::print_refusal;
 use crate::replies::{Ended, Finished, ReplyForm};
 use crate::script::{Script, read_events};
-use crate::state_folder::lock_folder;
-use crate::told::tell_of_unnamed;
-use crate::updated::run_events;
-use boot_journal::settle;
+use crate::wanted::{Printing, WantedRequests};
 use boot_requests::InputFormat;
+use machine_changes::{
+    ChangeWords, MachineWords, PlaceKind, StateUse, ToldAnswer, change_machine, settle_machine,
+    tell_of_coming, tell_of_unnamed,
+};
 use std::rt::{Clock, Files};
-use var_places::{Failure, print};
+use var_places::{Failure, is_folder, print};
 use whole_files::OutputFile;
 
 /// The words of an update.
@@ -114,67 +111,62 @@ fn do_job<R: Files<File: OutputFile> + Clock + Input + Print + Eprint + AllocGlo
                 InputFormat::Script
             };
             let script = read_events(rt, script, format)?;
-            if dry_run {
-                plan_script(rt, &words.machine, &script, form != ReplyForm::Lines)
+            let printing = if dry_run {
+                Printing::Plan(form)
             } else {
-                run_script(rt, words, &script, form)
-            }
+                Printing::Replies(form)
+            };
+            run_script(rt, words, &script, printing)
         }
-        Job::Next => tell_next(rt, words),
-        Job::Look => run_script(rt, words, &Script::empty(rt.alloc()), ReplyForm::Look),
-        Job::Settle => settle_place(rt, &words.machine),
+        Job::Next => run_script(rt, words, &Script::empty(rt.alloc()), Printing::Next),
+        Job::Look => {
+            let printing = Printing::Replies(ReplyForm::Look);
+            run_script(rt, words, &Script::empty(rt.alloc()), printing)
+        }
+        Job::Settle => {
+            settle_machine(rt, &words.machine)?;
+            Ok(Finished {
+                text: String::new(rt.alloc()),
+                ended: Ended::AllDone,
+            })
+        }
     }
 }
 
-/// Runs the script over the place.
+/// Runs the script over the place, or looks what it would do, and tells which entries it leaves in no order.
 fn run_script<R: Files<File: OutputFile> + Clock + Input + Print + Eprint + AllocGlobal>(
     rt: &R,
     words: &UpdateWords<'_>,
     script: &Script<'_>,
-    form: ReplyForm,
+    printing: Printing,
 ) -> Result<Finished, NotMade> {
-    let updated = run_events(rt, words, script)?;
-    tell_of_unnamed(rt, words.machine.place, &updated.answered.unnamed);
-    Ok(Finished {
-        text: updated.text(rt.alloc(), script, form)?,
-        ended: updated.ending(),
-    })
-}
-
-/// The next number, after what is left of earlier updates was done.
-fn tell_next<R: Files<File: OutputFile> + Clock + Input + Print + Eprint + AllocGlobal>(
-    rt: &R,
-    words: &UpdateWords<'_>,
-) -> Result<Finished, NotMade> {
-    let alloc = rt.alloc();
-    let updated = run_events(rt, words, &Script::empty(alloc))?;
-    let next = updated.next();
-    Ok(Finished {
-        text: format!(in alloc; "{next}\n")?,
-        ended: Ended::AllDone,
-    })
-}
-
-/// Does what is left of earlier updates.
-fn settle_place<R: Files<File: OutputFile> + Input + Print + Eprint + AllocGlobal>(
-    rt: &R,
-    words: &MachineWords<'_>,
-) -> Result<Finished, NotMade> {
-    let folder = lock_folder(rt, words.state)?;
-    settle_locked(rt, words, folder.journal())?;
-    Ok(Finished {
-        text: String::new(rt.alloc()),
-        ended: Ended::AllDone,
-    })
-}
-
-/// Does what is left of earlier updates. The folder with the journal at this path is locked.
-fn settle_locked<R: Files<File: OutputFile> + Input + Print + Eprint + AllocGlobal>(
-    rt: &R,
-    words: &MachineWords<'_>,
-    journal_path: &str,
-) -> Result<(), Failure> {
-    let alloc = rt.alloc();
-    let (mut machine, boot) = open_machine(rt, words, open_place(rt, words)?, journal_path)?;
-    settle(alloc, &mut machine, &boot).map_err(|error| from_settling(alloc, words, error))
+    let machine = &words.machine;
+    let dry_run = matches!(printing, Printing::Plan(_));
+    let asked = ChangeWords {
+        machine: words.machine,
+        command: Some(words.command),
+        dry_run,
+        state: StateUse::Needed,
+        by_journal: true,
+    };
+    let kind = if is_folder(rt, machine.place)? {
+        PlaceKind::Folder
+    } else {
+        PlaceKind::VariableFile
+    };
+    let wanted = WantedRequests {
+        place: machine.place,
+        script,
+        printing,
+    };
+    let ToldAnswer {
+        answer: answered,
+        told,
+    } = change_machine(rt, &asked, kind, &wanted)?;
+    if dry_run {
+        tell_of_coming(rt, machine.place, &answered.unnamed);
+    } else {
+        tell_of_unnamed(rt, machine.place, &answered.unnamed);
+    }
+    Ok(told)
 }

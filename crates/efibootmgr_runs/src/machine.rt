@@ -1,7 +1,7 @@
 //! The machine whose variables are changed and listed.
 
 use boot_history::DEFAULT_STATE;
-use boot_updates::MachineWords;
+use machine_changes::MachineWords;
 use std::env::{self, VarError};
 use std::rt::{Env, Files};
 use var_places::{Failure, Folder, read_folder};

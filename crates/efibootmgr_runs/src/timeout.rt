@@ -1,6 +1,7 @@
 //! The variable Timeout.
 
 use crate::machine::Machine;
+use machine_changes::from_change;
 use std::alloc::{AllocError, Global};
 use std::rt::Files;
 use uefi_vars::{BOOT_ATTRIBUTES, Vars};
@@ -31,8 +32,8 @@ pub(crate) fn set_timeout<R: Files<File: OutputFile> + Eprint + AllocGlobal>(
         None if folder.found.vars.get(TIMEOUT).is_some() => None,
         None => return Err(Failure::from_run(alloc, machine.place, "there is no Timeout")),
     };
-    set_variable(rt, &folder, machine.place, TIMEOUT, bytes.as_deref()).map_err(|error| {
-        Failure::from_write(alloc, TIMEOUT, error)
+    set_variable(rt, &folder, machine.place, TIMEOUT, bytes.as_deref()).map_err(|fault| {
+        from_change(alloc, machine.place, TIMEOUT, fault)
     })
 }
 

@@ -1,1 +1,3 @@
+pub mod Brought
+pub mod Takeable
 pub mod Undo

@@ -1,13 +1,19 @@
 //! Changes of the boot entries of a place.
 
-use crate::file_edits::{edit_set_file, edit_variable_file};
-use crate::folder_edits::{edit_folder, plan_edit};
-use crate::led::Led;
-use crate::notes::{print_change, tell};
-use crate::place_kind::{PlaceKind, place_kind};
-use boot_edits::{Edit, EditAnswer};
-use boot_updates::MachineWords;
+use crate::edit_notes::told_of;
+use crate::fault_words::from_edit_run;
+use crate::left_out::check_edit;
+use crate::set_file::edit_set_file;
+use crate::told::Told;
+use boot_edits::{Edit, EditAnswer, EditRun, EditRunFault};
+use boot_journal::{CallError, Run};
+use machine_changes::{
+    ChangeWords, MachineWords, PlaceKind, Seen, StateUse, ToldAnswer, Wanted, change_machine,
+    kind_of_place, set_of,
+};
+use std::alloc::Global;
 use std::rt::{Clock, Files};
+use uefi_vars::Vars;
 use var_places::Failure;
 use whole_files::OutputFile;
 
@@ -29,8 +35,8 @@ pub struct EditWords<'a> {
 /// Changes boot entries of a place, and prints the changes as `diff` does, after the name of an entry that is added. Over a
 /// folder the change is made as a whole, whatever is cut off when, by the journal in the state folder, which is made if it
 /// isn't there; a file is replaced as a whole. What an earlier update has left to do is done first. Of a folder and a variable
-/// file the state folder keeps what was there before, for [`undo_change`](crate::undo_change). A dry run changes nothing, and prints what
-/// would be changed.
+/// file the state folder keeps what was there before, for [`undo_change`](crate::undo_change). A dry run changes nothing, and
+/// prints what would be changed.
 ///
 /// # Errors
 ///
@@ -43,7 +49,7 @@ pub fn edit_place<R: Files<File: OutputFile> + Clock + Input + Print + Eprint + 
     rt: &R,
     words: &EditWords<'_>,
 ) -> Result<(), Failure> {
-    print_change(rt, words.json, &made_and_told(rt, words)?)
+    made_and_told(rt, words)?.told.print(rt)
 }
 
 /// Changes boot entries of a place as [`edit_place`] does, and prints nothing but what standard error is told. Returns what the
@@ -59,27 +65,91 @@ pub fn change_place<R: Files<File: OutputFile> + Clock + Input + Print + Eprint 
     Ok(made_and_told(rt, words)?.answer)
 }
 
-/// Makes the change, and tells on standard error what there is to tell of it.
+/// Makes the change, or looks what it would be, and tells on standard error what there is to tell of it.
 fn made_and_told<R: Files<File: OutputFile> + Clock + Input + Print + Eprint + AllocGlobal>(
     rt: &R,
     words: &EditWords<'_>,
-) -> Result<Led<EditAnswer>, Failure> {
-    let kind = place_kind(rt, words.machine.place)?;
-    let led = made(rt, words, kind)?;
-    tell(rt, words, kind, &led)?;
-    Ok(led)
+) -> Result<ToldAnswer<EditAnswer, Told>, Failure> {
+    let place = words.machine.place;
+    let answered = match kind_of_place(rt, place)? {
+        PlaceKind::Set => edit_set_file(rt, words)?,
+        kind => {
+            let asked = ChangeWords {
+                machine: words.machine,
+                command: Some(words.command),
+                dry_run: words.dry_run,
+                state: StateUse::Made,
+                by_journal: false,
+            };
+            change_machine(rt, &asked, kind, &WantedEdit { words })?
+        }
+    };
+    answered.told.tell(rt, place, words.dry_run);
+    Ok(answered)
 }
 
-/// Makes the change in a place of this kind, or looks what it would be.
-fn made<R: Files<File: OutputFile> + Clock + Input + Print + Eprint + AllocGlobal>(
-    rt: &R,
-    words: &EditWords<'_>,
-    kind: PlaceKind,
-) -> Result<Led<EditAnswer>, Failure> {
-    match kind {
-        PlaceKind::Set => edit_set_file(rt, words),
-        PlaceKind::Folder | PlaceKind::VariableFile if words.dry_run => plan_edit(rt, words),
-        PlaceKind::Folder => edit_folder(rt, words),
-        PlaceKind::VariableFile => edit_variable_file(rt, words),
+/// An edit that is wanted of a machine.
+#[derive(Clone, Copy)]
+struct WantedEdit<'a, 'w> {
+    words: &'a EditWords<'w>,
+}
+
+impl Wanted for WantedEdit<'_, '_> {
+    ghost use Rattle.boot_edits.specs.Run.{IsRun, IsRunFault};
+
+    type Answer = EditAnswer;
+
+    type Fault = EditRunFault;
+
+    type Told = Told;
+
+    type Refusal = Failure;
+
+    ghost leads = { λ wanted seen from to answer. IsRun wanted.words.now.edit from to answer };
+
+    ghost refuses = { λ wanted seen from fault. IsRunFault wanted.words.now.edit from fault };
+
+    fn check(&self, alloc: Global, left_out: &[String]) -> Result<(), Failure> {
+        let words = self.words;
+        check_edit(alloc, words.machine.place, &words.edit, left_out)
     }
+
+    fn replaced(&self) -> Option<&Vars> {
+        None
+    }
+
+    fn begins_notes(&self) -> bool {
+        false
+    }
+
+    fn run(
+        &self,
+        alloc: Global,
+        _seen: &Seen<'_>,
+        vars: &Vars,
+    ) -> Result<(Vars, EditAnswer), CallError<EditRunFault>> {
+        let words = self.words;
+        (EditRun { edit: words.edit }).run(alloc, vars)
+    }
+
+    fn tell(
+        &self,
+        alloc: Global,
+        seen: &Seen<'_>,
+        (from, to): (&Vars, &Vars),
+        answer: &EditAnswer,
+    ) -> Result<Told, Failure> {
+        let words = self.words;
+        let place = words.machine.place;
+        let from = set_of(alloc, place, from)?;
+        let to = set_of(alloc, place, to)?;
+        Ok(told_of(alloc, words, seen.is_folder, (&from, &to), *answer)?)
+    }
+
+    fn refusal(&self, alloc: Global, fault: EditRunFault) -> Failure {
+        let words = self.words;
+        from_edit_run(alloc, words.machine.place, fault)
+    }
+
+    fn end(&self, _answer: &EditAnswer) {}
 }

@@ -1,7 +1,7 @@
 //! Changes of variables that no set can hold, and that so stay as they are.
 
 use boot_edits::{Addition, Edit, NewOrder, Position};
-use boot_updates::{left_out_entry, left_out_name};
+use machine_changes::{left_out_entry, left_out_name};
 use std::alloc::Global;
 use uefi_vars::{BOOT_NEXT, BOOT_ORDER};
 use var_places::Failure;

@@ -1,26 +1,26 @@
 //! Changes of the boot entries of a place, as an administrator asks for them, each in one step: in a folder as Linux shows
 //! variables, in an emulator's variable file, or in a set file (UEFI specification, version 2.10, chapter 3).
 //!
-//! [`edit_place`] makes a change of `boot_edits`, and [`change_place`] does without printing it. Over a folder it goes by the journal of `boot_updates`, so that a cut leaves
-//! the old variables or the new ones; a file is replaced as a whole. What was there before is kept, and [`undo_change`] brings it
-//! back; [`list_changes`] tells of what is kept. [`write_place`] makes the boot variables of a place those of a set, and
-//! [`get_entry`] gives the load option of an entry.
+//! [`edit_place`] makes a change of `boot_edits`, and [`change_place`] does without printing it; [`write_place`] makes the boot
+//! variables of a place those of a set; what was there before is kept, and [`undo_change`] brings it back. All go one way: a
+//! folder is changed by the journal of `machine_changes`, so that a cut leaves the old variables or the new ones, and a file is
+//! replaced as a whole; what is told is made before the change. [`list_changes`] tells of what is kept, and [`get_entry`] gives
+//! the load option of an entry.
 #![tactic(auto)]
 
+mod brought;
+mod edit_notes;
 mod edits;
 mod entry;
 mod fault_words;
-mod file_edits;
-mod folder_edits;
-mod history;
-mod led;
 mod left_out;
-mod notes;
-mod place_kind;
+mod set_file;
 mod takeable;
+mod told;
 mod undo;
 mod undo_list;
 mod undo_run;
+mod wanted_set;
 mod write;
 mod written;
 

@@ -1,18 +1,19 @@
 //! The command `undo`, which brings back what was there before the last change of a machine.
 
-use crate::file_edits::{changed_file, settle_left};
-use crate::place_kind::{PlaceKind, place_kind};
-use crate::undo_run::{ChangedSince, UndoFault, UndoRun, Undone};
+use crate::takeable::note_missing;
+use crate::told::{Notes, Told};
+use crate::undo_run::{ChangedSince, UndoFault, UndoRun, Undone, call_error};
 use crate::written::Written;
 use boot_history::{records_to_undo, remove, time_text};
-use boot_journal::{CallError, CommandError, Machine, Run, command, settle};
-use boot_updates::{
-    KeptVars, MachineWords, SettledVars, changes_text, from_settling, from_updating, lock_folder,
-    name_of_machine, open_machine, open_place, read_kept, stands_for, tell_of_due,
+use boot_journal::{CallError, Run};
+use machine_changes::{
+    ChangeWords, MachineWords, Seen, StateUse, ToldAnswer, Wanted, change_machine, changes_text,
+    kind_of_place, set_of,
 };
-use std::rt::Files;
+use std::alloc::Global;
+use std::rt::{Clock, Files};
 use uefi_vars::Vars;
-use var_places::{Failure, lock_place, note, print, write};
+use var_places::{Failure, note, print};
 use whole_files::OutputFile;
 
 /// The words of an undoing.
@@ -36,139 +37,124 @@ pub struct UndoWords<'a> {
 ///
 /// [`Failure::Run`] if nothing is kept of the machine, or something else has changed since, which is printed then; otherwise
 /// those of [`edit_place`](crate::edit_place).
-pub fn undo_change<R: Files<File: OutputFile> + Input + Print + Eprint + AllocGlobal>(
+pub fn undo_change<R: Files<File: OutputFile> + Clock + Input + Print + Eprint + AllocGlobal>(
     rt: &R,
     words: &UndoWords<'_>,
 ) -> Result<Written, Failure> {
     let place = words.machine.place;
-    let undone = match place_kind(rt, place)? {
-        PlaceKind::Set => Err(Failure::from_fault(
-            rt.alloc(),
-            place,
-            "it is a set file, and nothing is kept of its changes",
-        )),
-        PlaceKind::Folder | PlaceKind::VariableFile if words.dry_run => plan_undo(rt, words),
-        PlaceKind::Folder => undo_folder(rt, words),
-        PlaceKind::VariableFile => undo_file(rt, words),
-    }?;
-    let text = changes_text(
-        rt.alloc(),
-        place,
-        (&undone.led.from, &undone.led.to),
-        words.json,
-    )?;
-    print(rt, text.as_bytes())?;
-    Ok(Written::without(&undone.led.answer.missing))
-}
-
-/// Undoes the last change of a folder.
-fn undo_folder<R: Files<File: OutputFile> + Input + Print + Eprint + AllocGlobal>(
-    rt: &R,
-    words: &UndoWords<'_>,
-) -> Result<Undone, Failure> {
-    let machine = &words.machine;
-    let folder = lock_folder(rt, machine.state)?;
-    let undone = undo_machine(rt, words, folder.journal())?;
-    forget(rt, machine.state, &undone);
-    Ok(undone)
-}
-
-/// Takes away what the state folder at this path keeps of a change that is undone. If that fails, it is told, and the next
-/// undoing passes the change over.
-fn forget<R: Files<File: OutputFile> + Eprint + AllocGlobal>(rt: &R, state: &str, undone: &Undone) {
-    if let Err(failure) = remove(rt, state, undone.number) {
-        note(
-            rt,
-            state,
-            format_args!(
-                "what was kept of the change stays, and the next undo passes it over: {failure}"
-            ),
-        );
-    }
-}
-
-/// Undoes the last change of the machine with the journal at this path, whose folder is locked.
-fn undo_machine<R: Files<File: OutputFile> + Input + Print + Eprint + AllocGlobal>(
-    rt: &R,
-    words: &UndoWords<'_>,
-    journal_path: &str,
-) -> Result<Undone, Failure> {
-    let alloc = rt.alloc();
-    let machine = &words.machine;
-    let name = name_of_machine(rt, machine, true)?;
-    let opened = open_place(rt, machine)?;
-    let left_out = opened.copy_left_out(alloc)?;
-    let (mut kept, boot) = open_machine(rt, machine, opened, journal_path)?;
-    settle(alloc, &mut kept, &boot).map_err(|error| from_settling(alloc, machine, error))?;
-    let changes = records_to_undo(rt, machine.state, &name, &kept.read_vars(alloc)?)?;
-    let run = UndoRun {
-        rt,
-        words,
-        changes: &changes,
-        left_out: &left_out,
-        has_firmware: true,
+    let asked = ChangeWords {
+        machine: words.machine,
+        command: None,
+        dry_run: words.dry_run,
+        state: StateUse::Needed,
+        by_journal: false,
     };
-    command(alloc, &mut kept, &run, &boot).map_err(|error| match error {
-        CommandError::OutOfMemory => Failure::Memory,
-        CommandError::Run(fault) => from_undo(rt, words, fault),
-        CommandError::Settling(error) => from_settling(alloc, machine, error),
-        CommandError::Updating(error) => from_updating(alloc, machine, error),
-    })
+    let kind = kind_of_place(rt, place)?;
+    let ToldAnswer {
+        answer: undone,
+        told,
+    } = change_machine(rt, &asked, kind, &WantedUndo { rt, words })?;
+    told.tell(rt, place, words.dry_run);
+    told.print(rt)?;
+    Ok(Written::without(&undone.back.missing))
 }
 
-/// Undoes the last change of a variable file.
-fn undo_file<R: Files<File: OutputFile> + Input + Print + Eprint + AllocGlobal>(
-    rt: &R,
-    words: &UndoWords<'_>,
-) -> Result<Undone, Failure> {
-    let machine = &words.machine;
-    let folder = lock_folder(rt, machine.state)?;
-    settle_left(rt, machine, false, folder.journal())?;
-    let output = lock_place(rt, machine.place)?;
-    let kept = read_kept(rt, machine)?;
-    let undone = undone_over(rt, words, &kept, &kept.vars)?;
-    if let Some(bytes) = changed_file(rt, machine, &kept, (&undone.led.from, &undone.led.to))? {
-        write(rt, output, &bytes)?;
+/// An undoing that is wanted of a machine.
+#[derive(Drop)]
+struct WantedUndo<'a, 'b, 'w, R> {
+    rt: &'a R,
+    words: &'b UndoWords<'w>,
+}
+
+impl<R: Files<File: OutputFile> + Print + Eprint + AllocGlobal> Wanted
+    for WantedUndo<'_, '_, '_, R> {
+    ghost use Rattle.std.specs.Prelude.{map};
+    ghost use Rattle.std.specs.String.{string_bytes};
+    ghost use Rattle.place_edits.specs.Undo.{IsUndoingSome, IsSomeUndoFault};
+
+    type Answer = Undone;
+
+    type Fault = UndoFault;
+
+    type Told = Told;
+
+    type Refusal = Failure;
+
+    ghost leads = { λ wanted seen from to undone.
+        IsUndoingSome wanted.words.now.force (map string_bytes seen.left_out.now) from to undone };
+
+    ghost refuses = { λ wanted seen from fault.
+        IsSomeUndoFault wanted.words.now.force wanted.words.now.dry_run (map string_bytes seen.left_out.now) from fault };
+
+    fn check(&self, _alloc: Global, _left_out: &[String]) -> Result<(), Failure> {
+        Ok(())
     }
-    forget(rt, machine.state, &undone);
-    Ok(undone)
-}
 
-/// What an undoing would change, once what is left of earlier updates is done.
-fn plan_undo<R: Files<File: OutputFile> + Input + Print + Eprint + AllocGlobal>(
-    rt: &R,
-    words: &UndoWords<'_>,
-) -> Result<Undone, Failure> {
-    let machine = &words.machine;
-    let kept = read_kept(rt, machine)?;
-    let SettledVars { vars, is_due } = stands_for(rt, machine, &kept)?;
-    if is_due {
-        tell_of_due(rt, machine.state);
+    fn replaced(&self) -> Option<&Vars> {
+        None
     }
-    undone_over(rt, words, &kept, &vars)
-}
 
-/// What an undoing leads to from these variables.
-fn undone_over<R: Files<File: OutputFile> + Print + Eprint + AllocGlobal>(
-    rt: &R,
-    words: &UndoWords<'_>,
-    kept: &KeptVars,
-    vars: &Vars,
-) -> Result<Undone, Failure> {
-    let machine = &words.machine;
-    let name = name_of_machine(rt, machine, kept.is_folder)?;
-    let changes = records_to_undo(rt, machine.state, &name, vars)?;
-    let run = UndoRun {
-        rt,
-        words,
-        changes: &changes,
-        left_out: &kept.left_out,
-        has_firmware: kept.is_folder,
-    };
-    match run.run(rt.alloc(), vars) {
-        Ok((_to, undone)) => Ok(undone),
-        Err(CallError::OutOfMemory) => Err(Failure::Memory),
-        Err(CallError::Refused(fault)) => Err(from_undo(rt, words, fault)),
+    fn begins_notes(&self) -> bool {
+        false
+    }
+
+    fn run(
+        &self,
+        alloc: Global,
+        seen: &Seen<'_>,
+        vars: &Vars,
+    ) -> Result<(Vars, Undone), CallError<UndoFault>> {
+        let words = self.words;
+        let changes = match records_to_undo(self.rt, words.machine.state, seen.machine, vars) {
+            Ok(changes) => changes,
+            Err(failure) => return Err(call_error(failure)),
+        };
+        let run = UndoRun {
+            rt: self.rt,
+            words,
+            changes: &changes,
+            seen,
+        };
+        run.run(alloc, vars)
+    }
+
+    fn tell(
+        &self,
+        alloc: Global,
+        _seen: &Seen<'_>,
+        change: (&Vars, &Vars),
+        undone: &Undone,
+    ) -> Result<Told, Failure> {
+        let words = self.words;
+        let place = words.machine.place;
+        let before = set_of(alloc, place, &undone.before)?;
+        let mut notes = Notes::new(alloc);
+        note_missing(alloc, &mut notes, place, (&before, &undone.back.missing))?;
+        Ok(Told {
+            text: changes_text(alloc, place, change, words.json)?,
+            notes,
+            unnamed: Vec::new(alloc),
+        })
+    }
+
+    fn refusal(&self, _alloc: Global, fault: UndoFault) -> Failure {
+        from_undo(self.rt, self.words, fault)
+    }
+
+    /// Takes away what the state folder keeps of the change that is undone. If that fails, it is told, and the next undoing
+    /// passes the change over.
+    fn end(&self, undone: &Undone) {
+        let words = self.words;
+        let state = words.machine.state;
+        if let Err(failure) = remove(self.rt, state, undone.number) {
+            note(
+                self.rt,
+                state,
+                format_args!(
+                    "what was kept of the change stays, and the next undo passes it over: {failure}"
+                ),
+            );
+        }
     }
 }
 
@@ -198,10 +184,13 @@ fn tell_of_change<R: Print + AllocGlobal>(
     let alloc = rt.alloc();
     let place = words.machine.place;
     let text = changes_text(alloc, place, (&since.after, &since.now), words.json)?;
-    print(rt, text.as_bytes())?;
     let time = time_text(alloc, since.time)?;
     let fault = format!(in alloc;
         "something else has changed since the change of {time}, which is shown: --force undoes that all the same"
     )?;
-    Ok(Failure::from_run(alloc, place, fault.as_str()))
+    let failure = Failure::from_run(alloc, place, fault.as_str());
+    if !matches!(failure, Failure::Memory) {
+        print(rt, text.as_bytes())?;
+    }
+    Ok(failure)
 }

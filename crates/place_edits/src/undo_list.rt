@@ -1,8 +1,8 @@
 //! The changes that can be undone.
 
-use boot_history::{KeptRecord, records, time_text};
+use boot_history::{KeptRecord, kept_numbers, kept_record, time_text};
 use boot_texts::json::{JsonObject, JsonWriter, Leaf, append_leaves, json_line};
-use boot_updates::{MachineWords, lock_folder, name_of_machine};
+use machine_changes::{MachineWords, lock_folder, name_of_machine};
 use std::alloc::{AllocError, Global};
 use std::rt::Files;
 use var_places::{Failure, is_folder, print, shown};
@@ -25,8 +25,10 @@ pub fn list_changes<R: Files<File: OutputFile> + Print + AllocGlobal>(
     let is_folder = is_folder(rt, words.place)?;
     let machine = name_of_machine(rt, words, is_folder)?;
     let mut text = String::new(rt.alloc());
-    for kept in &records(rt, words.state, &machine)? {
-        append_change(rt.alloc(), kept, json, &mut text)?;
+    for number in &kept_numbers(rt, words.state)? {
+        if let Some(kept) = kept_record(rt, words.state, *number, &machine)? {
+            append_change(rt.alloc(), &kept, json, &mut text)?;
+        }
     }
     print(rt, text.as_bytes())
 }

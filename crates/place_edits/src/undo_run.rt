@@ -1,23 +1,23 @@
 //! Runs that bring back what was there before the last change of a machine.
 
-ghost use Rattle.std.specs.Prelude.{◌≡◌, ◌≢◌, true, false, [], map, IfOk, IfErr, OnOk};
+ghost use Rattle.std.specs.Prelude.{◌≡◌, ◌≢◌, ◌↔◌, true, false, [], map, IfOk, IfErr, IsTrue};
 ghost use Rattle.std.specs.String.{string_bytes};
-ghost use Rattle.boot_edits.specs.Restore.{IsRestored};
+ghost use Rattle.uefi_vars.specs.BootChange.{changes_from};
 ghost use Rattle.boot_journal.specs.Cause.{IfRefused};
 ghost use Rattle.var_places.specs.declared.failure.Failure.{Failure};
+ghost use Rattle.place_edits.specs.declared.takeable.Takeable.{Takeable};
 ghost use Rattle.place_edits.specs.declared.undo_run.UndoFault.{UndoFault};
-ghost use Rattle.place_edits.specs.Undo.{CanBeUndone, IsPassedOver, IsLast, IsBack, IsFailure, IsChangeFault, IsUndoFault, IsCounted, IsKept};
+ghost use Rattle.place_edits.specs.Undo.{CanBeUndone, IsPassedOver, IsLast, IsNextGone, IsWanted, IsBroughtBack, IsThere, IsFailure, IsChangeFault, IsUndoFault, IsCounted};
 
-use crate::led::Led;
-use crate::takeable::{Takeable, takeable_part, tell_of_missing};
+use crate::brought::{brought, restored};
+use crate::takeable::{Takeable, check_numbers, is_value};
 use crate::undo::UndoWords;
-use boot_edits::Restore;
-use boot_history::{KeptRecord, Record, Standing, remove, standing_of};
-use boot_journal::{AttributesFault, CallError, Run, with_attributes};
-use boot_updates::set_of;
+use boot_history::{KeptRecord, Record, Standing, as_used, remove, standing_of, without_next};
+use boot_journal::{CallError, Run};
+use machine_changes::Seen;
 use std::alloc::{AllocError, Global};
 use std::rt::Files;
-use uefi_vars::{BOOT_NEXT, Vars, boot_changes, entry_number};
+use uefi_vars::{BOOT_NEXT, Vars, boot_changes, laws as vars_laws};
 use var_places::Failure;
 use whole_files::OutputFile;
 
@@ -30,10 +30,8 @@ pub(crate) struct UndoRun<'a, 'w, R> {
     pub(crate) words: &'a UndoWords<'w>,
     /// The changes of the machine that are kept, the last one first.
     pub(crate) changes: &'a [KeptRecord],
-    /// The names of its variables that no set can hold.
-    pub(crate) left_out: &'a [String],
-    /// Whether firmware has a say in what is stored.
-    pub(crate) has_firmware: bool,
+    /// What is known of the machine.
+    pub(crate) seen: &'a Seen<'a>,
 }
 
 /// What an undoing tells.
@@ -41,8 +39,10 @@ pub(crate) struct UndoRun<'a, 'w, R> {
 pub(crate) struct Undone {
     /// The number of the change that is undone.
     pub(crate) number: u64,
-    /// What the machine keeps before the undoing and after it, and what is brought back of what was there before the change.
-    pub(crate) led: Led<Takeable>,
+    /// What was there before the change.
+    pub(crate) before: Vars,
+    /// What is brought back of it.
+    pub(crate) back: Takeable,
 }
 
 /// Why nothing is undone.
@@ -68,7 +68,7 @@ pub(crate) struct ChangedSince {
 }
 
 /// What it is to a run that something failed.
-fn call_error(failure: Failure) -> CallError<UndoFault>
+pub(crate) fn call_error(failure: Failure) -> CallError<UndoFault>
     ensures { IfRefused result (λ fault. (fault ≡ UndoFault.Failure failure) × (failure ≢ Failure.Memory)) }
 {
     match failure {
@@ -77,7 +77,7 @@ fn call_error(failure: Failure) -> CallError<UndoFault>
     }
 }
 
-impl<R: Files<File: OutputFile> + Eprint + AllocGlobal> Run for UndoRun<'_, '_, R> {
+impl<R: Files<File: OutputFile> + AllocGlobal> Run for UndoRun<'_, '_, R> {
     ghost use Rattle.std.specs.Prelude.{◌≡◌, map};
     ghost use Rattle.std.specs.String.{string_bytes};
     ghost use Rattle.boot_edits.specs.Restore.{IsRestored};
@@ -87,53 +87,63 @@ impl<R: Files<File: OutputFile> + Eprint + AllocGlobal> Run for UndoRun<'_, '_, 
 
     type Fault = UndoFault;
 
-    ghost leads = { λ undo from to undone. IsUndoing undo.words.now.force undo.changes.now (map string_bytes undo.left_out.now) from undone
-        × IsRestored undone.led.answer.vars from to × (undone.led.from ≡ from) × (undone.led.to ≡ to) };
+    ghost leads = { λ undo from to undone.
+        IsUndoing undo.words.now.force undo.changes.now (map string_bytes undo.seen.now.left_out.now) from undone
+        × IsRestored undone.back.vars from to };
 
-    ghost refuses = { λ undo from fault. IsUndoFault undo.words.now.force undo.words.now.dry_run undo.changes.now from fault };
+    ghost refuses = { λ undo from fault. IsUndoFault undo.words.now.force undo.words.now.dry_run undo.changes.now
+        (map string_bytes undo.seen.now.left_out.now) from fault };
 
     fn run(&self, alloc: Global, vars: &Vars) -> Result<(Vars, Undone), CallError<UndoFault>> {
         let kept = self.last(alloc, vars)?;
-        let led = self.led(alloc, vars, &kept.record)?;
-        let to = led.to.copy(alloc)?;
-        let undone = Undone {
-            number: kept.number,
-            led,
-        };
+        let undone = self.undone(alloc, vars, kept)?;
+        let to = restored(alloc, vars, &undone.back.vars)?;
         Ok((to, undone))
     }
 }
 
-impl<R: Files<File: OutputFile> + Eprint + AllocGlobal> UndoRun<'_, '_, R> {
-    /// What undoing the change leads to from these variables. Tells which entries are left out.
-    fn led(
+impl<R: Files<File: OutputFile> + AllocGlobal> UndoRun<'_, '_, R> {
+    /// What undoing the change that is kept brings back where these variables are.
+    fn undone(
         &self,
         alloc: Global,
         vars: &Vars,
-        change: &Record,
-    ) -> Result<Led<Takeable>, CallError<UndoFault>>
-        ensures from { IfOk result (λ led. led.from ≡ vars.now) }
-        ensures to { IfOk result (λ led. IsRestored led.answer.vars vars.now led.to) }
-        ensures back { IfOk result (λ led. led.answer.missing.items ≡ [] →
-            IsBack (map string_bytes self.now.left_out.now) vars.now change.now.before led.answer.vars) }
+        kept: &KeptRecord,
+    ) -> Result<Undone, CallError<UndoFault>>
+        ensures number { IfOk result (λ undone. undone.number ≡ kept.now.number) }
+        ensures before { IfOk result (λ undone. undone.before ≡ kept.now.«record».before) }
+        ensures back { IfOk result (λ undone.
+            IsBroughtBack (map string_bytes self.now.seen.now.left_out.now) kept.now.«record» vars.now undone.back) }
         ensures refused { IfErr result (λ error. IfRefused error IsFailure) }
     {
-        let back = self.back(alloc, vars, change).map_err(call_error)?;
-        self.tell(alloc, change, &back.missing).map_err(call_error)?;
-        Ok(Led {
-            from: vars.copy(alloc)?,
-            to: restored(alloc, vars, &back.vars)?,
-            answer: back,
+        let back = self.back(alloc, vars, &kept.record)?;
+        self.check(alloc, vars, &back.vars)?;
+        Ok(Undone {
+            number: kept.number,
+            before: kept.record.before.copy(alloc)?,
+            back,
         })
+    }
+
+    /// Refuses to bring back what firmware refuses.
+    fn check(&self, alloc: Global, vars: &Vars, back: &Vars) -> Result<(), CallError<UndoFault>>
+        ensures { IfErr result (λ error. IfRefused error IsFailure) }
+    {
+        let words = self.words;
+        match check_numbers(alloc, words.machine.place, vars, back) {
+            Ok(()) => Ok(()),
+            Err(failure) => Err(call_error(failure)),
+        }
     }
 
     /// The last change that was made of the machine, which keeps these variables, and isn't undone. What is kept of later ones
     /// is taken away: they weren't made, or undoing them was cut off before that.
     fn last(&self, alloc: Global, vars: &Vars) -> Result<&KeptRecord, CallError<UndoFault>>
-        ensures last { IfOk result (λ kept. IsLast self.now.changes.now vars.now kept.now
-            × CanBeUndone self.now.words.now.force vars.now kept.now.«record») }
+        ensures last { IfOk result (λ kept. IsLast self.now.changes.now (map string_bytes self.now.seen.now.left_out.now) vars.now kept.now
+            × CanBeUndone self.now.words.now.force (map string_bytes self.now.seen.now.left_out.now) vars.now kept.now.«record») }
         ensures refused { IfErr result (λ error. IfRefused error
-            (IsUndoFault self.now.words.now.force self.now.words.now.dry_run self.now.changes.now vars.now)) }
+            (IsUndoFault self.now.words.now.force self.now.words.now.dry_run self.now.changes.now
+            (map string_bytes self.now.seen.now.left_out.now) vars.now)) }
     {
         let changes = self.changes;
         for change in changes {
@@ -151,153 +161,122 @@ impl<R: Files<File: OutputFile> + Eprint + AllocGlobal> UndoRun<'_, '_, R> {
         vars: &Vars,
         change: &KeptRecord,
     ) -> Result<bool, CallError<UndoFault>>
-        ensures over { IfOk result (λ over. over ≡ true → IsPassedOver vars.now change.now.«record») }
+        ensures over { IfOk result (λ over. over ≡ true →
+            IsPassedOver (map string_bytes self.now.seen.now.left_out.now) vars.now change.now.«record») }
         ensures last { IfOk result (λ over. over ≡ false →
-            CanBeUndone self.now.words.now.force vars.now change.now.«record») }
+            CanBeUndone self.now.words.now.force (map string_bytes self.now.seen.now.left_out.now) vars.now change.now.«record») }
         ensures refused { IfErr result (λ error. IfRefused error
-            (IsChangeFault self.now.words.now.force self.now.words.now.dry_run vars.now change.now)) }
+            (IsChangeFault self.now.words.now.force self.now.words.now.dry_run (map string_bytes self.now.seen.now.left_out.now)
+            vars.now change.now)) }
     {
         let words = self.words;
         match self.standing(alloc, vars, &change.record)? {
-            Standing::NotMade => {
-                self.forget(change.number).map_err(call_error)?;
-                Ok(true)
-            }
-            Standing::Changed if !words.force => {
+            Standing::Unchanged => Ok(false),
+            Standing::NotMade => match self.forget(change.number) {
+                Ok(()) => Ok(true),
+                Err(error) => Err(error),
+            },
+            Standing::Changed => {
+                if words.force {
+                    return Ok(false);
+                }
                 let since = changed_since(alloc, vars, &change.record)?;
                 Err(CallError::Refused(UndoFault::Changed(since)))
             }
-            Standing::Unchanged | Standing::Changed => Ok(false),
         }
     }
 
     /// How a change of the machine, which keeps these variables, stands: one that was undone counts as not made.
     fn standing(&self, alloc: Global, vars: &Vars, change: &Record) -> Result<Standing, AllocError>
-        ensures { IfOk result (IsCounted change.now vars.now) }
+        ensures { IfOk result (IsCounted (map string_bytes self.now.seen.now.left_out.now) change.now vars.now) }
     {
-        let standing = standing_of(alloc, change, vars)?;
-        if standing == Standing::Changed && self.is_undone(alloc, vars, change)? {
-            Ok(Standing::NotMade)
-        } else {
-            Ok(standing)
+        match standing_of(alloc, change, vars)? {
+            Standing::Unchanged => Ok(Standing::Unchanged),
+            Standing::NotMade => Ok(Standing::NotMade),
+            Standing::Changed => {
+                if self.is_undone(alloc, vars, change)? {
+                    Ok(Standing::NotMade)
+                } else {
+                    Ok(Standing::Changed)
+                }
+            }
         }
     }
 
-    /// Whether the machine keeps what undoing the change leads to, but perhaps for a BootNext, which a start uses.
-    fn is_undone(&self, alloc: Global, vars: &Vars, change: &Record) -> Result<bool, AllocError> {
-        match self.back(alloc, vars, change) {
-            Ok(back) => is_there(alloc, vars, &back.vars),
-            Err(Failure::Memory) => Err(AllocError),
-            Err(_) => Ok(false),
-        }
+    /// Whether the machine keeps what undoing the change brings back, but perhaps for a BootNext, which a start uses.
+    fn is_undone(&self, alloc: Global, vars: &Vars, change: &Record) -> Result<bool, AllocError>
+        ensures { IfOk result (λ undone. (back : Takeable)
+            × IsBroughtBack (map string_bytes self.now.seen.now.left_out.now) change.now vars.now back
+            × (IsTrue undone ↔ IsThere vars.now back.vars)) }
+    {
+        let back = self.back(alloc, vars, change)?;
+        let there = is_there(alloc, vars, &back.vars)?;
+        Ok(there)
     }
 
     /// Takes away what is kept of a change that isn't there, unless it is a dry run.
-    fn forget(&self, number: u64) -> Result<(), Failure>
-        ensures { IfErr result (λ _. self.now.words.now.dry_run ≡ false) }
+    fn forget(&self, number: u64) -> Result<(), CallError<UndoFault>>
+        ensures { IfErr result (λ error. IfRefused error (λ fault. IsFailure fault × (self.now.words.now.dry_run ≡ false))) }
     {
         let words = self.words;
         if words.dry_run {
-            Ok(())
-        } else {
-            remove(self.rt, words.machine.state, number)
+            return Ok(());
+        }
+        match remove(self.rt, words.machine.state, number) {
+            Ok(()) => Ok(()),
+            Err(failure) => Err(call_error(failure)),
         }
     }
 
-    /// What the machine, which keeps these variables, is to have again of what was there before the change: as far as
-    /// firmware takes it. What no set can hold stays.
-    fn back(&self, alloc: Global, vars: &Vars, change: &Record) -> Result<Takeable, Failure>
-        ensures { IfOk result (λ back. back.missing.items ≡ [] →
-            IsBack (map string_bytes self.now.left_out.now) vars.now change.now.before back.vars) }
+    /// What the machine, which keeps these variables, is to have again of what was there before the change.
+    fn back(&self, alloc: Global, vars: &Vars, change: &Record) -> Result<Takeable, AllocError>
+        ensures { IfOk result (IsBroughtBack (map string_bytes self.now.seen.now.left_out.now) change.now vars.now) }
     {
-        let mut before = change.before.copy(alloc)?;
-        keep_left_out(&mut before, vars, self.left_out)?;
-        if self.has_firmware {
-            self.taken(alloc, vars, before)
-        } else {
-            Ok(Takeable {
-                vars: before,
-                missing: Vec::new(alloc),
-            })
-        }
+        let wanted = wanted(alloc, vars, change)?;
+        let back = brought(alloc, self.seen, vars, wanted)?;
+        Ok(back)
     }
+}
 
-    /// What firmware takes of these variables on the machine, which keeps the others.
-    fn taken(&self, alloc: Global, vars: &Vars, wanted: Vars) -> Result<Takeable, Failure>
-        ensures { IfOk result (λ taken. taken.missing.items ≡ [] → taken.vars ≡ wanted) }
-    {
-        let words = self.words;
-        let place = words.machine.place;
-        let now = set_of(alloc, place, vars)?;
-        let set = set_of(alloc, place, &wanted)?;
-        let Takeable { vars: set, missing } = takeable_part(alloc, place, &now, &set)?;
-        if missing.is_empty() {
-            return Ok(Takeable {
-                vars: wanted,
-                missing,
-            });
-        }
-        match with_attributes(alloc, &set, &wanted) {
-            Ok(vars) => Ok(Takeable { vars, missing }),
-            Err(AttributesFault::OutOfMemory) => Err(Failure::Memory),
-            Err(fault) => Err(Failure::from_fault(alloc, place, fault)),
-        }
+/// What is to be there again where these variables are now: what was there before the change, without a BootNext if the one
+/// that the change left isn't there any more. A start may have used that, and would otherwise be made by it once more.
+fn wanted(alloc: Global, vars: &Vars, change: &Record) -> Result<Vars, AllocError>
+    ensures { IfOk result (IsWanted change.now vars.now) }
+{
+    let before = change.before.copy(alloc)?;
+    if is_next_gone(&change.after, vars) {
+        Ok(without_next(before))
+    } else {
+        Ok(before)
     }
+}
 
-    /// Tells of each entry of what was there before the change that is left out why.
-    fn tell(&self, alloc: Global, change: &Record, missing: &[u16]) -> Result<(), Failure> {
-        let words = self.words;
-        let place = words.machine.place;
-        let wanted = set_of(alloc, place, &change.before)?;
-        tell_of_missing(self.rt, place, &wanted, missing);
-        Ok(())
+/// Whether the BootNext that a change left isn't there any more.
+fn is_next_gone(after: &Vars, now: &Vars) -> bool
+    ensures { IsTrue result ↔ IsNextGone after.now now.now }
+{
+    vars_laws::constants_are_those_of_the_definitions();
+    match after.get(BOOT_NEXT) {
+        Some(left) => !is_value(now.get(BOOT_NEXT), left),
+        None => false,
     }
 }
 
 /// Whether the variables have what is to be brought back, but perhaps for BootNext, where they have none.
-fn is_there(alloc: Global, vars: &Vars, back: &Vars) -> Result<bool, AllocError> {
-    Ok(
-        boot_changes(alloc, vars, back)?.iter().all(|change| change.name == BOOT_NEXT
-            && change.before.is_none()),
-    )
+fn is_there(alloc: Global, vars: &Vars, back: &Vars) -> Result<bool, AllocError>
+    ensures { IfOk result (λ there. IsTrue there ↔ IsThere vars.now back.now) }
+{
+    vars_laws::equal_variables_need_no_change();
+    let used = as_used(alloc, vars, back)?;
+    let there = needs_no_change(alloc, vars, &used)?;
+    Ok(there)
 }
 
-/// The variables, with those of the boot manager that are brought back.
-fn restored(alloc: Global, vars: &Vars, back: &Vars) -> Result<Vars, AllocError>
-    ensures { IfOk result (λ to. IsRestored back.now vars.now to) }
+/// Whether the boot manager's variables of the two are the same. This fails only when out of memory.
+fn needs_no_change(alloc: Global, from: &Vars, to: &Vars) -> Result<bool, AllocError>
+    ensures { IfOk result (λ same. IsTrue same ↔ (changes_from from.now to.now ≡ [])) }
 {
-    match (Restore { to: back }).run(alloc, vars) {
-        Ok((to, ())) => Ok(to),
-        // It refuses nothing, so only memory was refused.
-        Err(_) => Err(AllocError),
-    }
-}
-
-/// Gives each entry of these names, which no set can hold, what stands for it among the variables.
-fn keep_left_out(before: &mut Vars, vars: &Vars, left_out: &[String]) -> Result<(), AllocError>
-    ensures { OnOk result (IsBack (map string_bytes left_out.now) vars.now before.old before.new) }
-{
-    for name in left_out {
-        keep_entry(before, vars, name)?;
-    }
-    Ok(())
-}
-
-/// The same for one name.
-fn keep_entry(before: &mut Vars, vars: &Vars, name: &str) -> Result<(), AllocError>
-    ensures { OnOk result (IsKept name.now vars.now before.old before.new) }
-{
-    if entry_number(name).is_none() {
-        return Ok(());
-    }
-    let Some(data) = vars.get(name) else {
-        return Ok(());
-    };
-    match before.put(name, data) {
-        Ok(()) => Ok(()),
-        // It is from a set, so only memory can be refused.
-        Err(_) => Err(AllocError),
-    }
+    Ok(boot_changes(alloc, from, to)?.is_empty())
 }
 
 /// What has changed since this change.

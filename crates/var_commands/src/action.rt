@@ -2,7 +2,8 @@
 
 use boot_edits::Position;
 use boot_texts::Flags;
-use boot_updates::{Job, MachineWords};
+use boot_updates::Job;
+use machine_changes::MachineWords;
 use place_checks::CheckWords;
 use place_edits::UndoWords;
 

@@ -270,7 +270,7 @@ fn ending_of(written: Written) -> Ending {
 }
 
 /// Brings back what was there before the last change.
-fn undo<R: Files<File: OutputFile> + Input + Print + Eprint + AllocGlobal>(
+fn undo<R: Files<File: OutputFile> + Clock + Input + Print + Eprint + AllocGlobal>(
     rt: &R,
     words: &UndoWords<'_>,
 ) -> Result<Ending, Failure> {

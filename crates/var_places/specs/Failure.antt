@@ -9,7 +9,6 @@ status_of (failure.Run name fault) = 1
 status_of (failure.Words text) = 2
 status_of (failure.Read name error) = 3
 status_of (failure.Write name error) = 3
-status_of (failure.Change place variable error made) = 3
 status_of (failure.TakenBack text) = 3
 status_of failure.Memory = 4
 status_of (failure.Refused name reason) = 5

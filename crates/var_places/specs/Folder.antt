@@ -1,10 +1,6 @@
 -- Folders in which Linux shows variables.
 use Rattle.std.specs.Prelude.{◌≡◌, ◌++◌, ◌∷◌, ℕ, List, Option, Some, None, ⊤}
-use Rattle.std.specs.Option.{unwrap_or}
-use Rattle.std.specs.FinMap.{get}
 use Rattle.uefi_text.specs.Guid.{IsGuid}
-use Rattle.uefi_vars.specs.Vars.{Variables}
-use Rattle.uefi_vars.specs.Attributes.{boot_attributes}
 use Rattle.uefi_vars.specs.Name.{global_vendor}
 use Rattle.var_places.specs.declared.folder_change.Found.{Found}
 use Rattle.var_places.specs.declared.folder_change.Found.TheVariants as found
@@ -12,10 +8,6 @@ use Rattle.var_places.specs.declared.folder_change.Found.TheVariants as found
 -- the name of the file that shows the global vendor's variable of this name: the name, a hyphen and the vendor's GUID
 abbrev pub IsFileName : List ℕ → List ℕ → Type 0
 IsFileName file name = (vendor : List ℕ) × (file ≡ name ++ 0x2D ∷ vendor) × IsGuid vendor global_vendor
-
--- the attributes of the file of a variable: those that it has, and those of the boot manager's variables if it is new
-abbrev pub attributes_for : Variables → List ℕ → List ℕ
-attributes_for attributes name = unwrap_or (get attributes name) boot_attributes
 
 -- what is at the path of a variable's file is as it is to be: a file with these bytes, or nothing
 abbrev pub IsAsWanted : Found → Option (List ℕ) → Type 0

@@ -34,18 +34,6 @@ pub enum Failure {
         /// The system's reason.
         error: io::Error,
     },
-    /// A variable of a folder can't be changed.
-    #[error("{place}: {variable} can't be changed: {error}; {made}")]
-    Change {
-        /// What the folder is called, as messages show it.
-        place: String,
-        /// The name of the variable.
-        variable: String,
-        /// The system's reason.
-        error: io::Error,
-        /// Which changes were made before, and which were not.
-        made: String,
-    },
     /// A script of requests, or the variables that it is run over, are refused. Nothing is changed.
     #[error("{name}: refused: {fault}")]
     Run {
@@ -57,8 +45,9 @@ pub enum Failure {
     /// A change of a machine was refused, and the update that it is of is taken back.
     #[error("{0}")]
     TakenBack(String),
-    /// A change of a machine was refused, and then one that takes the update back.
-    #[error("{0}")]
+    /// A change of a machine was refused, and then one that takes the update back. There are no words if memory for them was
+    /// refused.
+    #[error("{}", words_or_memory(.0.as_str()))]
     Unsettled(String),
     /// Another update has the lock of the folder of this name, as messages show it.
     #[error("{0}: another update has its lock: try again after it")]
@@ -93,10 +82,7 @@ impl Failure {
         match self {
             Failure::Run { .. } => 1,
             Failure::Words(_) => 2,
-            Failure::Read { .. }
-            | Failure::Write { .. }
-            | Failure::Change { .. }
-            | Failure::TakenBack(_) => 3,
+            Failure::Read { .. } | Failure::Write { .. } | Failure::TakenBack(_) => 3,
             Failure::Memory => 4,
             Failure::Refused { .. } => 5,
             Failure::Busy(_) | Failure::Held(_) => 7,
@@ -169,11 +155,12 @@ impl Failure {
         }
     }
 
-    /// What it is to the program that an update was neither made nor taken back, in these words.
+    /// What it is to the program that an update was neither made nor taken back, in these words. It is that too if memory for
+    /// the words is refused, since something is left to do.
     pub fn unsettled<D: Display + Drop>(alloc: Global, words: D) -> Failure {
         match format!(in alloc; "{words}") {
             Ok(text) => Failure::Unsettled(text),
-            Err(AllocError) => Failure::Memory,
+            Err(AllocError) => Failure::Unsettled(String::new(alloc)),
         }
     }
 
@@ -183,6 +170,15 @@ impl Failure {
             Ok(text) => Failure::Words(text),
             Err(AllocError) => Failure::Memory,
         }
+    }
+}
+
+/// The words, or what is said if memory for them was refused.
+fn words_or_memory(words: &str) -> &str {
+    if words.is_empty() {
+        "out of memory; an update is neither made nor taken back: the next update begins with what is left to do"
+    } else {
+        words
     }
 }
 

@@ -34,17 +34,6 @@ pub struct Folder {
     files: BTreeMap<String, String>,
 }
 
-/// What was read of a variable.
-#[derive(Drop)]
-pub(crate) enum Was {
-    /// There was no file.
-    Nothing,
-    /// Its file had these bytes.
-    Bytes(Vec<u8>),
-    /// It was left out.
-    LeftOut,
-}
-
 /// Why a variable isn't read.
 #[derive(Clone, Copy, Debug, Error)]
 pub enum LeftOut {
@@ -245,25 +234,6 @@ impl Folder {
         let name = String::from_str(alloc, name)?;
         self.files.insert(name, String::from_str(alloc, file)?)?;
         Ok(())
-    }
-
-    /// What was read of the variable of this name: its file's bytes.
-    ///
-    /// # Errors
-    ///
-    /// [`AllocError`] if memory was refused.
-    pub(crate) fn was(&self, alloc: Global, name: &str) -> Result<Was, AllocError> {
-        if !self.files.contains_key(name) {
-            return Ok(Was::Nothing);
-        }
-        match (self.found.attributes.get(name), self.found.vars.get(name)) {
-            (Some(attributes), Some(value)) => {
-                let mut bytes = Vec::from_slice(alloc, attributes)?;
-                bytes.extend_from_slice(value)?;
-                Ok(Was::Bytes(bytes))
-            }
-            _ => Ok(Was::LeftOut),
-        }
     }
 
     /// The path of the file of the variable of this name in the folder at this path: the file that shows it, or the one

@@ -1,16 +1,16 @@
 //! Changes of the variables that a folder shows.
 
-ghost use Rattle.std.specs.Prelude.{◌≡◌, ◌++◌, ◌↔◌, IsTrue, IfOk};
+ghost use Rattle.std.specs.Prelude.{◌↔◌, IsTrue};
 ghost use Rattle.std.specs.Option.{option_map};
-ghost use Rattle.var_places.specs.Folder.{IsAsWanted, attributes_for};
+ghost use Rattle.var_places.specs.Folder.{IsAsWanted};
 
-use crate::folder::{Folder, Was};
-use std::alloc::{AllocError, Global};
+use crate::folder::Folder;
+use std::alloc::AllocError;
 use std::fs::{self, File, OpenFile, OpenOptions};
 use std::io::{self, ErrorKind, Write};
 use std::path::Path;
 use std::rt::Files;
-use uefi_vars::{ATTRIBUTES_LEN, BOOT_ATTRIBUTES, BootChange, DATA_MAX, Vars, laws as vars_laws};
+use uefi_vars::{ATTRIBUTES_LEN, DATA_MAX};
 use whole_files::{RegularFile, read_regular, sync_file, sync_folder};
 
 /// What is to be kept of a variable, and what was: its attributes in four bytes and then its value, or nothing if it isn't
@@ -48,60 +48,10 @@ impl From<AllocError> for ChangeFault {
     }
 }
 
-impl ChangeFault {
-    /// The same as a reason of the system. Each text has at most the 80 bytes that such a reason can have.
-    fn into_error(self) -> io::Error {
-        match self {
-            ChangeFault::Changed => io::Error::new(
-                ErrorKind::ResourceBusy,
-                "something else has changed it since it was read: look at it, and try again",
-            ),
-            ChangeFault::Irregular => io::Error::new(
-                ErrorKind::InvalidInput,
-                "its file is a link, a pipe, a device or a socket: take it away",
-            ),
-            ChangeFault::System(error) => error,
-        }
-    }
-}
-
-/// Makes one change in the folder at this path, of which this was read: by one write of the attributes and the value,
-/// as efivarfs wants it, to a file that isn't cut before, or by removing the file. A variable that is replaced keeps
-/// the attributes that its file had, and one that is new, or had been left out, gets [`BOOT_ATTRIBUTES`]. Then it is
-/// brought to the disk, if the folder is on one: firmware keeps what efivarfs has. What isn't as it was read stays, unless
-/// it was left out.
-///
-/// # Errors
-///
-/// The system's, if the file can't be opened, written or removed, and that memory was refused; and those of
-/// [`ChangeFault`], as such a reason. The variable is as it was then, and a file that was to be made is gone, if it can be
-/// removed. The system's too, if the change can't be brought to the disk: it is made then, and a cut may undo it.
-pub fn make_change<R: Files + AllocGlobal>(
-    rt: &R,
-    folder: &Folder,
-    path: &str,
-    change: &BootChange<'_>,
-) -> io::Result<()> {
-    let alloc = rt.alloc();
-    let name = change.name;
-    let bytes = match change.after {
-        Some(value) => Some(file_bytes(alloc, &folder.found.attributes, name, value)?),
-        None => None,
-    };
-    let after = bytes.as_deref();
-    let file = folder.path_of(alloc, path, name)?;
-    let file = file.as_path();
-    let changed = match folder.was(alloc, name)? {
-        Was::LeftOut => return set_variable(rt, folder, path, name, after),
-        Was::Nothing => change_file(rt, path, file, None, after),
-        Was::Bytes(before) => change_file(rt, path, file, Some(before.as_slice()), after),
-    };
-    changed.map_err(|fault| fault.into_error())
-}
-
 /// Makes one change in the folder at this path, of which this was read, if the variable is what was read of it: what
-/// something else has made of it meanwhile stays, and is refused. Nothing is written if it is what it is to be already.
-/// Either way it is brought to the disk, as by [`make_change`].
+/// something else has made of it meanwhile stays, and is refused. That is one write of the attributes and the value, as
+/// efivarfs wants it, to a file that isn't cut before, or the file is removed. Nothing is written if it is what it is to be
+/// already. Either way it is brought to the disk, if the folder is on one: firmware keeps what efivarfs has.
 ///
 /// # Errors
 ///
@@ -148,29 +98,29 @@ fn is_elses(error: &io::Error) -> bool {
 
 /// Sets the variable of this name to what is to be kept of it, which is its attributes in four bytes and then its
 /// value, or takes it out if that is `None`, whatever is there, unless what shows it is no regular file. Nothing is written
-/// if it is so already. Either way it is brought to the disk, as by [`make_change`]. The folder is what was read of this
+/// if it is so already. Either way it is brought to the disk, as by [`change_variable`]. The folder is what was read of this
 /// path, and the name has no slash.
 ///
 /// # Errors
 ///
-/// The system's, if the file can't be opened, read, written or removed, and that memory was refused. The variable is as
-/// it was then, and a file that was to be made is gone, if it can be removed. The system's too, if the change can't be
-/// brought to the disk, as of [`make_change`]. [`ChangeFault::Irregular`], as such a reason.
+/// [`ChangeFault::Irregular`]; and [`ChangeFault::System`] if the file can't be opened, read, written or removed, and if memory
+/// was refused: the variable is as it was then, and a file that was to be made is gone, if it can be removed. It is that too
+/// if the change can't be brought to the disk: it is made then, and a cut may undo it.
 pub fn set_variable<R: Files + AllocGlobal>(
     rt: &R,
     folder: &Folder,
     path: &str,
     name: &str,
     kept: Option<&[u8]>,
-) -> io::Result<()> {
+) -> Result<(), ChangeFault> {
     let file = folder.path_of(rt.alloc(), path, name)?;
     let file = file.as_path();
-    let found = find(rt, file).map_err(|fault| fault.into_error())?;
+    let found = find(rt, file)?;
     if found.is(kept) {
-        return sync_found(rt, path, file, &found);
+        return Ok(sync_found(rt, path, file, &found)?);
     }
     put(rt, file, kept, &found)?;
-    sync_folder(rt, path)
+    Ok(sync_folder(rt, path)?)
 }
 
 /// Brings what was found of a variable to the disk.
@@ -265,22 +215,6 @@ fn store<R: Files>(rt: &R, path: Path<'_>, bytes: &[u8], is_new: bool) -> io::Re
     }
     written?;
     sync_file(&file)
-}
-
-/// The bytes of the file that is to show this value of the variable of this name.
-fn file_bytes(
-    alloc: Global,
-    attributes: &Vars,
-    name: &str,
-    value: &[u8],
-) -> Result<Vec<u8>, AllocError>
-    ensures { IfOk result (λ bytes. bytes.items ≡ attributes_for attributes.now name.now ++ value.now) }
-{
-    vars_laws::constants_are_those_of_the_definitions();
-    let front = attributes.get(name).unwrap_or(&BOOT_ATTRIBUTES);
-    let mut bytes = Vec::from_slice(alloc, front)?;
-    bytes.extend_from_slice(value)?;
-    Ok(bytes)
 }
 
 /// Writes all of the bytes at once.

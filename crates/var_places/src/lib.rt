@@ -3,11 +3,11 @@
 //!
 //! [`read_place`] reads the variables of whatever is at a path, [`file_kind`] tells files apart by their bytes, and
 //! [`read_folder`], [`variable_file`] and [`file_vars`] read folders and files; a [`PlaceVars`] has the attributes too.
-//! A folder is changed one variable at a time, by [`make_change`], [`change_variable`] and [`set_variable`]. A file is replaced as a whole:
+//! A folder is changed one variable at a time, by [`change_variable`] and [`set_variable`]. A file is replaced as a whole:
 //! [`changed_set`] and [`changed_variable_file`] give its bytes, [`check_damage`] refuses one that is damaged,
-//! [`lock()`] and [`lock_place`] lock it and [`write()`] replaces it; [`lock_place_folder`] locks a folder. [`machine_identity`] tells the machine of a place from others, and
-//! [`resolved()`] gives a path without links. What goes wrong is a [`Failure`], which has a message and the status of a
-//! program that ends with it.
+//! [`lock()`] and [`lock_place`] lock it and [`write()`] replaces it; [`lock_place_folder`] locks a folder.
+//! [`machine_identity`] tells the machine of a place from others, and [`resolved()`] gives a path without links. What goes
+//! wrong is a [`Failure`], which has a message and the status of a program that ends with it.
 #![tactic(auto)]
 
 mod failure;
@@ -31,9 +31,7 @@ pub use file_place::{
     no_place, set_vars, variable_file,
 };
 pub use folder::{Folder, LeftOut, read_folder};
-pub use folder_change::{
-    ChangeFault, KeptChange, change_variable, has_value, make_change, set_variable,
-};
+pub use folder_change::{ChangeFault, KeptChange, change_variable, has_value, set_variable};
 pub use input::{STANDARD, name_of, read, read_variables};
 pub use machine::{MachineIdentity, PRODUCT_UUID, machine_identity, machine_name};
 pub use mounts::resolved;

@@ -1,7 +1,0 @@
--- So far the first changes are made.
-use Rattle.std.proofs.Common.{◌≡◌, take}
-use Rattle.boot_journal.specs.Changes.{made}
-use Rattle.boot_updates.proofs.standing.after_changes.Given as goal
-
-abbrev pub invariant-loop-change : goal.invariant-loop-change
-invariant-loop-change l = l.after ≡ made (take l.change-index l.changes) l.vars

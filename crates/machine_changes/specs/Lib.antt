@@ -1,0 +1,3 @@
+pub mod KeptFault
+pub mod Moves
+pub mod StateAccess

@@ -1,0 +1,415 @@
+//! The one way in which the boot variables of a machine are changed.
+
+ghost use Rattle.std.specs.Prelude.{IfOk, IfErr};
+ghost use Rattle.uefi_vars.specs.Vars.{Variables};
+ghost use Rattle.boot_journal.specs.Cause.{IfRefused};
+ghost use Rattle.machine_changes.specs.declared.changing.Seen.{Seen};
+
+use crate::failures::{from_settling, from_updating};
+use crate::file_changes::{changed_bytes, settle_left};
+use crate::history::History;
+use crate::kept_run::{KeptFault, Telling, ToldAnswer, kept_command};
+use crate::kept_vars::KeptVars;
+use crate::machine_words::MachineWords;
+use crate::notes::{KeptNotes, begin_notes, notes_of};
+use crate::opened::{KeptFile, OpenedPlace, open_machine, open_place, read_kept, read_kept_file};
+use crate::owner::name_of_machine;
+use crate::place_kind::PlaceKind;
+use crate::standing::{SettledMachine, settled_file, settled_machine};
+use crate::state_use::{StateUse, file_state, keep_before, state_folder};
+use crate::told::tell_of_due;
+use boot_journal::{CallError, CommandError, MachineName, Run};
+use std::alloc::Global;
+use std::cell::RefCell;
+use std::rc::Rc;
+use std::rt::{Clock, Files};
+use uefi_vars::Vars;
+use var_places::{Failure, lock_place, write};
+use whole_files::OutputFile;
+
+/// The words of a change.
+#[derive(Clone, Copy, Debug)]
+pub struct ChangeWords<'a> {
+    /// The machine.
+    pub machine: MachineWords<'a>,
+    /// The words of the command, by which what was there before is kept: `None` if it isn't kept.
+    pub command: Option<&'a [String]>,
+    /// Whether nothing is changed, and what would be is told.
+    pub dry_run: bool,
+    /// What is done about the state folder.
+    pub state: StateUse,
+    /// Whether a variable file is changed by the journal too, with which it is kept what requests were applied.
+    pub by_journal: bool,
+}
+
+/// What a run may know of a machine beside its variables.
+#[derive(Clone, Copy)]
+pub struct Seen<'a> {
+    /// The names of its variables of the boot manager that no set can hold.
+    pub left_out: &'a [String],
+    /// What the machine is called.
+    pub machine: &'a MachineName,
+    /// Whether its variables are in a folder, so that firmware has a say in what is stored.
+    pub is_folder: bool,
+    /// What is kept beside its journal.
+    pub notes: &'a KeptNotes,
+}
+
+/// A change that is wanted of a machine. Its variables are as a machine keeps them, with attributes.
+pub trait Wanted {
+    /// What it answers.
+    type Answer: Drop;
+
+    /// Why it refuses variables.
+    type Fault: Drop;
+
+    /// What is told of it.
+    type Told: Drop;
+
+    /// What keeps it from being made.
+    type Refusal: Drop + From<Failure>;
+
+    /// It leads from the one set to the other, with this answer.
+    ghost leads: { Self → Seen → Variables → Variables → Self.Answer → Type 0 };
+
+    /// It refuses the variables for this fault.
+    ghost refuses: { Self → Seen → Variables → Self.Fault → Type 0 };
+
+    /// Refuses a change of the variables of these names, which no set can hold, before anything is done.
+    ///
+    /// # Errors
+    ///
+    /// That it would change one of them, or that memory was refused.
+    fn check(&self, alloc: Global, left_out: &[String]) -> Result<(), Self::Refusal>;
+
+    /// The variables that it replaces, whatever they have, if there are some: also those that no set can hold.
+    fn replaced(&self) -> Option<&Vars>;
+
+    /// Whether notes with an identity are begun beside the journal, if there are none.
+    fn begins_notes(&self) -> bool;
+
+    /// What it leads to from these variables, and its answer.
+    ///
+    /// # Errors
+    ///
+    /// Its fault if it refuses the variables, and that memory was refused.
+    fn run(
+        &self,
+        alloc: Global,
+        seen: &Seen<'_>,
+        vars: &Vars,
+    ) -> Result<(Vars, Self::Answer), CallError<Self::Fault>>
+        ensures done { IfOk result (λ done. leads self.now seen.now vars.now done.0 done.1) }
+        ensures refused { IfErr result (λ error. IfRefused error (refuses self.now seen.now vars.now)) };
+
+    /// What is told of it, if it leads from the one set to the other and answers so.
+    ///
+    /// # Errors
+    ///
+    /// [`Failure::Memory`] if memory was refused, and others if it can't be told.
+    fn tell(
+        &self,
+        alloc: Global,
+        seen: &Seen<'_>,
+        change: (&Vars, &Vars),
+        answer: &Self::Answer,
+    ) -> Result<Self::Told, Failure>;
+
+    /// What keeps it from being made if it refuses variables for this fault.
+    fn refusal(&self, alloc: Global, fault: Self::Fault) -> Self::Refusal;
+
+    /// What is done once the change is made, while the machine is still locked.
+    fn end(&self, answer: &Self::Answer);
+}
+
+/// A change that is wanted of a machine of which this is known.
+#[derive(Drop)]
+struct SeenRun<'a, 's, W> {
+    wanted: &'a W,
+    seen: &'s Seen<'s>,
+}
+
+impl<W: Wanted> Run for SeenRun<'_, '_, W> {
+    type Answer = W::Answer;
+
+    type Fault = W::Fault;
+
+    ghost leads = { λ run from to answer. W.leads run.wanted.now run.seen.now from to answer };
+
+    ghost refuses = { λ run from fault. W.refuses run.wanted.now run.seen.now from fault };
+
+    fn run(&self, alloc: Global, vars: &Vars) -> Result<(Vars, W::Answer), CallError<W::Fault>> {
+        self.wanted.run(alloc, self.seen, vars)
+    }
+}
+
+impl<W: Wanted> Telling<W::Answer> for SeenRun<'_, '_, W> {
+    type Told = W::Told;
+
+    ghost tells = { λ run from to answer told. Unit {0} };
+
+    fn tell(
+        &self,
+        alloc: Global,
+        from: &Vars,
+        to: &Vars,
+        answer: &W::Answer,
+    ) -> Result<W::Told, Failure> {
+        Ok(self.wanted.tell(alloc, self.seen, (from, to), answer)?)
+    }
+}
+
+/// Does what is left of earlier updates of a machine, and then makes a change of its variables, or looks what it would be
+/// for a dry run. A folder as Linux shows variables is changed by the journal in the state folder, so that a cut leaves the old
+/// variables or the new ones, and an emulator's variable file is replaced as a whole, unless it is changed by the journal too.
+/// What is told of the change is made before it, and what is there is kept, if it is to be. Whatever fails, nothing was
+/// changed, or what was is taken back.
+///
+/// # Errors
+///
+/// Those of the change; [`Failure::Refused`] if the place or the journal is, or the place is a set file, which is no machine;
+/// [`Failure::Busy`] and [`Failure::Held`] if another change is at work; [`Failure::Words`] if the identity of the start is
+/// needed and isn't given, or it or the machine's name isn't one; [`Failure::Read`] and [`Failure::Write`] with the system's
+/// reason; [`Failure::TakenBack`] if the system refused a change, and nothing has happened; [`Failure::Unsettled`] if it
+/// couldn't be taken back either; and [`Failure::Memory`] if memory was refused.
+pub fn change_machine<R, W>(
+    rt: &R,
+    words: &ChangeWords<'_>,
+    kind: PlaceKind,
+    wanted: &W,
+) -> Result<ToldAnswer<W::Answer, W::Told>, W::Refusal>
+where
+    R: Files<File: OutputFile> + Clock + Input + Print + Eprint + AllocGlobal,
+    W: Wanted,
+{
+    match kind {
+        PlaceKind::Set => Err(W::Refusal::from(Failure::from_fault(
+            rt.alloc(),
+            words.machine.place,
+            "it is a set file, and nothing is kept of its changes",
+        ))),
+        PlaceKind::Folder | PlaceKind::VariableFile if words.dry_run => plan(rt, words, wanted),
+        PlaceKind::VariableFile if !words.by_journal => change_file(rt, words, wanted),
+        PlaceKind::Folder | PlaceKind::VariableFile => change_by_journal(rt, words, wanted),
+    }
+}
+
+/// What the change would be, once what is left of earlier updates is done.
+fn plan<R, W>(
+    rt: &R,
+    words: &ChangeWords<'_>,
+    wanted: &W,
+) -> Result<ToldAnswer<W::Answer, W::Told>, W::Refusal>
+where
+    R: Files + Input + Eprint + AllocGlobal,
+    W: Wanted,
+{
+    let machine = &words.machine;
+    let mut kept = read_kept(rt, machine)?;
+    if let Some(replaced) = wanted.replaced() {
+        kept.let_go(replaced);
+    }
+    wanted.check(rt.alloc(), &kept.left_out)?;
+    let SettledMachine { settled, notes } = settled(rt, words, &kept)?;
+    if settled.is_due {
+        tell_of_due(rt, machine.state);
+    }
+    let name = name_of_machine(rt, machine, kept.is_folder)?;
+    let notes = RefCell::new(notes);
+    let seen = Seen {
+        left_out: &kept.left_out,
+        machine: &name,
+        is_folder: kept.is_folder,
+        notes: &notes,
+    };
+    let Led { to: _, answered } = led_from(rt.alloc(), wanted, &seen, &settled.vars)?;
+    Ok(answered)
+}
+
+/// What the machine, which keeps this, stands for. Another machine's journal is refused if the change goes by the journal, and
+/// counts as none otherwise.
+fn settled<R: Files + Eprint + AllocGlobal>(
+    rt: &R,
+    words: &ChangeWords<'_>,
+    kept: &KeptVars,
+) -> Result<SettledMachine, Failure> {
+    if kept.is_folder || words.by_journal {
+        settled_machine(rt, &words.machine, kept)
+    } else {
+        settled_file(rt, &words.machine, kept)
+    }
+}
+
+/// What a change leads to.
+#[derive(Drop)]
+struct Led<A, T> {
+    /// The variables.
+    to: Vars,
+    /// What it answers, and what is told of it.
+    answered: ToldAnswer<A, T>,
+}
+
+/// What the change leads to from these variables.
+fn led_from<W: Wanted>(
+    alloc: Global,
+    wanted: &W,
+    seen: &Seen<'_>,
+    vars: &Vars,
+) -> Result<Led<W::Answer, W::Told>, W::Refusal> {
+    match wanted.run(alloc, seen, vars) {
+        Ok((to, answer)) => {
+            let told = wanted.tell(alloc, seen, (vars, &to), &answer)?;
+            Ok(Led {
+                to,
+                answered: ToldAnswer { answer, told },
+            })
+        }
+        Err(CallError::OutOfMemory) => Err(W::Refusal::from(Failure::Memory)),
+        Err(CallError::Refused(fault)) => Err(wanted.refusal(alloc, fault)),
+    }
+}
+
+/// Makes the change by the journal.
+fn change_by_journal<R, W>(
+    rt: &R,
+    words: &ChangeWords<'_>,
+    wanted: &W,
+) -> Result<ToldAnswer<W::Answer, W::Told>, W::Refusal>
+where
+    R: Files<File: OutputFile> + Clock + Input + Print + Eprint + AllocGlobal,
+    W: Wanted,
+{
+    let machine = &words.machine;
+    let folder = state_folder(rt, machine, words.state)?;
+    let mut opened = open_place(rt, machine)?;
+    if let Some(replaced) = wanted.replaced() {
+        opened.let_go(replaced);
+    }
+    wanted.check(rt.alloc(), opened.left_out())?;
+    let name = name_of_machine(rt, machine, opened.is_folder())?;
+    let answered = change_opened(rt, words, (opened, &name), (wanted, folder.journal()))?;
+    wanted.end(&answered.answer);
+    Ok(answered)
+}
+
+/// Makes the change in a place that was opened, whose machine has this name, by the journal at this path, whose folder is
+/// locked.
+fn change_opened<R, W>(
+    rt: &R,
+    words: &ChangeWords<'_>,
+    (opened, name): (OpenedPlace<R::File>, &MachineName),
+    (wanted, journal_path): (&W, &str),
+) -> Result<ToldAnswer<W::Answer, W::Told>, W::Refusal>
+where
+    R: Files<File: OutputFile> + Clock + Input + Print + Eprint + AllocGlobal,
+    W: Wanted,
+{
+    let machine = &words.machine;
+    let is_folder = opened.is_folder();
+    let left_out = opened.copy_left_out(rt.alloc())?;
+    let (mut kept, boot) = open_machine(rt, machine, opened, journal_path)?;
+    if wanted.begins_notes() {
+        begin_notes(rt, &kept)?;
+    }
+    let notes = notes_of(kept.storage())?;
+    let seen = Seen {
+        left_out: &left_out,
+        machine: name,
+        is_folder,
+        notes: &notes,
+    };
+    let run = SeenRun {
+        wanted,
+        seen: &seen,
+    };
+    let history = history_of(words, name);
+    kept_command(rt, &mut kept, &run, &run, history, &boot).map_err(|error| from_command(
+        rt.alloc(),
+        machine,
+        wanted,
+        error,
+    ))
+}
+
+/// Where what was there before a change of the machine of this name is kept.
+fn history_of<'a, 'm>(words: &ChangeWords<'a>, name: &'m MachineName) -> History<'a, 'm> {
+    History {
+        state: words.machine.state,
+        machine: name,
+        command: words.command,
+    }
+}
+
+/// What keeps a change from being made if its command failed.
+fn from_command<W: Wanted>(
+    alloc: Global,
+    machine: &MachineWords<'_>,
+    wanted: &W,
+    error: CommandError<Failure, KeptFault<W::Fault>>,
+) -> W::Refusal {
+    match error {
+        CommandError::OutOfMemory => W::Refusal::from(Failure::Memory),
+        CommandError::Run(KeptFault::Run(fault)) => wanted.refusal(alloc, fault),
+        CommandError::Run(KeptFault::Telling(failure) | KeptFault::History(failure)) => {
+            W::Refusal::from(failure)
+        }
+        CommandError::Settling(error) => W::Refusal::from(from_settling(alloc, machine, error)),
+        CommandError::Updating(error) => W::Refusal::from(from_updating(alloc, machine, error)),
+    }
+}
+
+/// Makes the change in a variable file, which is replaced as a whole.
+fn change_file<R, W>(
+    rt: &R,
+    words: &ChangeWords<'_>,
+    wanted: &W,
+) -> Result<ToldAnswer<W::Answer, W::Told>, W::Refusal>
+where
+    R: Files<File: OutputFile> + Clock + Input + Print + Eprint + AllocGlobal,
+    W: Wanted,
+{
+    let state = file_state(rt, &words.machine, words.state)?;
+    if let Some(folder) = &state {
+        settle_left(rt, &words.machine, folder.journal())?;
+    }
+    let answered = change_locked_file(rt, words, wanted, state.is_some())?;
+    wanted.end(&answered.answer);
+    Ok(answered)
+}
+
+/// Makes the change in a variable file, which is locked from before it is read until it is replaced. The state folder may keep
+/// what was there before.
+fn change_locked_file<R, W>(
+    rt: &R,
+    words: &ChangeWords<'_>,
+    wanted: &W,
+    is_kept: bool,
+) -> Result<ToldAnswer<W::Answer, W::Told>, W::Refusal>
+where
+    R: Files<File: OutputFile> + Clock + Input + Print + Eprint + AllocGlobal,
+    W: Wanted,
+{
+    let machine = &words.machine;
+    let output = lock_place(rt, machine.place)?;
+    let KeptFile { bytes, mut kept } = read_kept_file(rt, machine)?;
+    if let Some(replaced) = wanted.replaced() {
+        kept.let_go(replaced);
+    }
+    wanted.check(rt.alloc(), &kept.left_out)?;
+    let name = name_of_machine(rt, machine, false)?;
+    let notes = RefCell::new(None);
+    let seen = Seen {
+        left_out: &kept.left_out,
+        machine: &name,
+        is_folder: false,
+        notes: &notes,
+    };
+    let Led { to, answered } = led_from(rt.alloc(), wanted, &seen, &kept.vars)?;
+    if let Some(bytes) = changed_bytes(rt.alloc(), machine.place, (&bytes, &kept), &to)? {
+        if is_kept {
+            keep_before(rt, machine, (&name, words.command), (&kept.vars, &to))?;
+        }
+        write(rt, output, &bytes)?;
+    }
+    Ok(answered)
+}

@@ -1,0 +1,179 @@
+//! Runs over a machine's variables, before whose change all is done that may fail: what is told of it is made, and what is
+//! there is kept.
+
+ghost use Rattle.std.specs.Prelude.{◌≢◌, [], IfOk, IfErr};
+ghost use Rattle.uefi_vars.specs.BootChange.{changes_from};
+ghost use Rattle.uefi_vars.specs.Vars.{Variables};
+ghost use Rattle.boot_journal.specs.Cause.{IfRefused};
+ghost use Rattle.machine_changes.specs.KeptFault.{IsUnprepared};
+
+use crate::history::History;
+use boot_journal::{BootId, CallError, CommandError, Machine, Run, UpdateError, command};
+use std::alloc::Global;
+use std::rt::{Clock, Files};
+use uefi_vars::Vars;
+use var_places::Failure;
+use whole_files::OutputFile;
+
+/// What is to be told of a run with such an answer. It is made before anything is changed: afterwards a refusal of memory
+/// would tell of a change that was made as if it weren't.
+pub(crate) trait Telling<A> {
+    /// What is told.
+    type Told: Drop;
+
+    /// This is told of a run from the one set of variables to the other, which answers so.
+    ghost tells: { Self → Variables → Variables → A → Self.Told → Type 0 };
+
+    /// What is told of a run from the one set of variables to the other, as a machine keeps them, which answers so.
+    ///
+    /// # Errors
+    ///
+    /// [`Failure::Memory`] if memory was refused, and others if it can't be told.
+    fn tell(&self, alloc: Global, from: &Vars, to: &Vars, answer: &A) -> Result<Self::Told, Failure>
+        ensures { IfOk result (tells self.now from.now to.now answer.now) };
+}
+
+/// What a run answers, and what is told of it.
+#[derive(Drop)]
+pub struct ToldAnswer<A, T> {
+    /// What it answers.
+    pub answer: A,
+    /// What is told.
+    pub told: T,
+}
+
+/// Why such a change isn't made of variables.
+#[derive(Debug, Drop)]
+pub(crate) enum KeptFault<F> {
+    /// The run itself refuses them.
+    Run(F),
+    /// What is to be told of it can't be. The failure is never [`Failure::Memory`].
+    Telling(Failure),
+    /// The run leads to a change, and what is there can't be kept.
+    History(Failure),
+}
+
+/// The run of a change that is asked for.
+#[derive(Drop)]
+struct KeptRun<'a, 'm, R, Q, T> {
+    /// What reaches the files.
+    rt: &'a R,
+    /// Where what was there before is kept.
+    history: History<'a, 'm>,
+    /// The run that leads to the change.
+    run: &'a Q,
+    /// What is told of it.
+    telling: &'a T,
+}
+
+impl<R, Q, T> Run for KeptRun<'_, '_, R, Q, T>
+where
+    R: Files<File: OutputFile> + Clock + AllocGlobal,
+    Q: Run,
+    T: Telling<Q::Answer>,
+{
+    ghost use Rattle.machine_changes.specs.KeptFault.{IsKeptFault, LeadsToChange};
+
+    type Answer = ToldAnswer<Q::Answer, T::Told>;
+
+    type Fault = KeptFault<Q::Fault>;
+
+    ghost leads = { λ kept from to answered. Q.leads kept.run.now from to answered.answer
+        × T.tells kept.telling.now from to answered.answer answered.told };
+
+    ghost refuses = { λ kept from fault.
+        IsKeptFault fault (Q.refuses kept.run.now from) (LeadsToChange (Q.leads kept.run.now) from) };
+
+    fn run(
+        &self,
+        alloc: Global,
+        vars: &Vars,
+    ) -> Result<(Vars, ToldAnswer<Q::Answer, T::Told>), CallError<KeptFault<Q::Fault>>> {
+        match self.run.run(alloc, vars) {
+            Ok((to, answer)) => match self.prepare(alloc, vars, &to, &answer) {
+                Ok(told) => Ok((to, ToldAnswer { answer, told })),
+                Err(error) => Err(error),
+            },
+            Err(CallError::OutOfMemory) => Err(CallError::OutOfMemory),
+            Err(CallError::Refused(fault)) => Err(CallError::Refused(KeptFault::Run(fault))),
+        }
+    }
+}
+
+impl<R, Q, T> KeptRun<'_, '_, R, Q, T>
+where
+    R: Files<File: OutputFile> + Clock + AllocGlobal,
+    Q: Run,
+    T: Telling<Q::Answer>,
+{
+    /// Makes what is told of a change that is yet to be made, and keeps what is there before it.
+    fn prepare(
+        &self,
+        alloc: Global,
+        from: &Vars,
+        to: &Vars,
+        answer: &Q::Answer,
+    ) -> Result<T::Told, CallError<KeptFault<Q::Fault>>>
+        ensures told { IfOk result (T.tells self.now.telling.now from.now to.now answer.now) }
+        ensures refused { IfErr result (λ error. IfRefused error (IsUnprepared (changes_from from.now to.now ≢ []))) }
+    {
+        let told = match self.telling.tell(alloc, from, to, answer) {
+            Ok(told) => told,
+            Err(Failure::Memory) => return Err(CallError::OutOfMemory),
+            Err(failure) => return Err(CallError::Refused(KeptFault::Telling(failure))),
+        };
+        match self.history.keep(self.rt, from, to) {
+            Ok(()) => Ok(told),
+            Err(CallError::OutOfMemory) => Err(CallError::OutOfMemory),
+            Err(CallError::Refused(failure)) => {
+                Err(CallError::Refused(KeptFault::History(failure)))
+            }
+        }
+    }
+}
+
+/// Does what is left of earlier updates of a machine, runs something over its variables, and makes what that leads to, as
+/// [`command`] does; what is told of the change is made before it, and what is there is kept, so that the change can be
+/// undone. The identity is that of the machine's start.
+///
+/// # Errors
+///
+/// Those of [`command`]: [`CommandError::Run`] also if what is to be told can't be, or what is there can't be kept, and
+/// nothing was changed then.
+pub(crate) fn kept_command<R, M, Q, T>(
+    rt: &R,
+    machine: &mut M,
+    run: &Q,
+    telling: &T,
+    history: History<'_, '_>,
+    boot: &BootId,
+) -> Result<ToldAnswer<Q::Answer, T::Told>, CommandError<M::Refusal, KeptFault<Q::Fault>>>
+where
+    R: Files<File: OutputFile> + Clock + AllocGlobal,
+    M: Machine,
+    Q: Run,
+    T: Telling<Q::Answer>,
+{
+    let run = KeptRun {
+        rt,
+        history,
+        run,
+        telling,
+    };
+    let ended = command(rt.alloc(), machine, &run, boot);
+    if let Err(CommandError::Updating(UpdateError::TakenBack(_))) = &ended {
+        forget_unmade(rt, machine, history);
+    }
+    ended
+}
+
+/// Takes out what was kept of the change of a machine that was taken back. If that fails, an undoing passes it over.
+fn forget_unmade<R: Files<File: OutputFile> + AllocGlobal, M: Machine>(
+    rt: &R,
+    machine: &M,
+    history: History<'_, '_>,
+) {
+    if let Ok(vars) = machine.read_vars(rt.alloc()) {
+        let _ = history.forget_unmade(rt, &vars);
+    }
+}

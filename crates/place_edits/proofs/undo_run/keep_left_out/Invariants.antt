@@ -1,8 +1,0 @@
-use Rattle.std.proofs.Common.{map}
-use Rattle.std.specs.String.{string_bytes}
-use Rattle.place_edits.specs.Undo.{IsBack}
-use Rattle.place_edits.proofs.undo_run.keep_left_out.Given as goal
-
--- so far, too, only variables of these names are as they are now
-abbrev pub invariant-loop-name : goal.invariant-loop-name
-invariant-loop-name l = IsBack (map string_bytes l.left_out) l.vars l.fn.before l.before
