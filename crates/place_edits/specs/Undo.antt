@@ -26,15 +26,15 @@ Stands change vars is = IsStanding (record_parts change) vars is
 
 -- ---- what is brought back
 
--- The BootNext that the change left isn't there any more: a start may have used it.
-abbrev pub IsNextGone : Variables → Variables → Type 0
-IsNextGone after now = (get after next_text ≢ None) × (get now next_text ≢ get after next_text)
+-- The BootNext that the change left isn't there any more, and the one before it isn't there again: a start may have used it.
+abbrev pub IsNextGone : Record → Variables → Type 0
+IsNextGone change now =
+    (get change.after next_text ≢ None) × (get now next_text ≢ get change.after next_text) × (get now next_text ≢ get change.before next_text)
 
 -- what is to be there again: what was there before the change, but for a BootNext if one may have been used since
 abbrev pub IsWanted : Record → Variables → Variables → Type 0
 IsWanted change now wanted =
-    (IsNextGone change.after now × (wanted ≡ remove change.before next_text))
-    ⊎ ((IsNextGone change.after now → ⊥) × (wanted ≡ change.before))
+    (IsNextGone change now × (wanted ≡ remove change.before next_text)) ⊎ ((IsNextGone change now → ⊥) × (wanted ≡ change.before))
 
 -- what undoing the change brings back, where these variables are now
 pub record IsBroughtBack (left_out : List (List ℕ)) (change : Record) (now : Variables) (back : Takeable) : Type 0 where

@@ -1,6 +1,7 @@
 //! Runs that bring back what was there before the last change of a machine.
 
 ghost use Rattle.std.specs.Prelude.{◌≡◌, ◌≢◌, ◌↔◌, true, false, [], map, IfOk, IfErr, IsTrue};
+ghost use Rattle.std.specs.Option.{option_map};
 ghost use Rattle.std.specs.String.{string_bytes};
 ghost use Rattle.uefi_vars.specs.BootChange.{changes_from};
 ghost use Rattle.boot_journal.specs.Cause.{IfRefused};
@@ -239,26 +240,40 @@ impl<R: Files<File: OutputFile> + AllocGlobal> UndoRun<'_, '_, R> {
 }
 
 /// What is to be there again where these variables are now: what was there before the change, without a BootNext if the one
-/// that the change left isn't there any more. A start may have used that, and would otherwise be made by it once more.
+/// that the change left isn't there any more, nor the one before it. A start may have used that, and would otherwise be made
+/// by it once more.
 fn wanted(alloc: Global, vars: &Vars, change: &Record) -> Result<Vars, AllocError>
     ensures { IfOk result (IsWanted change.now vars.now) }
 {
     let before = change.before.copy(alloc)?;
-    if is_next_gone(&change.after, vars) {
+    if is_next_gone(change, vars) {
         Ok(without_next(before))
     } else {
         Ok(before)
     }
 }
 
-/// Whether the BootNext that a change left isn't there any more.
-fn is_next_gone(after: &Vars, now: &Vars) -> bool
-    ensures { IsTrue result ↔ IsNextGone after.now now.now }
+/// Whether the BootNext that a change left isn't there any more, and the one before it isn't there again.
+fn is_next_gone(change: &Record, now: &Vars) -> bool
+    ensures { IsTrue result ↔ IsNextGone change.now now.now }
 {
     vars_laws::constants_are_those_of_the_definitions();
-    match after.get(BOOT_NEXT) {
-        Some(left) => !is_value(now.get(BOOT_NEXT), left),
+    match change.after.get(BOOT_NEXT) {
+        Some(left) => {
+            let next = now.get(BOOT_NEXT);
+            !is_value(next, left) && !is_same(next, change.before.get(BOOT_NEXT))
+        }
         None => false,
+    }
+}
+
+/// Whether the two are the same value, or there is neither.
+fn is_same(one: Option<&[u8]>, other: Option<&[u8]>) -> bool
+    ensures { IsTrue result ↔ (option_map (λ b. b.now) one.entry ≡ option_map (λ b. b.now) other.entry) }
+{
+    match other {
+        Some(other) => is_value(one, other),
+        None => one.is_none(),
     }
 }
 
