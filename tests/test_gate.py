@@ -2,7 +2,10 @@
 
 from __future__ import annotations
 
+import contextlib
+import io
 import sys
+import tempfile
 import unittest
 from pathlib import Path
 
@@ -41,6 +44,47 @@ class Counts(unittest.TestCase):
         self.assertEqual(gate.gate_counts([], 0), (0, 1))
         self.assertEqual(gate.gate_counts(["rt: no crates.txt\n"], 0), (0, 1))
         self.assertEqual(gate.gate_counts(["46 passed, 0 failed\n", "Killed\n"], 0), (0, 1))
+
+
+TESTS = """import unittest
+
+class Some(unittest.TestCase):
+    def test_passes(self) -> None:
+        pass
+
+    def test_fails(self) -> None:
+        self.fail("as it has to")
+
+    @unittest.skip("the tool isn't installed")
+    def test_needs_a_tool(self) -> None:
+        pass
+
+@unittest.skip("the package isn't installed")
+class Others(unittest.TestCase):
+    def test_needs_a_package(self) -> None:
+        pass
+"""
+
+
+class Scripts(unittest.TestCase):
+    """What the tests of the scripts say."""
+
+    def test_what_is_left_out_is_told_and_not_counted(self) -> None:
+        with tempfile.TemporaryDirectory() as folder, contextlib.redirect_stderr(
+            io.StringIO()
+        ) as out:
+            Path(folder, "test_of_the_gate_itself.py").write_text(TESTS, encoding="utf-8")
+            self.addCleanup(sys.path.remove, folder)
+            self.assertEqual(gate.script_tests(Path(folder)), (1, 1))
+        told = [it for it in out.getvalue().splitlines() if it.startswith("check: ")]
+        name = "check: test_of_the_gate_itself"
+        self.assertEqual(
+            sorted(told),
+            [
+                f"{name}.Others.test_needs_a_package is left out: the package isn't installed",
+                f"{name}.Some.test_needs_a_tool is left out: the tool isn't installed",
+            ],
+        )
 
 
 if __name__ == "__main__":
