@@ -85,6 +85,7 @@ class Changelog(unittest.TestCase):
             "python/pyproject.toml": r'^version = "(.*)"$',
             "python/bootkeep/__init__.py": r'^__version__ = "(.*)"$',
             "rust/Cargo.toml": r'^version = "(.*)"$',
+            "docs/bootvars.schema.json": r'^  "title": "What bootvars (\S+) prints as JSON",$',
             "rust/Cargo.lock": r'^name = "bootkeep"\nversion = "(.*)"$',
         }.items():
             found = re.findall(pattern, (ROOT / file).read_text("utf-8"), re.M)
@@ -238,9 +239,15 @@ class Places(unittest.TestCase):
     def test_pages_that_a_page_leads_to_are_there(self) -> None:
         for page in package_files.PAGES:
             text = " ".join((ROOT / "docs" / page).read_text(encoding="utf-8").split())
-            for other in re.findall(r"`docs/(\w+\.md)`(?! of the source)", text):
+            for other in re.findall(r"`docs/([\w.]+\.(?:md|json))`(?! of the source)", text):
                 with self.subTest(page):
-                    self.assertIn(other, package_files.PAGES)
+                    self.assertIn(other, [*package_files.PAGES, package_files.SCHEMA])
+
+    def test_the_schema_is_there_as_it_is(self) -> None:
+        schema = (ROOT / "docs" / package_files.SCHEMA).read_bytes()
+        for place in (package_files.DEBIAN, package_files.OTHERS):
+            files = package_files.program_files(self.made, place).files
+            self.assertEqual(files[f"share/doc/bootkeep/{package_files.SCHEMA}"].data, schema)
 
     def test_manuals_are_packed_for_debian(self) -> None:
         files = package_files.program_files(self.made, package_files.DEBIAN).files

@@ -23,6 +23,9 @@ PAGES = (
 )
 """The pages for those who have the programs, and for those who want to know what to trust."""
 
+SCHEMA = "bootvars.schema.json"
+"""The schema of what `bootvars` prints as JSON. Programs read it, so it is never compressed."""
+
 
 @dataclass(frozen=True)
 class Place:
@@ -87,6 +90,7 @@ def program_files(made: Made, place: Place) -> FileTree:
         files.put(hook, place.script(script), PROGRAM_MODE)
     for page in PAGES:
         place.put_text(files, f"share/doc/bootkeep/{page}", (ROOT / "docs" / page).read_bytes())
+    files.put(f"share/doc/bootkeep/{SCHEMA}", (ROOT / "docs" / SCHEMA).read_bytes())
     return files
 
 
