@@ -6,25 +6,28 @@ ghost use Rattle.boot_journal.specs.Cause.{IfRefused};
 ghost use Rattle.machine_changes.specs.declared.changing.Seen.{Seen};
 
 use crate::failures::{from_settling, from_updating};
-use crate::file_changes::{changed_bytes, settle_left};
+use crate::file_changes::{changed_bytes, changed_set_bytes, settle_left};
 use crate::history::History;
 use crate::kept_run::{KeptFault, Telling, ToldAnswer, kept_command};
 use crate::kept_vars::KeptVars;
 use crate::machine_words::MachineWords;
 use crate::notes::{KeptNotes, begin_notes, notes_of};
-use crate::opened::{KeptFile, OpenedPlace, open_machine, open_place, read_kept, read_kept_file};
+use crate::opened::{
+    KeptFile, OpenedPlace, open_machine, open_place, read_kept, read_kept_file, read_kept_set,
+};
 use crate::owner::name_of_machine;
 use crate::place_kind::PlaceKind;
 use crate::standing::{SettledMachine, settled_file, settled_machine};
 use crate::state_use::{StateUse, file_state, keep_before, state_folder};
 use crate::told::tell_of_due;
 use boot_journal::{CallError, CommandError, MachineName, Run};
+use boot_notes::Notes;
 use std::alloc::Global;
 use std::cell::RefCell;
 use std::rc::Rc;
 use std::rt::{Clock, Files};
 use uefi_vars::Vars;
-use var_places::{Failure, lock_place, write};
+use var_places::{Failure, lock_place, note, write};
 use whole_files::OutputFile;
 
 /// The words of a change.
@@ -161,17 +164,17 @@ impl<W: Wanted> Telling<W::Answer> for SeenRun<'_, '_, W> {
 
 /// Does what is left of earlier updates of a machine, and then makes a change of its variables, or looks what it would be
 /// for a dry run. A folder as Linux shows variables is changed by the journal in the state folder, so that a cut leaves the old
-/// variables or the new ones, and an emulator's variable file is replaced as a whole, unless it is changed by the journal too.
-/// What is told of the change is made before it, and what is there is kept, if it is to be. Whatever fails, nothing was
-/// changed, or what was is taken back.
+/// variables or the new ones, and an emulator's variable file is replaced as a whole, unless it is changed by the journal too. A
+/// set file is replaced as a whole, and nothing is kept of what was there. What is told of the change is made before it, and
+/// what is there is kept, if it is to be. Whatever fails, nothing was changed, or what was is taken back.
 ///
 /// # Errors
 ///
-/// Those of the change; [`Failure::Refused`] if the place or the journal is, or the place is a set file, which is no machine;
-/// [`Failure::Busy`] and [`Failure::Held`] if another change is at work; [`Failure::Words`] if the identity of the start is
-/// needed and isn't given, or it or the machine's name isn't one; [`Failure::Read`] and [`Failure::Write`] with the system's
-/// reason; [`Failure::TakenBack`] if the system refused a change, and nothing has happened; [`Failure::Unsettled`] if it
-/// couldn't be taken back either; and [`Failure::Memory`] if memory was refused.
+/// Those of the change; [`Failure::Refused`] if the place or the journal is; [`Failure::Busy`] and [`Failure::Held`] if another
+/// change is at work; [`Failure::Words`] if the identity of the start is needed and isn't given, or it or the machine's name
+/// isn't one; [`Failure::Read`] and [`Failure::Write`] with the system's reason; [`Failure::TakenBack`] if the system refused a
+/// change, and nothing has happened; [`Failure::Unsettled`] if it couldn't be taken back either; and [`Failure::Memory`] if
+/// memory was refused.
 pub fn change_machine<R, W>(
     rt: &R,
     words: &ChangeWords<'_>,
@@ -183,11 +186,7 @@ where
     W: Wanted,
 {
     match kind {
-        PlaceKind::Set => Err(W::Refusal::from(Failure::from_fault(
-            rt.alloc(),
-            words.machine.place,
-            "it is a set file, and nothing is kept of its changes",
-        ))),
+        PlaceKind::Set => change_set(rt, words, wanted),
         PlaceKind::Folder | PlaceKind::VariableFile if words.dry_run => plan(rt, words, wanted),
         PlaceKind::VariableFile if !words.by_journal => change_file(rt, words, wanted),
         PlaceKind::Folder | PlaceKind::VariableFile => change_by_journal(rt, words, wanted),
@@ -206,24 +205,20 @@ where
 {
     let machine = &words.machine;
     let mut kept = read_kept(rt, machine)?;
-    if let Some(replaced) = wanted.replaced() {
-        kept.let_go(replaced);
-    }
-    wanted.check(rt.alloc(), &kept.left_out)?;
+    prepare(rt.alloc(), wanted, &mut kept)?;
     let SettledMachine { settled, notes } = settled(rt, words, &kept)?;
     if settled.is_due {
         tell_of_due(rt, machine.state);
     }
-    let name = name_of_machine(rt, machine, kept.is_folder)?;
-    let notes = RefCell::new(notes);
-    let seen = Seen {
-        left_out: &kept.left_out,
-        machine: &name,
-        is_folder: kept.is_folder,
-        notes: &notes,
-    };
-    let Led { to: _, answered } = led_from(rt.alloc(), wanted, &seen, &settled.vars)?;
-    Ok(answered)
+    Ok(led_of(rt, words, wanted, &kept, (&settled.vars, notes))?.answered)
+}
+
+/// Takes what the change replaces out of what can't be held, and refuses one of the rest of that.
+fn prepare<W: Wanted>(alloc: Global, wanted: &W, kept: &mut KeptVars) -> Result<(), W::Refusal> {
+    if let Some(replaced) = wanted.replaced() {
+        kept.let_go(replaced);
+    }
+    wanted.check(alloc, &kept.left_out)
 }
 
 /// What the machine, which keeps this, stands for. Another machine's journal is refused if the change goes by the journal, and
@@ -247,6 +242,29 @@ struct Led<A, T> {
     to: Vars,
     /// What it answers, and what is told of it.
     answered: ToldAnswer<A, T>,
+}
+
+/// What the change leads to from these variables of the machine, which keeps this, and has these notes beside its journal.
+fn led_of<R, W>(
+    rt: &R,
+    words: &ChangeWords<'_>,
+    wanted: &W,
+    kept: &KeptVars,
+    (vars, notes): (&Vars, Option<Notes>),
+) -> Result<Led<W::Answer, W::Told>, W::Refusal>
+where
+    R: Files + AllocGlobal,
+    W: Wanted,
+{
+    let name = name_of_machine(rt, &words.machine, kept.is_folder)?;
+    let notes = RefCell::new(notes);
+    let seen = Seen {
+        left_out: &kept.left_out,
+        machine: &name,
+        is_folder: kept.is_folder,
+        notes: &notes,
+    };
+    led_from(rt.alloc(), wanted, &seen, vars)
 }
 
 /// What the change leads to from these variables.
@@ -392,24 +410,72 @@ where
     let machine = &words.machine;
     let output = lock_place(rt, machine.place)?;
     let KeptFile { bytes, mut kept } = read_kept_file(rt, machine)?;
-    if let Some(replaced) = wanted.replaced() {
-        kept.let_go(replaced);
-    }
-    wanted.check(rt.alloc(), &kept.left_out)?;
-    let name = name_of_machine(rt, machine, false)?;
-    let notes = RefCell::new(None);
-    let seen = Seen {
-        left_out: &kept.left_out,
-        machine: &name,
-        is_folder: false,
-        notes: &notes,
-    };
-    let Led { to, answered } = led_from(rt.alloc(), wanted, &seen, &kept.vars)?;
+    prepare(rt.alloc(), wanted, &mut kept)?;
+    let Led { to, answered } = led_of(rt, words, wanted, &kept, (&kept.vars, None))?;
     if let Some(bytes) = changed_bytes(rt.alloc(), machine.place, (&bytes, &kept), &to)? {
         if is_kept {
+            let name = name_of_machine(rt, machine, false)?;
             keep_before(rt, machine, (&name, words.command), (&kept.vars, &to))?;
         }
         write(rt, output, &bytes)?;
     }
     Ok(answered)
+}
+
+/// Makes the change in a set file, which is no machine, or looks what it would be for a dry run: then it isn't locked. Tells on
+/// standard error that it is one.
+fn change_set<R, W>(
+    rt: &R,
+    words: &ChangeWords<'_>,
+    wanted: &W,
+) -> Result<ToldAnswer<W::Answer, W::Told>, W::Refusal>
+where
+    R: Files<File: OutputFile> + Input + Print + Eprint + AllocGlobal,
+    W: Wanted,
+{
+    let place = words.machine.place;
+    note(
+        rt,
+        place,
+        "it is a set file: this changes a file, and no machine",
+    );
+    if words.dry_run {
+        return Ok(led_of_set(rt, words, wanted)?.answered);
+    }
+    let output = lock_place(rt, place)?;
+    let LedSet { bytes, answered } = led_of_set(rt, words, wanted)?;
+    if let Some(bytes) = bytes {
+        write(rt, output, &bytes)?;
+    }
+    wanted.end(&answered.answer);
+    Ok(answered)
+}
+
+/// What a change leads to in a set file.
+#[derive(Drop)]
+struct LedSet<A, T> {
+    /// What the file is to be: `None` if the change changes nothing.
+    bytes: Option<Vec<u8>>,
+    /// What the change answers, and what is told of it.
+    answered: ToldAnswer<A, T>,
+}
+
+/// What the change leads to in the set file.
+fn led_of_set<R, W>(
+    rt: &R,
+    words: &ChangeWords<'_>,
+    wanted: &W,
+) -> Result<LedSet<W::Answer, W::Told>, W::Refusal>
+where
+    R: Files + Input + AllocGlobal,
+    W: Wanted,
+{
+    let place = words.machine.place;
+    let KeptFile { bytes, mut kept } = read_kept_set(rt, place)?;
+    prepare(rt.alloc(), wanted, &mut kept)?;
+    let Led { to, answered } = led_of(rt, words, wanted, &kept, (&kept.vars, None))?;
+    Ok(LedSet {
+        bytes: changed_set_bytes(rt.alloc(), place, (&bytes, &kept), &to)?,
+        answered,
+    })
 }

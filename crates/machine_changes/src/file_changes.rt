@@ -1,4 +1,4 @@
-//! What is left to do, and changes of an emulator's variable file, which is replaced as a whole.
+//! What is left to do, and changes of files that are replaced as a whole.
 
 use crate::failures::from_settling;
 use crate::kept_vars::KeptVars;
@@ -7,11 +7,12 @@ use crate::opened::{open_machine, open_place};
 use crate::standing::is_left_to;
 use crate::state_folder::{lock_folder, stored_journal};
 use crate::told::set_of;
+use crate::values::set_value;
 use boot_journal::settle;
 use std::alloc::Global;
 use std::rt::Files;
-use uefi_vars::{Vars, boot_changes};
-use var_places::{Failure, changed_variable_file};
+use uefi_vars::{Vars, boot_changes, write_set};
+use var_places::{Failure, changed_variable_file, set_vars};
 use whole_files::OutputFile;
 
 /// Does what an earlier update of the machine in a variable file has left to do, by the journal at this path. Another machine's
@@ -79,4 +80,28 @@ pub(crate) fn changed_bytes(
         set.remove(name.as_str());
     }
     Ok(Some(changed_variable_file(alloc, place, bytes, &set, to)?))
+}
+
+/// The bytes of the set file at this path, which has these and of which this would be kept, once it has the second set: `None`
+/// if that changes nothing.
+///
+/// # Errors
+///
+/// [`Failure::Refused`] if a variable would have no data, and [`Failure::Memory`] if memory was refused.
+pub(crate) fn changed_set_bytes(
+    alloc: Global,
+    place: &str,
+    (bytes, kept): (&[u8], &KeptVars),
+    to: &Vars,
+) -> Result<Option<Vec<u8>>, Failure> {
+    if boot_changes(alloc, &kept.vars, to)?.is_empty() {
+        return Ok(None);
+    }
+    let mut set = set_of(alloc, place, to)?;
+    let was = set_vars(alloc, place, bytes)?;
+    // What has no room for attributes stays as it is.
+    for name in &kept.left_out {
+        set_value(&mut set, name.as_str(), was.get(name.as_str()))?;
+    }
+    Ok(Some(write_set(alloc, &set)?))
 }

@@ -16,8 +16,9 @@ use std::rc::Rc;
 use std::rt::Files;
 use uefi_vars::Vars;
 use var_places::{
-    Failure, FileKind, Reason, STANDARD, check_damage, file_kind, is_folder, lock_place_file,
-    lock_place_folder, name_of, no_place, read_folder, read_variables, variable_file,
+    Failure, FileKind, PlaceVars, Reason, STANDARD, check_damage, file_kind, is_folder,
+    lock_place_file, lock_place_folder, name_of, no_place, read_folder, read_variables, set_vars,
+    variable_file,
 };
 use whole_files::OutputFile;
 
@@ -211,7 +212,11 @@ fn open_file<R: Files<File: OutputFile> + Input + Eprint + AllocGlobal>(
     let kept = kept_of_file(rt, words)?;
     let path = String::from_str(alloc, path)?;
     Ok(OpenedPlace {
-        place: Place::File { path, lock },
+        place: Place::File {
+            path,
+            lock,
+            due: Vec::new(alloc),
+        },
         kept,
     })
 }
@@ -225,13 +230,34 @@ fn kept_of_file<R: Files + Input + Eprint + AllocGlobal>(
     Ok(kept)
 }
 
-/// A variable file that was read.
+/// A variable file or a set file that was read.
 #[derive(Drop)]
 pub(crate) struct KeptFile {
     /// Its bytes.
     pub(crate) bytes: Vec<u8>,
-    /// What its machine keeps.
+    /// What its machine keeps, or would keep of the set.
     pub(crate) kept: KeptVars,
+}
+
+/// The set file at this path.
+///
+/// # Errors
+///
+/// [`Failure::Read`] with the system's reason; [`Failure::Refused`] if it is damaged; and [`Failure::Memory`] if memory was
+/// refused.
+pub(crate) fn read_kept_set<R: Files + Input + AllocGlobal>(
+    rt: &R,
+    path: &str,
+) -> Result<KeptFile, Failure> {
+    let alloc = rt.alloc();
+    let bytes = read_variables(rt, path)?;
+    let found = PlaceVars {
+        vars: set_vars(alloc, path, &bytes)?,
+        attributes: Vars::new(alloc),
+        left_out: Vec::new(alloc),
+    };
+    let kept = kept_of(alloc, path, false, found)?;
+    Ok(KeptFile { bytes, kept })
 }
 
 /// The variable file at the path of the words. Tells on standard error what is left out of its variables.

@@ -3,7 +3,7 @@
 use crate::moves::{Moves, Way};
 use crate::notes::KeptNotes;
 use crate::owner::Identity;
-use crate::variable_file::{change_in_file, is_in_file, set_in_file};
+use crate::variable_file::{DueChange, is_in_file, write_due};
 use boot_journal::{CallError, Change, Journal, Storage, write_journal};
 use boot_notes::{Notes, with_notes};
 use std::alloc::{AllocError, Global};
@@ -27,12 +27,15 @@ pub(crate) enum Place<F> {
         /// The folder, which is open and locked from before it is read until the update ends.
         _lock: F,
     },
-    /// In an emulator's variable file.
+    /// In an emulator's variable file. Its changes are written at once, before the journal that has them done: a cut before
+    /// that leaves none of them made, and a journal that has all of them to be made.
     File {
         /// The path of the file.
         path: String,
         /// Its lock, which is held from before the file is read until the update ends.
         lock: FileLock<F>,
+        /// The changes that aren't written yet.
+        due: Vec<DueChange>,
     },
 }
 
@@ -73,7 +76,10 @@ impl<R: Files<File: OutputFile> + Input + Print + AllocGlobal> Storage for Place
 
     fn replace_journal(&mut self, journal: &Journal) -> Result<(), CallError<Failure>> {
         let is_idle = journal.is_idle();
-        if !is_idle {
+        if is_idle {
+            self.write_due().map_err(call_error)?;
+        } else {
+            self.forget_due();
             // Also if that fails: it may be there nevertheless, and is taken back then.
             self.moves = self.moves.after(is_idle);
         }
@@ -102,6 +108,35 @@ impl<R: Files<File: OutputFile> + Input + Print + AllocGlobal> PlaceStorage<'_, 
             let _ = self.begun.pop();
         }
         made
+    }
+}
+
+impl<R: Files<File: OutputFile> + Input + Print + AllocGlobal> PlaceStorage<'_, R> {
+    /// Writes the changes of a variable file that aren't written yet.
+    fn write_due(&mut self) -> Result<(), Failure> {
+        match &mut self.place {
+            Place::Folder { .. } => Ok(()),
+            Place::File { path, lock, due } => {
+                let written = write_due(self.rt, path, lock, due);
+                due.clear();
+                if let Err(failure) = &written
+                    && is_untouched(failure)
+                {
+                    self.begun.clear();
+                }
+                written
+            }
+        }
+    }
+
+    /// Forgets the changes of a variable file that aren't written yet: an update is begun, or taken back without them.
+    fn forget_due(&mut self) {
+        if let Place::File { due, .. } = &mut self.place
+            && !due.is_empty()
+        {
+            due.clear();
+            self.begun.clear();
+        }
     }
 }
 
@@ -205,7 +240,7 @@ fn make_first_in<R: Files<File: OutputFile> + Input + Print + AllocGlobal>(
             Ok(()) => Ok(()),
             Err(fault) => Err(from_change(rt.alloc(), path, kept.name, fault)),
         },
-        Place::File { path, lock } => change_in_file(rt, path, lock, &kept),
+        Place::File { due, .. } => Ok(due.push(DueChange::new(rt.alloc(), change, true)?)?),
     }
 }
 
@@ -227,7 +262,7 @@ fn make_in<R: Files<File: OutputFile> + Input + Print + AllocGlobal>(
     let (name, kept) = (change.name(), change.after());
     match place {
         Place::Folder { path, folder, .. } => set_in_folder(rt, (path, folder), name, kept),
-        Place::File { path, lock } => set_in_file(rt, path, lock, name, kept),
+        Place::File { due, .. } => Ok(due.push(DueChange::new(rt.alloc(), change, false)?)?),
     }
 }
 
@@ -255,7 +290,7 @@ fn is_made_in<R: Files + Input + AllocGlobal>(
         Place::Folder { path, folder, .. } => {
             has_value(rt, folder, path, name, kept).unwrap_or(false)
         }
-        Place::File { path, .. } => is_in_file(rt, path, name, kept).unwrap_or(false),
+        Place::File { path, .. } => is_in_file(rt, path, change).unwrap_or(false),
     }
 }
 

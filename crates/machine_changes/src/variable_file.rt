@@ -1,129 +1,148 @@
-//! Changes of single variables of an emulator's variable file.
+//! Changes of variables of an emulator's variable file, which are written at once.
 
 use crate::storage::from_change;
 use crate::values::set_value;
-use std::alloc::Global;
+use boot_journal::Change;
+use std::alloc::{AllocError, Global};
 use std::rt::Files;
 use uefi_vars::{ATTRIBUTES_LEN, Vars};
-use var_places::{
-    ChangeFault, Failure, KeptChange, changed_variable_file, from_store, read_variables,
-};
+use var_places::{ChangeFault, Failure, changed_variable_file, from_store, read_variables};
 use var_stores::{read_store, store_attributes, store_vars};
 use whole_files::{FileLock, OutputFile, rewrite_file};
 
-/// Sets the variable of this name in the file at this path to the attributes and the data of what is to be kept of it, or
-/// takes it out, whatever is there. The file is locked, and is replaced as a whole. Nothing is written if it is so already.
+/// A change of a variable of a file, which isn't written yet.
+#[derive(Drop)]
+pub(crate) struct DueChange {
+    /// The variable's name.
+    name: String,
+    /// What was read of it.
+    before: Option<Vec<u8>>,
+    /// What is to be kept of it: its attributes and its data, or nothing if it is taken out.
+    after: Option<Vec<u8>>,
+    /// Whether it is made only if the variable is what was read of it: a program that takes no lock may have changed it since.
+    is_first: bool,
+}
+
+impl DueChange {
+    /// The change, with bytes of its own. This fails only when out of memory.
+    pub(crate) fn new(
+        alloc: Global,
+        change: &Change,
+        is_first: bool,
+    ) -> Result<DueChange, AllocError> {
+        Ok(DueChange {
+            name: String::from_str(alloc, change.name())?,
+            before: copied(alloc, change.before())?,
+            after: copied(alloc, change.after())?,
+            is_first,
+        })
+    }
+}
+
+/// The bytes, if there are some, as a list of their own.
+fn copied(alloc: Global, bytes: Option<&[u8]>) -> Result<Option<Vec<u8>>, AllocError> {
+    match bytes {
+        Some(bytes) => Ok(Some(Vec::from_slice(alloc, bytes)?)),
+        None => Ok(None),
+    }
+}
+
+/// Makes the changes in the file at this path, which is locked, and is replaced as a whole. Nothing is written if it has them
+/// already.
 ///
 /// # Errors
 ///
 /// [`Failure::Read`] and [`Failure::Write`] with the system's reason, [`Failure::Refused`] if the file is damaged or has no
-/// room, and [`Failure::Memory`] if memory was refused.
-pub(crate) fn set_in_file<R: Files<File: OutputFile> + Input + Print + AllocGlobal>(
+/// room, or a variable that is changed for the first time isn't what was read of it, and [`Failure::Memory`] if memory was
+/// refused.
+pub(crate) fn write_due<R: Files<File: OutputFile> + Input + Print + AllocGlobal>(
     rt: &R,
     path: &str,
     lock: &mut FileLock<R::File>,
-    name: &str,
-    kept: Option<&[u8]>,
+    due: &[DueChange],
 ) -> Result<(), Failure> {
-    let bytes = read_variables(rt, path)?;
-    let stored = read_stored(rt.alloc(), path, &bytes)?;
-    let changed = changed_file(rt.alloc(), path, (bytes.as_slice(), &stored), name, kept)?;
-    rewrite(rt, path, lock, changed)
-}
-
-/// Makes the change in the file at this path as [`set_in_file`] does, if the variable is what was read of it: a program that
-/// takes no lock may have changed it since.
-///
-/// # Errors
-///
-/// As of [`set_in_file`], and [`Failure::Refused`] if it isn't.
-pub(crate) fn change_in_file<R: Files<File: OutputFile> + Input + Print + AllocGlobal>(
-    rt: &R,
-    path: &str,
-    lock: &mut FileLock<R::File>,
-    change: &KeptChange<'_>,
-) -> Result<(), Failure> {
+    if due.is_empty() {
+        return Ok(());
+    }
     let alloc = rt.alloc();
-    let (name, after) = (change.name, change.after);
     let bytes = read_variables(rt, path)?;
     let stored = read_stored(alloc, path, &bytes)?;
-    if !stored.keeps(name, change.before) && !stored.keeps(name, after) {
-        return Err(from_change(alloc, path, name, ChangeFault::Changed));
-    }
-    let changed = changed_file(alloc, path, (bytes.as_slice(), &stored), name, after)?;
-    rewrite(rt, path, lock, changed)
-}
-
-/// Replaces the file at this path by these bytes, if there are some.
-fn rewrite<R: Files<File: OutputFile> + AllocGlobal>(
-    rt: &R,
-    path: &str,
-    lock: &mut FileLock<R::File>,
-    bytes: Option<Vec<u8>>,
-) -> Result<(), Failure> {
-    match bytes {
+    check_unchanged(alloc, path, &stored, due)?;
+    match changed_file(alloc, path, (&bytes, &stored), due)? {
         Some(bytes) => rewrite_file(rt, lock, &bytes).map_err(|error| Failure::from_write(
-            rt.alloc(),
-            path,
-            error,
+            alloc, path, error,
         )),
         None => Ok(()),
     }
 }
 
-/// What the file at this path is to be, which has these bytes and this is stored in, for the variable to be kept so: `None`
-/// if it is.
+/// Refuses changes of variables that aren't what was read of them.
+fn check_unchanged(
+    alloc: Global,
+    path: &str,
+    stored: &Stored,
+    due: &[DueChange],
+) -> Result<(), Failure> {
+    let is_other = |change: &&DueChange| {
+        let name = change.name.as_str();
+        change.is_first
+            && !stored.keeps(name, change.before.as_deref())
+            && !stored.keeps(name, change.after.as_deref())
+    };
+    match due.iter().find(is_other) {
+        Some(change) => Err(from_change(alloc, path, change.name.as_str(), ChangeFault::Changed)),
+        None => Ok(()),
+    }
+}
+
+/// What the file at this path is to be, which has these bytes and this is stored in, once the changes are made: `None` if they
+/// are.
 fn changed_file(
     alloc: Global,
     path: &str,
     (bytes, stored): (&[u8], &Stored),
-    name: &str,
-    kept: Option<&[u8]>,
+    due: &[DueChange],
 ) -> Result<Option<Vec<u8>>, Failure> {
-    if stored.keeps(name, kept) {
+    if due.iter().all(|change| stored.has(change)) {
         return Ok(None);
     }
-    if stored.has_data(name, kept) {
-        // Its attributes are others, and a record with the same data isn't written anew.
-        let bytes = with_variable(alloc, path, bytes, name, None)?;
-        return Ok(Some(with_variable(alloc, path, &bytes, name, kept)?));
-    }
-    Ok(Some(with_variable(alloc, path, bytes, name, kept)?))
-}
-
-/// The file at this path, which has these bytes, with the variable kept so, or without it.
-fn with_variable(
-    alloc: Global,
-    path: &str,
-    bytes: &[u8],
-    name: &str,
-    kept: Option<&[u8]>,
-) -> Result<Vec<u8>, Failure> {
-    let Stored { mut vars, .. } = read_stored(alloc, path, bytes)?;
+    let mut renewed = stored.vars.copy(alloc)?;
+    let mut vars = stored.vars.copy(alloc)?;
     let mut attributes = Vars::new(alloc);
-    let kept = kept.and_then(|kept| kept.split_at_checked(ATTRIBUTES_LEN));
-    set_value(
-        &mut attributes,
-        name,
-        kept.map(|(attributes, _data)| attributes),
-    )?;
-    set_value(&mut vars, name, kept.map(|(_attributes, data)| data))?;
-    changed_variable_file(alloc, path, bytes, &vars, &attributes)
+    for change in due {
+        let name = change.name.as_str();
+        let after = change
+            .after
+            .as_deref()
+            .and_then(|kept| kept.split_at_checked(ATTRIBUTES_LEN));
+        if stored.has_data(name, change.after.as_deref()) && !stored.has(change) {
+            // Its attributes are others, and a record with the same data isn't written anew.
+            renewed.remove(name);
+        }
+        set_value(&mut vars, name, after.map(|(_attributes, data)| data))?;
+        set_value(
+            &mut attributes,
+            name,
+            after.map(|(attributes, _data)| attributes),
+        )?;
+    }
+    let bytes = changed_variable_file(alloc, path, bytes, &renewed, &Vars::new(alloc))?;
+    Ok(Some(changed_variable_file(alloc, path, &bytes, &vars, &attributes)?))
 }
 
-/// Whether the variable of this name is kept so in the file at this path, or isn't there if it is to be taken out.
+/// Whether the change is made in the file at this path.
 ///
 /// # Errors
 ///
-/// As of [`set_in_file`].
+/// As of [`write_due`].
 pub(crate) fn is_in_file<R: Files + Input + AllocGlobal>(
     rt: &R,
     path: &str,
-    name: &str,
-    kept: Option<&[u8]>,
+    change: &Change,
 ) -> Result<bool, Failure> {
     let bytes = read_variables(rt, path)?;
-    Ok(read_stored(rt.alloc(), path, &bytes)?.keeps(name, kept))
+    let stored = read_stored(rt.alloc(), path, &bytes)?;
+    Ok(stored.keeps(change.name(), change.after()))
 }
 
 /// The variables of a file, and the attributes of each.
@@ -134,6 +153,11 @@ struct Stored {
 }
 
 impl Stored {
+    /// Whether the change is made.
+    fn has(&self, change: &DueChange) -> bool {
+        self.keeps(change.name.as_str(), change.after.as_deref())
+    }
+
     /// Whether the variable of this name has the attributes and the data of what is to be kept of it, or isn't there if it
     /// is to be taken out.
     fn keeps(&self, name: &str, kept: Option<&[u8]>) -> bool {

@@ -3,13 +3,12 @@
 use crate::edit_notes::told_of;
 use crate::fault_words::from_edit_run;
 use crate::left_out::check_edit;
-use crate::set_file::edit_set_file;
 use crate::told::Told;
 use boot_edits::{Edit, EditAnswer, EditRun, EditRunFault};
 use boot_journal::{CallError, Run};
 use machine_changes::{
-    ChangeWords, MachineWords, PlaceKind, Seen, StateUse, ToldAnswer, Wanted, change_machine,
-    kind_of_place, set_of,
+    ChangeWords, MachineWords, Seen, StateUse, ToldAnswer, Wanted, change_machine, kind_of_place,
+    set_of,
 };
 use std::alloc::Global;
 use std::rt::{Clock, Files};
@@ -71,19 +70,15 @@ fn made_and_told<R: Files<File: OutputFile> + Clock + Input + Print + Eprint + A
     words: &EditWords<'_>,
 ) -> Result<ToldAnswer<EditAnswer, Told>, Failure> {
     let place = words.machine.place;
-    let answered = match kind_of_place(rt, place)? {
-        PlaceKind::Set => edit_set_file(rt, words)?,
-        kind => {
-            let asked = ChangeWords {
-                machine: words.machine,
-                command: Some(words.command),
-                dry_run: words.dry_run,
-                state: StateUse::Made,
-                by_journal: false,
-            };
-            change_machine(rt, &asked, kind, &WantedEdit { words })?
-        }
+    let asked = ChangeWords {
+        machine: words.machine,
+        command: Some(words.command),
+        dry_run: words.dry_run,
+        state: StateUse::Made,
+        by_journal: false,
     };
+    let kind = kind_of_place(rt, place)?;
+    let answered = change_machine(rt, &asked, kind, &WantedEdit { words })?;
     answered.told.tell(rt, place, words.dry_run);
     Ok(answered)
 }

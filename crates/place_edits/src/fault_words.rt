@@ -7,7 +7,7 @@ use std::fmt;
 use var_places::Failure;
 
 /// What it is to the program that the change of the place of this name is refused for this fault.
-pub(crate) fn from_edit(alloc: Global, place: &str, fault: EditFault) -> Failure {
+fn from_edit(alloc: Global, place: &str, fault: EditFault) -> Failure {
     match fault {
         EditFault::OutOfMemory => Failure::Memory,
         fault => match format!(in alloc; "{}", FaultWords(fault)) {

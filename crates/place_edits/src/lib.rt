@@ -14,7 +14,6 @@ mod edits;
 mod entry;
 mod fault_words;
 mod left_out;
-mod set_file;
 mod takeable;
 mod told;
 mod undo;

@@ -7,8 +7,8 @@ use crate::written::Written;
 use boot_history::{records_to_undo, remove, time_text};
 use boot_journal::{CallError, Run};
 use machine_changes::{
-    ChangeWords, MachineWords, Seen, StateUse, ToldAnswer, Wanted, change_machine, changes_text,
-    kind_of_place, set_of,
+    ChangeWords, MachineWords, PlaceKind, Seen, StateUse, ToldAnswer, Wanted, change_machine,
+    changes_text, kind_of_place, set_of,
 };
 use std::alloc::Global;
 use std::rt::{Clock, Files};
@@ -50,6 +50,13 @@ pub fn undo_change<R: Files<File: OutputFile> + Clock + Input + Print + Eprint +
         by_journal: false,
     };
     let kind = kind_of_place(rt, place)?;
+    if kind == PlaceKind::Set {
+        return Err(Failure::from_fault(
+            rt.alloc(),
+            place,
+            "it is a set file, and nothing is kept of its changes",
+        ));
+    }
     let ToldAnswer {
         answer: undone,
         told,

@@ -13,10 +13,7 @@ use std::io::{self, ErrorKind};
 use std::rt::Files;
 use uefi_option::description_text;
 use uefi_path::read_units;
-use uefi_vars::{
-    BootChange, Changes, DATA_MAX, KEEP_STATE, PutFault, SetFault, Vars, is_boot_name, read_set,
-    write_set,
-};
+use uefi_vars::{DATA_MAX, KEEP_STATE, SetFault, Vars, is_boot_name, read_set};
 use var_stores::{
     Record, StoreFault, VariableStore, WriteFault, left_out, read_store, store_attributes,
     store_vars, write_boot_vars,
@@ -194,39 +191,6 @@ fn why_left_out(record: &Record<'_>) -> LeftOut {
     } else {
         LeftOut::Name
     }
-}
-
-/// The bytes of the set file that has these variables with these changes made.
-///
-/// # Errors
-///
-/// [`Failure::Memory`] if memory was refused.
-pub fn changed_set(
-    alloc: Global,
-    vars: &Vars,
-    changes: &[BootChange<'_>],
-) -> Result<Vec<u8>, Failure> {
-    let mut vars = vars.copy(alloc)?;
-    vars.make(gathered(alloc, changes)?)?;
-    Ok(write_set(alloc, &vars)?)
-}
-
-/// The changes, gathered to be made at once.
-fn gathered(alloc: Global, changes: &[BootChange<'_>]) -> Result<Changes, Failure> {
-    let mut gathered = Changes::new(alloc);
-    for change in changes {
-        match change.after {
-            Some(data) => gathered.put(change.name, data).map_err(from_put)?,
-            None => gathered.remove(change.name)?,
-        }
-    }
-    Ok(gathered)
-}
-
-/// What it is to the program that a variable of a set isn't put into another set. The other set can hold it too, so only
-/// memory was refused.
-fn from_put(_fault: PutFault) -> Failure {
-    Failure::Memory
 }
 
 /// The bytes of the emulator's variable file of this name, which has these bytes, with the boot variables of a set. A

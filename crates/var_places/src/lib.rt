@@ -4,7 +4,7 @@
 //! [`read_place`] reads the variables of whatever is at a path, [`file_kind`] tells files apart by their bytes, and
 //! [`read_folder`], [`variable_file`] and [`file_vars`] read folders and files; a [`PlaceVars`] has the attributes too.
 //! A folder is changed one variable at a time, by [`change_variable`] and [`set_variable`]. A file is replaced as a whole:
-//! [`changed_set`] and [`changed_variable_file`] give its bytes, [`check_damage`] refuses one that is damaged,
+//! [`changed_variable_file`] gives its bytes, [`check_damage`] refuses one that is damaged,
 //! [`lock()`] and [`lock_place`] lock it and [`write()`] replaces it; [`lock_place_folder`] locks a folder.
 //! [`machine_identity`] tells the machine of a place from others, and [`resolved()`] gives a path without links. What goes
 //! wrong is a [`Failure`], which has a message and the status of a program that ends with it.
@@ -27,8 +27,8 @@ mod reason;
 pub use failure::Failure;
 pub use file_kinds::{FileKind, NoOption, OtherKind, file_kind, no_option, other_kind};
 pub use file_place::{
-    changed_set, changed_variable_file, check_damage, file_vars, from_store, has_keep_state,
-    no_place, set_vars, variable_file,
+    changed_variable_file, check_damage, file_vars, from_store, has_keep_state, no_place, set_vars,
+    variable_file,
 };
 pub use folder::{Folder, LeftOut, read_folder};
 pub use folder_change::{ChangeFault, KeptChange, change_variable, has_value, set_variable};
