@@ -8,10 +8,10 @@
 mod fault_words;
 mod machine;
 mod new_entry;
+mod planned;
 mod program;
 mod steps;
 mod stopped;
-mod timeout;
 mod told_once;
 
 pub use program::run;

@@ -2,8 +2,8 @@
 
 use crate::machine::Machine;
 use crate::new_entry::option_bytes;
+use crate::planned::{Planned, plan_changes};
 use crate::stopped::{Step, Stopped};
-use crate::timeout::set_timeout;
 use boot_edits::{Addition, Edit, NewOrder, Position};
 use boot_texts::EntryName;
 use efibootmgr_words::Asked;
@@ -11,7 +11,7 @@ use machine_changes::left_out_entry;
 use place_edits::{EditWords, change_place};
 use std::alloc::Global;
 use std::rt::{Clock, Files};
-use uefi_vars::BOOT_NEXT;
+use uefi_vars::{BOOT_NEXT, TIMEOUT};
 use var_places::{Failure, PlaceVars};
 use whole_files::OutputFile;
 
@@ -23,32 +23,50 @@ use whole_files::OutputFile;
 pub(crate) fn make_changes<
     R: Files<File: OutputFile> + Clock + Input + Print + Eprint + AllocGlobal,
 >(rt: &R, machine: &Machine<'_>, asked: &Asked<'_>) -> Result<(), Stopped> {
-    change_entries(rt, machine, asked)?;
-    change_order(rt, machine, asked)?;
-    change_next(rt, machine, asked)
-}
-
-/// Takes out, switches and makes entries.
-fn change_entries<R: Files<File: OutputFile> + Clock + Input + Print + Eprint + AllocGlobal>(
-    rt: &R,
-    machine: &Machine<'_>,
-    asked: &Asked<'_>,
-) -> Result<(), Stopped> {
-    if let Some(entry) = asked.entry {
-        if asked.delete {
-            edit(rt, machine, Step::Delete, Edit::Remove(&[entry]))?;
-        }
-        match asked.active {
-            Some(true) => edit(rt, machine, Step::Activate, Edit::Activate(&[entry]))?,
-            Some(false) => edit(rt, machine, Step::Activate, Edit::Deactivate(&[entry]))?,
-            None => {}
-        }
-    }
-    if asked.create {
-        create(rt, machine, asked)?;
+    for change in &plan_changes(rt.alloc(), asked)? {
+        make(rt, machine, asked, *change)?;
     }
     Ok(())
 }
+
+/// Makes one of them.
+fn make<R: Files<File: OutputFile> + Clock + Input + Print + Eprint + AllocGlobal>(
+    rt: &R,
+    machine: &Machine<'_>,
+    asked: &Asked<'_>,
+    change: Planned,
+) -> Result<(), Stopped> {
+    match change {
+        Planned::Delete(entry) => edit(rt, machine, Step::Delete, Edit::Remove(&[entry])),
+        Planned::Activate(entry) => edit(rt, machine, Step::Activate, Edit::Activate(&[entry])),
+        Planned::Deactivate(entry) => {
+            edit(rt, machine, Step::Activate, Edit::Deactivate(&[entry]))
+        }
+        Planned::Create => create(rt, machine, asked),
+        Planned::DeleteOrder => edit(rt, machine, Step::DeleteOrder, Edit::Order(NO_ORDER)),
+        Planned::Order => set_order(rt, machine, asked),
+        Planned::RemoveRepeats => edit(rt, machine, Step::RemoveRepeats, Edit::Unrepeat),
+        Planned::DeleteNext => {
+            check_there(rt, machine, Step::DeleteNext, BOOT_NEXT)?;
+            edit(rt, machine, Step::DeleteNext, Edit::Next(None))
+        }
+        Planned::DeleteTimeout => {
+            check_there(rt, machine, Step::DeleteTimeout, TIMEOUT)?;
+            edit(rt, machine, Step::DeleteTimeout, Edit::Timeout(None))
+        }
+        Planned::Next(entry) => edit(rt, machine, Step::Next, Edit::Next(Some(entry))),
+        Planned::Timeout(seconds) => {
+            edit(rt, machine, Step::Timeout, Edit::Timeout(Some(seconds)))
+        }
+    }
+}
+
+/// No BootOrder.
+const NO_ORDER: NewOrder<'static> = NewOrder {
+    entries: &[],
+    stale: false,
+    only: true,
+};
 
 /// Makes an entry.
 fn create<R: Files<File: OutputFile> + Clock + Input + Print + Eprint + AllocGlobal>(
@@ -92,83 +110,32 @@ fn check_free<R: Files + Eprint + AllocGlobal>(
     Err(refused(rt.alloc(), machine, Step::CreateTaken, fault.as_str()))
 }
 
-/// Takes BootOrder out, sets it, and takes repeated numbers out of it.
-fn change_order<R: Files<File: OutputFile> + Clock + Input + Print + Eprint + AllocGlobal>(
+/// Sets BootOrder.
+fn set_order<R: Files<File: OutputFile> + Clock + Input + Print + Eprint + AllocGlobal>(
     rt: &R,
     machine: &Machine<'_>,
     asked: &Asked<'_>,
 ) -> Result<(), Stopped> {
-    if asked.delete_order {
-        let none = NewOrder {
-            entries: &[],
-            stale: false,
-            only: true,
-        };
-        edit(rt, machine, Step::DeleteOrder, Edit::Order(none))?;
-    }
-    if let Some(order) = &asked.order {
-        let new = NewOrder {
-            entries: order,
-            stale: false,
-            only: !asked.keep,
-        };
-        edit(rt, machine, Step::Order, Edit::Order(new))?;
-    }
-    if asked.remove_repeats {
-        edit(rt, machine, Step::RemoveRepeats, Edit::Unrepeat)?;
-    }
-    Ok(())
+    let new = NewOrder {
+        entries: asked.order.as_deref().unwrap_or(&[]),
+        stale: false,
+        only: !asked.keep,
+    };
+    edit(rt, machine, Step::Order, Edit::Order(new))
 }
 
-/// Takes BootNext and Timeout out, and sets them.
-fn change_next<R: Files<File: OutputFile> + Clock + Input + Print + Eprint + AllocGlobal>(
-    rt: &R,
-    machine: &Machine<'_>,
-    asked: &Asked<'_>,
-) -> Result<(), Stopped> {
-    if asked.delete_next {
-        delete_next(rt, machine)?;
-    }
-    if asked.delete_timeout {
-        change_timeout(rt, machine, Step::DeleteTimeout, None)?;
-    }
-    if let Some(next) = asked.next {
-        edit(rt, machine, Step::Next, Edit::Next(Some(next)))?;
-    }
-    if let Some(seconds) = asked.timeout {
-        change_timeout(rt, machine, Step::Timeout, Some(seconds))?;
-    }
-    Ok(())
-}
-
-/// Takes BootNext out, which has to be there.
-fn delete_next<R: Files<File: OutputFile> + Clock + Input + Print + Eprint + AllocGlobal>(
-    rt: &R,
-    machine: &Machine<'_>,
-) -> Result<(), Stopped> {
-    let found = found_at(rt, machine, Step::DeleteNext)?;
-    if found.vars.get(BOOT_NEXT).is_none() {
-        return Err(refused(
-            rt.alloc(),
-            machine,
-            Step::DeleteNext,
-            "there is no BootNext",
-        ));
-    }
-    edit(rt, machine, Step::DeleteNext, Edit::Next(None))
-}
-
-/// Sets Timeout to so many seconds, or takes it out.
-fn change_timeout<R: Files<File: OutputFile> + Eprint + AllocGlobal>(
+/// Tests whether the variable of this name, which is to be taken out, is there.
+fn check_there<R: Files + Eprint + AllocGlobal>(
     rt: &R,
     machine: &Machine<'_>,
     step: Step,
-    seconds: Option<u16>,
+    name: &str,
 ) -> Result<(), Stopped> {
-    match set_timeout(rt, machine, seconds) {
-        Ok(()) => Ok(()),
-        Err(failure) => Err(Stopped::at(step, failure)),
+    if found_at(rt, machine, step)?.vars.get(name).is_some() {
+        return Ok(());
     }
+    let fault = format!(in rt.alloc(); "there is no {name}")?;
+    Err(refused(rt.alloc(), machine, step, fault.as_str()))
 }
 
 /// What the machine has, which is needed for this.
