@@ -51,7 +51,7 @@ def entries(values: Values) -> Dict[int, bytes]:
     return {
         int(name[4:], 16): data
         for name, data in values.items()
-        if ovmf_store.is_boot_name(name) and name not in ("BootOrder", "BootNext")
+        if ovmf_store.is_boot_name(name) and name not in ("BootOrder", "BootNext", "Timeout")
     }
 
 

@@ -219,12 +219,12 @@ def global_values(store: Store) -> Values:
 
 
 def is_boot_name(name: str) -> bool:
-    """Whether it is Boot####, BootOrder or BootNext."""
+    """Whether it is Boot####, BootOrder, BootNext or Timeout."""
     digits = name.removeprefix("Boot")
     is_entry = (
         name.startswith("Boot") and len(digits) == 4 and set(digits) <= set("0123456789ABCDEF")
     )
-    return is_entry or name in ("BootOrder", "BootNext")
+    return is_entry or name in ("BootOrder", "BootNext", "Timeout")
 
 
 def fits_set(name: str, value: bytes) -> bool:
@@ -261,7 +261,7 @@ def read_set(data: bytes) -> Values:
 
 
 def boot_values(values: Values) -> Values:
-    """Those of the values that are of Boot####, BootOrder and BootNext."""
+    """Those of the values that are of Boot####, BootOrder, BootNext and Timeout."""
     return {name: value for name, value in values.items() if is_boot_name(name)}
 
 
@@ -275,15 +275,17 @@ def other_variables(store: Store) -> Dict[Name, Tuple[int, int, bytes, int, byte
 
 
 def compare(before_data: bytes, after_data: bytes, set_data: bytes) -> None:
-    """Goes on only if the one file is the other with the boot variables of the set, and nothing else."""
+    """Goes on only if the one file is the other with the boot variables of the set, and nothing else. A Timeout stays if the
+    set has none."""
     before, after = check(before_data), check(after_data)
     expect(len(before_data) == len(after_data), "the file has another length")
     head, end = before.start + STORE_HEADER.size, before.start + before.size
     expect(before_data[:head] == after_data[:head], "bytes before the records are changed")
     expect(before_data[end:] == after_data[end:], "bytes after the store are changed")
     expect(other_variables(before) == other_variables(after), "another variable is changed")
+    kept = {name: it for name, it in global_values(before).items() if name == "Timeout"}
     expect(
-        boot_values(global_values(after)) == boot_values(read_set(set_data)),
+        boot_values(global_values(after)) == kept | boot_values(read_set(set_data)),
         "the boot variables aren't the set's",
     )
     was, now = variables(before), variables(after)

@@ -14,6 +14,7 @@ _bootvars() {
 "bootvars first" | \
 "bootvars order" | \
 "bootvars next" | \
+"bootvars timeout" | \
 "bootvars activate" | \
 "bootvars deactivate" | \
 "bootvars undo" | \
@@ -45,6 +46,7 @@ _bootvars() {
 "bootvars first --state" | \
 "bootvars order --state" | \
 "bootvars next --state" | \
+"bootvars timeout --state" | \
 "bootvars activate --state" | \
 "bootvars deactivate --state" | \
 "bootvars undo --state" | \
@@ -72,6 +74,8 @@ _bootvars() {
 "bootvars order --machine" | \
 "bootvars next --boot-id" | \
 "bootvars next --machine" | \
+"bootvars timeout --boot-id" | \
+"bootvars timeout --machine" | \
 "bootvars activate --boot-id" | \
 "bootvars activate --machine" | \
 "bootvars deactivate --boot-id" | \
@@ -91,7 +95,7 @@ _bootvars() {
 "bootvars option --optional-text") return ;;
     esac
     case $command in
-        "bootvars") words="check read show diff get add remove first order next activate deactivate undo write update option frame explain efibootmgr --help --version -h -V" ;;
+        "bootvars") words="check read show diff get add remove first order next timeout activate deactivate undo write update option frame explain efibootmgr --help --version -h -V" ;;
         "bootvars check") words="--json --root --help --version -h -V" ;;
         "bootvars read") words="--out --boot-only --help --version -h -V" ;;
         "bootvars show") words="--json --help --version -h -V" ;;
@@ -102,6 +106,7 @@ _bootvars() {
         "bootvars first") words="--dry-run --json --state --boot-id --machine --adopt --force --help --version -h -V" ;;
         "bootvars order") words="--empty --stale --only --dry-run --json --state --boot-id --machine --adopt --force --help --version -h -V" ;;
         "bootvars next") words="--none --dry-run --json --state --boot-id --machine --adopt --force --help --version -h -V" ;;
+        "bootvars timeout") words="--none --dry-run --json --state --boot-id --machine --adopt --force --help --version -h -V" ;;
         "bootvars activate") words="--dry-run --json --state --boot-id --machine --adopt --force --help --version -h -V" ;;
         "bootvars deactivate") words="--dry-run --json --state --boot-id --machine --adopt --force --help --version -h -V" ;;
         "bootvars undo") words="--list --dry-run --json --state --boot-id --machine --adopt --force --help --version -h -V" ;;

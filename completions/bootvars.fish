@@ -13,6 +13,7 @@ function __bootvars_at
 'bootvars first' \
 'bootvars order' \
 'bootvars next' \
+'bootvars timeout' \
 'bootvars activate' \
 'bootvars deactivate' \
 'bootvars undo' \
@@ -46,6 +47,7 @@ complete -c bootvars -n '__bootvars_at bootvars' -a remove -d 'Takes entries out
 complete -c bootvars -n '__bootvars_at bootvars' -a first -d 'Puts entries in front of the order, and leaves the rest of it as it is'
 complete -c bootvars -n '__bootvars_at bootvars' -a order -d 'Sets the order in which entries are tried'
 complete -c bootvars -n '__bootvars_at bootvars' -a next -d 'Sets the entry that the next boot tries first, once'
+complete -c bootvars -n '__bootvars_at bootvars' -a timeout -d 'Sets for how many seconds the boot manager waits before it boots by itself, or prints it'
 complete -c bootvars -n '__bootvars_at bootvars' -a activate -d 'Makes entries active, so that a boot tries them'
 complete -c bootvars -n '__bootvars_at bootvars' -a deactivate -d 'Makes entries inactive, so that no boot tries them by itself'
 complete -c bootvars -n '__bootvars_at bootvars' -a undo -d 'Brings back what was there before the last change'
@@ -62,7 +64,7 @@ complete -c bootvars -n '__bootvars_at bootvars check' -l root -r -F -d 'The fol
 complete -c bootvars -n '__bootvars_at bootvars check' -l help -s h -d 'Print help (see a summary with '\''-h'\'')'
 complete -c bootvars -n '__bootvars_at bootvars check' -l version -s V -d 'Print version'
 complete -c bootvars -n '__bootvars_at bootvars read' -l out -r -F -d 'The set file that is made'
-complete -c bootvars -n '__bootvars_at bootvars read' -l boot-only -d 'Leaves out all but Boot####, BootOrder and BootNext'
+complete -c bootvars -n '__bootvars_at bootvars read' -l boot-only -d 'Leaves out all but Boot####, BootOrder, BootNext and Timeout'
 complete -c bootvars -n '__bootvars_at bootvars read' -l help -s h -d 'Print help'
 complete -c bootvars -n '__bootvars_at bootvars read' -l version -s V -d 'Print version'
 complete -c bootvars -n '__bootvars_at bootvars show' -l json -d 'Prints JSON'
@@ -142,6 +144,16 @@ complete -c bootvars -n '__bootvars_at bootvars next' -l adopt -d 'Takes over wh
 complete -c bootvars -n '__bootvars_at bootvars next' -l force -d 'Writes a variable file that is damaged'
 complete -c bootvars -n '__bootvars_at bootvars next' -l help -s h -d 'Print help'
 complete -c bootvars -n '__bootvars_at bootvars next' -l version -s V -d 'Print version'
+complete -c bootvars -n '__bootvars_at bootvars timeout' -l none -d 'Takes Timeout out, so that firmware waits as it does by itself'
+complete -c bootvars -n '__bootvars_at bootvars timeout' -l dry-run -d 'Prints the changes and makes none'
+complete -c bootvars -n '__bootvars_at bootvars timeout' -l json -d 'Prints JSON'
+complete -c bootvars -n '__bootvars_at bootvars timeout' -l state -r -F -d 'The folder that keeps what is left to do and what was there before, in place of /var/lib/bootkeep'
+complete -c bootvars -n '__bootvars_at bootvars timeout' -l boot-id -x -d 'The identity of the machine'\''s start, if an update of a variable file has something left to do'
+complete -c bootvars -n '__bootvars_at bootvars timeout' -l machine -x -d 'What the machine is called, in place of its UUID or the path of PLACE'
+complete -c bootvars -n '__bootvars_at bootvars timeout' -l adopt -d 'Takes over what another machine'\''s updates left in FOLDER, unless there is something left to do'
+complete -c bootvars -n '__bootvars_at bootvars timeout' -l force -d 'Writes a variable file that is damaged'
+complete -c bootvars -n '__bootvars_at bootvars timeout' -l help -s h -d 'Print help (see a summary with '\''-h'\'')'
+complete -c bootvars -n '__bootvars_at bootvars timeout' -l version -s V -d 'Print version'
 complete -c bootvars -n '__bootvars_at bootvars activate' -l dry-run -d 'Prints the changes and makes none'
 complete -c bootvars -n '__bootvars_at bootvars activate' -l json -d 'Prints JSON'
 complete -c bootvars -n '__bootvars_at bootvars activate' -l state -r -F -d 'The folder that keeps what is left to do and what was there before, in place of /var/lib/bootkeep'

@@ -659,9 +659,10 @@ uint32_t bootkeep_set_lowest_free(const uint8_t *set, size_t set_len, uint32_t *
 uint32_t bootkeep_set_entry(const uint8_t *set, size_t set_len, uint16_t number, uint32_t *state,
                             struct bootkeep_refusal *refusal) BOOTKEEP_CHECKED BOOTKEEP_NONNULL((4, 5));
 
-/* What stands for BootOrder and for BootNext where other numbers are those of entries. */
+/* What stands for BootOrder, BootNext and Timeout where other numbers are those of entries. */
 #define BOOTKEEP_VARIABLE_ORDER 0x00010001
 #define BOOTKEEP_VARIABLE_NEXT 0x00010002
+#define BOOTKEEP_VARIABLE_TIMEOUT 0x00010003
 
 /* A number that BootNext or BootOrder names. */
 struct bootkeep_named {
@@ -690,16 +691,16 @@ uint32_t bootkeep_set_named(const uint8_t *set, size_t set_len, struct bootkeep_
 
 /* A change of one variable of the boot manager. */
 struct bootkeep_change {
-    /* The number of the entry, BOOTKEEP_VARIABLE_ORDER or BOOTKEEP_VARIABLE_NEXT. */
+    /* The number of the entry, BOOTKEEP_VARIABLE_ORDER, BOOTKEEP_VARIABLE_NEXT or BOOTKEEP_VARIABLE_TIMEOUT. */
     uint32_t variable;
     /* BOOTKEEP_CHANGE_ADDED, BOOTKEEP_CHANGE_REPLACED or BOOTKEEP_CHANGE_REMOVED. */
     uint32_t kind;
 };
 
 /*
- * The changes that lead from one set to the boot manager's variables of another, Boot####, BootOrder and BootNext, in
- * an order in which a machine can make them: after each of them BootOrder and BootNext name a missing entry only if
- * they did before all of them, or do after them. The data of a variable before and after is in the two sets. `cap` and
+ * The changes that lead from one set to the boot manager's variables of another, Boot####, BootOrder, BootNext and
+ * Timeout, in an order in which a machine can make them: after each of them BootOrder and BootNext name a missing entry
+ * only if they did before all of them, or do after them. The data of a variable before and after is in the two sets. `cap` and
  * `*len` count changes.
  *
  * BootKeepState isn't among them, and firmware refuses it: a program that makes the changes of a keeper on a machine

@@ -164,7 +164,7 @@ def set_entry(data: bytes, number: bytes) -> str:
 
 
 def set_changes(before: bytes, after: bytes) -> str:
-    stands_for = {"BootOrder": 0x10001, "BootNext": 0x10002}
+    stands_for = {"BootOrder": 0x10001, "BootNext": 0x10002, "Timeout": 0x10003}
     changes = b""
     for change in bootkeep.set_changes(before, after):
         number = stands_for.get(change.name) or int(change.name[4:], 16)

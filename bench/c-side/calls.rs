@@ -10,6 +10,7 @@ use std::io::{self, BufRead};
 const NO_ENTRY: u32 = 0x1_0000;
 const VARIABLE_ORDER: u32 = 0x1_0001;
 const VARIABLE_NEXT: u32 = 0x1_0002;
+const VARIABLE_TIMEOUT: u32 = 0x1_0003;
 const CLOSED: u32 = 5;
 
 fn main() {
@@ -200,6 +201,7 @@ fn stands_for(variable: BootVariable) -> u32 {
         BootVariable::Entry(number) => number.into(),
         BootVariable::Order => VARIABLE_ORDER,
         BootVariable::Next => VARIABLE_NEXT,
+        BootVariable::Timeout => VARIABLE_TIMEOUT,
         other => panic!("no such variable: {other}"),
     }
 }

@@ -465,11 +465,13 @@ class Cases:
         before, after = dict(first), dict(second)
         entry = re.compile("Boot[0-9A-F]{4}").fullmatch
         names = [name for name in sorted(after) if entry(name) and before.get(name) != after[name]]
-        names += [name for name in ("BootOrder", "BootNext") if before.get(name) != after.get(name)]
+        others = ("BootOrder", "BootNext", "Timeout")
+        names += [name for name in others if before.get(name) != after.get(name)]
         names += [name for name in sorted(before) if entry(name) and name not in after]
         changes = b""
         for name in names:
-            number = {"BootOrder": 0x10001, "BootNext": 0x10002}.get(name) or int(name[4:], 16)
+            stands_for = {"BootOrder": 0x10001, "BootNext": 0x10002, "Timeout": 0x10003}
+            number = stands_for.get(name) or int(name[4:], 16)
             kind = 1 if name not in before else 2 if name in after else 3
             changes += number.to_bytes(4, "little") + kind.to_bytes(4, "little")
         return line, [f"done {digits(changes)}"]

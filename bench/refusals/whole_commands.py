@@ -75,6 +75,7 @@ def commands() -> List[Command]:
             Command(first, place),
             Command(first, place, is_left=True),
             Command(["remove", place, "0001", *MACHINE], place),
+            Command(["timeout", place, "10", *MACHINE], place),
             Command(["undo", place, *MACHINE], place, [first]),
             Command(["undo", place, "--json", *MACHINE], place, [first]),
             Command(["undo", place, *MACHINE], place, [first], is_left=True),
@@ -90,6 +91,7 @@ def commands() -> List[Command]:
     some += [
         Command(["add", "set", *add], "set"),
         Command(["first", "set", "0001"], "set"),
+        Command(["timeout", "set", "10"], "set"),
         Command(["write", "other", "set"], "set"),
     ]
     return some

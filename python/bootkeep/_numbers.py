@@ -16,6 +16,7 @@ NO_ENTRY = 0x00010000
 NO_NUMBER = 0xFFFFFFFF
 VARIABLE_ORDER = 0x00010001
 VARIABLE_NEXT = 0x00010002
+VARIABLE_TIMEOUT = 0x00010003
 
 #: The most bytes of a frame, of the name and of the data of a variable, and of the list of paths of an option.
 FRAME_MAX = 131084

@@ -22,7 +22,15 @@ from ._buffers import (
 )
 from ._faults import number_in
 from ._library import RawChange, RawNamed, RawRefusal, RawVariable, library
-from ._numbers import NO_ENTRY, VARIABLE_NEXT, VARIABLE_ORDER, ChangeKind, EntryState, known
+from ._numbers import (
+    NO_ENTRY,
+    VARIABLE_NEXT,
+    VARIABLE_ORDER,
+    VARIABLE_TIMEOUT,
+    ChangeKind,
+    EntryState,
+    known,
+)
 
 
 @dataclass(frozen=True)
@@ -194,5 +202,5 @@ def _variable_name(number: int) -> str:
     """The name of the variable for which a number stands. What this module doesn't know isn't an entry."""
     if number < NO_ENTRY:
         return f"Boot{number:04X}"
-    names = {VARIABLE_ORDER: "BootOrder", VARIABLE_NEXT: "BootNext"}
+    names = {VARIABLE_ORDER: "BootOrder", VARIABLE_NEXT: "BootNext", VARIABLE_TIMEOUT: "Timeout"}
     return names.get(number, f"variable {number:#010x}")

@@ -142,10 +142,16 @@ class Values(unittest.TestCase):
         self.assertEqual(changes, wanted)
 
     def test_a_number_that_is_not_known_is_no_entry(self) -> None:
-        numbers = {0: "Boot0000", 0xFFFF: "BootFFFF", 0x10001: "BootOrder", 0x10002: "BootNext"}
+        numbers = {
+            0: "Boot0000",
+            0xFFFF: "BootFFFF",
+            0x10001: "BootOrder",
+            0x10002: "BootNext",
+            0x10003: "Timeout",
+        }
         for number, name in numbers.items():
             self.assertEqual(_sets._variable_name(number), name)
-        for number in (0x10000, 0x10003, 0xFFFFFFFF):
+        for number in (0x10000, 0x10004, 0xFFFFFFFF):
             name = _sets._variable_name(number)
             self.assertEqual(name, f"variable 0x{number:08x}")
             self.assertRaises(KeyError, bootkeep.set_get, SET, name)

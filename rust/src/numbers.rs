@@ -32,6 +32,7 @@ pub(crate) const NO_ENTRY: u32 = 0x0001_0000;
 
 pub(crate) const VARIABLE_ORDER: u32 = 0x0001_0001;
 pub(crate) const VARIABLE_NEXT: u32 = 0x0001_0002;
+pub(crate) const VARIABLE_TIMEOUT: u32 = 0x0001_0003;
 
 pub(crate) const CHANGE_ADDED: u32 = 1;
 pub(crate) const CHANGE_REPLACED: u32 = 2;

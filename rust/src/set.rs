@@ -91,6 +91,8 @@ pub enum BootVariable {
     Order,
     /// BootNext.
     Next,
+    /// Timeout.
+    Timeout,
     /// A variable that this crate doesn't know. Its text is the name of none.
     Other(u32),
 }
@@ -101,6 +103,7 @@ impl fmt::Display for BootVariable {
             BootVariable::Entry(number) => write!(formatter, "Boot{number:04X}"),
             BootVariable::Order => formatter.write_str("BootOrder"),
             BootVariable::Next => formatter.write_str("BootNext"),
+            BootVariable::Timeout => formatter.write_str("Timeout"),
             BootVariable::Other(number) => write!(formatter, "variable {number:#010x}"),
         }
     }
@@ -229,6 +232,7 @@ fn variable(number: u32) -> BootVariable {
     match number {
         VARIABLE_ORDER => BootVariable::Order,
         VARIABLE_NEXT => BootVariable::Next,
+        VARIABLE_TIMEOUT => BootVariable::Timeout,
         number => entry_number(number).map_or(BootVariable::Other(number), BootVariable::Entry),
     }
 }
@@ -248,13 +252,19 @@ mod tests {
 
     #[test]
     fn a_number_that_is_not_known_is_no_entry() {
-        let known = [(0, "Boot0000"), (0xFFFF, "BootFFFF"), (VARIABLE_ORDER, "BootOrder"), (VARIABLE_NEXT, "BootNext")];
+        let known = [
+            (0, "Boot0000"),
+            (0xFFFF, "BootFFFF"),
+            (VARIABLE_ORDER, "BootOrder"),
+            (VARIABLE_NEXT, "BootNext"),
+            (VARIABLE_TIMEOUT, "Timeout"),
+        ];
         for (number, name) in known {
             assert_eq!(variable(number).to_string(), name);
         }
-        for number in [NO_ENTRY, 0x0001_0003, u32::MAX] {
+        for number in [NO_ENTRY, 0x0001_0004, u32::MAX] {
             assert_eq!(variable(number), BootVariable::Other(number));
         }
-        assert_eq!(variable(0x0001_0003).to_string(), "variable 0x00010003");
+        assert_eq!(variable(0x0001_0004).to_string(), "variable 0x00010004");
     }
 }

@@ -4,7 +4,7 @@ use Rattle.std.specs.FinMap.{get, same_map}
 use Rattle.std.proofs.lemmas.Bool.{false≢true, cases_Bool, cases_order}
 use Rattle.std.proofs.lemmas.Cmp.{nat_list_cmp_total}
 use Rattle.uefi_vars.specs.BootChange.{same_name, is_entry_name}
-use Rattle.uefi_vars.specs.Name.{order_text, next_text}
+use Rattle.uefi_vars.specs.Name.{order_text, next_text, timeout_text}
 use Rattle.uefi_vars.specs.Order.{stored_order, stored_next}
 use Rattle.uefi_vars.specs.Vars.{Variables, entry_of}
 use Rattle.uefi_vars.proofs.Maps.{name_cmp-IsAntisymmetric}
@@ -17,18 +17,19 @@ use Rattle.boot_edits.specs.declared.addition.Position.TheVariants.{First, Last,
 use Rattle.boot_edits.specs.declared.answer.EditAnswer.{EditAnswer}
 use Rattle.boot_edits.specs.declared.answer.EditAnswer.TheVariants.{Done, Added, Present}
 use Rattle.boot_edits.specs.declared.edit.Edit.{Edit}
-use Rattle.boot_edits.specs.declared.edit.Edit.TheVariants.{Add, Remove, First as FirstOf, Order, Unrepeat, Next, Activate, Deactivate}
+use Rattle.boot_edits.specs.declared.edit.Edit.TheVariants.{Add, Remove, First as FirstOf, Order, Unrepeat, Next, Timeout, Activate, Deactivate}
 use Rattle.boot_edits.specs.declared.fault.EditFault.{EditFault}
 use Rattle.boot_edits.specs.declared.fault.EditFault.TheVariants.{BadOption}
 use Rattle.boot_edits.specs.Addition.{placed, IsSame, IsLowestSame, IsPresent, IsWanted, IsNewNumber, StoresPlaced, IsPlaced, IsEntryAdded}
 use Rattle.boot_edits.specs.Addition.{IsAdded, IsAdditionDone, IsNumberFault, IsOrderFault, IsPlaceFault, IsRoomFaultAt, IsAdditionFault}
 use Rattle.boot_edits.specs.Edit.{IsRemoved, IsRemoveFault, IsFrontOrder, IsNewOrder, IsOrderOf, IsReordered, IsReorderFault, IsUnrepeated, IsNextSet}
-use Rattle.boot_edits.specs.Edit.{IsNextFault, IsEdited, IsEditFault}
+use Rattle.boot_edits.specs.Edit.{IsNextFault, stored_timeout, IsEdited, IsEditFault, IsLeft}
 use Rattle.boot_edits.specs.Lists.{IsMissing, IsStale, IsNoOption}
 use Rattle.boot_edits.specs.Orders.{extended, each_once, next_without_all}
 use Rattle.boot_edits.specs.Parts.{BootParts, parts_of, Becomes, IsOtherName, entries_with, entries_changed, is_stored, IsOldOrder}
 use Rattle.boot_edits.specs.Readings.{HasOneReading}
 use Rattle.boot_edits.proofs.Lists.{HasOneFault, fine_or_not, one_first}
+use Rattle.boot_requests.proofs.Variables.Stored.{stored_beside}
 
 -- ---- variables with the same parts are the same
 
@@ -307,6 +308,7 @@ module _ (one : HasOneReading) (vars : Variables) where
   )
   edited_once Unrepeat a b x y p q = (unrepeated_once a b p.1 q.1, p.0 ∙ sym q.0)
   edited_once (Next next) a b x y p q = (next_once next a b p.1 q.1, p.0 ∙ sym q.0)
+  edited_once (Timeout seconds) a b x y p q = (p.1 ∙ sym q.1, p.0 ∙ sym q.0)
   edited_once (Activate numbers) a b x y p q = (one_becomes vars _ a b p.1.becomes q.1.becomes, p.0 ∙ sym q.0)
   edited_once (Deactivate numbers) a b x y p q = (one_becomes vars _ a b p.1.becomes q.1.becomes, p.0 ∙ sym q.0)
 
@@ -318,6 +320,7 @@ module _ (one : HasOneReading) (vars : Variables) where
       reorder_or_not (IsStale new.stale vars) new.entries.now (IsNewOrder vars new.only new.entries.now) (one_new new.only new.entries.now) to f p.1 q
   edited_or_not Unrepeat to x f p q = one.bad_order vars p.1.order q.1 p.1.has_order
   edited_or_not (Next next) to x f p q = next_or_not next to f p.1 q
+  edited_or_not (Timeout seconds) to x f p q = q
   edited_or_not (Activate numbers) to x f p q = fine_or_not (IsNoOption vars) numbers.now p.1.fine f q
   edited_or_not (Deactivate numbers) to x f p q = fine_or_not (IsNoOption vars) numbers.now p.1.fine f q
 
@@ -331,13 +334,14 @@ module _ (one : HasOneReading) (vars : Variables) where
       (one_new new.only new.entries.now) (one_stale new.stale) f g p q
   one_edit_fault Unrepeat f g p q = p.0 ∙ sym q.0
   one_edit_fault (Next next) f g p q = one_next_fault next f g p q
+  one_edit_fault (Timeout seconds) f g p q = absurd p
   one_edit_fault (Activate numbers) f g p q = one_first (IsNoOption vars) numbers.now one_no_option f g p q
   one_edit_fault (Deactivate numbers) f g p q = one_first (IsNoOption vars) numbers.now one_no_option f g p q
 
 -- ---- variables of other names
 
 pub others_kept : (vars : Variables) (edit : Edit) (to : Variables) (x : EditAnswer) → IsEdited vars edit to x →
-    (name : List ℕ) → IsOtherName name → get to name ≡ get vars name
+    (name : List ℕ) → IsLeft edit name → get to name ≡ get vars name
 others_kept vars (Add addition) to Done p name other = absurd p
 others_kept vars (Add addition) to (Added n) p name other = p.added.becomes.others name other
 others_kept vars (Add addition) to (Present n) p name other = ap (λ (m : Variables). get m name) p.1
@@ -347,5 +351,7 @@ others_kept vars (Order new) to x p name other = p.1.becomes.others name other
 others_kept vars Unrepeat to x p name other = p.1.becomes.others name other
 others_kept vars (Next None) to x p name other = p.1.others name other
 others_kept vars (Next (Some n)) to x p name other = p.1.1.others name other
+others_kept vars (Timeout seconds) to x p name other =
+    ap (λ (m : Variables). get m name) p.1 ∙ stored_beside vars timeout_text (stored_timeout seconds) name other
 others_kept vars (Activate numbers) to x p name other = p.1.becomes.others name other
 others_kept vars (Deactivate numbers) to x p name other = p.1.becomes.others name other

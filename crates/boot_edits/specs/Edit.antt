@@ -1,19 +1,22 @@
 -- What comes of an edit, or why there is none.
 use Rattle.std.specs.Prelude.{◌≡◌, ◌≢◌, ◌⊎◌, ℕ, ◌<◌, ◌≤◌, Bool, true, false, List, length, Option, Some, None}
+use Rattle.std.specs.Int.{w16, to_le_bytes}
 use Rattle.std.specs.Option.{option_map}
+use Rattle.uefi_vars.specs.Name.{timeout_text}
+use Rattle.uefi_vars.specs.NameChanges.{with_data}
 use Rattle.uefi_vars.specs.Order.{order_max, HasOrder, HasNext, HasBadOrder, HasBadNext, stored_order, stored_next}
 use Rattle.uefi_vars.specs.Vars.{Variables, entry_of}
 use Rattle.boot_requests.specs.Apply.{without_all, in_front}
 use Rattle.boot_edits.specs.declared.answer.EditAnswer.{EditAnswer}
 use Rattle.boot_edits.specs.declared.answer.EditAnswer.TheVariants.{Done}
 use Rattle.boot_edits.specs.declared.edit.Edit.{Edit}
-use Rattle.boot_edits.specs.declared.edit.Edit.TheVariants.{Add, Remove, First, Order, Unrepeat, Next, Activate, Deactivate}
+use Rattle.boot_edits.specs.declared.edit.Edit.TheVariants.{Add, Remove, First, Order, Unrepeat, Next, Timeout, Activate, Deactivate}
 use Rattle.boot_edits.specs.declared.fault.EditFault.{EditFault}
 use Rattle.boot_edits.specs.declared.fault.EditFault.TheVariants.{BadOrder, BadNext, OrderTooLong}
 use Rattle.boot_edits.specs.Addition.{IsAdditionDone, IsAdditionFault}
 use Rattle.boot_edits.specs.Lists.{IsMissing, IsStale, IsNoOption, AreFine, IsFirstFault}
 use Rattle.boot_edits.specs.Orders.{extended, each_once, next_without_all}
-use Rattle.boot_edits.specs.Parts.{parts_of, Becomes, entries_changed, is_stored, IsOldOrder}
+use Rattle.boot_edits.specs.Parts.{parts_of, Becomes, entries_changed, is_stored, IsOldOrder, IsOtherName}
 use Rattle.boot_edits.specs.Switch.{switched}
 
 -- ---- entries are taken out
@@ -90,6 +93,17 @@ abbrev pub IsNextFault : Variables → Option ℕ → EditFault → Type 0
 IsNextFault vars None f = ⊥
 IsNextFault vars (Some number) f = IsMissing vars number f
 
+-- ---- Timeout becomes so many seconds, or is gone
+
+-- what is stored of so many seconds: two bytes
+abbrev pub stored_timeout : Option ℕ → Option (List ℕ)
+stored_timeout None = None
+stored_timeout (Some seconds) = Some (to_le_bytes w16 seconds)
+
+-- all other variables stay
+abbrev pub IsTimeoutSet : Variables → Option ℕ → Variables → Type 0
+IsTimeoutSet vars seconds to = to ≡ with_data vars timeout_text (stored_timeout seconds)
+
 -- ---- entries are made active, or not
 
 pub record AreSwitched (vars : Variables) (active : Bool) (numbers : List ℕ) (to : Variables) : Type 0 where
@@ -109,6 +123,7 @@ IsEdited vars (Order new) to answer =
     (answer ≡ Done) × IsReordered vars (IsStale new.stale vars) new.entries.now (IsNewOrder vars new.only new.entries.now) to
 IsEdited vars Unrepeat to answer = (answer ≡ Done) × IsUnrepeated vars to
 IsEdited vars (Next next) to answer = (answer ≡ Done) × IsNextSet vars next to
+IsEdited vars (Timeout seconds) to answer = (answer ≡ Done) × IsTimeoutSet vars seconds to
 IsEdited vars (Activate numbers) to answer = (answer ≡ Done) × AreSwitched vars true numbers.now to
 IsEdited vars (Deactivate numbers) to answer = (answer ≡ Done) × AreSwitched vars false numbers.now to
 
@@ -121,5 +136,21 @@ IsEditFault vars (Order new) f =
     IsReorderFault (IsStale new.stale vars) new.entries.now (IsNewOrder vars new.only new.entries.now) f
 IsEditFault vars Unrepeat f = IsUnrepeatFault vars f
 IsEditFault vars (Next next) f = IsNextFault vars next f
+IsEditFault vars (Timeout seconds) f = ⊥
 IsEditFault vars (Activate numbers) f = IsFirstFault (IsNoOption vars) numbers.now f
 IsEditFault vars (Deactivate numbers) f = IsFirstFault (IsNoOption vars) numbers.now f
+
+-- ---- what edits leave alone
+
+-- the edit is of Timeout, and the variable of this name another one; or the edit is of entries, BootOrder or BootNext, and this
+-- is the name of neither
+abbrev pub IsLeft : Edit → List ℕ → Type 0
+IsLeft (Add addition) name = IsOtherName name
+IsLeft (Remove numbers) name = IsOtherName name
+IsLeft (First numbers) name = IsOtherName name
+IsLeft (Order new) name = IsOtherName name
+IsLeft Unrepeat name = IsOtherName name
+IsLeft (Next next) name = IsOtherName name
+IsLeft (Timeout seconds) name = name ≢ timeout_text
+IsLeft (Activate numbers) name = IsOtherName name
+IsLeft (Deactivate numbers) name = IsOtherName name

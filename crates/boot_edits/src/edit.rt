@@ -12,6 +12,7 @@ use crate::fault::EditFault;
 use crate::next::set_next;
 use crate::remove::remove;
 use crate::reorder::{NewOrder, put_first, set_order, unrepeat};
+use crate::timeout::set_timeout;
 use std::alloc::Global;
 use uefi_vars::Vars;
 
@@ -31,6 +32,9 @@ pub enum Edit<'a> {
     Unrepeat,
     /// BootNext names this entry, or is deleted. One that can't be read is replaced.
     Next(Option<u16>),
+    /// Timeout, for which the boot manager waits before it boots by itself, becomes so many seconds, or is deleted. One that
+    /// can't be read is replaced. Of 65,535 seconds it waits until somebody chooses.
+    Timeout(Option<u16>),
     /// These entries get the attribute LOAD_OPTION_ACTIVE (3.1.3). All other bits of them stay.
     Activate(&'a [u16]),
     /// These entries lose the attribute LOAD_OPTION_ACTIVE (3.1.3). All other bits of them stay.
@@ -38,8 +42,8 @@ pub enum Edit<'a> {
 }
 
 /// What becomes of variables by this edit, and what is told of it. The variables have data alone, without attributes. Those
-/// of other names than Boot####, BootOrder and BootNext stay as they are (UEFI 2.10, 3.3), and an order without a number is no
-/// BootOrder at all.
+/// of other names than Boot####, BootOrder, BootNext and Timeout stay as they are (UEFI 2.10, 3.3), and an order without a
+/// number is no BootOrder at all.
 ///
 /// # Errors
 ///
@@ -73,6 +77,7 @@ pub fn make_edit(
         Edit::Order(new) => done(set_order(alloc, vars, new)),
         Edit::Unrepeat => done(unrepeat(alloc, vars)),
         Edit::Next(next) => done(set_next(alloc, vars, *next)),
+        Edit::Timeout(seconds) => done(set_timeout(alloc, vars, *seconds)),
         Edit::Activate(numbers) => done(set_active(alloc, vars, numbers, true)),
         Edit::Deactivate(numbers) => done(set_active(alloc, vars, numbers, false)),
     }

@@ -8,9 +8,8 @@ ghost use Rattle.boot_requests.specs.Apply.{is_in, repeats, without_all, in_fron
 ghost use Rattle.boot_edits.specs.declared.answer.EditAnswer.{EditAnswer};
 ghost use Rattle.boot_edits.specs.declared.edit.Edit.{Edit};
 ghost use Rattle.boot_edits.specs.declared.fault.EditFault.{EditFault};
-ghost use Rattle.boot_edits.specs.Edit.{IsEdited, IsEditFault};
+ghost use Rattle.boot_edits.specs.Edit.{IsEdited, IsEditFault, IsLeft};
 ghost use Rattle.boot_edits.specs.Orders.{extended};
-ghost use Rattle.boot_edits.specs.Parts.{IsOtherName};
 ghost use Rattle.boot_edits.specs.Readings.{HasOneReading};
 ghost use Rattle.boot_edits.specs.Switch.{with_bit_0, switched};
 
@@ -44,10 +43,11 @@ pub fn a_fault_leaves_no_outcome()
     variables_and_options_are_read_one_way();
 }
 
-/// Edits leave variables of other names than Boot####, BootOrder and BootNext as they are.
+/// An edit of Timeout leaves all other variables as they are, and any other edit those of other names than Boot####, BootOrder
+/// and BootNext.
 pub fn edits_keep_other_variables()
     ensures { (vars : Variables) (edit : Edit) (to : Variables) (answer : EditAnswer) →
-        IsEdited vars edit to answer → (name : List ℕ) → IsOtherName name →
+        IsEdited vars edit to answer → (name : List ℕ) → IsLeft edit name →
         map.get to name ≡ map.get vars name }
 {}
 

@@ -1,5 +1,6 @@
-pub mod Fields
-pub mod Record
-pub mod Fault
 pub mod BootPart
+pub mod Fault
+pub mod Fields
 pub mod Owner
+pub mod Record
+pub mod Timeout

@@ -6,8 +6,8 @@ ghost use Rattle.boot_history.specs.BootPart.{IsBootPart, without_other};
 use std::alloc::{AllocError, Global};
 use uefi_vars::{Vars, is_boot_name};
 
-/// The boot manager's variables of these: Boot####, BootOrder and BootNext (UEFI 2.10, 3.3). This fails only when out of
-/// memory.
+/// The boot manager's variables of these: Boot####, BootOrder, BootNext and Timeout (UEFI 2.10, 3.3). This fails only when
+/// out of memory.
 pub(crate) fn boot_part(alloc: Global, vars: &Vars) -> Result<Vars, AllocError>
     ensures { IfOk result (λ part. IsBootPart vars.now part) }
 {

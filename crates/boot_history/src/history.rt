@@ -126,7 +126,7 @@ pub fn kept_record<R: Files<File: OutputFile> + AllocGlobal>(
 }
 
 /// The records that an undoing may need of the machine, which keeps these variables now: those down to the last one whose
-/// change stands, the last one first. Earlier ones aren't read.
+/// change stands, the last one first. Earlier ones aren't read. One that says nothing of Timeout has the one that is there now.
 ///
 /// # Errors
 ///
@@ -140,9 +140,10 @@ pub fn records_to_undo<R: Files<File: OutputFile> + AllocGlobal>(
     let alloc = rt.alloc();
     let mut found = Vec::new(alloc);
     for number in &kept_numbers(rt, state)? {
-        if let Some(kept) = kept_record(rt, state, *number, machine)? {
-            let stands = standing_of(alloc, &kept.record, now)? == Standing::Unchanged;
-            found.push(kept)?;
+        if let Some(KeptRecord { number, record }) = kept_record(rt, state, *number, machine)? {
+            let record = record.with_timeout_of(now)?;
+            let stands = standing_of(alloc, &record, now)? == Standing::Unchanged;
+            found.push(KeptRecord { number, record })?;
             if stands {
                 break;
             }

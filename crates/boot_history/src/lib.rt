@@ -20,6 +20,7 @@ mod reader;
 mod record;
 mod stands;
 mod time;
+mod timeout;
 mod writer;
 
 pub use fault::{RecordFault, WriteFault};
@@ -31,4 +32,5 @@ pub use reader::read_record;
 pub use record::Record;
 pub use stands::{Standing, as_used, standing_of, without_next};
 pub use time::{time_now, time_text};
+pub use timeout::or_timeout_of;
 pub use writer::write_record;

@@ -23,8 +23,8 @@ pub enum Standing {
     Changed,
 }
 
-/// What a machine's variables of the boot manager (Boot####, BootOrder, BootNext; UEFI 2.10, 3.3) are now, beside a record
-/// of a change. `now` is all that the machine keeps; other variables of it don't matter.
+/// What a machine's variables of the boot manager (Boot####, BootOrder, BootNext, Timeout; UEFI 2.10, 3.3) are now, beside
+/// a record of a change. `now` is all that the machine keeps; other variables of it don't matter.
 ///
 /// # Errors
 ///

@@ -9,7 +9,7 @@ use Rattle.std.specs.FinMap.{empty, get, remove, get-remove}
 use Rattle.std.specs.Option.{option_map}
 use Rattle.std.specs.Cmp.{Equal-is}
 use Rattle.std.proofs.lemmas.Bool.{true≢false, or_parts, or_left, or_right}
-use Rattle.uefi_vars.specs.Name.{entry_text, order_text, next_text, keep_text}
+use Rattle.uefi_vars.specs.Name.{entry_text, order_text, next_text, timeout_text, keep_text}
 use Rattle.uefi_vars.specs.Vars.{Variables, IsVariable}
 use Rattle.uefi_vars.specs.NameChanges.{with_data, after_each}
 use Rattle.uefi_vars.specs.BootChange.{same_name, is_entry_name, is_boot_name, changes_from}
@@ -243,14 +243,15 @@ module _ (no_next : (number : ℕ) → entry_text number ≢ next_text) where
 no_boot_name : ((name : List ℕ) → (is_entry_name name ≡ true) ↔ ((number : ℕ) × (number < 2 ^ 16) × (name ≡ entry_text number)))
     → (name : List ℕ) → is_boot_name name ≡ false → same_name name keep_text ≡ false → IsBootName name → ⊥
 no_boot_name names name out no_keep is =
-    let no_entry = or_parts (is_entry_name name) (same_name name order_text || same_name name next_text) out in
-    let no_other = or_parts (same_name name order_text) (same_name name next_text) no_entry.1 in
+    let no_entry = or_parts (is_entry_name name) (same_name name order_text || (same_name name next_text || same_name name timeout_text)) out in
+    let no_other = or_parts (same_name name order_text) (same_name name next_text || same_name name timeout_text) no_entry.1 in
+    let no_next = or_parts (same_name name next_text) (same_name name timeout_text) no_other.1 in
     let isnt = λ (q : List ℕ) (e : name ≡ q) (no : same_name name q ≡ false). true≢false (sym (same_self q) ∙ ap (λ n. same_name n q) (sym e) ∙ no) in
     ⊎_elim
     (λ entry. true≢false (sym ((names name).1 (entry.0, entry.1, entry.2)) ∙ no_entry.0))
     (λ rest. ⊎_elim
     (λ order. isnt order_text order no_other.0)
-    (λ rest. ⊎_elim (λ next. isnt next_text next no_other.1) (λ keep. isnt keep_text keep no_keep) rest)
+    (λ rest. ⊎_elim (λ next. isnt next_text next no_next.0) (λ keep. isnt keep_text keep no_keep) rest)
     rest) is
 
 -- ---- what an update by requests brings

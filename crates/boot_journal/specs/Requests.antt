@@ -43,7 +43,7 @@ IsAnswered events from to answers =
     × ((m : State) × KeepsState from m)
     × (requests_of answers ≡ map request_of seen)
 
--- a change of a variable that neither requests nor boots change
+-- a change of a variable that isn't one of the boot manager's, and isn't BootKeepState
 pub record IsOfAnother (change : List ℕ × Option (List ℕ)) : Type 0 where
   pub boot : is_boot_name change.0 ≡ false
   pub keep : same_name change.0 keep_text ≡ false

@@ -43,8 +43,8 @@ impl<T: Drop> From<AllocFailed<T>> for AttributesFault {
     }
 }
 
-/// What a machine is to keep of a set: under the name of a variable of the boot manager (Boot####, BootOrder or
-/// BootNext; UEFI 2.10, 3.3) its attributes, in [`ATTRIBUTES_LEN`] bytes, and then its data, and under another name its
+/// What a machine is to keep of a set: under the name of a variable of the boot manager (Boot####, BootOrder,
+/// BootNext or Timeout; UEFI 2.10, 3.3) its attributes, in [`ATTRIBUTES_LEN`] bytes, and then its data, and under another name its
 /// data alone. The attributes are the first bytes of what `there` has under the name, or [`BOOT_ATTRIBUTES`] if it has
 /// nothing there, or fewer bytes. So `there` may be what the machine has kept so far, or attributes alone.
 ///
@@ -67,8 +67,8 @@ pub fn with_attributes(alloc: Global, vars: &Vars, there: &Vars) -> Result<Vars,
     Ok(kept)
 }
 
-/// The set of what a machine keeps: of each variable of the boot manager (Boot####, BootOrder or BootNext; UEFI 2.10,
-/// 3.3) what comes after the [`ATTRIBUTES_LEN`] bytes of its attributes, and of another one all bytes.
+/// The set of what a machine keeps: of each variable of the boot manager (Boot####, BootOrder, BootNext or Timeout; UEFI
+/// 2.10, 3.3) what comes after the [`ATTRIBUTES_LEN`] bytes of its attributes, and of another one all bytes.
 ///
 /// # Errors
 ///

@@ -16,7 +16,7 @@ use std::alloc::{AllocError, Global};
 use std::marker::Model;
 use uefi_vars::{ATTRIBUTES_LEN, BOOT_NEXT, BootChange, DATA_MAX, Vars, laws as vars_laws};
 
-/// A change of one variable of the boot manager: Boot####, BootOrder or BootNext (UEFI 2.10, 3.3). What is there before
+/// A change of one variable of the boot manager: Boot####, BootOrder, BootNext or Timeout (UEFI 2.10, 3.3). What is there before
 /// and after it is what a machine keeps: the variable's attributes, in [`ATTRIBUTES_LEN`](uefi_vars::ATTRIBUTES_LEN) bytes,
 /// and then its data. It owns its bytes, where a [`BootChange`] borrows them.
 #[derive(Debug, Drop)]

@@ -35,7 +35,7 @@ pub enum JournalFault {
     #[error("BadIdentity {0}")]
     BadIdentity(usize),
     /// The name that begins at this place, with the byte of its length, isn't that of one of the boot manager's variables:
-    /// `Boot` and four digits of 0-9A-F, `BootOrder` or `BootNext`.
+    /// `Boot` and four digits of 0-9A-F, `BootOrder`, `BootNext` or `Timeout`.
     #[error("BadName {0}")]
     BadName(usize),
     /// Memory was refused.

@@ -7,7 +7,7 @@
 //! [`Requests`], and updates. [`Recorded`] makes a machine of a [`Storage`]. [`read_journal`] reads a journal, and the
 //! [`MachineName`] of the machine that it is of, from the bytes of a file, all of them, and [`write_journal`] writes them.
 //!
-//! What a machine keeps under the name of a variable of the boot manager, Boot####, BootOrder or BootNext, is the
+//! What a machine keeps under the name of a variable of the boot manager, Boot####, BootOrder, BootNext or Timeout, is the
 //! variable's attributes, in [`ATTRIBUTES_LEN`](uefi_vars::ATTRIBUTES_LEN) bytes, and then its data, as a file of Linux's
 //! efivarfs has the two. So the changes of a journal have attributes too, and what is taken back has those that it had.
 //! Under every other name a machine keeps data alone, and so does a journal of BootKeepState. [`with_attributes`] makes

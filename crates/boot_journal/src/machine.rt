@@ -79,7 +79,7 @@ impl<E> From<AllocError> for CallError<E> {
 }
 
 /// A machine: the variables of its firmware, and its journal. Under the name of a variable of the boot manager
-/// (Boot####, BootOrder or BootNext) it keeps the variable's attributes, in [`ATTRIBUTES_LEN`](uefi_vars::ATTRIBUTES_LEN)
+/// (Boot####, BootOrder, BootNext or Timeout) it keeps the variable's attributes, in [`ATTRIBUTES_LEN`](uefi_vars::ATTRIBUTES_LEN)
 /// bytes, and then its data, and under another name data alone. Each change of a variable is whole or isn't made, and
 /// so is each replacement of the journal.
 pub trait Machine {

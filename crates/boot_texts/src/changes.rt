@@ -133,7 +133,7 @@ fn content_of(
     }
 }
 
-/// Shows which of Boot####, BootOrder and BootNext differ in two sets (UEFI 2.10, 3.3), as lines for a person, in the
+/// Shows which of Boot####, BootOrder, BootNext and Timeout differ in two sets (UEFI 2.10, 3.3), as lines for a person, in the
 /// order of [`boot_changes`]: nothing if they are equal. The lines of each change are those of [`change_report`]. After
 /// them a line tells of each entry that is in no order in the second set and wasn't in the first, and of each that no
 /// longer is, by [`naming_change`]. docs/formats.md has each line.
@@ -165,7 +165,7 @@ fn append_naming(change: &NamingChange, report: &mut String) -> Result<(), Alloc
     Ok(())
 }
 
-/// Shows which of Boot####, BootOrder and BootNext differ in two sets as JSON, an object on one line that ends with a
+/// Shows which of Boot####, BootOrder, BootNext and Timeout differ in two sets as JSON, an object on one line that ends with a
 /// line feed. docs/formats.md has each member.
 ///
 /// # Errors
@@ -189,7 +189,7 @@ pub fn diff_json(alloc: Global, from: &Vars, to: &Vars) -> Result<String, AllocE
 
 /// Shows one change of a variable of the boot manager as lines for a person. The first has `+` for a variable that is
 /// new, `-` for one that is taken out or `~` for one that has new data, its name, and what it holds: the description of
-/// an entry between quotes and its first path, the numbers of BootOrder, or that of BootNext. Of an entry whose load
+/// an entry between quotes and its first path, the numbers of BootOrder, that of BootNext, or the seconds of Timeout. Of an entry whose load
 /// option changes to another, indented lines say which parts do. docs/formats.md has each line.
 ///
 /// # Errors

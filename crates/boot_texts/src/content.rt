@@ -2,12 +2,13 @@
 
 use crate::json::{JsonObject, JsonWriter, Leaf, append_leaf, append_leaves};
 use crate::reason::{FaultReason, numbers_reason, option_reason};
+use crate::settings::{Timeout, bad_timeout, number_of};
 use crate::shown_option::ShownOption;
 use std::alloc::{AllocError, Global};
 use std::fmt;
 use uefi_option::{OptionFault, read_option};
 use uefi_path::read_units;
-use uefi_vars::{BOOT_NEXT, BOOT_ORDER, ORDER_MAX, VarFault};
+use uefi_vars::{BOOT_NEXT, BOOT_ORDER, ORDER_MAX, TIMEOUT, VarFault};
 
 /// The number of an entry, shown as the four hexadecimal digits in upper case that its variable's name has (UEFI 2.10,
 /// 3.1.1).
@@ -78,13 +79,15 @@ pub(crate) enum Content {
     Order { entries: Vec<EntryDigits> },
     /// The number of BootNext.
     Next { entry: EntryDigits },
+    /// The seconds of Timeout.
+    Timeout(Timeout),
     /// Bytes that aren't what the variable is to hold.
     Undecodable(ShownFault),
 }
 
 impl Content {
-    /// What the variable of the boot manager with this name holds (UEFI 2.10, 3.3): a name that is neither BootOrder's
-    /// nor BootNext's is taken for an entry's.
+    /// What the variable of the boot manager with this name holds (UEFI 2.10, 3.3): a name that is none of BootOrder's,
+    /// BootNext's and Timeout's is taken for an entry's.
     ///
     /// # Errors
     ///
@@ -93,6 +96,7 @@ impl Content {
         match name {
             BOOT_ORDER => Content::from_order(alloc, bytes),
             BOOT_NEXT => Content::from_next(alloc, bytes),
+            TIMEOUT => Content::from_timeout(alloc, bytes),
             _ => Content::from_entry(alloc, bytes),
         }
     }
@@ -130,12 +134,21 @@ impl Content {
         }
     }
 
+    /// The seconds that the bytes of Timeout are, or why they are none.
+    pub(crate) fn from_timeout(alloc: Global, bytes: &[u8]) -> Result<Content, AllocError> {
+        match number_of(bytes) {
+            Some(seconds) => Ok(Content::Timeout(Timeout(seconds))),
+            None => Ok(Content::Undecodable(bad_timeout(alloc, bytes)?)),
+        }
+    }
+
     /// What its JSON calls it.
     fn kind(&self) -> &'static str {
         match self {
             Content::LoadOption(_) => "option",
             Content::Order { .. } => "order",
             Content::Next { .. } => "next",
+            Content::Timeout(_) => "timeout",
             Content::Undecodable(_) => "undecodable",
         }
     }
@@ -164,6 +177,9 @@ impl JsonObject for Content {
                 append_leaf("entries", Leaf::Entries(Some(entries)), out)
             }
             Content::Next { entry } => append_leaf("entry", Leaf::Entry(Some(*entry)), out),
+            Content::Timeout(timeout) => {
+                append_leaf("seconds", Leaf::Number(Some(u32::from(timeout.0))), out)
+            }
             Content::Undecodable(fault) => fault.append_members(out),
         }
     }
@@ -177,6 +193,7 @@ impl fmt::Display for Content {
             Content::LoadOption(option) => write!(f, " {}", Summary(option)),
             Content::Order { entries } => write!(f, "{}", NumberList(entries)),
             Content::Next { entry } => write!(f, " {entry}"),
+            Content::Timeout(timeout) => write!(f, " {timeout}"),
             Content::Undecodable(fault) => write!(f, " {fault}, {}", DataText(&fault.data)),
         }
     }

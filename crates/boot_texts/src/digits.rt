@@ -20,6 +20,9 @@ pub enum DigitsFault {
     /// It is above the greatest number of a request.
     #[error("too large: the number of a request is at most 4294967294")]
     NumberTooLarge,
+    /// It isn't a number of seconds of two bytes.
+    #[error("no number of seconds: that is decimal digits, at most 65535")]
+    Seconds,
     /// It is neither decimal digits nor `0x` and hexadecimal ones.
     #[error("no value of attributes: that is decimal digits, or 0x and hexadecimal ones")]
     Attributes,
@@ -55,6 +58,18 @@ pub fn number_of_digits(text: &str) -> Result<u32, DigitsFault> {
         Ok(number) if number <= NUMBER_MAX => Ok(number),
         _ => Err(DigitsFault::NumberTooLarge),
     }
+}
+
+/// The seconds of Timeout that the text is (UEFI 2.10, 3.3): decimal digits, of which the first may be zeros.
+///
+/// # Errors
+///
+/// [`DigitsFault::Seconds`] if the text isn't decimal digits, or the number is above 65,535.
+pub fn seconds_of_digits(text: &str) -> Result<u16, DigitsFault> {
+    if !is_decimal(text) {
+        return Err(DigitsFault::Seconds);
+    }
+    text.parse::<u16>().map_err(|_| DigitsFault::Seconds)
 }
 
 /// The attributes of a load option that the text is (UEFI 2.10, 3.1.3): decimal digits, or `0x` and hexadecimal digits

@@ -1,7 +1,7 @@
 //! What the command `bootvars` prints of boot variables and of requests, and what it makes of words: values and texts
 //! alone, with no file and no machine (UEFI specification, version 2.10, chapters 3 and 10).
 //!
-//! [`vars_report`] shows variables, [`diff_report`] what differs between two sets, [`change_report`] one change, and
+//! [`vars_report`] shows variables, [`timeout_report`] how long the boot manager waits, [`diff_report`] what differs between two sets, [`change_report`] one change, and
 //! [`explain_report`] what the frames of a script or a stream ask for, each as lines for a person. [`vars_json`],
 //! [`diff_json`] and [`explain_json`] have the same as JSON, [`reply_json`] shows the answer to an event, [`look_json`]
 //! a machine with the replies to an update of it, and [`refusal_json`] why an update wasn't made; docs/formats.md has
@@ -41,7 +41,9 @@ pub use at_risk::{EntryName, NamingChange, Risk, naming_change};
 pub use changes::{change_report, diff_json, diff_report};
 pub use content::EntryDigits;
 pub use description::DescriptionFault;
-pub use digits::{DigitsFault, attributes_of_text, entry_of_digits, number_of_digits};
+pub use digits::{
+    DigitsFault, attributes_of_text, entry_of_digits, number_of_digits, seconds_of_digits,
+};
 pub use event_position::EventPosition;
 pub use explain::{Explained, explain_json, explain_report, refused_script};
 pub use frame::{FrameWords, FrameWordsFault, frame_bytes, frame_line};
@@ -53,4 +55,5 @@ pub use option::{
 pub use reason::{FaultReason, Sizes, open_reason, option_reason};
 pub use refusal::{Refusal, Remedy, refusal_json};
 pub use replies::{ToldReply, reply_json};
+pub use settings::{timeout_json, timeout_report};
 pub use shown_vars::{vars_json, vars_report};

@@ -8,12 +8,14 @@ use crate::json::{
     JsonObject, JsonWriter, Leaf, append_leaf, append_leaves, append_object, append_objects,
     json_line,
 };
-use crate::settings::{BOOT_CURRENT, TIMEOUT, Timeout, bad_current, bad_timeout, number_of};
+use crate::settings::{BOOT_CURRENT, Timeout, bad_current, bad_timeout, number_of};
 use crate::shown_option::{AttributeWords, ShownOption};
 use crate::shown_order::OrderMarks;
 use std::alloc::{AllocError, Global};
 use uefi_option::is_active;
-use uefi_vars::{AtRisk, BOOT_NEXT, BOOT_ORDER, VarFault, Vars, entry_number, plan_numbers};
+use uefi_vars::{
+    AtRisk, BOOT_NEXT, BOOT_ORDER, TIMEOUT, VarFault, Vars, entry_number, plan_numbers,
+};
 
 /// Variables as they are shown.
 #[derive(Drop)]
@@ -212,6 +214,7 @@ impl<'a> ShownVars<'a> {
             Content::Next { entry } => self.next = Some(entry),
             Content::Undecodable(fault) => self.push_fault(name, fault)?,
             Content::LoadOption(_option) => {}
+            Content::Timeout(_timeout) => {}
         }
         Ok(())
     }
@@ -430,7 +433,7 @@ fn append_entry(entry: &ShownEntry<'_>, report: &mut String) -> Result<(), Alloc
             append_option(option, report)
         }
         Content::Undecodable(fault) => append_fault(entry.name, fault, report),
-        Content::Order { .. } | Content::Next { .. } => Ok(()),
+        Content::Order { .. } | Content::Next { .. } | Content::Timeout(_) => Ok(()),
     }
 }
 

@@ -5,40 +5,41 @@ use Rattle.std.specs.List.{AllByRecursion}
 use Rattle.std.proofs.lemmas.Bool.{or_cases, false≢true}
 use Rattle.std.proofs.lemmas.List.{map_more}
 use Rattle.uefi_text.specs.Bytes.{Each}
-use Rattle.uefi_vars.specs.Name.{entry_text, order_text, next_text}
+use Rattle.uefi_vars.specs.Name.{entry_text, order_text, next_text, timeout_text}
 use Rattle.uefi_vars.specs.Vars.{Variables}
 use Rattle.uefi_vars.specs.BootChange.{ChangeParts, same_name, is_entry_name, is_boot_name, changes_from, IsNeeded}
-use Rattle.uefi_vars.proofs.NameTests.{same_name-is, same_name-of, entry_of_name}
+use Rattle.uefi_vars.proofs.NameTests.{same_name-is, entry_of_name}
 use Rattle.uefi_vars.proofs.BootChanges.{each_needed}
 use Rattle.bootkeep_c.specs.declared.change.ChangeNumbers.{ChangeNumbers}
 use Rattle.bootkeep_c.specs.Changes.{StandsForName, variable_of, TellsChange, TellsIfBoot}
 
--- the name of a variable of the boot manager that is no entry is that of BootOrder or of BootNext
-order_or_next : (name : List ℕ) → is_boot_name name ≡ true → ((number : ℕ) → number < 2 ^ 16 → name ≡ entry_text number → ⊥) →
-    (name ≡ order_text) ⊎ (name ≡ next_text)
-order_or_next name boot none = elim (or_cases (is_entry_name name) (same_name name order_text || same_name name next_text) boot) [
+-- the name of a variable of the boot manager that is neither an entry nor BootOrder nor BootNext is that of Timeout
+timeout_of : (name : List ℕ) → is_boot_name name ≡ true → ((number : ℕ) → number < 2 ^ 16 → name ≡ entry_text number → ⊥) →
+    false ≡ same_name name order_text → false ≡ same_name name next_text → name ≡ timeout_text
+timeout_of name boot none no_order no_next = elim (or_cases (is_entry_name name) _ boot) [
   | inl e ↦ let own = entry_of_name name e in absurd (none own.0 own.1 own.2)
-  | inr e ↦ elim (or_cases (same_name name order_text) (same_name name next_text) e) [
-    | inl o ↦ inl (same_name-is name order_text o)
-    | inr n ↦ inr (same_name-is name next_text n)
+  | inr e ↦ elim (or_cases (same_name name order_text) _ e) [
+    | inl o ↦ absurd (false≢true (no_order ∙ o))
+    | inr f ↦ elim (or_cases (same_name name next_text) (same_name name timeout_text) f) [
+      | inl n ↦ absurd (false≢true (no_next ∙ n))
+      | inr t ↦ same_name-is name timeout_text t
+    ]
   ]
 ]
-
-next_of : (name : List ℕ) → (name ≡ order_text) ⊎ (name ≡ next_text) → false ≡ same_name name order_text → name ≡ next_text
-next_of name (inl o) other = absurd (false≢true (other ∙ same_name-of name order_text o))
-next_of name (inr n) other = n
 
 no_entry : (name : List ℕ) → ((number : ℕ) → (◌≡◌ {A = Option ℕ} None (Some number))
     ↔ ((number < 2 ^ 16) × (name ≡ entry_text number))) → (number : ℕ) → number < 2 ^ 16 → name ≡ entry_text number → ⊥
 no_entry name reads number below is = let some = (reads number).1 (below, is) in cc
 
 -- what stands for a variable of the boot manager
-pub stands : (name : List ℕ) (entry : Option ℕ) (is_order : Bool) → is_boot_name name ≡ true →
+pub stands : (name : List ℕ) (entry : Option ℕ) (is_order is_next : Bool) → is_boot_name name ≡ true →
     ((number : ℕ) → (entry ≡ Some number) ↔ ((number < 2 ^ 16) × (name ≡ entry_text number)))
-    → is_order ≡ same_name name order_text → StandsForName (variable_of entry is_order) name
-stands name (Some number) is_order boot reads same = inl ((reads number).0 refl)
-stands name None true boot reads same = inr (inl (refl, same_name-is name order_text (sym same)))
-stands name None false boot reads same = inr (inr (refl, next_of name (order_or_next name boot (no_entry name reads)) same))
+    → is_order ≡ same_name name order_text → is_next ≡ same_name name next_text → StandsForName (variable_of entry is_order is_next) name
+stands name (Some number) is_order is_next boot reads order next = inl ((reads number).0 refl)
+stands name None true is_next boot reads order next = inr (inl (refl, same_name-is name order_text (sym order)))
+stands name None false true boot reads order next = inr (inr (inl (refl, same_name-is name next_text (sym next))))
+stands name None false false boot reads order next =
+    inr (inr (inr (refl, timeout_of name boot (no_entry name reads) order next)))
 
 -- ---- lists of changes
 

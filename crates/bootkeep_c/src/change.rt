@@ -12,13 +12,16 @@ use crate::answer::answer;
 use crate::failure::Failure;
 use crate::refusal::Refusal;
 use std::alloc::{AllocError, Global};
-use uefi_vars::{BOOT_ORDER, BootChange, boot_changes, entry_number, laws, read_set};
+use uefi_vars::{BOOT_NEXT, BOOT_ORDER, BootChange, boot_changes, entry_number, laws, read_set};
 
 /// What stands for BootOrder among the numbers of entries.
 pub const VARIABLE_ORDER: u32 = 0x10001;
 
 /// What stands for BootNext among the numbers of entries.
 pub const VARIABLE_NEXT: u32 = 0x10002;
+
+/// What stands for Timeout among the numbers of entries.
+pub const VARIABLE_TIMEOUT: u32 = 0x10003;
 
 /// The variable is new.
 pub const CHANGE_ADDED: u32 = 1;
@@ -33,7 +36,7 @@ pub const CHANGE_REMOVED: u32 = 3;
 #[repr(C)]
 #[derive(Clone, Copy, Debug, PartialEq, Eq)]
 pub struct ChangeNumbers {
-    /// The number of the entry, [`VARIABLE_ORDER`] or [`VARIABLE_NEXT`].
+    /// The number of the entry, [`VARIABLE_ORDER`], [`VARIABLE_NEXT`] or [`VARIABLE_TIMEOUT`].
     pub variable: u32,
     /// [`CHANGE_ADDED`], [`CHANGE_REPLACED`] or [`CHANGE_REMOVED`].
     pub kind: u32,
@@ -98,17 +101,18 @@ fn variable_number(name: &str) -> u32
     ensures { is_boot_name name.now ≡ true → StandsForName result name.now }
 {
     laws::constants_are_those_of_the_definitions();
-    standing_for(entry_number(name), name == BOOT_ORDER)
+    standing_for(entry_number(name), name == BOOT_ORDER, name == BOOT_NEXT)
 }
 
-/// What stands for the variable of an entry's number, if it is one, or of BootOrder, or otherwise of BootNext.
-fn standing_for(entry: Option<u16>, is_order: bool) -> u32
-    ensures { result ≡ variable_of entry is_order }
+/// What stands for the variable of an entry's number, if it is one, or of BootOrder, or of BootNext, or otherwise of Timeout.
+fn standing_for(entry: Option<u16>, is_order: bool, is_next: bool) -> u32
+    ensures { result ≡ variable_of entry is_order is_next }
 {
-    match (entry, is_order) {
-        (Some(number), _) => u32::from(number),
-        (None, true) => VARIABLE_ORDER,
-        (None, false) => VARIABLE_NEXT,
+    match (entry, is_order, is_next) {
+        (Some(number), _, _) => u32::from(number),
+        (None, true, _) => VARIABLE_ORDER,
+        (None, false, true) => VARIABLE_NEXT,
+        (None, false, false) => VARIABLE_TIMEOUT,
     }
 }
 

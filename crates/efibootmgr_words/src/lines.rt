@@ -4,13 +4,10 @@ use crate::efivar_path::{append_units, efivar_text};
 use std::alloc::{AllocError, Global};
 use uefi_option::{OptionFault, check_option, is_active};
 use uefi_path::{PathFault, read_path, read_units};
-use uefi_vars::{BOOT_NEXT, BOOT_ORDER, Vars, entry_number};
+use uefi_vars::{BOOT_NEXT, BOOT_ORDER, TIMEOUT, Vars, entry_number};
 
 /// The variable with the entry that was started, which firmware sets (UEFI 2.10, 3.3).
 const BOOT_CURRENT: &str = "BootCurrent";
-
-/// The variable with how many seconds a menu waits (UEFI 2.10, 3.3).
-const TIMEOUT: &str = "Timeout";
 
 /// What is listed.
 #[derive(Debug, Drop)]

@@ -5,6 +5,7 @@ use Rattle.uefi_vars.specs.Vars.{Variables}
 use Rattle.var_places.specs.declared.failure.Failure.{Failure}
 use Rattle.var_places.specs.declared.failure.Failure.TheVariants.{Memory}
 use Rattle.boot_edits.specs.Restore.{IsRestored}
+use Rattle.boot_history.specs.Timeout.{or_timeout_of}
 use Rattle.boot_journal.specs.Attributes.{with_attributes}
 use Rattle.place_edits.specs.Takeable.{IsTaken}
 use Rattle.place_edits.specs.declared.takeable.Takeable.{Takeable}
@@ -21,10 +22,11 @@ pub record IsBrought (left_out : List (List ℕ)) (now wanted : Variables) (brou
   pub kept : IsHeld left_out now wanted held
   pub taken : IsTaken now held brought
 
--- The boot manager's variables are those of the set, as far as these can be stored, with the attributes that they had.
+-- The boot manager's variables are those of the set, as far as these can be stored, with the attributes that they had. Timeout
+-- stays if the set has none.
 abbrev pub IsWritten : List (List ℕ) → Variables → Variables → Variables → Takeable → Type 0
 IsWritten left_out set from to brought =
-    IsBrought left_out from (with_attributes from set) brought × IsRestored brought.vars from to
+    IsBrought left_out from (or_timeout_of from (with_attributes from set)) brought × IsRestored brought.vars from to
 
 -- it says something else than that memory was refused
 abbrev pub IsNoMemory : Failure → Type 0

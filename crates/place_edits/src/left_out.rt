@@ -3,7 +3,7 @@
 use boot_edits::{Addition, Edit, NewOrder, Position};
 use machine_changes::{left_out_entry, left_out_name};
 use std::alloc::Global;
-use uefi_vars::{BOOT_NEXT, BOOT_ORDER};
+use uefi_vars::{BOOT_NEXT, BOOT_ORDER, TIMEOUT};
 use var_places::Failure;
 
 /// Refuses a change of one of the variables of these names, which no set can hold, in the place of this name.
@@ -45,6 +45,7 @@ fn changed_by<'a>(edit: &Edit<'_>, left_out: &'a [String]) -> Option<&'a str> {
             left_out, BOOT_NEXT,
         )),
         Edit::Next(None) => left_out_name(left_out, BOOT_NEXT),
+        Edit::Timeout(_) => left_out_name(left_out, TIMEOUT),
         Edit::Activate(entries) | Edit::Deactivate(entries) => entry_among(left_out, entries),
     }
 }

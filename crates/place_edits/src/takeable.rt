@@ -12,7 +12,9 @@ use boot_texts::{EntryName, option_reason};
 use std::alloc::{AllocError, Global};
 use uefi_option::check_option;
 use uefi_path::{append_units, read_units};
-use uefi_vars::{ATTRIBUTES_LEN, BOOT_NEXT, BOOT_ORDER, Vars, entry_number, laws as vars_laws};
+use uefi_vars::{
+    ATTRIBUTES_LEN, BOOT_NEXT, BOOT_ORDER, TIMEOUT, Vars, entry_number, laws as vars_laws,
+};
 use var_places::{Failure, Reason};
 
 /// What a place is to have, as far as firmware takes it.
@@ -121,7 +123,7 @@ fn is_no_option(bytes: &[u8]) -> bool
     check_option(bytes).is_err()
 }
 
-/// The data in a value, behind its attributes.
+/// The data in a value, after its attributes.
 fn data_in(value: &[u8]) -> &[u8]
     ensures { result.now ≡ drop attributes_len value.now }
 {
@@ -257,7 +259,7 @@ fn numbers_without(
     Ok(rest)
 }
 
-/// Refuses a BootOrder and a BootNext that would have to be stored and that firmware refuses.
+/// Refuses a BootOrder, a BootNext and a Timeout that would have to be stored and that firmware or the system refuses.
 ///
 /// # Errors
 ///
@@ -277,6 +279,13 @@ pub(crate) fn check_numbers(
     }
     if new(BOOT_NEXT).is_some_and(|len| len != 2) {
         return Err(Failure::refused(alloc, name, Reason::NextRefused));
+    }
+    if new(TIMEOUT).is_some_and(|len| len != 2) {
+        return Err(Failure::from_fault(
+            alloc,
+            name,
+            "Timeout isn't the two bytes of a number of seconds, and it is refused; nothing is changed",
+        ));
     }
     Ok(())
 }

@@ -2,6 +2,7 @@
 
 ghost use Rattle.std.specs.Prelude.{◌≡◌, IfOk, IfErr};
 ghost use Rattle.boot_journal.specs.Attributes.{with_attributes};
+ghost use Rattle.boot_history.specs.Timeout.{or_timeout_of};
 ghost use Rattle.boot_journal.specs.Cause.{IfRefused};
 ghost use Rattle.place_edits.specs.Brought.{IsNoMemory};
 
@@ -9,9 +10,10 @@ use crate::brought::{brought, restored};
 use crate::takeable::{Takeable, check_numbers, note_missing};
 use crate::told::{Notes, Told};
 use crate::write::WriteWords;
+use boot_history::or_timeout_of;
 use boot_journal::{AttributesFault, CallError, with_attributes};
 use boot_texts::{change_report, diff_json, diff_report, naming_change};
-use machine_changes::{Seen, Wanted, set_of};
+use machine_changes::{PlaceKind, Seen, Wanted, set_of};
 use std::alloc::{AllocError, Global};
 use uefi_vars::{KEEP_STATE, Vars, boot_changes};
 use var_places::{Failure, name_of};
@@ -23,6 +25,8 @@ pub(crate) struct WantedSet<'a, 'w, 's> {
     pub(crate) words: &'a WriteWords<'w>,
     /// The set.
     pub(crate) set: &'s Vars,
+    /// What the place is.
+    pub(crate) kind: PlaceKind,
 }
 
 impl Wanted for WantedSet<'_, '_, '_> {
@@ -95,13 +99,16 @@ impl Wanted for WantedSet<'_, '_, '_> {
 }
 
 impl WantedSet<'_, '_, '_> {
-    /// The set with the attributes of what the machine keeps.
+    /// The set with the attributes of what the machine keeps, and its Timeout if the set has none.
     fn wanted(&self, alloc: Global, vars: &Vars) -> Result<Vars, CallError<Failure>>
-        ensures wanted { IfOk result (λ wanted. wanted ≡ with_attributes vars.now self.now.set.now) }
+        ensures wanted { IfOk result (λ wanted. wanted ≡ or_timeout_of vars.now (with_attributes vars.now self.now.set.now)) }
         ensures refused { IfErr result (λ error. IfRefused error IsNoMemory) }
     {
         match with_attributes(alloc, self.set, vars) {
-            Ok(wanted) => Ok(wanted),
+            Ok(wanted) => {
+                let wanted = or_timeout_of(wanted, vars)?;
+                Ok(wanted)
+            }
             Err(AttributesFault::OutOfMemory) => Err(CallError::OutOfMemory),
             Err(fault) => Err(call_error(self.too_long(alloc, fault))),
         }
@@ -138,7 +145,7 @@ impl WantedSet<'_, '_, '_> {
         let words = self.words;
         let name = name_of(words.set);
         let mut notes = Notes::new(alloc);
-        if self.set.get(KEEP_STATE).is_some() {
+        if self.kind != PlaceKind::Set && self.set.get(KEEP_STATE).is_some() {
             notes.push(
                 name,
                 format!(in alloc; "{KEEP_STATE} stays here, since firmware refuses it")?,
@@ -165,7 +172,7 @@ fn call_error(failure: Failure) -> CallError<Failure>
 /// # Errors
 ///
 /// [`AllocError`] if memory was refused.
-pub(crate) fn written_text(
+fn written_text(
     alloc: Global,
     words: &WriteWords<'_>,
     (from, to): (&Vars, &Vars),
@@ -193,9 +200,6 @@ fn change_lines(alloc: Global, from: &Vars, to: &Vars) -> Result<String, AllocEr
 /// # Errors
 ///
 /// [`AllocError`] if memory was refused.
-pub(crate) fn unnamed_after(
-    alloc: Global,
-    (from, to): (&Vars, &Vars),
-) -> Result<Vec<u16>, AllocError> {
+fn unnamed_after(alloc: Global, (from, to): (&Vars, &Vars)) -> Result<Vec<u16>, AllocError> {
     Ok(naming_change(alloc, from, to)?.unnamed)
 }

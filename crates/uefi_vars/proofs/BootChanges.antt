@@ -7,7 +7,7 @@ use Rattle.std.specs.FinMap.{get}
 use Rattle.std.proofs.lemmas.Bool.{or_left, or_right, cond-false, true≢false}
 use Rattle.std.proofs.lemmas.List.{take-map}
 use Rattle.std.proofs.lemmas.Option.{slice_get-map}
-use Rattle.uefi_vars.specs.Name.{entry_text, order_text, next_text}
+use Rattle.uefi_vars.specs.Name.{entry_text, order_text, next_text, timeout_text}
 use Rattle.uefi_vars.specs.Vars.{Variables}
 use Rattle.uefi_vars.specs.NameChanges.{after_each}
 use Rattle.uefi_vars.specs.BootChange.{ChangeParts, same_name, is_boot_name, changed_names, change_under, changes_from, new_data, IsNeeded}
@@ -83,22 +83,25 @@ module _ (from to : Variables) where
 -- ---- one after the other
 
 module _ (from to : Variables) (no_order : IsNoEntry order_text) (no_next : IsNoEntry next_text) (differ : order_text ≢ next_text) where
-  pub changes_distinct : IsDistinct same_name (map (λ (change : ChangeParts). change.name) (changes_from from to))
-  changes_distinct = subst (IsDistinct same_name) (sym (names_of_changes from to (changed_names from to))) (changed_distinct from to no_order no_next differ)
+  module _ (no_timeout : IsNoEntry timeout_text) where
+    pub changes_distinct : IsDistinct same_name (map (λ (change : ChangeParts). change.name) (changes_from from to))
+    changes_distinct =
+        subst (IsDistinct same_name) (sym (names_of_changes from to (changed_names from to)))
+        (changed_distinct from to no_order no_next differ no_timeout)
 
-  found_name : (o : Option (List ℕ)) (change : ChangeParts) → option_map (change_under from to) o ≡ Some change →
-      (name : List ℕ) × (o ≡ Some name) × (change ≡ change_under from to name)
-  found_name None change e = cc
-  found_name (Some name) change e = (name, refl, cc)
+    found_name : (o : Option (List ℕ)) (change : ChangeParts) → option_map (change_under from to) o ≡ Some change →
+        (name : List ℕ) × (o ≡ Some name) × (change ≡ change_under from to name)
+    found_name None change e = cc
+    found_name (Some name) change e = (name, refl, cc)
 
-  pub replaces : (place : ℕ) (change : ChangeParts) → slice_get (changes_from from to) place ≡ Some change →
-      get (after_each from (new_data (take place (changes_from from to)))) change.name ≡ change.before
-  replaces place change at =
-      let found = found_name (slice_get (changed_names from to) place) change (sym (slice_get-map (change_under from to) (changed_names from to) place) ∙ at) in
-      let name = found.0 in
-      let unseen = before_apart (changed_names from to) place name (changed_distinct from to no_order no_next differ) found.1 in
-      ap (λ (c : ChangeParts). get (after_each from (new_data (take place (changes_from from to)))) c.name) found.2
-      ∙ after_some from to place name ∙ cond-false _ (get to name) (get from name) unseen ∙ ap (λ (c : ChangeParts). c.before) (sym found.2)
+    pub replaces : (place : ℕ) (change : ChangeParts) → slice_get (changes_from from to) place ≡ Some change →
+        get (after_each from (new_data (take place (changes_from from to)))) change.name ≡ change.before
+    replaces place change at =
+        let found = found_name (slice_get (changed_names from to) place) change (sym (slice_get-map (change_under from to) (changed_names from to) place) ∙ at) in
+        let name = found.0 in
+        let unseen = before_apart (changed_names from to) place name (changed_distinct from to no_order no_next differ no_timeout) found.1 in
+        ap (λ (c : ChangeParts). get (after_each from (new_data (take place (changes_from from to)))) c.name) found.2
+        ∙ after_some from to place name ∙ cond-false _ (get to name) (get from name) unseen ∙ ap (λ (c : ChangeParts). c.before) (sym found.2)
 
   module _ (made number : ℕ) (below : number < 2 ^ 16) where
     abbrev now : Variables

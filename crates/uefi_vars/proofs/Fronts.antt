@@ -9,7 +9,7 @@ use Rattle.std.proofs.lemmas.Bool.{cond-false, false≢true, true≢false}
 use Rattle.std.proofs.Math.Seq.{take-append-add}
 use Rattle.std.proofs.lemmas.List.{take-append-le}
 use Rattle.std.proofs.lemmas.List.Folds.{list_any-append}
-use Rattle.uefi_vars.specs.Name.{entry_text, order_text, next_text}
+use Rattle.uefi_vars.specs.Name.{entry_text, order_text, next_text, timeout_text}
 use Rattle.uefi_vars.specs.Vars.{Variables}
 use Rattle.uefi_vars.specs.BootChange.{same_name, is_entry_name, differs, put_names, removed_names, if_differs, changed_names}
 use Rattle.uefi_vars.proofs.NameTests.{same_name-is, same_name-refl, entry_of_name, name_of_entry}
@@ -163,18 +163,20 @@ module _ (from to : Variables) (no_order : IsNoEntry order_text) (no_next : IsNo
   module _ (k number : ℕ) (below : number < 2 ^ 16) where
     pub order_alike : now_under from to (take k (changed_names from to)) (entry_text number) ≡ None →
         AreAlike from to (take k (changed_names from to)) order_text (entry_text number)
-    order_alike = alike from to (put_names from to) (if_differs from to next_text ++ removed_names from to) order_text
+    order_alike = alike from to (put_names from to) (if_differs from to next_text ++ (if_differs from to timeout_text ++ removed_names from to)) order_text
         puts_before_order (entry_text number) (name_of_entry number (entry_text number) below refl) k
 
-    regrouped : (put_names from to ++ if_differs from to order_text) ++ (if_differs from to next_text ++ removed_names from to) ≡ changed_names from to
-    regrouped = append_assoc (put_names from to) (if_differs from to order_text) (if_differs from to next_text ++ removed_names from to)
+    regrouped : (put_names from to ++ if_differs from to order_text)
+        ++ (if_differs from to next_text ++ (if_differs from to timeout_text ++ removed_names from to)) ≡ changed_names from to
+    regrouped = append_assoc (put_names from to) (if_differs from to order_text) _
 
     pub next_alike : now_under from to (take k (changed_names from to)) (entry_text number) ≡ None →
         AreAlike from to (take k (changed_names from to)) next_text (entry_text number)
     next_alike =
         subst (λ (names : List (List ℕ)). now_under from to (take k names) (entry_text number) ≡ None →
         AreAlike from to (take k names) next_text (entry_text number)) regrouped
-        (alike from to (put_names from to ++ if_differs from to order_text) (removed_names from to) next_text puts_before_next
+        (alike from to (put_names from to ++ if_differs from to order_text) (if_differs from to timeout_text ++ removed_names from to)
+        next_text puts_before_next
         (entry_text number) (name_of_entry number (entry_text number) below refl) k)
 
   -- ---- no two of the names are the same
@@ -202,33 +204,53 @@ module _ (from to : Variables) (no_order : IsNoEntry order_text) (no_next : IsNo
       gone true f = refl
       gone false f = refl
 
-  behind_puts : (q : List ℕ) → list_any (same_name q) (put_names from to) ≡ true →
-      list_any (same_name q) (if_differs from to order_text ++ (if_differs from to next_text ++ removed_names from to)) ≡ false
-  behind_puts q put =
-      let entry = entry_of_put q put in
-      list_any-append (same_name q) (if_differs from to order_text) _
-      ∙ or_from _ _ (not_single q order_text (no_entry order_text q no_order entry.0))
-      (list_any-append (same_name q) (if_differs from to next_text) (removed_names from to)
-      ∙ or_from _ _ (not_single q next_text (no_entry next_text q no_next entry.0)) (stays_there q entry.1))
+  not_other : (q name : List ℕ) → same_name q name ≡ true → (other : List ℕ) → same_name name other ≡ false →
+      list_any (same_name q) (if_differs from to other) ≡ false
+  not_other q name is other apart = not_single q other (ap (λ (n : List ℕ). same_name n other) (same_name-is q name is) ∙ apart)
 
-  behind_order : (q : List ℕ) → list_any (same_name q) (if_differs from to order_text) ≡ true →
-      list_any (same_name q) (if_differs from to next_text ++ removed_names from to) ≡ false
-  behind_order q order =
-      let is : q ≡ order_text = same_name-is q order_text (and_parts (same_name q order_text) (differs from to order_text)
-      (sym (in_single from to q order_text) ∙ order)).0 in
-      list_any-append (same_name q) (if_differs from to next_text) (removed_names from to)
-      ∙ or_from _ _ (not_single q next_text (false_from_ne_true (same_name q next_text) (λ same. differ (sym is ∙ same_name-is q next_text same))))
-      (not_removed q (ap is_entry_name is ∙ none_is_entry order_text no_order))
+  is_single : (q name : List ℕ) → list_any (same_name q) (if_differs from to name) ≡ true → same_name q name ≡ true
+  is_single q name single = (and_parts (same_name q name) (differs from to name) (sym (in_single from to q name) ∙ single)).0
 
-  behind_next : (q : List ℕ) → list_any (same_name q) (if_differs from to next_text) ≡ true → list_any (same_name q) (removed_names from to) ≡ false
-  behind_next q next =
-      let is : q ≡ next_text = same_name-is q next_text (and_parts (same_name q next_text) (differs from to next_text)
-      (sym (in_single from to q next_text) ∙ next)).0 in
-      not_removed q (ap is_entry_name is ∙ none_is_entry next_text no_next)
+  not_removed_single : (q name : List ℕ) → same_name q name ≡ true → IsNoEntry name → list_any (same_name q) (removed_names from to) ≡ false
+  not_removed_single q name is none = not_removed q (ap is_entry_name (same_name-is q name is) ∙ none_is_entry name none)
 
-  pub changed_distinct : IsDistinct same_name (changed_names from to)
-  changed_distinct =
-      append_distinct (put_names from to) _ (filter_distinct (λ name. is_entry_name name && differs from to name) (keys to) (keys_distinct to))
-      (append_distinct (if_differs from to order_text) _ (single_distinct (differs from to order_text) order_text)
-      (append_distinct (if_differs from to next_text) (removed_names from to) (single_distinct (differs from to next_text) next_text)
-      (filter_distinct (λ name. is_entry_name name && not (contains_key to name)) (keys from) (keys_distinct from)) behind_next) behind_order) behind_puts
+  module _ (no_timeout : IsNoEntry timeout_text) where
+    behind_puts : (q : List ℕ) → list_any (same_name q) (put_names from to) ≡ true →
+        list_any (same_name q) (if_differs from to order_text ++ (if_differs from to next_text
+        ++ (if_differs from to timeout_text ++ removed_names from to))) ≡ false
+    behind_puts q put =
+        let entry = entry_of_put q put in
+        list_any-append (same_name q) (if_differs from to order_text) _
+        ∙ or_from _ _ (not_single q order_text (no_entry order_text q no_order entry.0))
+        (list_any-append (same_name q) (if_differs from to next_text) _
+        ∙ or_from _ _ (not_single q next_text (no_entry next_text q no_next entry.0))
+        (list_any-append (same_name q) (if_differs from to timeout_text) (removed_names from to)
+        ∙ or_from _ _ (not_single q timeout_text (no_entry timeout_text q no_timeout entry.0)) (stays_there q entry.1)))
+
+    behind_order : (q : List ℕ) → list_any (same_name q) (if_differs from to order_text) ≡ true →
+        list_any (same_name q) (if_differs from to next_text ++ (if_differs from to timeout_text ++ removed_names from to)) ≡ false
+    behind_order q order =
+        let is = is_single q order_text order in
+        list_any-append (same_name q) (if_differs from to next_text) _
+        ∙ or_from _ _ (not_other q order_text is next_text refl)
+        (list_any-append (same_name q) (if_differs from to timeout_text) (removed_names from to)
+        ∙ or_from _ _ (not_other q order_text is timeout_text refl) (not_removed_single q order_text is no_order))
+
+    behind_next : (q : List ℕ) → list_any (same_name q) (if_differs from to next_text) ≡ true →
+        list_any (same_name q) (if_differs from to timeout_text ++ removed_names from to) ≡ false
+    behind_next q next =
+        let is = is_single q next_text next in
+        list_any-append (same_name q) (if_differs from to timeout_text) (removed_names from to)
+        ∙ or_from _ _ (not_other q next_text is timeout_text refl) (not_removed_single q next_text is no_next)
+
+    behind_timeout : (q : List ℕ) → list_any (same_name q) (if_differs from to timeout_text) ≡ true → list_any (same_name q) (removed_names from to) ≡ false
+    behind_timeout q timeout = not_removed_single q timeout_text (is_single q timeout_text timeout) no_timeout
+
+    pub changed_distinct : IsDistinct same_name (changed_names from to)
+    changed_distinct =
+        append_distinct (put_names from to) _ (filter_distinct (λ name. is_entry_name name && differs from to name) (keys to) (keys_distinct to))
+        (append_distinct (if_differs from to order_text) _ (single_distinct (differs from to order_text) order_text)
+        (append_distinct (if_differs from to next_text) _ (single_distinct (differs from to next_text) next_text)
+        (append_distinct (if_differs from to timeout_text) (removed_names from to) (single_distinct (differs from to timeout_text) timeout_text)
+        (filter_distinct (λ name. is_entry_name name && not (contains_key to name)) (keys from) (keys_distinct from)) behind_timeout)
+        behind_next) behind_order) behind_puts

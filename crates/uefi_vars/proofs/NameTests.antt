@@ -5,7 +5,7 @@ use Rattle.std.proofs.lemmas.Bool.{or_cases, or_left, or_right, false≢true, ca
 use Rattle.std.proofs.lemmas.Cmp.{nat_list_cmp_total, eq_by_cmp_equiv}
 use Rattle.std.proofs.lemmas.Map.Lookups.{exact_bytes}
 use Rattle.std.proofs.lemmas.Map.Views.{tells_apart}
-use Rattle.uefi_vars.specs.Name.{IsName, entry_text, order_text, next_text}
+use Rattle.uefi_vars.specs.Name.{IsName, entry_text, order_text, next_text, timeout_text}
 use Rattle.uefi_vars.specs.BootChange.{same_name, is_entry_name_below, is_entry_name, is_boot_name}
 
 pub same_name-is : (a b : List ℕ) → same_name a b ≡ true → a ≡ b
@@ -50,13 +50,16 @@ tells_entry name None reads = sym (false_from_ne_true (is_entry_name name)
     (λ e. let entry = entry_of_name name e in let some = (reads entry.0).1 (entry.1, entry.2) in cc))
 tells_entry name (Some number) reads = let entry = (reads number).0 refl in sym (name_of_entry number name entry.0 entry.1)
 
--- the names of the boot manager's variables are names, if those of entries and the other two are
+-- the names of the boot manager's variables are names, if those of entries and the other three are
 pub boot_is_name : ((number : ℕ) → number < 2 ^ 16 → IsName (entry_text number)) → IsName order_text → IsName next_text →
-    (name : List ℕ) → is_boot_name name ≡ true → IsName name
-boot_is_name entry order next name boot = elim (or_cases (is_entry_name name) (same_name name order_text || same_name name next_text) boot) [
+    IsName timeout_text → (name : List ℕ) → is_boot_name name ≡ true → IsName name
+boot_is_name entry order next timeout name boot = elim (or_cases (is_entry_name name) _ boot) [
   | inl e ↦ let own = entry_of_name name e in subst IsName (sym own.2) (entry own.0 own.1)
-  | inr e ↦ elim (or_cases (same_name name order_text) (same_name name next_text) e) [
+  | inr e ↦ elim (or_cases (same_name name order_text) _ e) [
     | inl o ↦ subst IsName (sym (same_name-is name order_text o)) order
-    | inr n ↦ subst IsName (sym (same_name-is name next_text n)) next
+    | inr f ↦ elim (or_cases (same_name name next_text) (same_name name timeout_text) f) [
+      | inl n ↦ subst IsName (sym (same_name-is name next_text n)) next
+      | inr t ↦ subst IsName (sym (same_name-is name timeout_text t)) timeout
+    ]
   ]
 ]

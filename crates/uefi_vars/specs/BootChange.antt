@@ -7,7 +7,7 @@ use Rattle.std.specs.Ordering.{eq_by_cmp}
 use Rattle.std.specs.Cmp.Lexicographic.{pointwise}
 use Rattle.std.specs.FinMap.{get, contains_key, keys}
 use Rattle.uefi_path.specs.Units.{units_of}
-use Rattle.uefi_vars.specs.Name.{entry_text, order_text, next_text}
+use Rattle.uefi_vars.specs.Name.{entry_text, order_text, next_text, timeout_text}
 use Rattle.uefi_vars.specs.Vars.{Variables, name_cmp, entry_of}
 use Rattle.uefi_vars.specs.declared.boot_change.BootChange.{BootChange}
 
@@ -38,9 +38,9 @@ is_entry_name_below (suc number) name = same_name name (entry_text number) || is
 abbrev pub is_entry_name : List ℕ → Bool
 is_entry_name name = is_entry_name_below (2 ^ 16) name
 
--- whether it is the name of a variable of the boot manager: Boot####, BootOrder or BootNext
+-- whether it is the name of a variable of the boot manager: Boot####, BootOrder, BootNext or Timeout
 abbrev pub is_boot_name : List ℕ → Bool
-is_boot_name name = is_entry_name name || (same_name name order_text || same_name name next_text)
+is_boot_name name = is_entry_name name || (same_name name order_text || (same_name name next_text || same_name name timeout_text))
 
 -- ---- the changes
 
@@ -64,10 +64,12 @@ removed_names from to = filter (λ name. is_entry_name name && not (contains_key
 abbrev pub if_differs : Variables → Variables → List ℕ → List (List ℕ)
 if_differs from to name = if differs from to name then name ∷ [] else []
 
--- the names under which there is a change: entries that are put, the order, the next entry, and entries that are taken out
+-- the names under which there is a change: entries that are put, the order, the next entry, the timeout, and entries that are
+-- taken out
 abbrev pub changed_names : Variables → Variables → List (List ℕ)
 changed_names from to =
-    put_names from to ++ (if_differs from to order_text ++ (if_differs from to next_text ++ removed_names from to))
+    put_names from to ++ (if_differs from to order_text
+    ++ (if_differs from to next_text ++ (if_differs from to timeout_text ++ removed_names from to)))
 
 abbrev pub change_under : Variables → Variables → List ℕ → ChangeParts
 change_under from to name = record { name = name; before = get from name; after = get to name }

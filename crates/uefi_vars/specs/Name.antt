@@ -1,5 +1,5 @@
--- The names of variables, and those of the boot manager (UEFI 2.10, 3.3): Boot#### for each load option, BootOrder and
--- BootNext.
+-- The names of variables, and those of the boot manager (UEFI 2.10, 3.3): Boot#### for each load option, BootOrder, BootNext
+-- and Timeout.
 use Rattle.std.specs.Prelude.{◌≢◌, ℕ, ◌+◌, ◌/◌, ◌%◌, ◌≤◌, nat_lt, if◌then◌else◌, List, [], ◌∷◌, ◌++◌, length, codes}
 use Rattle.std.specs.List.{AllByRecursion}
 
@@ -36,6 +36,9 @@ order_text = codes "BootOrder"
 
 abbrev pub next_text : List ℕ
 next_text = codes "BootNext"
+
+abbrev pub timeout_text : List ℕ
+timeout_text = codes "Timeout"
 
 -- the name of the variable in which a keeper of requests has which of them were applied
 abbrev pub keep_text : List ℕ

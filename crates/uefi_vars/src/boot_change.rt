@@ -4,11 +4,11 @@ ghost use Rattle.std.specs.Prelude.{◌≡◌, ◌++◌, map, IfOk, OnOk};
 ghost use Rattle.uefi_vars.specs.BootChange.{change_parts, same_name, is_entry_name, is_boot_name, differs, put_names, removed_names, if_differs, change_under, changes_from};
 
 use crate::laws;
-use crate::name::{BOOT_NEXT, BOOT_ORDER, entry_number};
+use crate::name::{BOOT_NEXT, BOOT_ORDER, TIMEOUT, entry_number};
 use crate::vars::Vars;
 use std::alloc::{AllocError, Global};
 
-/// A change of one variable of the boot manager: Boot####, BootOrder or BootNext (UEFI 2.10, 3.3).
+/// A change of one variable of the boot manager: Boot####, BootOrder, BootNext or Timeout (UEFI 2.10, 3.3).
 #[derive(Clone, Copy, Debug)]
 pub struct BootChange<'a> {
     /// The variable's name, in ASCII.
@@ -20,8 +20,8 @@ pub struct BootChange<'a> {
 }
 
 /// The changes that make the boot manager's variables of the one set those of the other, each of another variable: the
-/// entries that are new or have new data, in the order of their numbers, then BootOrder, then BootNext, and then the
-/// entries that are taken out, in the order of their numbers (UEFI 2.10, 3.3). Variables of other names, `BootKeepState`
+/// entries that are new or have new data, in the order of their numbers, then BootOrder, BootNext and Timeout, and then
+/// the entries that are taken out, in the order of their numbers (UEFI 2.10, 3.3). Variables of other names, `BootKeepState`
 /// among them, are left alone. Names and data are those of the sets, and aren't copied.
 ///
 /// # Errors
@@ -39,6 +39,7 @@ pub fn boot_changes<'a>(
     push_puts(&mut changes, from, to)?;
     push_single(&mut changes, from, to, BOOT_ORDER)?;
     push_single(&mut changes, from, to, BOOT_NEXT)?;
+    push_single(&mut changes, from, to, TIMEOUT)?;
     push_removals(&mut changes, from, to)?;
     Ok(changes)
 }
@@ -111,12 +112,15 @@ fn is_entry(name: &str) -> bool
     entry_number(name).is_some()
 }
 
-/// Whether it is the name of a variable of the boot manager: Boot####, BootOrder or BootNext (UEFI 2.10, 3.3).
+/// Whether it is the name of a variable of the boot manager: Boot####, BootOrder, BootNext or Timeout (UEFI 2.10, 3.3).
 pub fn is_boot_name(name: &str) -> bool
     ensures { result ≡ is_boot_name name.now }
 {
     laws::constants_are_those_of_the_definitions();
-    is_entry(name) || is_same(name, BOOT_ORDER) || is_same(name, BOOT_NEXT)
+    is_entry(name)
+        || is_same(name, BOOT_ORDER)
+        || is_same(name, BOOT_NEXT)
+        || is_same(name, TIMEOUT)
 }
 
 /// Whether the two names are the same.

@@ -9,7 +9,7 @@ ghost use Rattle.uefi_vars.specs.declared.boot_plan.Choice.{Choice};
 ghost use Rattle.uefi_vars.specs.declared.fault.PutFault.{PutFault};
 ghost use Rattle.uefi_vars.specs.declared.fault.SetFault.{SetFault};
 ghost use Rattle.uefi_vars.specs.declared.fault.VarFault.{VarFault};
-ghost use Rattle.uefi_vars.specs.Name.{name_max, IsName, entry_text, order_text, next_text, keep_text, global_vendor};
+ghost use Rattle.uefi_vars.specs.Name.{name_max, IsName, entry_text, order_text, next_text, timeout_text, keep_text, global_vendor};
 ghost use Rattle.uefi_vars.specs.Attributes.{attributes_len, boot_attributes};
 ghost use Rattle.uefi_vars.specs.Vars.{Variables, name_cmp, data_max, IsVars, entry_of};
 ghost use Rattle.uefi_vars.specs.NameChanges.{after_each};
@@ -23,7 +23,7 @@ ghost use Rattle.uefi_vars.specs.AtRisk.{IsUnnamed, IsUndecodable, AreThose};
 use crate::attributes::{ATTRIBUTES_LEN, BOOT_ATTRIBUTES};
 use crate::boot_plan::{BootPlan, Choice};
 use crate::fault::{PutFault, SetFault, VarFault};
-use crate::name::{BOOT_NEXT, BOOT_ORDER, GLOBAL_VENDOR, KEEP_STATE, NAME_MAX};
+use crate::name::{BOOT_NEXT, BOOT_ORDER, GLOBAL_VENDOR, KEEP_STATE, NAME_MAX, TIMEOUT};
 use crate::order::ORDER_MAX;
 use crate::vars::{DATA_MAX, Vars};
 use crate::writer::SET_MAGIC;
@@ -172,6 +172,7 @@ pub fn constants_are_those_of_the_definitions()
     ensures order_max { ORDER_MAX ≡ order_max }
     ensures boot_order { BOOT_ORDER.now ≡ order_text }
     ensures boot_next { BOOT_NEXT.now ≡ next_text }
+    ensures timeout { TIMEOUT.now ≡ timeout_text }
     ensures keep_state { KEEP_STATE.now ≡ keep_text }
     ensures global_vendor { GLOBAL_VENDOR.0 ≡ global_vendor }
     ensures attributes_len { ATTRIBUTES_LEN ≡ attributes_len }
@@ -179,18 +180,21 @@ pub fn constants_are_those_of_the_definitions()
     ensures set_magic { SET_MAGIC ≡ magic }
 {}
 
-/// The names of entries, BootOrder and BootNext are names that a variable may have.
+/// The names of entries, BootOrder, BootNext and Timeout are names that a variable may have.
 pub fn boot_names_are_names()
     ensures entry { (number : ℕ) → number < 2 ^ 16 → IsName (entry_text number) }
     ensures order { IsName order_text }
     ensures next { IsName next_text }
+    ensures timeout { IsName timeout_text }
 {}
 
-/// The name of an entry has eight characters, and is neither BootOrder, which has nine, nor BootNext.
+/// The name of an entry has eight characters, and is neither BootOrder, which has nine, nor Timeout, which has seven, nor
+/// BootNext.
 pub fn order_and_next_are_no_entries()
     ensures len { (number : ℕ) → length (entry_text number) ≡ 8 }
     ensures order { (number : ℕ) → entry_text number ≢ order_text }
     ensures next { (number : ℕ) → entry_text number ≢ next_text }
+    ensures timeout { (number : ℕ) → entry_text number ≢ timeout_text }
     ensures apart { order_text ≢ next_text }
 {}
 

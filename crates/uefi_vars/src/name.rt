@@ -15,6 +15,9 @@ pub const BOOT_ORDER: &str = "BootOrder";
 /// The name of the variable that says which entry the next boot tries first (UEFI 2.10, 3.3).
 pub const BOOT_NEXT: &str = "BootNext";
 
+/// The name of the variable that says how many seconds the boot manager waits before it boots by itself (UEFI 2.10, 3.3).
+pub const TIMEOUT: &str = "Timeout";
+
 /// The name of the variable in which a keeper of requests stores which of them were applied. Firmware refuses it.
 pub const KEEP_STATE: &str = "BootKeepState";
 

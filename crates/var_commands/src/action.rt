@@ -16,7 +16,7 @@ pub enum Action<'a> {
         place: &'a str,
         /// The path of the set file.
         out: &'a str,
-        /// Whether the set has Boot####, BootOrder and BootNext alone.
+        /// Whether the set has Boot####, BootOrder, BootNext and Timeout alone.
         boot_only: bool,
     },
     /// To show the boot variables of a place.
@@ -24,6 +24,13 @@ pub enum Action<'a> {
         /// The place.
         place: &'a str,
         /// How they are shown.
+        form: Form,
+    },
+    /// To show for how long the boot manager of a place waits.
+    ShowTimeout {
+        /// The place.
+        place: &'a str,
+        /// How it is shown.
         form: Form,
     },
     /// To tell which boot entries of a place can be started.
@@ -152,6 +159,8 @@ pub enum EntryChange<'a> {
     },
     /// To set the entry that the next boot tries first, or to take BootNext out.
     Next(Option<&'a str>),
+    /// To set the seconds for which the boot manager waits, as they are written, or to take Timeout out.
+    Timeout(Option<&'a str>),
     /// To make these entries active.
     Activate(&'a [&'a str]),
     /// To make these entries inactive.

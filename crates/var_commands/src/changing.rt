@@ -1,7 +1,7 @@
 //! The commands that change boot entries.
 
 use crate::action::{AddWords, ChangeWords, EntryChange, Form};
-use crate::making::{entries_of, entry_of, option_of_words};
+use crate::making::{entries_of, entry_of, option_of_words, seconds_of};
 use boot_edits::{Addition, Edit, NewOrder};
 use place_edits::{EditWords, edit_place};
 use std::rt::{Clock, Files};
@@ -54,6 +54,13 @@ pub(crate) fn change_entries<
                 Edit::Next(Some(entry_of(alloc, entry)?)),
                 command,
             )
+        }
+        EntryChange::Timeout(seconds) => {
+            let seconds = match seconds {
+                Some(word) => Some(seconds_of(alloc, word)?),
+                None => None,
+            };
+            change(rt, words, Edit::Timeout(seconds), command)
         }
         EntryChange::Activate(entries) => {
             change(

@@ -40,7 +40,8 @@ pub(crate) fn action_of<'a>(matches: &'a ArgMatches<'_>) -> Option<Action<'a>> {
         "frame" => frame_of(matches),
         "explain" => explain_of(matches),
         "undo" => undo_of(matches),
-        _ => change_of(name, matches),
+        "timeout" => timeout_of(matches),
+        _ => change_of(entry_change_of(name, matches)?, matches),
     }
 }
 
@@ -113,9 +114,17 @@ fn get_of<'a>(matches: &'a ArgMatches<'_>) -> Option<Action<'a>> {
     })
 }
 
-/// The change of boot entries that the command of this name makes, if it is one.
-fn change_of<'a>(name: &str, matches: &'a ArgMatches<'_>) -> Option<Action<'a>> {
-    let change = entry_change_of(name, matches)?;
+fn timeout_of<'a>(matches: &'a ArgMatches<'_>) -> Option<Action<'a>> {
+    match matches.get_str("SECONDS") {
+        None if !matches.get_flag("none") => Some(Action::ShowTimeout {
+            place: matches.get_str("PLACE")?,
+            form: form_of(matches),
+        }),
+        seconds => change_of(EntryChange::Timeout(seconds), matches),
+    }
+}
+
+fn change_of<'a>(change: EntryChange<'a>, matches: &'a ArgMatches<'_>) -> Option<Action<'a>> {
     Some(Action::Change(ChangeWords {
         machine: machine_of(matches)?,
         change,
@@ -138,6 +147,7 @@ fn undo_of<'a>(matches: &'a ArgMatches<'_>) -> Option<Action<'a>> {
     }))
 }
 
+/// The change of boot entries that the command of this name makes, if it is one.
 fn entry_change_of<'a>(name: &str, matches: &'a ArgMatches<'_>) -> Option<EntryChange<'a>> {
     match name {
         "add" => Some(EntryChange::Add(add_of(matches)?)),

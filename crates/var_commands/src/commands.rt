@@ -118,7 +118,7 @@ static PLACE_COMMANDS: [CommandRow; 4] = [
             },
             ArgRow {
                 name: "boot-only",
-                help: "Leaves out all but Boot####, BootOrder and BootNext",
+                help: "Leaves out all but Boot####, BootOrder, BootNext and Timeout",
                 ..ArgRow::FLAG
             },
         ],
@@ -258,8 +258,8 @@ static LIST_COMMANDS: [CommandRow; 2] = [
     },
 ];
 
-/// The commands that set BootOrder and BootNext.
-static ORDER_COMMANDS: [CommandRow; 2] = [
+/// The commands that set BootOrder, BootNext and Timeout.
+static ORDER_COMMANDS: [CommandRow; 3] = [
     CommandRow {
         name: "order",
         about: "Sets the order in which entries are tried",
@@ -316,6 +316,38 @@ static ORDER_COMMANDS: [CommandRow; 2] = [
             ArgRow {
                 name: "none",
                 help: "Takes BootNext out",
+                ..ArgRow::FLAG
+            },
+            DRY_RUN,
+            JSON,
+            STATE,
+            BOOT_ID,
+            MACHINE,
+            ADOPT,
+            FORCE,
+        ],
+        ..CommandRow::EMPTY
+    },
+    CommandRow {
+        name: "timeout",
+        about: "Sets for how many seconds the boot manager waits before it boots by itself, or prints it",
+        long_about: Some(
+            "Sets Timeout, the seconds for which the firmware's boot manager waits before it boots by itself. Without SECONDS \
+            and --none it is printed.",
+        ),
+        after_help: "Example:\n  bootvars timeout /sys/firmware/efi/efivars 5",
+        args: &[
+            CHANGED,
+            ArgRow {
+                name: "SECONDS",
+                help: "The seconds, in decimal: none at all is 0, and 65535 waits until somebody chooses",
+                is_required: false,
+                excludes: &["none"],
+                ..ArgRow::VALUE
+            },
+            ArgRow {
+                name: "none",
+                help: "Takes Timeout out, so that firmware waits as it does by itself",
                 ..ArgRow::FLAG
             },
             DRY_RUN,
@@ -389,8 +421,8 @@ static WRITE_COMMANDS: [CommandRow; 1] = [CommandRow {
     name: "write",
     about: "Makes the boot variables of a place those of a set",
     long_about: Some(
-        "Makes Boot####, BootOrder and BootNext of a place those of a set, and prints each change. Every other \
-            variable stays as it is.",
+        "Makes Boot####, BootOrder, BootNext and Timeout of a place those of a set, and prints each change. A Timeout \
+            stays if the set has none, and so does every other variable.",
     ),
     after_help: "Example:\n  bootvars write --dry-run set /sys/firmware/efi/efivars",
     args: &[

@@ -7,7 +7,7 @@ use boot_requests::InputFormat;
 use boot_texts::{
     DigitsFault, FrameWords, FrameWordsFault, OptionWords, OptionWordsFault, attribute_bits,
     attributes_of_text, entry_of_digits, explain_json, explain_report, frame_bytes, frame_line,
-    number_of_digits, option_bytes, optional_text, single_backslashes,
+    number_of_digits, option_bytes, optional_text, seconds_of_digits, single_backslashes,
 };
 use disk_files::{disk_path, loader_path};
 use hex::FromHexError;
@@ -333,6 +333,15 @@ pub(crate) fn entries_of(alloc: Global, words: &[&str]) -> Result<Vec<u16>, Fail
 /// As of [`entries_of`].
 pub(crate) fn entry_of(alloc: Global, word: &str) -> Result<u16, Failure> {
     entry_of_digits(word).map_err(|fault| from_digits(alloc, word, fault))
+}
+
+/// The seconds that the word names.
+///
+/// # Errors
+///
+/// As of [`entries_of`].
+pub(crate) fn seconds_of(alloc: Global, word: &str) -> Result<u16, Failure> {
+    seconds_of_digits(word).map_err(|fault| from_digits(alloc, word, fault))
 }
 
 /// What it is to the program that a word isn't the number that it is to be.

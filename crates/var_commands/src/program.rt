@@ -8,7 +8,7 @@ use crate::action::{Action, Form, SetWords};
 use crate::changing::change_entries;
 use crate::command_line::{action_of, read_words};
 use crate::making::{entry_of, explain, make_frame, make_option};
-use boot_texts::{diff_json, diff_report, vars_json, vars_report};
+use boot_texts::{diff_json, diff_report, timeout_json, timeout_report, vars_json, vars_report};
 use boot_updates::{Ended, UpdateWords, update};
 use clap::error::ErrorKind;
 use place_checks::{CheckWords, Verdict, check_place};
@@ -18,9 +18,7 @@ use place_edits::{
 use std::alloc::{AllocError, Global};
 use std::rt::{Clock, Env, Files};
 use std::{env, io};
-use uefi_vars::{
-    BOOT_NEXT, BOOT_ORDER, Changes, KEEP_STATE, Vars, boot_changes, entry_number, write_set,
-};
+use uefi_vars::{Changes, KEEP_STATE, Vars, boot_changes, is_boot_name, write_set};
 use var_places::{
     Failure, FileKind, Output, Reason, SHOWN_MAX, STANDARD, Shortened, check_output, file_kind,
     has_keep_state, is_same_file, lock, name_of, print, read, read_place, write,
@@ -203,6 +201,7 @@ fn act<R: Files<File: OutputFile> + Clock + Input + Print + Eprint + AllocGlobal
             boot_only,
         } => done(make_set(rt, place, out, boot_only)),
         Action::Show { place, form } => done(show(rt, place, form)),
+        Action::ShowTimeout { place, form } => done(show_timeout(rt, place, form)),
         Action::Check(words) => check(rt, &words),
         Action::Diff { from, to, form } => diff(rt, from, to, form),
         Action::Get { place, entry, out } => {
@@ -342,11 +341,11 @@ fn write_vars<R: Files<File: OutputFile> + Input + Print + AllocGlobal>(
     write(rt, output, &bytes)
 }
 
-/// Takes out all variables but Boot####, BootOrder and BootNext.
+/// Takes out all variables but Boot####, BootOrder, BootNext and Timeout.
 fn keep_boot_variables(alloc: Global, vars: &mut Vars) -> Result<(), AllocError> {
     let mut changes = Changes::new(alloc);
     for (name, _data) in vars.iter() {
-        if entry_number(name).is_none() && name != BOOT_ORDER && name != BOOT_NEXT {
+        if !is_boot_name(name) {
             changes.remove(name)?;
         }
     }
@@ -363,6 +362,20 @@ fn show<R: Files + Input + Print + Eprint + AllocGlobal>(
     let text = match form {
         Form::Text => vars_report(rt.alloc(), &vars)?,
         Form::Json => vars_json(rt.alloc(), &vars)?,
+    };
+    print(rt, text.as_bytes())
+}
+
+/// Prints for how long the boot manager of a place waits.
+fn show_timeout<R: Files + Input + Print + Eprint + AllocGlobal>(
+    rt: &R,
+    place: &str,
+    form: Form,
+) -> Result<(), Failure> {
+    let vars = read_place(rt, place)?;
+    let text = match form {
+        Form::Text => timeout_report(rt.alloc(), &vars)?,
+        Form::Json => timeout_json(rt.alloc(), &vars)?,
     };
     print(rt, text.as_bytes())
 }

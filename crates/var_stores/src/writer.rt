@@ -31,9 +31,9 @@ const DELETED: u8 = 0xFD;
 /// What memory that wasn't written reads as.
 const BLANK: u8 = 0xFF;
 
-/// The bytes of an emulator's variable file once Boot####, BootOrder and BootNext are those of the set `to`: the others of
-/// its variables stay, and so do the bytes before and after the store. Variables of other names in the set are left alone.
-/// So is a Boot####, BootOrder or BootNext that no set can hold ([`left_out`](crate::left_out) tells it), if `to` has none
+/// The bytes of an emulator's variable file once Boot####, BootOrder, BootNext and Timeout are those of the set `to`: the
+/// others of its variables stay, and so do the bytes before and after the store. Variables of other names in the set are left alone.
+/// So is one of the boot manager's that no set can hold ([`left_out`](crate::left_out) tells it), if `to` has none
 /// of that name: its record stays as it is.
 ///
 /// The records of a variable that changes are marked as deleted, each whose state is 0x3F or 0x3E, so that none of them

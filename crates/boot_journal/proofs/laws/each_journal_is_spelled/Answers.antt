@@ -8,5 +8,5 @@ use Rattle.boot_journal.proofs.laws.each_journal_is_spelled.Goals as goal
 pub returns : goal.returns
 returns c =
     let known = c.boot_names_are_names.ensures in
-    let names : AreNames = λ name boot. boot_is_name known.entry known.order known.next name boot in
+    let names : AreNames = λ name boot. boot_is_name known.entry known.order known.next known.timeout name boot in
     λ file is. (file_bytes file, (is, refl), file_fits names file is)

@@ -9,4 +9,4 @@ pub returns-in-Err-clause-none : goal.returns-in-Err-clause-none
 returns-in-Err-clause-none c = λ none.
     let names = c.boot_names_are_names.ensures in
     false_from_ne_true (is_boot_name c.args.bytes.now)
-    (λ boot. c.in-Err.ensures.cases.0 (IsUtf8-name c.args.bytes.now (boot_is_name names.entry names.order names.next c.args.bytes.now boot)))
+    (λ boot. c.in-Err.ensures.cases.0 (IsUtf8-name c.args.bytes.now (boot_is_name names.entry names.order names.next names.timeout c.args.bytes.now boot)))

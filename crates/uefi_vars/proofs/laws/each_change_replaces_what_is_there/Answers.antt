@@ -4,3 +4,4 @@ use Rattle.uefi_vars.proofs.laws.each_change_replaces_what_is_there.Goals as goa
 pub returns : goal.returns
 returns c = λ from to. replaces from to c.order_and_next_are_no_entries.ensures.order
     c.order_and_next_are_no_entries.ensures.next c.order_and_next_are_no_entries.ensures.apart
+    c.order_and_next_are_no_entries.ensures.timeout
