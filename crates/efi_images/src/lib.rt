@@ -1,0 +1,25 @@
+//! What firmware for x86-64 asks of a file that a boot entry names, before it starts it: of PE32 and PE32+ images as UEFI
+//! 2.10, 2.1.1 uses them, in the form of Microsoft's PE/COFF specification.
+//!
+//! [`check_image`] makes firmware's checks in its order, and tells the first [`ImageFault`]: which part of firmware finds
+//! it, what comes of it, and where it is. The bytes are lent, nothing is allocated, and the work is bounded by them,
+//! whatever they state.
+//!
+//! What EDK2's loader looks at besides is not looked at here: the names in CodeView data, the resource directory, the
+//! blocks of relocations, and signatures. So a file without a fault here may still be refused.
+#![tactic(auto)]
+
+mod bytes;
+mod check;
+mod debug;
+mod fault;
+mod headers;
+mod loader;
+mod loading;
+mod section;
+mod start;
+mod wanted;
+
+pub use check::check_image;
+pub use fault::{Effect, ImageFault, Stage};
+pub use section::Section;
