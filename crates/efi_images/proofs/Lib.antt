@@ -1,3 +1,5 @@
 pub mod Firsts
 pub mod Rows
 pub mod Entries
+pub mod Told
+pub mod Passing

@@ -1,6 +1,7 @@
 -- what public contracts cite
 pub mod Checks
 pub mod Words
+pub mod InPlace
 -- what they rest on, and private contracts cite
 pub mod Bytes
 pub mod Headers

@@ -14,6 +14,7 @@ mod check;
 mod debug;
 mod fault;
 mod headers;
+pub mod laws;
 mod loader;
 mod loading;
 mod section;
