@@ -3,3 +3,5 @@ pub mod Rows
 pub mod Entries
 pub mod Told
 pub mod Passing
+pub mod Sums
+pub mod Undigested

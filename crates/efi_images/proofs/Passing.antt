@@ -6,7 +6,7 @@ use Rattle.efi_images.specs.Headers.{HasHeaders, machine, table_end, headers_siz
 use Rattle.efi_images.specs.Sections.{sections}
 use Rattle.efi_images.specs.Check.{Check, first_fault}
 use Rattle.efi_images.specs.Debug.{debug_checks}
-use Rattle.efi_images.specs.Checks.{memory_size, written_size, signature_checks, kind_checks, directory_checks, size_checks, table_checks, section_checks, memory_checks, loading_checks, relocation_checks, start_checks, boot_manager_checks, file_checks, loader_checks, image_checks}
+use Rattle.efi_images.specs.Checks.{memory_size, written_size, signature_checks, kind_checks, directory_checks, size_checks, table_checks, section_checks, memory_checks, loading_checks, relocation_checks, start_checks, boot_manager_checks, form_checks, file_checks, loader_checks, image_checks}
 use Rattle.efi_images.specs.InPlace.{IsInFile, IsInMemory, IsInPlace}
 use Rattle.efi_images.specs.declared.section.Section.{Section}
 use Rattle.efi_images.specs.declared.fault.ImageFault.{ImageFault}
@@ -81,7 +81,7 @@ record Passes (file : List ℕ) : Type 0 where
   start : first_fault (start_checks file) ≡ None
 
 passes : (file : List ℕ) → first_fault (image_checks file) ≡ None → Passes file
-unfolding boot_manager_checks file_checks loader_checks image_checks
+unfolding boot_manager_checks form_checks file_checks loader_checks image_checks
 passes file none =
     let in_file = flat_map (section_checks file) (sections file) in
     let in_memory = flat_map (loading_checks file) (sections file) in
@@ -89,7 +89,7 @@ passes file none =
     let loader = parts (boot_manager_checks file ++ file_checks file) (loader_checks file) last.0 in
     let form = parts (boot_manager_checks file) (file_checks file) loader.0 in
     let boot = parts (signature_checks file) (kind_checks file) form.0 in
-    let debug = parts (directory_checks file ++ size_checks file ++ table_checks file ++ in_file) (debug_checks file) form.1 in
+    let debug = parts (form_checks file) (debug_checks file) form.1 in
     let rows = parts (directory_checks file ++ size_checks file ++ table_checks file) in_file debug.0 in
     let table = parts (directory_checks file ++ size_checks file) (table_checks file) rows.0 in
     let size = parts (directory_checks file) (size_checks file) table.0 in

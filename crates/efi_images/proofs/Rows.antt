@@ -1,5 +1,6 @@
 -- The sections of a table, one after the other.
-use Rattle.std.proofs.Common.{◌≡◌, refl, ℕ, suc, ◌+◌, ◌-◌, ◌*◌, ◌<◌, List, [], ◌∷◌, Option, Some, None, sym, ◌∙◌, ap, arith}
+use Rattle.std.proofs.Common.{◌≡◌, refl, ℕ, suc, ◌+◌, ◌-◌, ◌*◌, ◌<◌, List, [], ◌∷◌, ◌++◌, Option, Some, None, sym, ◌∙◌, ap, arith}
+use Rattle.std.proofs.lemmas.List.{append_assoc}
 use Rattle.std.specs.Option.{option_or}
 use Rattle.std.specs.List.{flat_map}
 use Rattle.efi_images.specs.Headers.{table_place, section_count}
@@ -38,6 +39,12 @@ pub from_end : (file : List ℕ) (index : ℕ) → index ≡ section_count file 
 from_end file index e =
     let n : section_count file - index ≡ 0 = omega arith in
     rw n refl
+
+-- the section of this index comes behind those before it
+pub rows_more : (file : List ℕ) (index : ℕ) (s : Section) (before : List Section) → s ≡ section_of file index → index < section_count file
+    → before ++ from file index ≡ sections file → (before ++ (s ∷ [])) ++ from file (index + 1) ≡ sections file
+rows_more file index s before e below all =
+    append_assoc before (s ∷ []) (from file (index + 1)) ∙ ap (λ others. before ++ others) (sym (from_this file index s e below)) ∙ all
 
 -- ---- their checks
 

@@ -165,14 +165,17 @@ start_checks file =
 unfoldable pub boot_manager_checks : List ℕ → List Check
 boot_manager_checks file = signature_checks file ++ kind_checks file
 
--- what the loader asks before it takes memory: where things are in the file
-unfoldable pub file_checks : List ℕ → List Check
-file_checks file =
+-- what the loader asks of the headers and of where sections are in the file
+unfoldable pub form_checks : List ℕ → List Check
+form_checks file =
     directory_checks file
     ++ size_checks file
     ++ table_checks file
     ++ flat_map (section_checks file) (sections file)
-    ++ debug_checks file
+
+-- what the loader asks before it takes memory: where things are in the file
+unfoldable pub file_checks : List ℕ → List Check
+file_checks file = form_checks file ++ debug_checks file
 
 -- what it asks then: where things are in memory
 unfoldable pub loader_checks : List ℕ → List Check

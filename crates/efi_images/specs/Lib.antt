@@ -2,6 +2,7 @@
 pub mod Checks
 pub mod Words
 pub mod InPlace
+pub mod Digest
 -- what they rest on, and private contracts cite
 pub mod Bytes
 pub mod Headers

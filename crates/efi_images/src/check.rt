@@ -5,7 +5,7 @@ ghost use Rattle.std.specs.Result.{result_err};
 ghost use Rattle.efi_images.specs.Headers.{HasHeaders};
 ghost use Rattle.efi_images.specs.Sections.{HasTable, sections};
 ghost use Rattle.efi_images.specs.Check.{first_fault};
-ghost use Rattle.efi_images.specs.Checks.{signature_checks, kind_checks, boot_manager_checks, file_checks, loader_checks, image_checks};
+ghost use Rattle.efi_images.specs.Checks.{signature_checks, kind_checks, boot_manager_checks, form_checks, file_checks, loader_checks, image_checks};
 
 use crate::bytes::{u16_at, u32_at};
 use crate::debug::check_debug;
@@ -46,7 +46,7 @@ pub fn check_image(file: &[u8]) -> Result<(), ImageFault>
 
 /// The headers, if the boot manager takes the file for an application.
 #[tactic(auto, using(crate::proofs::Firsts::first_fault_append), unfolding(crate::specs::Checks::boot_manager_checks))]
-fn check_boot_manager(file: &[u8]) -> Result<Headers<'_>, ImageFault>
+pub(crate) fn check_boot_manager(file: &[u8]) -> Result<Headers<'_>, ImageFault>
     ensures fault { result_err result ≡ first_fault (boot_manager_checks file.now) }
     ensures headers { IfOk result (λ headers. headers ≡ file.now) }
 {
@@ -61,11 +61,21 @@ fn check_file(headers: &Headers<'_>) -> Result<(), ImageFault>
     ensures fault { result_err result ≡ first_fault (file_checks headers.now) }
     ensures table { IfOk result (λ _. HasTable headers.now) }
 {
+    check_form(headers)?;
+    check_debug(headers)
+}
+
+/// What the loader asks of the headers and of where sections are in the file.
+#[tactic(auto, using(crate::proofs::Firsts::first_fault_append), unfolding(crate::specs::Checks::form_checks))]
+pub(crate) fn check_form(headers: &Headers<'_>) -> Result<(), ImageFault>
+    ensures fault { result_err result ≡ first_fault (form_checks headers.now) }
+    ensures table { IfOk result (λ _. HasTable headers.now) }
+{
     check_directories(headers)?;
     check_sizes(headers)?;
     check_table(headers)?;
     check_sections(headers)?;
-    check_debug(headers)
+    Ok(())
 }
 
 /// What the loader asks then: where things are in memory.

@@ -3,7 +3,7 @@
 //!
 //! [`check_image`] makes firmware's checks in its order, and tells the first [`ImageFault`]: which part of firmware finds
 //! it, what comes of it, and where it is. The bytes are lent, nothing is allocated, and the work is bounded by them,
-//! whatever they state.
+//! whatever they state. [`image_digest`] is the digest by which signatures, db and dbx tell of an image.
 //!
 //! What EDK2's loader looks at besides is not looked at here: the names in CodeView data, the resource directory, the
 //! blocks of relocations, and signatures. So a file without a fault here may still be refused.
@@ -12,6 +12,8 @@
 mod bytes;
 mod check;
 mod debug;
+mod digest;
+mod digest_fault;
 mod fault;
 mod headers;
 pub mod laws;
@@ -22,5 +24,7 @@ mod start;
 mod wanted;
 
 pub use check::check_image;
+pub use digest::{DIGEST_LEN, image_digest};
+pub use digest_fault::DigestFault;
 pub use fault::{Effect, ImageFault, Stage};
 pub use section::Section;

@@ -32,7 +32,7 @@ const DIRECTORY_MAX: u32 = 16;
 const DIRECTORY_LEN: usize = 8;
 
 /// The index of the certificate table's directory.
-const CERTIFICATES: usize = 4;
+pub(crate) const CERTIFICATES: usize = 4;
 
 /// What a part of a file ends at, at most: the greatest number of four bytes.
 const END_MAX: usize = 0xFFFF_FFFF;
