@@ -5,3 +5,4 @@ pub mod Told
 pub mod Passing
 pub mod Sums
 pub mod Undigested
+pub mod Grown

@@ -3,6 +3,7 @@ pub mod Checks
 pub mod Words
 pub mod InPlace
 pub mod Digest
+pub mod Signatures
 -- what they rest on, and private contracts cite
 pub mod Bytes
 pub mod Headers

@@ -187,7 +187,7 @@ fn between(file: &[u8], start: usize, end: usize) -> &[u8]
 }
 
 /// As many bytes from an offset on as the file has.
-fn part(file: &[u8], start: usize, size: usize) -> &[u8]
+pub(crate) fn part(file: &[u8], start: usize, size: usize) -> &[u8]
     ensures { result.now ≡ part file.now start size }
 {
     let start = start.min(file.len());

@@ -3,7 +3,8 @@
 //!
 //! [`check_image`] makes firmware's checks in its order, and tells the first [`ImageFault`]: which part of firmware finds
 //! it, what comes of it, and where it is. The bytes are lent, nothing is allocated, and the work is bounded by them,
-//! whatever they state. [`image_digest`] is the digest by which signatures, db and dbx tell of an image.
+//! whatever they state. [`image_digest`] is the digest by which signatures, db and dbx tell of an image, and
+//! [`read_lists`] finds the lists of signatures in the data of these variables.
 //!
 //! What EDK2's loader looks at besides is not looked at here: the names in CodeView data, the resource directory, the
 //! blocks of relocations, and signatures. So a file without a fault here may still be refused.
@@ -20,6 +21,7 @@ pub mod laws;
 mod loader;
 mod loading;
 mod section;
+mod signatures;
 mod start;
 mod wanted;
 
@@ -28,3 +30,4 @@ pub use digest::{DIGEST_LEN, image_digest};
 pub use digest_fault::DigestFault;
 pub use fault::{Effect, ImageFault, Stage};
 pub use section::Section;
+pub use signatures::{ListFault, SignatureList, read_lists};
