@@ -26,9 +26,10 @@ CRATE = "case_runner"
 """The program that makes calls. Its sources are in the folder `program`."""
 
 LIBRARIES = (
-    "uefi_path uefi_text uefi_names uefi_option partitions uefi_vars var_stores boot_requests "
-    "whole_files boot_journal boot_edits boot_commands boot_texts var_places boot_history "
-    "machine_changes boot_updates disk_files place_edits var_commands serde_json hex anyhow"
+    "uefi_path uefi_text uefi_names uefi_option partitions efi_images uefi_vars var_stores "
+    "boot_requests whole_files boot_journal boot_edits boot_commands boot_texts var_places "
+    "boot_history machine_changes boot_updates disk_files place_edits var_commands serde_json "
+    "hex anyhow"
 )
 """What it stands on."""
 

@@ -1,0 +1,15 @@
+-- The first check that doesn't hold, of lists of checks one after the other.
+use Rattle.std.proofs.Common.{◌≡◌, refl, Bool, true, false, List, [], ◌∷◌, ◌++◌, Option, Some, if◌then◌else◌}
+use Rattle.std.specs.Option.{option_or}
+use Rattle.efi_images.specs.Check.{Check, first_fault}
+use Rattle.efi_images.specs.declared.fault.ImageFault.{ImageFault}
+
+either : (holds : Bool) (fault : ImageFault) (all rest more : Option ImageFault) → all ≡ option_or rest more
+    → (if holds then all else Some fault) ≡ option_or (if holds then rest else Some fault) more
+either true fault all rest more e = e
+either false fault all rest more e = refl
+
+-- the first of two lists is that of the first list, or else that of the second
+pub first_fault_append : (front back : List Check) → first_fault (front ++ back) ≡ option_or (first_fault front) (first_fault back)
+first_fault_append [] back = refl
+first_fault_append (c ∷ front) back = either c.holds c.otherwise _ _ _ (first_fault_append front back)

@@ -1,0 +1,8 @@
+pub mod Firsts
+pub mod Rows
+pub mod Entries
+pub mod Told
+pub mod Passing
+pub mod Sums
+pub mod Undigested
+pub mod Grown

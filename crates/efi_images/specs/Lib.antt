@@ -1,0 +1,12 @@
+-- what public contracts cite
+pub mod Checks
+pub mod Words
+pub mod InPlace
+pub mod Digest
+pub mod Signatures
+-- what they rest on, and private contracts cite
+pub mod Bytes
+pub mod Headers
+pub mod Sections
+pub mod Debug
+pub mod Check

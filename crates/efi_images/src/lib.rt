@@ -1,0 +1,33 @@
+//! What firmware for x86-64 asks of a file that a boot entry names, before it starts it: of PE32 and PE32+ images as UEFI
+//! 2.10, 2.1.1 uses them, in the form of Microsoft's PE/COFF specification.
+//!
+//! [`check_image`] makes firmware's checks in its order, and tells the first [`ImageFault`]: which part of firmware finds
+//! it, what comes of it, and where it is. The bytes are lent, nothing is allocated, and the work is bounded by them,
+//! whatever they state. [`image_digest`] is the digest by which signatures, db and dbx tell of an image, and
+//! [`read_lists`] finds the lists of signatures in the data of these variables.
+//!
+//! What EDK2's loader looks at besides is not looked at here: the names in CodeView data, the resource directory, the
+//! blocks of relocations, and signatures. So a file without a fault here may still be refused.
+#![tactic(auto)]
+
+mod bytes;
+mod check;
+mod debug;
+mod digest;
+mod digest_fault;
+mod fault;
+mod headers;
+pub mod laws;
+mod loader;
+mod loading;
+mod section;
+mod signatures;
+mod start;
+mod wanted;
+
+pub use check::check_image;
+pub use digest::{DIGEST_LEN, image_digest};
+pub use digest_fault::DigestFault;
+pub use fault::{Effect, ImageFault, Stage};
+pub use section::Section;
+pub use signatures::{ListFault, SignatureList, read_lists};
