@@ -12,7 +12,7 @@ use uefi_vars::{AtRisk, VarFault, Vars, entries_at_risk};
 
 /// What a start of firmware may do to an entry.
 #[derive(Clone, Copy, Debug, PartialEq, Eq)]
-pub enum Risk {
+pub(crate) enum Risk {
     /// It may write over the entry, which neither BootOrder nor BootNext names.
     Unnamed,
     /// It may delete the entry, which BootOrder names, and which is no load option.
@@ -57,6 +57,23 @@ pub struct EntryName(pub u16);
 impl fmt::Display for EntryName {
     fn fmt<W: fmt::Write>(&self, f: &mut fmt::Formatter<W>) -> fmt::Result {
         write!(f, "Boot{:04X}", self.0)
+    }
+}
+
+/// That an entry is in no order after a change, or will be: the words for a person.
+#[derive(Clone, Copy, Debug)]
+pub struct UnnamedWords {
+    /// The number of the entry.
+    pub entry: u16,
+    /// Whether the change is yet to be made.
+    pub is_coming: bool,
+}
+
+impl fmt::Display for UnnamedWords {
+    fn fmt<W: fmt::Write>(&self, f: &mut fmt::Formatter<W>) -> fmt::Result {
+        let name = EntryName(self.entry);
+        let will = if self.is_coming { "will be " } else { "" };
+        write!(f, "{name} {will}{}", Risk::Unnamed)
     }
 }
 

@@ -1,6 +1,6 @@
 //! What differs between two sets of variables, by `bootvars diff`.
 
-use crate::at_risk::{EntryName, NamingChange, Risk, naming_change};
+use crate::at_risk::{EntryName, NamingChange, UnnamedWords, naming_change};
 use crate::content::{Content, DataText, EntryDigits, Quoted, digits_of};
 use crate::json::{
     JsonObject, JsonWriter, Leaf, append_leaf, append_leaves, append_object, append_objects,
@@ -153,7 +153,11 @@ pub fn diff_report(alloc: Global, from: &Vars, to: &Vars) -> Result<String, Allo
 /// Appends the lines of what changes of entries in no order.
 fn append_naming(change: &NamingChange, report: &mut String) -> Result<(), AllocError> {
     for number in &change.unnamed {
-        writeln!(report, "{} {}", EntryName(*number), Risk::Unnamed)?;
+        let words = UnnamedWords {
+            entry: *number,
+            is_coming: false,
+        };
+        writeln!(report, "{words}")?;
     }
     for number in &change.named {
         writeln!(
@@ -163,6 +167,25 @@ fn append_naming(change: &NamingChange, report: &mut String) -> Result<(), Alloc
         )?;
     }
     Ok(())
+}
+
+/// Shows which of Boot####, BootOrder, BootNext and Timeout differ in two sets: as [`diff_json`] does, or as
+/// [`diff_report`] does.
+///
+/// # Errors
+///
+/// [`AllocError`] if memory was refused.
+pub fn changes_text(
+    alloc: Global,
+    from: &Vars,
+    to: &Vars,
+    json: bool,
+) -> Result<String, AllocError> {
+    if json {
+        diff_json(alloc, from, to)
+    } else {
+        diff_report(alloc, from, to)
+    }
 }
 
 /// Shows which of Boot####, BootOrder, BootNext and Timeout differ in two sets as JSON, an object on one line that ends with a

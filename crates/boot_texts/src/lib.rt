@@ -1,12 +1,12 @@
 //! What the command `bootvars` prints of boot variables and of requests, and what it makes of words: values and texts
 //! alone, with no file and no machine (UEFI specification, version 2.10, chapters 3 and 10).
 //!
-//! [`vars_report`] shows variables, [`timeout_report`] how long the boot manager waits, [`diff_report`] what differs between two sets, [`change_report`] one change, and
-//! [`explain_report`] what the frames of a script or a stream ask for, each as lines for a person. [`vars_json`],
-//! [`diff_json`] and [`explain_json`] have the same as JSON, [`reply_json`] shows the answer to an event, [`look_json`]
-//! a machine with the replies to an update of it, and [`refusal_json`] why an update wasn't made; docs/formats.md has
-//! each line and each field, and [`json`] writes them. [`naming_change`] tells which entries a change leaves in no order, of which the [`Risk`] is
-//! that a start of firmware writes over them.
+//! [`vars_report`] shows variables, [`timeout_report`] how long the boot manager waits, [`diff_report`] what differs
+//! between two sets, [`change_report`] one change, and [`explain_report`] what the frames of a script or a stream ask for,
+//! each as lines for a person. [`vars_json`], [`diff_json`] and [`explain_json`] have the same as JSON, [`reply_json`]
+//! shows the answer to an event, [`look_json`] a machine with the replies to an update of it, and [`refusal_json`] why an
+//! update wasn't made; docs/formats.md has each line and each field, and [`json`] writes them. [`naming_change`] tells
+//! which entries a change leaves in no order, and [`UnnamedWords`] says so of one.
 //!
 //! [`option_bytes`] makes a load option of words, and [`frame_bytes`] a frame, which [`frame_line`] puts into a line of
 //! a script. [`attribute_bits`], [`attributes_of_text`], [`optional_text`], [`entry_of_digits`] and
@@ -37,8 +37,8 @@ mod shown_order;
 mod shown_vars;
 mod sizes;
 
-pub use at_risk::{EntryName, NamingChange, Risk, naming_change};
-pub use changes::{change_report, diff_json, diff_report};
+pub use at_risk::{EntryName, NamingChange, UnnamedWords, naming_change};
+pub use changes::{change_report, changes_text, diff_json, diff_report};
 pub use content::EntryDigits;
 pub use description::DescriptionFault;
 pub use digits::{
@@ -49,7 +49,7 @@ pub use explain::{Explained, explain_json, explain_report, refused_script};
 pub use frame::{FrameWords, FrameWordsFault, frame_bytes, frame_line};
 pub use look::{Look, look_json};
 pub use option::{
-    Flags, OptionWords, OptionWordsFault, attribute_bits, option_bytes, optional_text,
+    Flags, OptionPaths, OptionWords, OptionWordsFault, attribute_bits, option_bytes, optional_text,
     single_backslashes,
 };
 pub use reason::{FaultReason, Sizes, open_reason, option_reason};

@@ -4,10 +4,10 @@ use crate::not_made::{NotMade, Refused};
 use crate::script::Script;
 use boot_requests::{Event, FrameFault, Request, read_frame};
 use boot_texts::EventPosition;
-use machine_changes::{left_out_entry, left_out_name};
 use std::alloc::{AllocError, Global};
 use uefi_vars::{BOOT_NEXT, BOOT_ORDER};
 use var_places::Failure;
+use wanted_changes::{LEFT_OUT, left_out_entry, left_out_name};
 
 /// Refuses the script if a request in it would change one of the variables of these names, which no set can hold. It is
 /// looked at before anything is run, so also a request is refused that was applied before.
@@ -26,9 +26,7 @@ pub(crate) fn check_requests(
     for (event, at) in script.events.iter().zip(&script.places) {
         if let Some(variable) = changed_by(alloc, event, left_out)? {
             let place = EventPosition::new(script.format, *at);
-            let fault = format!(in alloc;
-                "{place} would change {variable}, which has no value or too long a one, and stays as it is"
-            )?;
+            let fault = format!(in alloc; "{place} would change {variable}, which {LEFT_OUT}")?;
             return Err(NotMade::refused(
                 Refused::LeftOut,
                 Failure::from_run(alloc, script.name, fault.as_str()),

@@ -1,21 +1,24 @@
-//! Updates of a machine's boot variables where they are: in a folder as Linux shows them, or in an emulator's variable file
-//! (UEFI specification, version 2.10, chapter 3).
+//! Updates of a machine's boot variables by numbered requests, as they are wanted: in a folder as Linux shows variables, or
+//! in an emulator's variable file (UEFI specification, version 2.10, chapter 3).
 //!
-//! [`update`] runs numbered requests over the variables of a place, and makes what they lead to as a whole, whatever is cut
-//! off when, by [`change_machine`](machine_changes::change_machine); beside the journal it keeps digests of the frames that were
-//! applied.
+//! [`WantedRequests`] are the events of a [`Script`], which [`read_events`] reads, to be run over a machine's variables by
+//! `machine_changes`, whatever is cut off when; beside the journal it is noted which frames were applied. [`ending`] tells
+//! whether all was done, [`NotMade`] why nothing was, and [`next_number`] which request is to be applied next.
 #![tactic(auto)]
 
 mod left_out;
-mod next_number;
 mod not_made;
 mod noted;
-mod refusals;
+mod numbers;
 mod replies;
 mod requests_run;
 mod script;
-mod updates;
 mod wanted;
 
-pub use replies::{Ended, ReplyForm};
-pub use updates::{Job, UpdateWords, update};
+pub use not_made::NotMade;
+pub use noted::Noted;
+pub use numbers::next_number;
+pub use replies::{Ended, ReplyForm, ending};
+pub use requests_run::Answered;
+pub use script::{Script, read_events};
+pub use wanted::{Printing, WantedRequests};

@@ -8,9 +8,9 @@ use var_places::Failure;
 
 /// Why an update wasn't made.
 #[derive(Debug, Drop)]
-pub(crate) struct NotMade {
+pub struct NotMade {
     /// What it is to the program.
-    pub(crate) failure: Failure,
+    pub failure: Failure,
     /// What is refused, if the script or the variables are.
     refused: Option<Refused>,
 }
@@ -40,7 +40,7 @@ impl NotMade {
 
     /// What kept the update from being made: the words of a fault, without its number, or a word. This fails only when out of
     /// memory.
-    pub(crate) fn kind(&self, alloc: Global) -> Result<String, AllocError> {
+    pub fn kind(&self, alloc: Global) -> Result<String, AllocError> {
         match &self.refused {
             Some(Refused::Script(ScriptFault::BadLine(_))) => String::from_str(alloc, "BadLine"),
             Some(Refused::Script(ScriptFault::Rest(_))) => String::from_str(alloc, "Rest"),
@@ -52,7 +52,7 @@ impl NotMade {
     }
 
     /// The line or how many bytes, if the fault tells that.
-    pub(crate) fn count(&self) -> Option<u32> {
+    pub fn count(&self) -> Option<u32> {
         match &self.refused {
             Some(Refused::Script(ScriptFault::BadLine(count) | ScriptFault::Rest(count))) => {
                 u32::try_from(*count).ok()
@@ -62,7 +62,7 @@ impl NotMade {
     }
 
     /// What is to be done about it.
-    pub(crate) fn remedy(&self) -> Remedy {
+    pub fn remedy(&self) -> Remedy {
         match (&self.refused, &self.failure) {
             (Some(Refused::Script(_)), _) => Remedy::SendAgain,
             (Some(Refused::LeftOut | Refused::Open(_)), _) => Remedy::MendMachine,

@@ -5,17 +5,17 @@ ghost use Rattle.boot_updates.specs.Told.{AreToldBy};
 
 use boot_notes::{NotedRun, Notes};
 use boot_requests::{Answer, Event};
-use machine_changes::KeptNotes;
 use std::alloc::{AllocError, Global};
+use wanted_changes::KeptNotes;
 
 /// What is told of a run by notes.
 #[derive(Drop)]
-pub(crate) struct Noted {
+pub struct Noted {
     /// What was kept before the run.
-    pub(crate) before: Option<Notes>,
+    pub before: Option<Notes>,
     /// Of each event whether it is a repeat of the frame that was applied under its number, if it is a repeat and that is
     /// known.
-    pub(crate) same: Vec<Option<bool>>,
+    pub same: Vec<Option<bool>>,
 }
 
 /// Notes which frames these events applied in a run that began with this next number, by the answers to them.

@@ -30,15 +30,6 @@ pub enum Ended {
     NotAll,
 }
 
-/// A job that was done: what is to be printed of it, and how it ended.
-#[derive(Drop)]
-pub(crate) struct Finished {
-    /// What is to be printed.
-    pub(crate) text: String,
-    /// How it ended.
-    pub(crate) ended: Ended,
-}
-
 /// How replies are printed.
 #[derive(Clone, Copy, Debug, PartialEq, Eq)]
 pub enum ReplyForm {
@@ -50,89 +41,85 @@ pub enum ReplyForm {
     Look,
 }
 
-/// The answers to the events of the script as lines or as JSON, an object on a line each. The identity is the journal's, if it
-/// has one.
-///
-/// # Errors
-///
-/// [`AllocError`] if memory was refused.
-pub(crate) fn answers_text(
-    alloc: Global,
-    script: &Script<'_>,
-    answered: &Answered,
-    journal: Option<&str>,
-    json: bool,
-) -> Result<String, AllocError> {
-    if json {
-        answers_json(alloc, &told_replies(alloc, script, answered, journal)?)
-    } else {
-        answer_lines(alloc, answered)
-    }
-}
-
-/// What is said of a repeat of another frame than the one that was applied, behind its line.
+/// What is said of a repeat of another frame than the one that was applied, after its line.
 const ANOTHER: &str = " (another request)";
 
-/// The answers as lines, as `bootkeep run` prints replies, with a remark behind a repeat of another request.
-///
-/// # Errors
-///
-/// [`AllocError`] if memory was refused.
-fn answer_lines(alloc: Global, answered: &Answered) -> Result<String, AllocError> {
-    let mut text = String::new(alloc);
-    for (answer, same) in answered.answers.iter().zip(&answered.noted.same) {
-        text.push_str(&reply_line(alloc, &answer.reply)?)?;
-        if *same == Some(false) {
-            text.push_str(ANOTHER)?;
+/// The answers to the events of a script, to be printed.
+#[derive(Clone, Copy)]
+pub(crate) struct Replies<'b, 's, 'a> {
+    /// The script.
+    pub(crate) script: &'b Script<'s>,
+    /// What its events answer.
+    pub(crate) answered: &'a Answered,
+    /// The entries that they leave in no order, by rising number.
+    pub(crate) unnamed: &'a [u16],
+    /// The journal's identity, if it has one.
+    pub(crate) journal: Option<&'a str>,
+}
+
+impl<'a> Replies<'_, '_, 'a> {
+    /// The answers as lines or as JSON, an object on a line each.
+    ///
+    /// # Errors
+    ///
+    /// [`AllocError`] if memory was refused.
+    pub(crate) fn text(&self, alloc: Global, json: bool) -> Result<String, AllocError> {
+        if json {
+            self.json(alloc)
+        } else {
+            self.lines(alloc)
         }
-        text.push('\n')?;
     }
-    Ok(text)
-}
 
-/// The answers as JSON, an object on a line each.
-///
-/// # Errors
-///
-/// [`AllocError`] if memory was refused.
-fn answers_json(alloc: Global, replies: &[ToldReply<'_>]) -> Result<String, AllocError> {
-    let mut text = String::new(alloc);
-    for told in replies {
-        text.push_str(&reply_json(alloc, told)?)?;
+    /// The answers as lines, as `bootkeep run` prints replies, with a remark after a repeat of another request.
+    fn lines(&self, alloc: Global) -> Result<String, AllocError> {
+        let answered = self.answered;
+        let mut text = String::new(alloc);
+        for (answer, same) in answered.answers.iter().zip(&answered.noted.same) {
+            text.push_str(&reply_line(alloc, &answer.reply)?)?;
+            if *same == Some(false) {
+                text.push_str(ANOTHER)?;
+            }
+            text.push('\n')?;
+        }
+        Ok(text)
     }
-    Ok(text)
-}
 
-/// The answers to the events of the script, each with the next number after its event, and the last with the entries that are
-/// left in no order.
-///
-/// # Errors
-///
-/// [`AllocError`] if memory was refused.
-pub(crate) fn told_replies<'a>(
-    alloc: Global,
-    script: &Script<'_>,
-    answered: &'a Answered,
-    journal: Option<&'a str>,
-) -> Result<Vec<ToldReply<'a>>, AllocError> {
-    let mut told = Vec::with_capacity(alloc, answered.answers.len())?;
-    let mut next = answered.first;
-    let answers = answered.answers.iter().zip(&answered.noted.same);
-    for (at, (answer, same)) in script.places.iter().zip(answers) {
-        next = next_after(next, answer);
-        told.push(ToldReply {
-            place: EventPosition::new(script.format, *at),
-            answer,
-            same: *same,
-            next,
-            unnamed: None,
-            journal,
-        })?;
+    /// The answers as JSON, an object on a line each.
+    fn json(&self, alloc: Global) -> Result<String, AllocError> {
+        let mut text = String::new(alloc);
+        for told in &self.told(alloc)? {
+            text.push_str(&reply_json(alloc, told)?)?;
+        }
+        Ok(text)
     }
-    if let Some(last) = told.last_mut() {
-        last.unnamed = Some(answered.unnamed.as_slice());
+
+    /// The answers, each with the next number after its event, and the last with the entries that are left in no order.
+    ///
+    /// # Errors
+    ///
+    /// [`AllocError`] if memory was refused.
+    pub(crate) fn told(&self, alloc: Global) -> Result<Vec<ToldReply<'a>>, AllocError> {
+        let answered = self.answered;
+        let mut told = Vec::with_capacity(alloc, answered.answers.len())?;
+        let mut next = answered.first;
+        let answers = answered.answers.iter().zip(&answered.noted.same);
+        for (at, (answer, same)) in self.script.places.iter().zip(answers) {
+            next = next_after(next, answer);
+            told.push(ToldReply {
+                place: EventPosition::new(self.script.format, *at),
+                answer,
+                same: *same,
+                next,
+                unnamed: None,
+                journal: self.journal,
+            })?;
+        }
+        if let Some(last) = told.last_mut() {
+            last.unnamed = Some(self.unnamed);
+        }
+        Ok(told)
     }
-    Ok(told)
 }
 
 /// The next number after an event with this answer, if it was this before.
@@ -167,7 +154,7 @@ fn next_after_all(before: u32, answers: &[Answer]) -> u32
 }
 
 /// Whether the answers say that all was done, and no repeat is known to be of another request.
-pub(crate) fn ending(answered: &Answered) -> Ended
+pub fn ending(answered: &Answered) -> Ended
     ensures { result ≡ ended.AllDone → AllByRecursion IsNoOther answered.now.noted.same.items }
 {
     let next = next_in(answered);

@@ -9,20 +9,20 @@ use var_places::{Failure, name_of, read};
 
 /// The events of a script or a stream.
 #[derive(Drop)]
-pub(crate) struct Script<'a> {
+pub struct Script<'a> {
     /// What it is called.
-    pub(crate) name: &'a str,
+    pub name: &'a str,
     /// What it is.
-    pub(crate) format: InputFormat,
+    pub format: InputFormat,
     /// The events, in their order.
-    pub(crate) events: Vec<Event>,
+    pub events: Vec<Event>,
     /// The place of each of them, as [`EventList`] has it.
-    pub(crate) places: Vec<usize>,
+    pub places: Vec<usize>,
 }
 
 impl Script<'_> {
     /// A script without events, of no file.
-    pub(crate) fn empty(alloc: Global) -> Script<'static> {
+    pub fn empty(alloc: Global) -> Script<'static> {
         Script {
             name: "",
             format: InputFormat::Script,
@@ -38,7 +38,7 @@ impl Script<'_> {
 ///
 /// [`Failure::Read`] if it can't be read, [`Failure::Refused`] if it is too long, [`Failure::Run`] if it is no script or
 /// no stream, and [`Failure::Memory`] if memory was refused.
-pub(crate) fn read_events<'a, R: Files + Input + AllocGlobal>(
+pub fn read_events<'a, R: Files + Input + AllocGlobal>(
     rt: &R,
     path: &'a str,
     format: InputFormat,

@@ -2,19 +2,19 @@
 
 use crate::left_out::check_requests;
 use crate::not_made::{NotMade, from_run};
-use crate::replies::{Ended, Finished, ReplyForm, answers_text, ending, next_in, told_replies};
+use crate::replies::{Replies, ReplyForm, next_in};
 use crate::requests_run::{Answered, RequestsRun};
 use crate::script::Script;
 use boot_journal::{CallError, Requests, Run, RunFault};
-use boot_texts::{Look, look_json};
-use machine_changes::{KeptNotes, Seen, Wanted, changes_text, identity_digits, leave_out, set_of};
-use std::alloc::Global;
+use boot_texts::{Look, UnnamedWords, changes_text, look_json, naming_change};
+use std::alloc::{AllocError, Global};
 use uefi_vars::{KEEP_STATE, Vars};
 use var_places::Failure;
+use wanted_changes::{Remarks, Seen, SetChange, Told, Wanted, identity_digits, leave_out};
 
 /// What is printed of an update.
 #[derive(Clone, Copy, Debug)]
-pub(crate) enum Printing {
+pub enum Printing {
     /// The replies in this form.
     Replies(ReplyForm),
     /// The same, and then the changes that there would be, as `diff` shows them.
@@ -23,15 +23,15 @@ pub(crate) enum Printing {
     Next,
 }
 
-/// The events of a script, wanted of a machine.
+/// The events of a script, wanted of a machine. Standard error is told which entries they leave in no order.
 #[derive(Clone, Copy)]
-pub(crate) struct WantedRequests<'a, 'b, 's> {
-    /// The name of the place.
-    pub(crate) place: &'a str,
+pub struct WantedRequests<'a, 'b, 's> {
+    /// The path of the machine's place.
+    pub place: &'a str,
     /// The script.
-    pub(crate) script: &'b Script<'s>,
+    pub script: &'b Script<'s>,
     /// What of it is printed.
-    pub(crate) printing: Printing,
+    pub printing: Printing,
 }
 
 impl Wanted for WantedRequests<'_, '_, '_> {
@@ -43,8 +43,6 @@ impl Wanted for WantedRequests<'_, '_, '_> {
     type Answer = Answered;
 
     type Fault = RunFault;
-
-    type Told = Finished;
 
     type Refusal = NotMade;
 
@@ -62,7 +60,7 @@ impl Wanted for WantedRequests<'_, '_, '_> {
         None
     }
 
-    fn begins_notes(&self) -> bool {
+    fn has_requests(&self) -> bool {
         true
     }
 
@@ -86,26 +84,28 @@ impl Wanted for WantedRequests<'_, '_, '_> {
         &self,
         alloc: Global,
         seen: &Seen<'_>,
-        change: (&Vars, &Vars),
+        change: SetChange<'_>,
         answered: &Answered,
-    ) -> Result<Finished, Failure> {
-        match self.printing {
-            Printing::Replies(form) => Ok(Finished {
-                text: self.text(alloc, seen, change.1, (answered, form))?,
-                ended: ending(answered),
-            }),
-            Printing::Plan(form) => Ok(Finished {
-                text: self.plan(alloc, seen.notes, change, (answered, form))?,
-                ended: ending(answered),
-            }),
-            Printing::Next => {
-                let next = next_in(answered);
-                Ok(Finished {
-                    text: format!(in alloc; "{next}\n")?,
-                    ended: Ended::AllDone,
-                })
-            }
-        }
+    ) -> Result<Told, Failure> {
+        let unnamed = naming_change(alloc, change.from, change.to)?.unnamed;
+        let identity = identity_digits(alloc, seen.notes)?;
+        let journal = identity.as_deref();
+        let replies = Replies {
+            script: self.script,
+            answered,
+            unnamed: &unnamed,
+            journal,
+        };
+        let text = match self.printing {
+            Printing::Replies(ReplyForm::Look) => look_text(alloc, seen, change.to, &replies)?,
+            Printing::Replies(form) => replies.text(alloc, form != ReplyForm::Lines)?,
+            Printing::Plan(form) => plan_text(alloc, change, &replies, form != ReplyForm::Lines)?,
+            Printing::Next => format!(in alloc; "{}\n", next_in(answered))?,
+        };
+        Ok(Told {
+            text,
+            remarks: self.remarks(alloc, &unnamed, change.is_coming)?,
+        })
     }
 
     fn refusal(&self, alloc: Global, fault: RunFault) -> NotMade {
@@ -116,69 +116,53 @@ impl Wanted for WantedRequests<'_, '_, '_> {
 }
 
 impl WantedRequests<'_, '_, '_> {
-    /// What is printed in this form of a run that led to these variables.
-    fn text(
+    /// What standard error is told of the entries that are left in no order.
+    fn remarks(
         &self,
         alloc: Global,
-        seen: &Seen<'_>,
-        to: &Vars,
-        (answered, form): (&Answered, ReplyForm),
-    ) -> Result<String, Failure> {
-        match form {
-            ReplyForm::Lines => self.replies(alloc, seen.notes, answered, false),
-            ReplyForm::Json => self.replies(alloc, seen.notes, answered, true),
-            ReplyForm::Look => self.look(alloc, seen, to, answered),
+        unnamed: &[u16],
+        is_coming: bool,
+    ) -> Result<Remarks, AllocError> {
+        let mut remarks = Remarks::new(alloc);
+        for entry in unnamed {
+            let words = UnnamedWords {
+                entry: *entry,
+                is_coming,
+            };
+            remarks.push(self.place, format!(in alloc; "{words}")?)?;
         }
+        Ok(remarks)
     }
+}
 
-    /// The replies, as lines or as JSON.
-    fn replies(
-        &self,
-        alloc: Global,
-        notes: &KeptNotes,
-        answered: &Answered,
-        json: bool,
-    ) -> Result<String, Failure> {
-        let identity = identity_digits(alloc, notes)?;
-        Ok(answers_text(alloc, self.script, answered, identity.as_deref(), json)?)
-    }
+/// The replies, and what there is after them, without BootKeepState and those variables that no set can hold.
+fn look_text(
+    alloc: Global,
+    seen: &Seen<'_>,
+    to: &Vars,
+    replies: &Replies<'_, '_, '_>,
+) -> Result<String, AllocError> {
+    let mut vars = to.copy(alloc)?;
+    vars.remove(KEEP_STATE);
+    leave_out(&mut vars, seen.left_out);
+    let told = replies.told(alloc)?;
+    let look = Look {
+        next: next_in(replies.answered),
+        journal: replies.journal,
+        replies: &told,
+        vars: &vars,
+    };
+    look_json(alloc, &look)
+}
 
-    /// The replies, and what there is after a run that led to these variables, without BootKeepState and those that no set
-    /// can hold.
-    fn look(
-        &self,
-        alloc: Global,
-        seen: &Seen<'_>,
-        to: &Vars,
-        answered: &Answered,
-    ) -> Result<String, Failure> {
-        let mut kept = to.copy(alloc)?;
-        kept.remove(KEEP_STATE);
-        leave_out(&mut kept, seen.left_out);
-        let vars = set_of(alloc, self.place, &kept)?;
-        let identity = identity_digits(alloc, seen.notes)?;
-        let journal = identity.as_deref();
-        let replies = told_replies(alloc, self.script, answered, journal)?;
-        let look = Look {
-            next: next_in(answered),
-            journal,
-            replies: &replies,
-            vars: &vars,
-        };
-        Ok(look_json(alloc, &look)?)
-    }
-
-    /// The replies that there would be, and the changes.
-    fn plan(
-        &self,
-        alloc: Global,
-        notes: &KeptNotes,
-        change: (&Vars, &Vars),
-        (answered, form): (&Answered, ReplyForm),
-    ) -> Result<String, Failure> {
-        let json = form != ReplyForm::Lines;
-        let mut text = self.replies(alloc, notes, answered, json)?;
-        text.push_str(&changes_text(alloc, self.place, change, json)?)?;
-        Ok(text)
-    }
+/// The replies that there would be, and the changes.
+fn plan_text(
+    alloc: Global,
+    change: SetChange<'_>,
+    replies: &Replies<'_, '_, '_>,
+    json: bool,
+) -> Result<String, AllocError> {
+    let mut text = replies.text(alloc, json)?;
+    text.push_str(&changes_text(alloc, change.from, change.to, json)?)?;
+    Ok(text)
 }

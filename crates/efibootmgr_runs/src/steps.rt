@@ -7,12 +7,13 @@ use crate::stopped::{Step, Stopped};
 use boot_edits::{Addition, Edit, NewOrder, Position};
 use boot_texts::EntryName;
 use efibootmgr_words::Asked;
-use machine_changes::left_out_entry;
-use place_edits::{EditWords, change_place};
+use machine_changes::{ChangeOptions, PlaceKind, StateUse, change_machine};
+use place_edits::WantedEdit;
 use std::alloc::Global;
 use std::rt::{Clock, Files};
 use uefi_vars::{BOOT_NEXT, TIMEOUT};
 use var_places::{Failure, PlaceVars};
+use wanted_changes::left_out_entry;
 use whole_files::OutputFile;
 
 /// Makes each change that is asked for, in the order in which `efibootmgr` makes them.
@@ -155,22 +156,29 @@ fn refused(alloc: Global, machine: &Machine<'_>, step: Step, fault: &str) -> Sto
     Stopped::at(step, Failure::from_run(alloc, machine.place, fault))
 }
 
-/// Makes a change of boot entries.
+/// Makes a change of boot entries, and tells standard error what there is to tell of it.
 fn edit<R: Files<File: OutputFile> + Clock + Input + Print + Eprint + AllocGlobal>(
     rt: &R,
     machine: &Machine<'_>,
     step: Step,
     edit: Edit<'_>,
 ) -> Result<(), Stopped> {
-    let words = EditWords {
-        machine: machine.words(),
+    let wanted = WantedEdit {
+        place: machine.place,
         edit,
-        command: machine.command,
-        dry_run: false,
         json: false,
     };
-    match change_place(rt, &words) {
-        Ok(_) => Ok(()),
+    let options = ChangeOptions {
+        machine: machine.words(),
+        command: Some(machine.command),
+        dry_run: false,
+        state: StateUse::Made,
+    };
+    match change_machine(rt, &options, PlaceKind::Folder, &wanted) {
+        Ok(answered) => {
+            answered.told.remark(rt);
+            Ok(())
+        }
         Err(failure) => Err(Stopped::at(step, failure)),
     }
 }

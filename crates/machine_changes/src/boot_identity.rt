@@ -1,10 +1,10 @@
 //! The identity of a machine's start.
 
-use crate::machine_words::MachineWords;
 use boot_journal::BootId;
 use std::alloc::Global;
 use std::rt::Files;
 use var_places::{Failure, Quoted, Reason};
+use wanted_changes::MachineWords;
 use whole_files::read_file;
 
 /// The file in which Linux tells the identity of its start.

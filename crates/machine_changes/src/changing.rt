@@ -1,17 +1,11 @@
 //! The one way in which the boot variables of a machine are changed.
 
-ghost use Rattle.std.specs.Prelude.{IfOk, IfErr};
-ghost use Rattle.uefi_vars.specs.Vars.{Variables};
-ghost use Rattle.boot_journal.specs.Cause.{IfRefused};
-ghost use Rattle.machine_changes.specs.declared.changing.Seen.{Seen};
-
 use crate::failures::{from_settling, from_updating};
 use crate::file_changes::{changed_bytes, changed_set_bytes, settle_left};
 use crate::history::History;
 use crate::kept_run::{KeptFault, Telling, ToldAnswer, kept_command};
 use crate::kept_vars::KeptVars;
-use crate::machine_words::MachineWords;
-use crate::notes::{KeptNotes, begin_notes, notes_of};
+use crate::notes::{begin_notes, notes_of};
 use crate::opened::{
     KeptFile, OpenedPlace, open_machine, open_place, read_kept, read_kept_file, read_kept_set,
 };
@@ -28,11 +22,12 @@ use std::rc::Rc;
 use std::rt::{Clock, Files};
 use uefi_vars::Vars;
 use var_places::{Failure, lock_place, note, write};
+use wanted_changes::{MachineWords, Seen, SetChange, Told, Wanted, set_of};
 use whole_files::OutputFile;
 
-/// The words of a change.
+/// How a change is to be made.
 #[derive(Clone, Copy, Debug)]
-pub struct ChangeWords<'a> {
+pub struct ChangeOptions<'a> {
     /// The machine.
     pub machine: MachineWords<'a>,
     /// The words of the command, by which what was there before is kept: `None` if it isn't kept.
@@ -41,94 +36,18 @@ pub struct ChangeWords<'a> {
     pub dry_run: bool,
     /// What is done about the state folder.
     pub state: StateUse,
-    /// Whether a variable file is changed by the journal too, with which it is kept what requests were applied.
-    pub by_journal: bool,
-}
-
-/// What a run may know of a machine beside its variables.
-#[derive(Clone, Copy)]
-pub struct Seen<'a> {
-    /// The names of its variables of the boot manager that no set can hold.
-    pub left_out: &'a [String],
-    /// What the machine is called.
-    pub machine: &'a MachineName,
-    /// Whether its variables are in a folder, so that firmware has a say in what is stored.
-    pub is_folder: bool,
-    /// What is kept beside its journal.
-    pub notes: &'a KeptNotes,
-}
-
-/// A change that is wanted of a machine. Its variables are as a machine keeps them, with attributes.
-pub trait Wanted {
-    /// What it answers.
-    type Answer: Drop;
-
-    /// Why it refuses variables.
-    type Fault: Drop;
-
-    /// What is told of it.
-    type Told: Drop;
-
-    /// What keeps it from being made.
-    type Refusal: Drop + From<Failure>;
-
-    /// It leads from the one set to the other, with this answer.
-    ghost leads: { Self → Seen → Variables → Variables → Self.Answer → Type 0 };
-
-    /// It refuses the variables for this fault.
-    ghost refuses: { Self → Seen → Variables → Self.Fault → Type 0 };
-
-    /// Refuses a change of the variables of these names, which no set can hold, before anything is done.
-    ///
-    /// # Errors
-    ///
-    /// That it would change one of them, or that memory was refused.
-    fn check(&self, alloc: Global, left_out: &[String]) -> Result<(), Self::Refusal>;
-
-    /// The variables that it replaces, whatever they have, if there are some: also those that no set can hold.
-    fn replaced(&self) -> Option<&Vars>;
-
-    /// Whether notes with an identity are begun beside the journal, if there are none.
-    fn begins_notes(&self) -> bool;
-
-    /// What it leads to from these variables, and its answer.
-    ///
-    /// # Errors
-    ///
-    /// Its fault if it refuses the variables, and that memory was refused.
-    fn run(
-        &self,
-        alloc: Global,
-        seen: &Seen<'_>,
-        vars: &Vars,
-    ) -> Result<(Vars, Self::Answer), CallError<Self::Fault>>
-        ensures done { IfOk result (λ done. leads self.now seen.now vars.now done.0 done.1) }
-        ensures refused { IfErr result (λ error. IfRefused error (refuses self.now seen.now vars.now)) };
-
-    /// What is told of it, if it leads from the one set to the other and answers so.
-    ///
-    /// # Errors
-    ///
-    /// [`Failure::Memory`] if memory was refused, and others if it can't be told.
-    fn tell(
-        &self,
-        alloc: Global,
-        seen: &Seen<'_>,
-        change: (&Vars, &Vars),
-        answer: &Self::Answer,
-    ) -> Result<Self::Told, Failure>;
-
-    /// What keeps it from being made if it refuses variables for this fault.
-    fn refusal(&self, alloc: Global, fault: Self::Fault) -> Self::Refusal;
-
-    /// What is done once the change is made, while the machine is still locked.
-    fn end(&self, answer: &Self::Answer);
 }
 
 /// A change that is wanted of a machine of which this is known.
 #[derive(Drop)]
 struct SeenRun<'a, 's, W> {
+    /// The name of the machine's place.
+    place: &'s str,
+    /// Whether nothing is changed.
+    dry_run: bool,
+    /// The change.
     wanted: &'a W,
+    /// What is known of the machine.
     seen: &'s Seen<'s>,
 }
 
@@ -147,8 +66,6 @@ impl<W: Wanted> Run for SeenRun<'_, '_, W> {
 }
 
 impl<W: Wanted> Telling<W::Answer> for SeenRun<'_, '_, W> {
-    type Told = W::Told;
-
     ghost tells = { λ run from to answer told. Unit {0} };
 
     fn tell(
@@ -157,8 +74,15 @@ impl<W: Wanted> Telling<W::Answer> for SeenRun<'_, '_, W> {
         from: &Vars,
         to: &Vars,
         answer: &W::Answer,
-    ) -> Result<W::Told, Failure> {
-        Ok(self.wanted.tell(alloc, self.seen, (from, to), answer)?)
+    ) -> Result<Told, Failure> {
+        let from = set_of(alloc, self.place, from)?;
+        let to = set_of(alloc, self.place, to)?;
+        let change = SetChange {
+            from: &from,
+            to: &to,
+            is_coming: self.dry_run,
+        };
+        Ok(self.wanted.tell(alloc, self.seen, change, answer)?)
     }
 }
 
@@ -177,40 +101,41 @@ impl<W: Wanted> Telling<W::Answer> for SeenRun<'_, '_, W> {
 /// memory was refused.
 pub fn change_machine<R, W>(
     rt: &R,
-    words: &ChangeWords<'_>,
+    options: &ChangeOptions<'_>,
     kind: PlaceKind,
     wanted: &W,
-) -> Result<ToldAnswer<W::Answer, W::Told>, W::Refusal>
+) -> Result<ToldAnswer<W::Answer>, W::Refusal>
 where
     R: Files<File: OutputFile> + Clock + Input + Print + Eprint + AllocGlobal,
     W: Wanted,
 {
     match kind {
-        PlaceKind::Set => change_set(rt, words, wanted),
-        PlaceKind::Folder | PlaceKind::VariableFile if words.dry_run => plan(rt, words, wanted),
-        PlaceKind::VariableFile if !words.by_journal => change_file(rt, words, wanted),
-        PlaceKind::Folder | PlaceKind::VariableFile => change_by_journal(rt, words, wanted),
+        PlaceKind::Set => change_set(rt, options, wanted),
+        PlaceKind::Folder | PlaceKind::VariableFile if options.dry_run => plan(rt, options, wanted),
+        PlaceKind::VariableFile if !wanted.has_requests() => change_file(rt, options, wanted),
+        PlaceKind::Folder | PlaceKind::VariableFile => change_by_journal(rt, options, wanted),
     }
 }
 
 /// What the change would be, once what is left of earlier updates is done.
 fn plan<R, W>(
     rt: &R,
-    words: &ChangeWords<'_>,
+    options: &ChangeOptions<'_>,
     wanted: &W,
-) -> Result<ToldAnswer<W::Answer, W::Told>, W::Refusal>
+) -> Result<ToldAnswer<W::Answer>, W::Refusal>
 where
     R: Files + Input + Eprint + AllocGlobal,
     W: Wanted,
 {
-    let machine = &words.machine;
+    let machine = &options.machine;
     let mut kept = read_kept(rt, machine)?;
     prepare(rt.alloc(), wanted, &mut kept)?;
-    let SettledMachine { settled, notes } = settled(rt, words, &kept)?;
+    let by_journal = kept.is_folder || wanted.has_requests();
+    let SettledMachine { settled, notes } = settled(rt, machine, &kept, by_journal)?;
     if settled.is_due {
         tell_of_due(rt, machine.state);
     }
-    Ok(led_of(rt, words, wanted, &kept, (&settled.vars, notes))?.answered)
+    Ok(led_of(rt, options, wanted, &kept, (&settled.vars, notes))?.answered)
 }
 
 /// Takes what the change replaces out of what can't be held, and refuses one of the rest of that.
@@ -225,38 +150,39 @@ fn prepare<W: Wanted>(alloc: Global, wanted: &W, kept: &mut KeptVars) -> Result<
 /// counts as none otherwise.
 fn settled<R: Files + Eprint + AllocGlobal>(
     rt: &R,
-    words: &ChangeWords<'_>,
+    machine: &MachineWords<'_>,
     kept: &KeptVars,
+    by_journal: bool,
 ) -> Result<SettledMachine, Failure> {
-    if kept.is_folder || words.by_journal {
-        settled_machine(rt, &words.machine, kept)
+    if by_journal {
+        settled_machine(rt, machine, kept)
     } else {
-        settled_file(rt, &words.machine, kept)
+        settled_file(rt, machine, kept)
     }
 }
 
 /// What a change leads to.
 #[derive(Drop)]
-struct Led<A, T> {
+struct Led<A> {
     /// The variables.
     to: Vars,
     /// What it answers, and what is told of it.
-    answered: ToldAnswer<A, T>,
+    answered: ToldAnswer<A>,
 }
 
 /// What the change leads to from these variables of the machine, which keeps this, and has these notes beside its journal.
 fn led_of<R, W>(
     rt: &R,
-    words: &ChangeWords<'_>,
+    options: &ChangeOptions<'_>,
     wanted: &W,
     kept: &KeptVars,
     (vars, notes): (&Vars, Option<Notes>),
-) -> Result<Led<W::Answer, W::Told>, W::Refusal>
+) -> Result<Led<W::Answer>, W::Refusal>
 where
     R: Files + AllocGlobal,
     W: Wanted,
 {
-    let name = name_of_machine(rt, &words.machine, kept.is_folder)?;
+    let name = name_of_machine(rt, &options.machine, kept.is_folder)?;
     let notes = RefCell::new(notes);
     let seen = Seen {
         left_out: &kept.left_out,
@@ -264,19 +190,25 @@ where
         is_folder: kept.is_folder,
         notes: &notes,
     };
-    led_from(rt.alloc(), wanted, &seen, vars)
+    let run = SeenRun {
+        place: options.machine.place,
+        dry_run: options.dry_run,
+        wanted,
+        seen: &seen,
+    };
+    led_from(rt.alloc(), &run, vars)
 }
 
 /// What the change leads to from these variables.
 fn led_from<W: Wanted>(
     alloc: Global,
-    wanted: &W,
-    seen: &Seen<'_>,
+    run: &SeenRun<'_, '_, W>,
     vars: &Vars,
-) -> Result<Led<W::Answer, W::Told>, W::Refusal> {
-    match wanted.run(alloc, seen, vars) {
+) -> Result<Led<W::Answer>, W::Refusal> {
+    let wanted = run.wanted;
+    match wanted.run(alloc, run.seen, vars) {
         Ok((to, answer)) => {
-            let told = wanted.tell(alloc, seen, (vars, &to), &answer)?;
+            let told = run.tell(alloc, vars, &to, &answer)?;
             Ok(Led {
                 to,
                 answered: ToldAnswer { answer, told },
@@ -290,22 +222,22 @@ fn led_from<W: Wanted>(
 /// Makes the change by the journal.
 fn change_by_journal<R, W>(
     rt: &R,
-    words: &ChangeWords<'_>,
+    options: &ChangeOptions<'_>,
     wanted: &W,
-) -> Result<ToldAnswer<W::Answer, W::Told>, W::Refusal>
+) -> Result<ToldAnswer<W::Answer>, W::Refusal>
 where
     R: Files<File: OutputFile> + Clock + Input + Print + Eprint + AllocGlobal,
     W: Wanted,
 {
-    let machine = &words.machine;
-    let folder = state_folder(rt, machine, words.state)?;
+    let machine = &options.machine;
+    let folder = state_folder(rt, machine, options.state)?;
     let mut opened = open_place(rt, machine)?;
     if let Some(replaced) = wanted.replaced() {
         opened.let_go(replaced);
     }
     wanted.check(rt.alloc(), opened.left_out())?;
     let name = name_of_machine(rt, machine, opened.is_folder())?;
-    let answered = change_opened(rt, words, (opened, &name), (wanted, folder.journal()))?;
+    let answered = change_opened(rt, options, (opened, &name), (wanted, folder.journal()))?;
     wanted.end(&answered.answer);
     Ok(answered)
 }
@@ -314,19 +246,19 @@ where
 /// locked.
 fn change_opened<R, W>(
     rt: &R,
-    words: &ChangeWords<'_>,
+    options: &ChangeOptions<'_>,
     (opened, name): (OpenedPlace<R::File>, &MachineName),
     (wanted, journal_path): (&W, &str),
-) -> Result<ToldAnswer<W::Answer, W::Told>, W::Refusal>
+) -> Result<ToldAnswer<W::Answer>, W::Refusal>
 where
     R: Files<File: OutputFile> + Clock + Input + Print + Eprint + AllocGlobal,
     W: Wanted,
 {
-    let machine = &words.machine;
+    let machine = &options.machine;
     let is_folder = opened.is_folder();
     let left_out = opened.copy_left_out(rt.alloc())?;
     let (mut kept, boot) = open_machine(rt, machine, opened, journal_path)?;
-    if wanted.begins_notes() {
+    if wanted.has_requests() {
         begin_notes(rt, &kept)?;
     }
     let notes = notes_of(kept.storage())?;
@@ -337,10 +269,12 @@ where
         notes: &notes,
     };
     let run = SeenRun {
+        place: machine.place,
+        dry_run: false,
         wanted,
         seen: &seen,
     };
-    let history = history_of(words, name);
+    let history = history_of(options, name);
     kept_command(rt, &mut kept, &run, &run, history, &boot).map_err(|error| from_command(
         rt.alloc(),
         machine,
@@ -350,11 +284,11 @@ where
 }
 
 /// Where what was there before a change of the machine of this name is kept.
-fn history_of<'a, 'm>(words: &ChangeWords<'a>, name: &'m MachineName) -> History<'a, 'm> {
+fn history_of<'a, 'm>(options: &ChangeOptions<'a>, name: &'m MachineName) -> History<'a, 'm> {
     History {
-        state: words.machine.state,
+        state: options.machine.state,
         machine: name,
-        command: words.command,
+        command: options.command,
     }
 }
 
@@ -379,18 +313,18 @@ fn from_command<W: Wanted>(
 /// Makes the change in a variable file, which is replaced as a whole.
 fn change_file<R, W>(
     rt: &R,
-    words: &ChangeWords<'_>,
+    options: &ChangeOptions<'_>,
     wanted: &W,
-) -> Result<ToldAnswer<W::Answer, W::Told>, W::Refusal>
+) -> Result<ToldAnswer<W::Answer>, W::Refusal>
 where
     R: Files<File: OutputFile> + Clock + Input + Print + Eprint + AllocGlobal,
     W: Wanted,
 {
-    let state = file_state(rt, &words.machine, words.state)?;
+    let state = file_state(rt, &options.machine, options.state)?;
     if let Some(folder) = &state {
-        settle_left(rt, &words.machine, folder.journal())?;
+        settle_left(rt, &options.machine, folder.journal())?;
     }
-    let answered = change_locked_file(rt, words, wanted, state.is_some())?;
+    let answered = change_locked_file(rt, options, wanted, state.is_some())?;
     wanted.end(&answered.answer);
     Ok(answered)
 }
@@ -399,23 +333,23 @@ where
 /// what was there before.
 fn change_locked_file<R, W>(
     rt: &R,
-    words: &ChangeWords<'_>,
+    options: &ChangeOptions<'_>,
     wanted: &W,
     is_kept: bool,
-) -> Result<ToldAnswer<W::Answer, W::Told>, W::Refusal>
+) -> Result<ToldAnswer<W::Answer>, W::Refusal>
 where
     R: Files<File: OutputFile> + Clock + Input + Print + Eprint + AllocGlobal,
     W: Wanted,
 {
-    let machine = &words.machine;
+    let machine = &options.machine;
     let output = lock_place(rt, machine.place)?;
     let KeptFile { bytes, mut kept } = read_kept_file(rt, machine)?;
     prepare(rt.alloc(), wanted, &mut kept)?;
-    let Led { to, answered } = led_of(rt, words, wanted, &kept, (&kept.vars, None))?;
+    let Led { to, answered } = led_of(rt, options, wanted, &kept, (&kept.vars, None))?;
     if let Some(bytes) = changed_bytes(rt.alloc(), machine.place, (&bytes, &kept), &to)? {
         if is_kept {
             let name = name_of_machine(rt, machine, false)?;
-            keep_before(rt, machine, (&name, words.command), (&kept.vars, &to))?;
+            keep_before(rt, machine, (&name, options.command), (&kept.vars, &to))?;
         }
         write(rt, output, &bytes)?;
     }
@@ -426,24 +360,24 @@ where
 /// standard error that it is one.
 fn change_set<R, W>(
     rt: &R,
-    words: &ChangeWords<'_>,
+    options: &ChangeOptions<'_>,
     wanted: &W,
-) -> Result<ToldAnswer<W::Answer, W::Told>, W::Refusal>
+) -> Result<ToldAnswer<W::Answer>, W::Refusal>
 where
     R: Files<File: OutputFile> + Input + Print + Eprint + AllocGlobal,
     W: Wanted,
 {
-    let place = words.machine.place;
+    let place = options.machine.place;
     note(
         rt,
         place,
         "it is a set file: this changes a file, and no machine",
     );
-    if words.dry_run {
-        return Ok(led_of_set(rt, words, wanted)?.answered);
+    if options.dry_run {
+        return Ok(led_of_set(rt, options, wanted)?.answered);
     }
     let output = lock_place(rt, place)?;
-    let LedSet { bytes, answered } = led_of_set(rt, words, wanted)?;
+    let LedSet { bytes, answered } = led_of_set(rt, options, wanted)?;
     if let Some(bytes) = bytes {
         write(rt, output, &bytes)?;
     }
@@ -453,27 +387,27 @@ where
 
 /// What a change leads to in a set file.
 #[derive(Drop)]
-struct LedSet<A, T> {
+struct LedSet<A> {
     /// What the file is to be: `None` if the change changes nothing.
     bytes: Option<Vec<u8>>,
     /// What the change answers, and what is told of it.
-    answered: ToldAnswer<A, T>,
+    answered: ToldAnswer<A>,
 }
 
 /// What the change leads to in the set file.
 fn led_of_set<R, W>(
     rt: &R,
-    words: &ChangeWords<'_>,
+    options: &ChangeOptions<'_>,
     wanted: &W,
-) -> Result<LedSet<W::Answer, W::Told>, W::Refusal>
+) -> Result<LedSet<W::Answer>, W::Refusal>
 where
     R: Files + Input + AllocGlobal,
     W: Wanted,
 {
-    let place = words.machine.place;
+    let place = options.machine.place;
     let KeptFile { bytes, mut kept } = read_kept_set(rt, place)?;
     prepare(rt.alloc(), wanted, &mut kept)?;
-    let Led { to, answered } = led_of(rt, words, wanted, &kept, (&kept.vars, None))?;
+    let Led { to, answered } = led_of(rt, options, wanted, &kept, (&kept.vars, None))?;
     Ok(LedSet {
         bytes: changed_set_bytes(rt.alloc(), place, (&bytes, &kept), &to)?,
         answered,

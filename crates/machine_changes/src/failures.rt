@@ -1,10 +1,10 @@
 //! What keeps a change from being made, in words.
 
-use crate::machine_words::MachineWords;
 use boot_journal::{CallError, UpdateError};
 use std::alloc::Global;
 use std::fmt::{self, Display};
 use var_places::Failure;
+use wanted_changes::MachineWords;
 
 /// Why a move was refused.
 #[derive(Clone, Copy)]

@@ -2,17 +2,16 @@
 
 use crate::failures::from_settling;
 use crate::kept_vars::KeptVars;
-use crate::machine_words::MachineWords;
 use crate::opened::{open_machine, open_place};
 use crate::standing::is_left_to;
 use crate::state_folder::{lock_folder, stored_journal};
-use crate::told::set_of;
 use crate::values::set_value;
 use boot_journal::settle;
 use std::alloc::Global;
 use std::rt::Files;
 use uefi_vars::{Vars, boot_changes, write_set};
 use var_places::{Failure, changed_variable_file, set_vars};
+use wanted_changes::{MachineWords, set_of};
 use whole_files::OutputFile;
 
 /// Does what an earlier update of the machine in a variable file has left to do, by the journal at this path. Another machine's

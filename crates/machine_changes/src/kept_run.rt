@@ -6,6 +6,7 @@ ghost use Rattle.uefi_vars.specs.BootChange.{changes_from};
 ghost use Rattle.uefi_vars.specs.Vars.{Variables};
 ghost use Rattle.boot_journal.specs.Cause.{IfRefused};
 ghost use Rattle.machine_changes.specs.KeptFault.{IsUnprepared};
+ghost use Rattle.wanted_changes.specs.declared.told.Told.{Told};
 
 use crate::history::History;
 use boot_journal::{BootId, CallError, CommandError, Machine, Run, UpdateError, command};
@@ -13,33 +14,45 @@ use std::alloc::Global;
 use std::rt::{Clock, Files};
 use uefi_vars::Vars;
 use var_places::Failure;
+use wanted_changes::Told;
 use whole_files::OutputFile;
 
 /// What is to be told of a run with such an answer. It is made before anything is changed: afterwards a refusal of memory
 /// would tell of a change that was made as if it weren't.
 pub(crate) trait Telling<A> {
-    /// What is told.
-    type Told: Drop;
-
     /// This is told of a run from the one set of variables to the other, which answers so.
-    ghost tells: { Self → Variables → Variables → A → Self.Told → Type 0 };
+    ghost tells: { Self → Variables → Variables → A → Told → Type 0 };
 
     /// What is told of a run from the one set of variables to the other, as a machine keeps them, which answers so.
     ///
     /// # Errors
     ///
     /// [`Failure::Memory`] if memory was refused, and others if it can't be told.
-    fn tell(&self, alloc: Global, from: &Vars, to: &Vars, answer: &A) -> Result<Self::Told, Failure>
+    fn tell(&self, alloc: Global, from: &Vars, to: &Vars, answer: &A) -> Result<Told, Failure>
         ensures { IfOk result (tells self.now from.now to.now answer.now) };
 }
 
 /// What a run answers, and what is told of it.
 #[derive(Drop)]
-pub struct ToldAnswer<A, T> {
+pub struct ToldAnswer<A> {
     /// What it answers.
     pub answer: A,
     /// What is told.
-    pub told: T,
+    pub told: Told,
+}
+
+impl<A: Drop> ToldAnswer<A> {
+    /// Tells what is told of the run, on standard error and on standard output, and gives what it answers.
+    ///
+    /// # Errors
+    ///
+    /// [`Failure::Write`] and [`Failure::Closed`] if it can't be printed.
+    pub fn give<R: Print + Eprint + AllocGlobal>(self, rt: &R) -> Result<A, Failure> {
+        let ToldAnswer { answer, told } = self;
+        told.remark(rt);
+        told.print(rt)?;
+        Ok(answer)
+    }
 }
 
 /// Why such a change isn't made of variables.
@@ -74,7 +87,7 @@ where
 {
     ghost use Rattle.machine_changes.specs.KeptFault.{IsKeptFault, LeadsToChange};
 
-    type Answer = ToldAnswer<Q::Answer, T::Told>;
+    type Answer = ToldAnswer<Q::Answer>;
 
     type Fault = KeptFault<Q::Fault>;
 
@@ -88,7 +101,7 @@ where
         &self,
         alloc: Global,
         vars: &Vars,
-    ) -> Result<(Vars, ToldAnswer<Q::Answer, T::Told>), CallError<KeptFault<Q::Fault>>> {
+    ) -> Result<(Vars, ToldAnswer<Q::Answer>), CallError<KeptFault<Q::Fault>>> {
         match self.run.run(alloc, vars) {
             Ok((to, answer)) => match self.prepare(alloc, vars, &to, &answer) {
                 Ok(told) => Ok((to, ToldAnswer { answer, told })),
@@ -113,7 +126,7 @@ where
         from: &Vars,
         to: &Vars,
         answer: &Q::Answer,
-    ) -> Result<T::Told, CallError<KeptFault<Q::Fault>>>
+    ) -> Result<Told, CallError<KeptFault<Q::Fault>>>
         ensures told { IfOk result (T.tells self.now.telling.now from.now to.now answer.now) }
         ensures refused { IfErr result (λ error. IfRefused error (IsUnprepared (changes_from from.now to.now ≢ []))) }
     {
@@ -147,7 +160,7 @@ pub(crate) fn kept_command<R, M, Q, T>(
     telling: &T,
     history: History<'_, '_>,
     boot: &BootId,
-) -> Result<ToldAnswer<Q::Answer, T::Told>, CommandError<M::Refusal, KeptFault<Q::Fault>>>
+) -> Result<ToldAnswer<Q::Answer>, CommandError<M::Refusal, KeptFault<Q::Fault>>>
 where
     R: Files<File: OutputFile> + Clock + AllocGlobal,
     M: Machine,

@@ -4,6 +4,7 @@ use boot_journal::{AttributesFault, with_attributes};
 use std::alloc::{AllocError, Global};
 use uefi_vars::{ATTRIBUTES_LEN, BOOT_ATTRIBUTES, DATA_MAX, Vars, entry_number, is_boot_name};
 use var_places::{Failure, PlaceVars};
+use wanted_changes::leave_out;
 
 /// The variables of a machine, as it keeps them.
 #[derive(Drop)]
@@ -73,13 +74,6 @@ fn long_names(alloc: Global, vars: &Vars) -> Result<Vec<String>, AllocError> {
         }
     }
     Ok(names)
-}
-
-/// Takes the variables of these names out.
-pub fn leave_out(vars: &mut Vars, names: &[String]) {
-    for name in names {
-        vars.remove(name.as_str());
-    }
 }
 
 /// Puts data that stands for that of the entries of these names into the set.

@@ -2,7 +2,7 @@
 //! (UEFI specification, version 2.10, chapter 3).
 //!
 //! All go one way, [`change_machine`]: it opens and locks the place, does what an earlier change has left to do, runs what is
-//! [`Wanted`] over the variables, makes what is told of it, keeps what is there so that the change can be undone, and makes
+//! [`Wanted`](wanted_changes::Wanted) over the variables, makes what is told of it, keeps what is there so that the change can be undone, and makes
 //! the change, as a whole, whatever is cut off when. For that a folder of its own has the journal: it is `boot_journal`'s
 //! [`command`](boot_journal::command) over storage that is the place and that folder. [`settle_machine`] only does what is
 //! left to do. [`kind_of_place`] tells what a place is, and [`name_of_machine`] what its machine is called.
@@ -15,8 +15,6 @@ mod file_changes;
 mod history;
 mod kept_run;
 mod kept_vars;
-mod left_out;
-mod machine_words;
 mod moves;
 mod notes;
 mod opened;
@@ -30,17 +28,12 @@ mod told;
 mod values;
 mod variable_file;
 
-pub use changing::{ChangeWords, Seen, Wanted, change_machine};
+pub use changing::{ChangeOptions, change_machine};
 pub use file_changes::settle_machine;
 pub use kept_run::ToldAnswer;
-pub use kept_vars::leave_out;
-pub use left_out::{left_out_entry, left_out_name};
-pub use machine_words::MachineWords;
-pub use notes::{KeptNotes, digits_of, identity_digits};
 pub use owner::name_of_machine;
 pub use place_kind::{PlaceKind, kind_of_place};
 pub use state_folder::{StateFolder, StoredJournal, journal_path, lock_folder, stored_with_notes};
 pub use state_use::StateUse;
 pub use storage::from_change;
-pub use told::{changes_text, set_of, tell_of_coming, tell_of_unnamed};
 pub use values::set_value;

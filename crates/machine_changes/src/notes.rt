@@ -4,20 +4,16 @@ use crate::opened::Machine as PlaceMachine;
 use crate::storage::PlaceStorage;
 use boot_journal::Machine;
 use boot_notes::{IDENTITY_LEN, Notes};
-use std::alloc::{AllocError, Global};
-use std::cell::RefCell;
 use std::fs::{File, OpenFile};
 use std::io::Read;
 use std::rc::Rc;
 use std::rt::Files;
 use var_places::Failure;
+use wanted_changes::KeptNotes;
 use whole_files::OutputFile;
 
 /// What draws identities.
 const RANDOM: &str = "/dev/urandom";
-
-/// The notes beside a journal, which a run adds to, and which the storage writes with the journal: `None` if there are none.
-pub type KeptNotes = RefCell<Option<Notes>>;
 
 /// Notes with a new identity, if the system draws one.
 fn new_notes<R: Files + AllocGlobal>(rt: &R) -> Option<Notes> {
@@ -25,22 +21,6 @@ fn new_notes<R: Files + AllocGlobal>(rt: &R) -> Option<Notes> {
     let mut source = File::open(rt, RANDOM).ok()?;
     source.read_exact(&mut identity).ok()?;
     Some(Notes::new(rt.alloc(), identity))
-}
-
-/// The identity in hexadecimal digits, if there are notes. This fails only when out of memory.
-pub fn identity_digits(alloc: Global, notes: &KeptNotes) -> Result<Option<String>, AllocError> {
-    match notes.try_borrow() {
-        Ok(notes) => digits_of(alloc, (*notes).as_ref()),
-        Err(_) => Ok(None),
-    }
-}
-
-/// The identity of these notes in hexadecimal digits. This fails only when out of memory.
-pub fn digits_of(alloc: Global, notes: Option<&Notes>) -> Result<Option<String>, AllocError> {
-    match notes {
-        Some(notes) => Ok(Some(hex::encode(alloc, &notes.identity())?)),
-        None => Ok(None),
-    }
 }
 
 /// Begins notes beside the journal of the machine, with an identity, if there are none and the system draws one.

@@ -3,7 +3,6 @@
 use crate::boot_identity::boot_id;
 use crate::history::copies;
 use crate::kept_vars::{KeptVars, kept_of};
-use crate::machine_words::MachineWords;
 use crate::moves::Moves;
 use crate::owner::{identity_of, own_journal};
 use crate::state_folder::{StoredJournal, stored_with_notes};
@@ -20,6 +19,7 @@ use var_places::{
     lock_place_file, lock_place_folder, name_of, no_place, read_folder, read_variables, set_vars,
     variable_file,
 };
+use wanted_changes::MachineWords;
 use whole_files::OutputFile;
 
 /// A machine in a place, with its journal.

@@ -1,6 +1,5 @@
 //! Whose a journal is.
 
-use crate::machine_words::MachineWords;
 use crate::storage::PlaceStorage;
 use boot_journal::{AttributesFault, Journal, JournalFile, MachineName};
 use std::alloc::Global;
@@ -8,6 +7,7 @@ use std::io;
 use std::rt::Files;
 use uefi_vars::Vars;
 use var_places::{Failure, MachineIdentity, PRODUCT_UUID, Quoted, machine_identity};
+use wanted_changes::MachineWords;
 use whole_files::OutputFile;
 
 /// What a machine is called.

@@ -6,7 +6,6 @@ ghost use Rattle.boot_journal.specs.Store.{with_state, stands_for};
 
 use crate::boot_identity::boot_id;
 use crate::kept_vars::KeptVars;
-use crate::machine_words::MachineWords;
 use crate::owner::{Names, OwnJournal, Owner, identity_of};
 use crate::state_folder::{StoredJournal, journal_path, stored_with_notes};
 use crate::values::set_value;
@@ -17,6 +16,7 @@ use std::io::ErrorKind;
 use std::rt::Files;
 use uefi_vars::{KEEP_STATE, Vars};
 use var_places::{Failure, note};
+use wanted_changes::MachineWords;
 
 /// What a machine stands for: its variables once what an earlier update has left to do is done.
 #[derive(Drop)]

@@ -1,7 +1,6 @@
 //! The state folder of a change, and what is kept in it of what was there before.
 
 use crate::history::History;
-use crate::machine_words::MachineWords;
 use crate::state_folder::{StateFolder, lock_folder};
 use boot_history::make_state_folder;
 use boot_journal::{CallError, MachineName};
@@ -9,6 +8,7 @@ use std::fs;
 use std::rt::{Clock, Files};
 use uefi_vars::Vars;
 use var_places::{Failure, note};
+use wanted_changes::MachineWords;
 use whole_files::OutputFile;
 
 /// What is done about a state folder that isn't there.

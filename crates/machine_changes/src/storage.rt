@@ -1,7 +1,6 @@
 //! A place and a journal, as what a machine's updates are made in.
 
 use crate::moves::{Moves, Way};
-use crate::notes::KeptNotes;
 use crate::owner::Identity;
 use crate::variable_file::{DueChange, is_in_file, write_due};
 use boot_journal::{CallError, Change, Journal, Storage, write_journal};
@@ -13,6 +12,7 @@ use std::rt::Files;
 use var_places::{
     ChangeFault, Failure, Folder, KeptChange, Reason, change_variable, has_value, set_variable,
 };
+use wanted_changes::KeptNotes;
 use whole_files::{FileLock, LIMIT, OutputFile, RegularFile, read_regular, replace_file};
 
 /// Where the variables of a machine are.

@@ -9,9 +9,9 @@ ghost use Rattle.place_edits.specs.Takeable.{IsTaken};
 use crate::takeable::{Takeable, taken};
 use boot_edits::Restore;
 use boot_journal::Run;
-use machine_changes::Seen;
 use std::alloc::{AllocError, Global};
 use uefi_vars::{Vars, entry_number};
+use wanted_changes::Seen;
 
 /// What the machine of which this is known, and which keeps these variables, is to have of what is wanted: what no set can hold
 /// stays, and of the rest it is what firmware takes. This fails only when out of memory.

@@ -1,10 +1,10 @@
 //! Changes of variables that no set can hold, and that so stay as they are.
 
 use boot_edits::{Addition, Edit, NewOrder, Position};
-use machine_changes::{left_out_entry, left_out_name};
 use std::alloc::Global;
 use uefi_vars::{BOOT_NEXT, BOOT_ORDER, TIMEOUT};
 use var_places::Failure;
+use wanted_changes::{LEFT_OUT, left_out_entry, left_out_name};
 
 /// Refuses a change of one of the variables of these names, which no set can hold, in the place of this name.
 ///
@@ -20,7 +20,7 @@ pub(crate) fn check_edit(
     let Some(variable) = changed_by(edit, left_out) else {
         return Ok(());
     };
-    let fault = format!(in alloc; "{variable} has no value or too long a one, and stays as it is")?;
+    let fault = format!(in alloc; "{variable} {LEFT_OUT}")?;
     Err(Failure::from_run(alloc, place, fault.as_str()))
 }
 

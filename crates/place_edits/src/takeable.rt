@@ -7,7 +7,6 @@ ghost use Rattle.uefi_vars.specs.Attributes.{attributes_len};
 ghost use Rattle.uefi_vars.specs.Name.{order_text, next_text};
 ghost use Rattle.place_edits.specs.Takeable.{IsNoOption, IsRefused, IsOut, AreOut, IsChangedAt, IsWithout, IsTaken};
 
-use crate::told::Notes;
 use boot_texts::{EntryName, option_reason};
 use std::alloc::{AllocError, Global};
 use uefi_option::check_option;
@@ -16,14 +15,15 @@ use uefi_vars::{
     ATTRIBUTES_LEN, BOOT_NEXT, BOOT_ORDER, TIMEOUT, Vars, entry_number, laws as vars_laws,
 };
 use var_places::{Failure, Reason};
+use wanted_changes::Remarks;
 
 /// What a place is to have, as far as firmware takes it.
 #[derive(Drop)]
-pub(crate) struct Takeable {
-    /// The variables.
-    pub(crate) vars: Vars,
+pub struct Takeable {
+    /// The variables, as a machine keeps them.
+    pub vars: Vars,
     /// The entries that are left out, by rising number.
-    pub(crate) missing: Vec<u16>,
+    pub missing: Vec<u16>,
 }
 
 /// What firmware takes of variables that are wanted where others are there, both as a machine keeps them, with attributes:
@@ -38,14 +38,14 @@ pub(crate) fn taken(alloc: Global, there: &Vars, wanted: Vars) -> Result<Takeabl
     Ok(Takeable { vars, missing })
 }
 
-/// Notes of each entry of a set that is left out why. The file or the folder of this name has the set.
+/// Remarks of each entry of a set that is left out why. The file or the folder of this name has the set.
 ///
 /// # Errors
 ///
 /// [`AllocError`] if memory was refused.
-pub(crate) fn note_missing(
+pub(crate) fn remark_missing(
     alloc: Global,
-    notes: &mut Notes,
+    remarks: &mut Remarks,
     name: &str,
     (set, missing): (&Vars, &[u16]),
 ) -> Result<(), AllocError> {
@@ -55,7 +55,7 @@ pub(crate) fn note_missing(
         {
             let entry = EntryName(*entry);
             let reason = option_reason(data, &fault);
-            notes.push(
+            remarks.push(
                 name,
                 format!(in alloc;
                     "{entry} is left out, which firmware refuses: it is no load option: {reason}"

@@ -1,19 +1,15 @@
-//! The command `undo`, which brings back what was there before the last change of a machine.
+//! Undoings that are wanted of a machine.
 
-use crate::takeable::note_missing;
-use crate::told::{Notes, Told};
+use crate::takeable::remark_missing;
 use crate::undo_run::{ChangedSince, UndoFault, UndoRun, Undone, call_error};
-use crate::written::Written;
 use boot_history::{records_to_undo, remove, time_text};
 use boot_journal::{CallError, Run};
-use machine_changes::{
-    ChangeWords, MachineWords, PlaceKind, Seen, StateUse, ToldAnswer, Wanted, change_machine,
-    changes_text, kind_of_place, set_of,
-};
+use boot_texts::changes_text;
 use std::alloc::Global;
-use std::rt::{Clock, Files};
+use std::rt::Files;
 use uefi_vars::Vars;
 use var_places::{Failure, note, print};
+use wanted_changes::{MachineWords, Remarks, Seen, SetChange, Told, Wanted, set_of};
 use whole_files::OutputFile;
 
 /// The words of an undoing.
@@ -29,48 +25,14 @@ pub struct UndoWords<'a> {
     pub json: bool,
 }
 
-/// Brings back what was there before the last change of a machine that is kept in the state folder, and prints the changes
-/// as `diff` does: over a folder by the journal, so that a cut leaves the old variables or the new ones. Entries that firmware
-/// refuses are left out, which is told. What an earlier update has left to do is done first. A dry run changes nothing.
-///
-/// # Errors
-///
-/// [`Failure::Run`] if nothing is kept of the machine, or something else has changed since, which is printed then; otherwise
-/// those of [`edit_place`](crate::edit_place).
-pub fn undo_change<R: Files<File: OutputFile> + Clock + Input + Print + Eprint + AllocGlobal>(
-    rt: &R,
-    words: &UndoWords<'_>,
-) -> Result<Written, Failure> {
-    let place = words.machine.place;
-    let asked = ChangeWords {
-        machine: words.machine,
-        command: None,
-        dry_run: words.dry_run,
-        state: StateUse::Needed,
-        by_journal: false,
-    };
-    let kind = kind_of_place(rt, place)?;
-    if kind == PlaceKind::Set {
-        return Err(Failure::from_fault(
-            rt.alloc(),
-            place,
-            "it is a set file, and nothing is kept of its changes",
-        ));
-    }
-    let ToldAnswer {
-        answer: undone,
-        told,
-    } = change_machine(rt, &asked, kind, &WantedUndo { rt, words })?;
-    told.tell(rt, place, words.dry_run);
-    told.print(rt)?;
-    Ok(Written::without(&undone.back.missing))
-}
-
-/// An undoing that is wanted of a machine.
+/// An undoing that is wanted of a machine: it brings back what was there before the last change that its state folder keeps,
+/// but for entries that firmware refuses, which standard error is told. What is printed of it is what differs, as `diff` does.
 #[derive(Drop)]
-struct WantedUndo<'a, 'b, 'w, R> {
-    rt: &'a R,
-    words: &'b UndoWords<'w>,
+pub struct WantedUndo<'a, 'b, 'w, R> {
+    /// What reaches the files.
+    pub rt: &'a R,
+    /// The words of the undoing.
+    pub words: &'b UndoWords<'w>,
 }
 
 impl<R: Files<File: OutputFile> + Print + Eprint + AllocGlobal> Wanted
@@ -82,8 +44,6 @@ impl<R: Files<File: OutputFile> + Print + Eprint + AllocGlobal> Wanted
     type Answer = Undone;
 
     type Fault = UndoFault;
-
-    type Told = Told;
 
     type Refusal = Failure;
 
@@ -101,7 +61,7 @@ impl<R: Files<File: OutputFile> + Print + Eprint + AllocGlobal> Wanted
         None
     }
 
-    fn begins_notes(&self) -> bool {
+    fn has_requests(&self) -> bool {
         false
     }
 
@@ -129,18 +89,17 @@ impl<R: Files<File: OutputFile> + Print + Eprint + AllocGlobal> Wanted
         &self,
         alloc: Global,
         _seen: &Seen<'_>,
-        change: (&Vars, &Vars),
+        change: SetChange<'_>,
         undone: &Undone,
     ) -> Result<Told, Failure> {
         let words = self.words;
         let place = words.machine.place;
         let before = set_of(alloc, place, &undone.before)?;
-        let mut notes = Notes::new(alloc);
-        note_missing(alloc, &mut notes, place, (&before, &undone.back.missing))?;
+        let mut remarks = Remarks::new(alloc);
+        remark_missing(alloc, &mut remarks, place, (&before, &undone.back.missing))?;
         Ok(Told {
-            text: changes_text(alloc, place, change, words.json)?,
-            notes,
-            unnamed: Vec::new(alloc),
+            text: changes_text(alloc, change.from, change.to, words.json)?,
+            remarks,
         })
     }
 
@@ -190,7 +149,9 @@ fn tell_of_change<R: Print + AllocGlobal>(
 ) -> Result<Failure, Failure> {
     let alloc = rt.alloc();
     let place = words.machine.place;
-    let text = changes_text(alloc, place, (&since.after, &since.now), words.json)?;
+    let after = set_of(alloc, place, &since.after)?;
+    let now = set_of(alloc, place, &since.now)?;
+    let text = changes_text(alloc, &after, &now, words.json)?;
     let time = time_text(alloc, since.time)?;
     let fault = format!(in alloc;
         "something else has changed since the change of {time}, which is shown: --force undoes that all the same"

@@ -15,11 +15,11 @@ use crate::takeable::{Takeable, check_numbers, is_value};
 use crate::undo::UndoWords;
 use boot_history::{KeptRecord, Record, Standing, as_used, remove, standing_of, without_next};
 use boot_journal::{CallError, Run};
-use machine_changes::Seen;
 use std::alloc::{AllocError, Global};
 use std::rt::Files;
 use uefi_vars::{BOOT_NEXT, Vars, boot_changes, laws as vars_laws};
 use var_places::Failure;
+use wanted_changes::Seen;
 use whole_files::OutputFile;
 
 /// What is to be undone.
@@ -37,18 +37,18 @@ pub(crate) struct UndoRun<'a, 'w, R> {
 
 /// What an undoing tells.
 #[derive(Drop)]
-pub(crate) struct Undone {
+pub struct Undone {
     /// The number of the change that is undone.
-    pub(crate) number: u64,
-    /// What was there before the change.
-    pub(crate) before: Vars,
+    pub number: u64,
+    /// What was there before the change, as the machine kept it.
+    pub before: Vars,
     /// What is brought back of it.
-    pub(crate) back: Takeable,
+    pub back: Takeable,
 }
 
 /// Why nothing is undone.
 #[derive(Debug, Drop)]
-pub(crate) enum UndoFault {
+pub enum UndoFault {
     /// Nothing is kept that could be.
     Nothing,
     /// Something else has changed since.
@@ -59,13 +59,13 @@ pub(crate) enum UndoFault {
 
 /// What has changed since the last change.
 #[derive(Debug, Drop)]
-pub(crate) struct ChangedSince {
+pub struct ChangedSince {
     /// What the machine keeps now.
-    pub(crate) now: Vars,
+    pub now: Vars,
     /// The boot manager's variables after the last change.
-    pub(crate) after: Vars,
+    pub after: Vars,
     /// When that was made: how many seconds after 1970-01-01T00:00:00Z.
-    pub(crate) time: u64,
+    pub time: u64,
 }
 
 /// What it is to a run that something failed.

@@ -7,29 +7,34 @@ ghost use Rattle.boot_journal.specs.Cause.{IfRefused};
 ghost use Rattle.place_edits.specs.Brought.{IsNoMemory};
 
 use crate::brought::{brought, restored};
-use crate::takeable::{Takeable, check_numbers, note_missing};
-use crate::told::{Notes, Told};
-use crate::write::WriteWords;
+use crate::takeable::{Takeable, check_numbers, remark_missing};
+use crate::unnamed::remark_unnamed;
 use boot_history::or_timeout_of;
 use boot_journal::{AttributesFault, CallError, with_attributes};
-use boot_texts::{change_report, diff_json, diff_report, naming_change};
-use machine_changes::{PlaceKind, Seen, Wanted, set_of};
+use boot_texts::{change_report, changes_text};
 use std::alloc::{AllocError, Global};
 use uefi_vars::{KEEP_STATE, Vars, boot_changes};
-use var_places::{Failure, name_of};
+use var_places::Failure;
+use wanted_changes::{Remarks, Seen, SetChange, Told, Wanted};
 
-/// The boot variables of a set, wanted of a machine.
+/// The boot variables of a set, wanted of a machine, whose Timeout stays if the set has none. Entries that would have to be
+/// stored in a folder and that firmware refuses are left out, which standard error is told, and which entries are in no order
+/// then and weren't so before. What is printed is each change; or how the two differ, for a dry run.
 #[derive(Clone, Copy)]
-pub(crate) struct WantedSet<'a, 'w, 's> {
-    /// The words of the command.
-    pub(crate) words: &'a WriteWords<'w>,
+pub struct WantedSet<'a> {
+    /// What the set is called.
+    pub name: &'a str,
     /// The set.
-    pub(crate) set: &'s Vars,
-    /// What the place is.
-    pub(crate) kind: PlaceKind,
+    pub set: &'a Vars,
+    /// The path of the machine's place.
+    pub place: &'a str,
+    /// Whether the place is a set file, and so no machine's.
+    pub into_set_file: bool,
+    /// Whether JSON is printed.
+    pub json: bool,
 }
 
-impl Wanted for WantedSet<'_, '_, '_> {
+impl Wanted for WantedSet<'_> {
     ghost use Rattle.std.specs.Prelude.{map};
     ghost use Rattle.std.specs.String.{string_bytes};
     ghost use Rattle.place_edits.specs.Brought.{IsWritten, IsNoMemory};
@@ -37,8 +42,6 @@ impl Wanted for WantedSet<'_, '_, '_> {
     type Answer = Takeable;
 
     type Fault = Failure;
-
-    type Told = Told;
 
     type Refusal = Failure;
 
@@ -55,7 +58,7 @@ impl Wanted for WantedSet<'_, '_, '_> {
         Some(self.set)
     }
 
-    fn begins_notes(&self) -> bool {
+    fn has_requests(&self) -> bool {
         false
     }
 
@@ -77,17 +80,14 @@ impl Wanted for WantedSet<'_, '_, '_> {
         &self,
         alloc: Global,
         _seen: &Seen<'_>,
-        (from, to): (&Vars, &Vars),
+        change: SetChange<'_>,
         brought: &Takeable,
     ) -> Result<Told, Failure> {
-        let words = self.words;
-        let place = words.machine.place;
-        let from = set_of(alloc, place, from)?;
-        let to = set_of(alloc, place, to)?;
+        let mut remarks = self.remarks(alloc, &brought.missing)?;
+        remark_unnamed(alloc, &mut remarks, self.place, change)?;
         Ok(Told {
-            text: written_text(alloc, words, (&from, &to))?,
-            notes: self.notes(alloc, &brought.missing)?,
-            unnamed: unnamed_after(alloc, (&from, &to))?,
+            text: self.text(alloc, change)?,
+            remarks,
         })
     }
 
@@ -98,7 +98,7 @@ impl Wanted for WantedSet<'_, '_, '_> {
     fn end(&self, _brought: &Takeable) {}
 }
 
-impl WantedSet<'_, '_, '_> {
+impl WantedSet<'_> {
     /// The set with the attributes of what the machine keeps, and its Timeout if the set has none.
     fn wanted(&self, alloc: Global, vars: &Vars) -> Result<Vars, CallError<Failure>>
         ensures wanted { IfOk result (λ wanted. wanted ≡ or_timeout_of vars.now (with_attributes vars.now self.now.set.now)) }
@@ -116,8 +116,7 @@ impl WantedSet<'_, '_, '_> {
 
     /// What it is to the program that a variable of the set has no room for attributes.
     fn too_long(&self, alloc: Global, fault: AttributesFault) -> Failure {
-        let words = self.words;
-        Failure::from_fault(alloc, name_of(words.set), fault)
+        Failure::from_fault(alloc, self.name, fault)
     }
 
     /// Refuses to bring what firmware refuses.
@@ -130,29 +129,35 @@ impl WantedSet<'_, '_, '_> {
     ) -> Result<(), CallError<Failure>>
         ensures { IfErr result (λ error. IfRefused error IsNoMemory) }
     {
-        let words = self.words;
         if !seen.is_folder {
             return Ok(());
         }
-        match check_numbers(alloc, name_of(words.set), vars, brought) {
+        match check_numbers(alloc, self.name, vars, brought) {
             Ok(()) => Ok(()),
             Err(failure) => Err(call_error(failure)),
         }
     }
 
     /// What standard error is told of the set, of which these entries are left out.
-    fn notes(&self, alloc: Global, missing: &[u16]) -> Result<Notes, AllocError> {
-        let words = self.words;
-        let name = name_of(words.set);
-        let mut notes = Notes::new(alloc);
-        if self.kind != PlaceKind::Set && self.set.get(KEEP_STATE).is_some() {
-            notes.push(
-                name,
+    fn remarks(&self, alloc: Global, missing: &[u16]) -> Result<Remarks, AllocError> {
+        let mut remarks = Remarks::new(alloc);
+        if !self.into_set_file && self.set.get(KEEP_STATE).is_some() {
+            remarks.push(
+                self.name,
                 format!(in alloc; "{KEEP_STATE} stays here, since firmware refuses it")?,
             )?;
         }
-        note_missing(alloc, &mut notes, name, (self.set, missing))?;
-        Ok(notes)
+        remark_missing(alloc, &mut remarks, self.name, (self.set, missing))?;
+        Ok(remarks)
+    }
+
+    /// What is printed of the changes: JSON, all that `diff` shows for a dry run, or the lines of the changes alone.
+    fn text(&self, alloc: Global, change: SetChange<'_>) -> Result<String, AllocError> {
+        if self.json || change.is_coming {
+            changes_text(alloc, change.from, change.to, self.json)
+        } else {
+            change_lines(alloc, change)
+        }
     }
 }
 
@@ -166,40 +171,11 @@ fn call_error(failure: Failure) -> CallError<Failure>
     }
 }
 
-/// What is printed of the changes from the one set to the other: JSON, all that `diff` shows for a dry run, or the lines of the
-/// changes alone.
-///
-/// # Errors
-///
-/// [`AllocError`] if memory was refused.
-fn written_text(
-    alloc: Global,
-    words: &WriteWords<'_>,
-    (from, to): (&Vars, &Vars),
-) -> Result<String, AllocError> {
-    if words.json {
-        diff_json(alloc, from, to)
-    } else if words.dry_run {
-        diff_report(alloc, from, to)
-    } else {
-        change_lines(alloc, from, to)
-    }
-}
-
 /// The lines of the changes from the one set to the other.
-fn change_lines(alloc: Global, from: &Vars, to: &Vars) -> Result<String, AllocError> {
+fn change_lines(alloc: Global, change: SetChange<'_>) -> Result<String, AllocError> {
     let mut lines = String::new(alloc);
-    for change in &boot_changes(alloc, from, to)? {
+    for change in &boot_changes(alloc, change.from, change.to)? {
         lines.push_str(&change_report(alloc, change)?)?;
     }
     Ok(lines)
-}
-
-/// The entries that are in no order in the second set, and aren't so in the first.
-///
-/// # Errors
-///
-/// [`AllocError`] if memory was refused.
-fn unnamed_after(alloc: Global, (from, to): (&Vars, &Vars)) -> Result<Vec<u16>, AllocError> {
-    Ok(naming_change(alloc, from, to)?.unnamed)
 }

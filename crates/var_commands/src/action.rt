@@ -1,11 +1,11 @@
 //! What the words of the command line ask for.
 
+use crate::updates::Job;
 use boot_edits::Position;
 use boot_texts::Flags;
-use boot_updates::Job;
-use machine_changes::MachineWords;
 use place_checks::CheckWords;
 use place_edits::UndoWords;
+use wanted_changes::MachineWords;
 
 /// What the words of the command line ask for.
 #[derive(Clone, Copy)]

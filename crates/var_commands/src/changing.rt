@@ -3,16 +3,18 @@
 use crate::action::{AddWords, ChangeWords, EntryChange, Form};
 use crate::making::{entries_of, entry_of, option_of_words, seconds_of};
 use boot_edits::{Addition, Edit, NewOrder};
-use place_edits::{EditWords, edit_place};
+use machine_changes::{ChangeOptions, StateUse, change_machine, kind_of_place};
+use place_edits::WantedEdit;
 use std::rt::{Clock, Files};
 use var_places::Failure;
 use whole_files::OutputFile;
 
-/// Makes the change that the words ask for, which are these of the command line, and prints it.
+/// Makes the change that the words ask for, which are these of the command line, and prints it. What was there before is kept
+/// in the state folder of a machine, which is made if it isn't there.
 ///
 /// # Errors
 ///
-/// [`Failure::Words`] if a word isn't what it is to be, and those of [`edit_place`].
+/// [`Failure::Words`] if a word isn't what it is to be, and those of [`change_machine`].
 pub(crate) fn change_entries<
     R: Files<File: OutputFile> + Clock + Input + Print + Eprint + AllocGlobal,
 >(rt: &R, words: &ChangeWords<'_>, command: &[String]) -> Result<(), Failure> {
@@ -102,21 +104,27 @@ fn add_entry<R: Files<File: OutputFile> + Clock + Input + Print + Eprint + Alloc
     change(rt, words, Edit::Add(addition), command)
 }
 
-/// Makes the change.
+/// Makes the change, and prints it.
 fn change<R: Files<File: OutputFile> + Clock + Input + Print + Eprint + AllocGlobal>(
     rt: &R,
     words: &ChangeWords<'_>,
     edit: Edit<'_>,
     command: &[String],
 ) -> Result<(), Failure> {
-    edit_place(
-        rt,
-        &EditWords {
-            machine: words.machine,
-            edit,
-            command,
-            dry_run: words.dry_run,
-            json: matches!(words.form, Form::Json),
-        },
-    )
+    let place = words.machine.place;
+    let options = ChangeOptions {
+        machine: words.machine,
+        command: Some(command),
+        dry_run: words.dry_run,
+        state: StateUse::Made,
+    };
+    let wanted = WantedEdit {
+        place,
+        edit,
+        json: matches!(words.form, Form::Json),
+    };
+    let kind = kind_of_place(rt, place)?;
+    let answered = change_machine(rt, &options, kind, &wanted)?;
+    answered.give(rt)?;
+    Ok(())
 }

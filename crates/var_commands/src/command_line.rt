@@ -5,15 +5,16 @@ use crate::action::{
     OptionalWords, PathWords, RequestWords, SetWords,
 };
 use crate::commands::program;
+use crate::updates::Job;
 use boot_edits::Position;
 use boot_history::DEFAULT_STATE;
 use boot_texts::Flags;
-use boot_updates::{Job, ReplyForm};
+use boot_updates::ReplyForm;
 use clap::{ArgMatches, Error};
-use machine_changes::MachineWords;
 use place_checks::CheckWords;
 use place_edits::UndoWords;
 use std::alloc::Global;
+use wanted_changes::MachineWords;
 
 /// What `clap` finds in the words of the command line, of which the first one is the program's name.
 ///

@@ -14,6 +14,11 @@ mod command_line;
 mod commands;
 mod making;
 mod program;
+mod refusals;
 mod table;
+mod undo_list;
+mod undoing;
+mod updates;
+mod writing;
 
-pub use program::run;
+pub use program::{OtherProgram, run};

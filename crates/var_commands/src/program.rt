@@ -4,17 +4,19 @@ ghost use Rattle.std.specs.Prelude.{◌≡◌, MatchResult};
 ghost use Rattle.var_commands.specs.Ending.{ending_status};
 ghost use Rattle.var_places.specs.Failure.{status_of};
 
-use crate::action::{Action, Form, SetWords};
+use crate::action::{Action, Form};
 use crate::changing::change_entries;
 use crate::command_line::{action_of, read_words};
 use crate::making::{entry_of, explain, make_frame, make_option};
-use boot_texts::{diff_json, diff_report, timeout_json, timeout_report, vars_json, vars_report};
-use boot_updates::{Ended, UpdateWords, update};
+use crate::undo_list::list_changes;
+use crate::undoing::undo_change;
+use crate::updates::{UpdateWords, update};
+use crate::writing::write_place;
+use boot_texts::{changes_text, timeout_json, timeout_report, vars_json, vars_report};
+use boot_updates::Ended;
 use clap::error::ErrorKind;
 use place_checks::{CheckWords, Verdict, check_place};
-use place_edits::{
-    UndoWords, WriteWords, Written, get_entry, list_changes, undo_change, write_place,
-};
+use place_edits::{Takeable, get_entry};
 use std::alloc::{AllocError, Global};
 use std::rt::{Clock, Env, Files};
 use std::{env, io};
@@ -57,17 +59,25 @@ impl Ending {
 /// them were applied and carried out; or, with a message on standard error, 1 if requests aren't run, 2 if the words are
 /// wrong, 3 if a file or a variable can't be read or changed, 4 if memory was refused, 5 if an input is refused, 7 if
 /// another update is at work, and 8 if an update was neither made nor taken back; or 141, without a message, if nobody
-/// reads standard output any more.
-pub fn run<R: Env + Files<File: OutputFile> + Clock + Input + Print + Eprint + AllocGlobal>(
-    rt: &R,
-) -> u8 {
+/// reads standard output any more. Words that begin with `efibootmgr` are that program's.
+pub fn run<R, E>(rt: &R, efibootmgr: &E) -> u8
+where
+    R: Env + Files<File: OutputFile> + Clock + Input + Print + Eprint + AllocGlobal,
+    E: OtherProgram<R>,
+{
     match words(rt) {
         Ok(words) => match words.as_slice() {
-            [_, called @ ..] if is_efibootmgr(called) => efibootmgr_runs::run(rt, called),
+            [_, called @ ..] if is_efibootmgr(called) => efibootmgr.run(rt, called),
             words => tell(rt, answer(rt, words)),
         },
         Err(failure) => tell(rt, Err(failure)),
     }
+}
+
+/// A program with words of its own, which stand after its name on the command line of this one.
+pub trait OtherProgram<R> {
+    /// Does what the words ask for, of which the first is the program's name, and returns the status to end with.
+    fn run(&self, rt: &R, words: &[String]) -> u8;
 }
 
 /// The command whose words are those of `efibootmgr`, which no other command has.
@@ -208,11 +218,11 @@ fn act<R: Files<File: OutputFile> + Clock + Input + Print + Eprint + AllocGlobal
             done(get_entry(rt, place, entry_of(rt.alloc(), entry)?, out))
         }
         Action::Change(change) => done(change_entries(rt, &change, words)),
-        Action::Undo(words) => undo(rt, &words),
+        Action::Undo(words) => undo_change(rt, &words).map(ending_of),
         Action::ListChanges { machine, form } => {
             done(list_changes(rt, &machine, matches!(form, Form::Json)))
         }
-        Action::Write(set) => write_set_to_place(rt, &set, words),
+        Action::Write(set) => write_place(rt, &set, words).map(ending_of),
         Action::Update { machine, job } => {
             update_place(
                 rt,
@@ -242,38 +252,13 @@ fn done(outcome: Result<(), Failure>) -> Result<Ending, Failure> {
     outcome.map(|()| Ending::Done)
 }
 
-/// Makes the boot variables of a place those of a set.
-fn write_set_to_place<R: Files<File: OutputFile> + Clock + Input + Print + Eprint + AllocGlobal>(
-    rt: &R,
-    words: &SetWords<'_>,
-    command: &[String],
-) -> Result<Ending, Failure> {
-    let words = WriteWords {
-        set: words.set,
-        machine: words.machine,
-        makes_state: words.names_state,
-        command,
-        dry_run: words.dry_run,
-        json: matches!(words.form, Form::Json),
-        empty: words.empty,
-    };
-    write_place(rt, &words).map(ending_of)
-}
-
-/// How the program ends after a change.
-fn ending_of(written: Written) -> Ending {
-    match written {
-        Written::Whole => Ending::Done,
-        Written::InPart => Ending::NotAll,
+/// How the program ends after a change that leaves this.
+fn ending_of(left: Takeable) -> Ending {
+    if left.missing.is_empty() {
+        Ending::Done
+    } else {
+        Ending::NotAll
     }
-}
-
-/// Brings back what was there before the last change.
-fn undo<R: Files<File: OutputFile> + Clock + Input + Print + Eprint + AllocGlobal>(
-    rt: &R,
-    words: &UndoWords<'_>,
-) -> Result<Ending, Failure> {
-    undo_change(rt, words).map(ending_of)
 }
 
 /// Updates a machine.
@@ -415,10 +400,7 @@ fn print_diff<R: Print + AllocGlobal>(
     form: Form,
 ) -> Result<Ending, Failure> {
     let alloc = rt.alloc();
-    let text = match form {
-        Form::Text => diff_report(alloc, from, to)?,
-        Form::Json => diff_json(alloc, from, to)?,
-    };
+    let text = changes_text(alloc, from, to, matches!(form, Form::Json))?;
     print(rt, text.as_bytes())?;
     Ok(if boot_changes(alloc, from, to)?.is_empty() {
         Ending::Done

@@ -14,7 +14,7 @@ use uefi_vars::Vars;
 /// # Errors
 ///
 /// [`AllocError`] if memory was refused.
-pub(crate) fn next_number(alloc: Global, vars: Vars) -> Result<Option<u32>, AllocError>
+pub fn next_number(alloc: Global, vars: Vars) -> Result<Option<u32>, AllocError>
     ensures { IfOk result (λ found. (m : State) → OpensAs vars m → found ≡ Some m.next_number) }
 {
     match Keeper::open(alloc, vars) {

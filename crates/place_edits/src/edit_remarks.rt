@@ -1,16 +1,17 @@
 //! What is told of an edit: what is printed of it, and what standard error is told.
 
-use crate::edits::EditWords;
-use crate::told::{Notes, Told};
+use crate::edits::WantedEdit;
+use crate::unnamed::remark_unnamed;
 use boot_edits::EditAnswer;
 use boot_texts::json::{JsonObject, JsonWriter, Leaf, append_leaves, json_line};
-use boot_texts::{EntryDigits, EntryName, diff_json, diff_report, naming_change};
+use boot_texts::{EntryDigits, EntryName, changes_text};
 use std::alloc::{AllocError, Global};
 use uefi_option::check_option;
 use uefi_vars::{
-    BOOT_NEXT, BOOT_ORDER, VarFault, Vars, boot_changes, boot_next, boot_order, entry_number,
+    BOOT_NEXT, BOOT_ORDER, VarFault, boot_changes, boot_next, boot_order, entry_number,
 };
 use var_places::Shortened;
+use wanted_changes::{Remarks, SetChange, Told};
 
 /// What is told of an edit from the one set to the other, of a folder or a file, which answers so: what it adds, what differs,
 /// what it loses and repairs, and which entries it leaves in no order.
@@ -20,22 +21,22 @@ use var_places::Shortened;
 /// [`AllocError`] if memory was refused.
 pub(crate) fn told_of(
     alloc: Global,
-    words: &EditWords<'_>,
+    wanted: &WantedEdit<'_>,
     is_folder: bool,
-    (from, to): (&Vars, &Vars),
+    change: SetChange<'_>,
     answer: EditAnswer,
 ) -> Result<Told, AllocError> {
-    let place = words.machine.place;
-    let mut notes = Notes::new(alloc);
-    note_present(alloc, &mut notes, place, answer)?;
-    note_repairs(alloc, &mut notes, place, (from, to))?;
+    let place = wanted.place;
+    let mut remarks = Remarks::new(alloc);
+    remark_present(alloc, &mut remarks, place, answer)?;
+    remark_repairs(alloc, &mut remarks, place, change)?;
     if is_folder {
-        note_losses(alloc, &mut notes, place, (from, to))?;
+        remark_losses(alloc, &mut remarks, place, change)?;
     }
+    remark_unnamed(alloc, &mut remarks, place, change)?;
     Ok(Told {
-        text: printed(alloc, words.json, (from, to), answer)?,
-        notes,
-        unnamed: naming_change(alloc, from, to)?.unnamed,
+        text: printed(alloc, wanted.json, change, answer)?,
+        remarks,
     })
 }
 
@@ -43,16 +44,11 @@ pub(crate) fn told_of(
 fn printed(
     alloc: Global,
     json: bool,
-    (from, to): (&Vars, &Vars),
+    change: SetChange<'_>,
     answer: EditAnswer,
 ) -> Result<String, AllocError> {
     let mut text = name_line(alloc, json, answer)?;
-    let changes = if json {
-        diff_json(alloc, from, to)?
-    } else {
-        diff_report(alloc, from, to)?
-    };
-    text.push_str(&changes)?;
+    text.push_str(&changes_text(alloc, change.from, change.to, json)?)?;
     Ok(text)
 }
 
@@ -93,16 +89,16 @@ impl JsonObject for ShownName {
     }
 }
 
-/// Notes that the entry was there already, if that is the answer.
-fn note_present(
+/// Remarks that the entry was there already, if that is the answer.
+fn remark_present(
     alloc: Global,
-    notes: &mut Notes,
+    remarks: &mut Remarks,
     place: &str,
     answer: EditAnswer,
 ) -> Result<(), AllocError> {
     if let EditAnswer::Present(entry) = answer {
         let name = EntryName(entry);
-        notes.push(
+        remarks.push(
             place,
             format!(in alloc;
                 "{name} has this description and these paths already, and nothing is changed: --again adds another one"
@@ -112,41 +108,41 @@ fn note_present(
     Ok(())
 }
 
-/// Notes what was there of a BootOrder or a BootNext that couldn't be read, and that is changed.
-fn note_repairs(
+/// Remarks what was there of a BootOrder or a BootNext that couldn't be read, and that is changed.
+fn remark_repairs(
     alloc: Global,
-    notes: &mut Notes,
+    remarks: &mut Remarks,
     place: &str,
-    change: (&Vars, &Vars),
+    change: SetChange<'_>,
 ) -> Result<(), AllocError> {
-    let (from, _to) = change;
+    let from = change.from;
     match boot_order(alloc, from) {
         Err(VarFault::OutOfMemory) => return Err(AllocError),
-        Err(_) => note_repair(alloc, notes, place, BOOT_ORDER, change)?,
+        Err(_) => remark_repair(alloc, remarks, place, BOOT_ORDER, change)?,
         Ok(_) => {}
     }
     if boot_next(from).is_err() {
-        note_repair(alloc, notes, place, BOOT_NEXT, change)?;
+        remark_repair(alloc, remarks, place, BOOT_NEXT, change)?;
     }
     Ok(())
 }
 
-/// Notes what was there of the variable of this name, which couldn't be read, if it is changed.
-fn note_repair(
+/// Remarks what was there of the variable of this name, which couldn't be read, if it is changed.
+fn remark_repair(
     alloc: Global,
-    notes: &mut Notes,
+    remarks: &mut Remarks,
     place: &str,
     name: &str,
-    (from, to): (&Vars, &Vars),
+    change: SetChange<'_>,
 ) -> Result<(), AllocError> {
-    let before = from.get(name);
+    let before = change.from.get(name);
     if let Some(bytes) = before
-        && before != to.get(name)
+        && before != change.to.get(name)
     {
         let digits = hex::encode(alloc, bytes)?;
         let count = bytes.len();
         let digits = Shortened(&digits);
-        notes.push(
+        remarks.push(
             place,
             format!(in alloc;
                 "{name} couldn't be read, and has a new value: it had {count} bytes {digits}"
@@ -156,14 +152,14 @@ fn note_repair(
     Ok(())
 }
 
-/// Notes which entries are taken out that firmware wouldn't take again.
-fn note_losses(
+/// Remarks which entries are taken out that firmware wouldn't take again.
+fn remark_losses(
     alloc: Global,
-    notes: &mut Notes,
+    remarks: &mut Remarks,
     place: &str,
-    (from, to): (&Vars, &Vars),
+    change: SetChange<'_>,
 ) -> Result<(), AllocError> {
-    for change in &boot_changes(alloc, from, to)? {
+    for change in &boot_changes(alloc, change.from, change.to)? {
         if let (Some(entry), Some(before), None) = (
             entry_number(change.name),
             change.before,
@@ -172,7 +168,7 @@ fn note_losses(
             && check_option(before).is_err()
         {
             let name = EntryName(entry);
-            notes.push(
+            remarks.push(
                 place,
                 format!(in alloc;
                     "{name} is no load option: firmware refuses such data, so it can't be made again"

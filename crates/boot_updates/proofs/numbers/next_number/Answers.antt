@@ -2,7 +2,7 @@ use Rattle.std.proofs.Common.{◌≡◌, ◌⊎◌, inl, inr, Some, ap, sym, ◌
 use Rattle.boot_requests.specs.declared.fault.OpenFault.{OpenFault}
 use Rattle.boot_requests.specs.declared.fault.OpenFault.TheVariants.{BadOrder, BadNext, BadState, OutOfMemory}
 use Rattle.boot_requests.specs.Turn.{Plain}
-use Rattle.boot_updates.proofs.next_number.next_number.Goals as goal
+use Rattle.boot_updates.proofs.numbers.next_number.Goals as goal
 
 is_no_memory : (fault : OpenFault) → (fault ≡ BadOrder) ⊎ ((fault ≡ BadNext) ⊎ (fault ≡ BadState)) → fault ≡ OutOfMemory → ⊥
 is_no_memory fault (inl order) memory = let clash : BadOrder ≡ OutOfMemory = sym order ∙ memory in cc

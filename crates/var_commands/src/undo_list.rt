@@ -2,10 +2,11 @@
 
 use boot_history::{KeptRecord, kept_numbers, kept_record, time_text};
 use boot_texts::json::{JsonObject, JsonWriter, Leaf, append_leaves, json_line};
-use machine_changes::{MachineWords, lock_folder, name_of_machine};
+use machine_changes::{lock_folder, name_of_machine};
 use std::alloc::{AllocError, Global};
 use std::rt::Files;
 use var_places::{Failure, is_folder, print, shown};
+use wanted_changes::MachineWords;
 use whole_files::OutputFile;
 
 /// Prints a line for each change of a machine that is kept in the state folder, the newest first: its number, its time and the
@@ -16,7 +17,7 @@ use whole_files::OutputFile;
 /// [`Failure::Read`] with the system's reason; [`Failure::Refused`] if what is kept is damaged; [`Failure::Busy`] if an update is
 /// at work; [`Failure::Words`] if the machine's name isn't one; [`Failure::Write`] if the lines can't be printed; and
 /// [`Failure::Memory`] if memory was refused.
-pub fn list_changes<R: Files<File: OutputFile> + Print + AllocGlobal>(
+pub(crate) fn list_changes<R: Files<File: OutputFile> + Print + AllocGlobal>(
     rt: &R,
     words: &MachineWords<'_>,
     json: bool,

@@ -1,33 +1,32 @@
 //! The command `update`.
 
-use crate::not_made::NotMade;
 use crate::refusals::print_refusal;
-use crate::replies::{Ended, Finished, ReplyForm};
-use crate::script::{Script, read_events};
-use crate::wanted::{Printing, WantedRequests};
 use boot_requests::InputFormat;
+use boot_updates::{
+    Answered, Ended, NotMade, Printing, ReplyForm, Script, WantedRequests, ending, read_events,
+};
 use machine_changes::{
-    ChangeWords, MachineWords, PlaceKind, StateUse, ToldAnswer, change_machine, settle_machine,
-    tell_of_coming, tell_of_unnamed,
+    ChangeOptions, PlaceKind, StateUse, ToldAnswer, change_machine, settle_machine,
 };
 use std::rt::{Clock, Files};
-use var_places::{Failure, is_folder, print};
+use var_places::{Failure, is_folder};
+use wanted_changes::MachineWords;
 use whole_files::OutputFile;
 
 /// The words of an update.
 #[derive(Clone, Copy, Debug)]
-pub struct UpdateWords<'a> {
+pub(crate) struct UpdateWords<'a> {
     /// The machine.
-    pub machine: MachineWords<'a>,
+    pub(crate) machine: MachineWords<'a>,
     /// What is to be done.
-    pub job: Job<'a>,
+    pub(crate) job: Job<'a>,
     /// The words of the command, by which a change is told later.
-    pub command: &'a [String],
+    pub(crate) command: &'a [String],
 }
 
 /// What an update is to do, after what is left of earlier ones.
 #[derive(Clone, Copy, Debug)]
-pub enum Job<'a> {
+pub(crate) enum Job<'a> {
     /// To run the events of a script, or of a stream.
     Run {
         /// The path of the script.
@@ -64,15 +63,13 @@ pub enum Job<'a> {
 /// [`Failure::TakenBack`] if a change was refused, and the update hasn't happened; [`Failure::Unsettled`] if it couldn't be
 /// taken back either; [`Failure::Write`] also if the replies can't be printed, and the update has happened;
 /// [`Failure::Memory`] if memory was refused.
-pub fn update<R: Files<File: OutputFile> + Clock + Input + Print + Eprint + AllocGlobal>(
+pub(crate) fn update<R: Files<File: OutputFile> + Clock + Input + Print + Eprint + AllocGlobal>(
     rt: &R,
     words: &UpdateWords<'_>,
 ) -> Result<Ended, Failure> {
     match do_job(rt, words) {
-        Ok(Finished { text, ended }) => {
-            print(rt, text.as_bytes())?;
-            Ok(ended)
-        }
+        Ok(Some(answered)) => Ok(ending(&answered.give(rt)?)),
+        Ok(None) => Ok(Ended::AllDone),
         Err(not_made) => {
             if words.job.is_told_as_json() {
                 print_refusal(rt, &words.machine, &not_made);
@@ -93,11 +90,11 @@ impl Job<'_> {
     }
 }
 
-/// Does the job, as of [`update`], and prints nothing.
+/// Does the job, as of [`update`], and tells nothing: that is given, unless it is only to do what is left of earlier updates.
 fn do_job<R: Files<File: OutputFile> + Clock + Input + Print + Eprint + AllocGlobal>(
     rt: &R,
     words: &UpdateWords<'_>,
-) -> Result<Finished, NotMade> {
+) -> Result<Option<ToldAnswer<Answered>>, NotMade> {
     match words.job {
         Job::Run {
             script,
@@ -116,57 +113,47 @@ fn do_job<R: Files<File: OutputFile> + Clock + Input + Print + Eprint + AllocGlo
             } else {
                 Printing::Replies(form)
             };
-            run_script(rt, words, &script, printing)
+            Ok(Some(run_script(rt, words, &script, printing)?))
         }
-        Job::Next => run_script(rt, words, &Script::empty(rt.alloc()), Printing::Next),
+        Job::Next => {
+            let script = Script::empty(rt.alloc());
+            Ok(Some(run_script(rt, words, &script, Printing::Next)?))
+        }
         Job::Look => {
+            let script = Script::empty(rt.alloc());
             let printing = Printing::Replies(ReplyForm::Look);
-            run_script(rt, words, &Script::empty(rt.alloc()), printing)
+            Ok(Some(run_script(rt, words, &script, printing)?))
         }
         Job::Settle => {
             settle_machine(rt, &words.machine)?;
-            Ok(Finished {
-                text: String::new(rt.alloc()),
-                ended: Ended::AllDone,
-            })
+            Ok(None)
         }
     }
 }
 
-/// Runs the script over the place, or looks what it would do, and tells which entries it leaves in no order.
+/// Runs the script over the place, or looks what it would do.
 fn run_script<R: Files<File: OutputFile> + Clock + Input + Print + Eprint + AllocGlobal>(
     rt: &R,
     words: &UpdateWords<'_>,
     script: &Script<'_>,
     printing: Printing,
-) -> Result<Finished, NotMade> {
-    let machine = &words.machine;
-    let dry_run = matches!(printing, Printing::Plan(_));
-    let asked = ChangeWords {
+) -> Result<ToldAnswer<Answered>, NotMade> {
+    let place = words.machine.place;
+    let options = ChangeOptions {
         machine: words.machine,
         command: Some(words.command),
-        dry_run,
+        dry_run: matches!(printing, Printing::Plan(_)),
         state: StateUse::Needed,
-        by_journal: true,
     };
-    let kind = if is_folder(rt, machine.place)? {
+    let kind = if is_folder(rt, place)? {
         PlaceKind::Folder
     } else {
         PlaceKind::VariableFile
     };
     let wanted = WantedRequests {
-        place: machine.place,
+        place,
         script,
         printing,
     };
-    let ToldAnswer {
-        answer: answered,
-        told,
-    } = change_machine(rt, &asked, kind, &wanted)?;
-    if dry_run {
-        tell_of_coming(rt, machine.place, &answered.unnamed);
-    } else {
-        tell_of_unnamed(rt, machine.place, &answered.unnamed);
-    }
-    Ok(told)
+    change_machine(rt, &options, kind, &wanted)
 }

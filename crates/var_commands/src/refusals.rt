@@ -1,16 +1,14 @@
 //! What is told of an update that wasn't made, as JSON.
 
-use crate::next_number::next_number;
-use crate::not_made::NotMade;
 use boot_journal::Journal;
 use boot_texts::{Refusal, refusal_json};
-use machine_changes::{
-    MachineWords, StoredJournal, digits_of, journal_path, set_value, stored_with_notes,
-};
+use boot_updates::{NotMade, next_number};
+use machine_changes::{StoredJournal, journal_path, set_value, stored_with_notes};
 use std::alloc::{AllocError, Global};
 use std::rt::Files;
 use uefi_vars::{KEEP_STATE, Vars};
 use var_places::{Failure, print};
+use wanted_changes::{MachineWords, digits_of};
 
 /// Prints why an update of the machine wasn't made, as JSON, unless it is that the words are wrong or that nobody reads. If
 /// that can't be printed either, the status and standard error tell it alone.

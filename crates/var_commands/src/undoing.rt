@@ -1,0 +1,36 @@
+//! The command `undo`, which brings back what was there before the last change of a machine.
+
+use machine_changes::{ChangeOptions, PlaceKind, StateUse, change_machine, kind_of_place};
+use place_edits::{Takeable, UndoWords, WantedUndo};
+use std::rt::{Clock, Files};
+use var_places::Failure;
+use whole_files::OutputFile;
+
+/// Brings back what was there before the last change of a machine that is kept in the state folder, and prints the changes
+/// as `diff` does. Gives what is brought back.
+///
+/// # Errors
+///
+/// [`Failure::Refused`] if the place is a set file; [`Failure::Run`] if nothing is kept of the machine, or something else has
+/// changed since, which is printed then; otherwise those of [`change_machine`].
+pub(crate) fn undo_change<
+    R: Files<File: OutputFile> + Clock + Input + Print + Eprint + AllocGlobal,
+>(rt: &R, words: &UndoWords<'_>) -> Result<Takeable, Failure> {
+    let place = words.machine.place;
+    let kind = kind_of_place(rt, place)?;
+    if kind == PlaceKind::Set {
+        return Err(Failure::from_fault(
+            rt.alloc(),
+            place,
+            "it is a set file, and nothing is kept of its changes",
+        ));
+    }
+    let options = ChangeOptions {
+        machine: words.machine,
+        command: None,
+        dry_run: words.dry_run,
+        state: StateUse::Needed,
+    };
+    let undone = change_machine(rt, &options, kind, &WantedUndo { rt, words })?.give(rt)?;
+    Ok(undone.back)
+}

@@ -1,0 +1,92 @@
+//! What is wanted of a machine.
+
+ghost use Rattle.std.specs.Prelude.{IfOk, IfErr};
+ghost use Rattle.uefi_vars.specs.Vars.{Variables};
+ghost use Rattle.boot_journal.specs.Cause.{IfRefused};
+ghost use Rattle.wanted_changes.specs.declared.wanted.Seen.{Seen};
+
+use crate::kept_notes::KeptNotes;
+use crate::sets::SetChange;
+use crate::told::Told;
+use boot_journal::{CallError, MachineName};
+use std::alloc::Global;
+use uefi_vars::Vars;
+use var_places::Failure;
+
+/// What a run may know of a machine beside its variables.
+#[derive(Clone, Copy)]
+pub struct Seen<'a> {
+    /// The names of its variables of the boot manager that no set can hold.
+    pub left_out: &'a [String],
+    /// What the machine is called.
+    pub machine: &'a MachineName,
+    /// Whether its variables are in a folder, so that firmware has a say in what is stored.
+    pub is_folder: bool,
+    /// What is kept beside its journal.
+    pub notes: &'a KeptNotes,
+}
+
+/// A change that is wanted of a machine. Its variables are as a machine keeps them, with attributes, but for what is told.
+pub trait Wanted {
+    /// What it answers.
+    type Answer: Drop;
+
+    /// Why it refuses variables.
+    type Fault: Drop;
+
+    /// What keeps it from being made.
+    type Refusal: Drop + From<Failure>;
+
+    /// It leads from the one set to the other, with this answer.
+    ghost leads: { Self → Seen → Variables → Variables → Self.Answer → Type 0 };
+
+    /// It refuses the variables for this fault.
+    ghost refuses: { Self → Seen → Variables → Self.Fault → Type 0 };
+
+    /// Refuses a change of the variables of these names, which no set can hold, before anything is done.
+    ///
+    /// # Errors
+    ///
+    /// That it would change one of them, or that memory was refused.
+    fn check(&self, alloc: Global, left_out: &[String]) -> Result<(), Self::Refusal>;
+
+    /// The variables that it replaces, whatever they have, if there are some: also those that no set can hold.
+    fn replaced(&self) -> Option<&Vars>;
+
+    /// Whether it is of requests. What was applied of them is kept by the journal then, also of a variable file, and notes
+    /// with an identity are begun beside the journal if there are none.
+    fn has_requests(&self) -> bool;
+
+    /// What it leads to from these variables, and its answer.
+    ///
+    /// # Errors
+    ///
+    /// Its fault if it refuses the variables, and that memory was refused.
+    fn run(
+        &self,
+        alloc: Global,
+        seen: &Seen<'_>,
+        vars: &Vars,
+    ) -> Result<(Vars, Self::Answer), CallError<Self::Fault>>
+        ensures done { IfOk result (λ done. leads self.now seen.now vars.now done.0 done.1) }
+        ensures refused { IfErr result (λ error. IfRefused error (refuses self.now seen.now vars.now)) };
+
+    /// What is told of it, if it leads from the one set to the other and answers so. The sets have no attributes.
+    ///
+    /// # Errors
+    ///
+    /// [`Failure::Memory`] if memory was refused, and others if it can't be told.
+    fn tell(
+        &self,
+        alloc: Global,
+        seen: &Seen<'_>,
+        change: SetChange<'_>,
+        answer: &Self::Answer,
+    ) -> Result<Told, Failure>;
+
+    /// What keeps it from being made if it refuses variables for this fault.
+    fn refusal(&self, alloc: Global, fault: Self::Fault) -> Self::Refusal;
+
+    /// What is done once the change is made, while the machine is still locked.
+    fn end(&self, answer: &Self::Answer);
+}
