@@ -6,6 +6,8 @@ use Rattle.uefi_text.specs.Bytes.{Each}
 use Rattle.uefi_names.specs.Standard.{standard_table}
 use Rattle.uefi_names.specs.Reading.{IsNamedText}
 use Rattle.boot_texts.specs.declared.option.Flags.{Flags}
+use Rattle.boot_texts.specs.declared.option.OptionPaths.{OptionPaths}
+use Rattle.boot_texts.specs.declared.option.OptionPaths.TheVariants.{Texts, Paths}
 use Rattle.boot_texts.specs.declared.option.OptionWords.{OptionWords}
 
 -- a bit, if something is so
@@ -22,8 +24,13 @@ said_attributes flags =
 abbrev pub ArePathTexts : List (List ℕ) → List (List (List Node)) → Type 0
 ArePathTexts texts paths = Each (IsNamedText standard_table) texts paths
 
--- the option has the attributes and the optional data of the words, and the paths for which their texts stand
+-- the paths for which the texts stand, or those that are given
+abbrev pub ArePaths : OptionPaths → List (List (List Node)) → Type 0
+ArePaths (Texts texts) paths = ArePathTexts (map (λ text. text.now) texts.now) paths
+ArePaths (Paths given) paths = paths ≡ given.now
+
+-- the option has the attributes and the optional data of the words, and their paths
 pub record IsOptionOfWords (words : OptionWords) (option : OptionParts) : Type 0 where
   pub attributes : option.attributes ≡ words.attributes
-  pub paths : ArePathTexts (map (λ text. text.now) words.paths.now) option.paths
+  pub paths : ArePaths words.paths option.paths
   pub optional : option.optional ≡ words.optional.now

@@ -49,7 +49,7 @@ pub use explain::{Explained, explain_json, explain_report, refused_script};
 pub use frame::{FrameWords, FrameWordsFault, frame_bytes, frame_line};
 pub use look::{Look, look_json};
 pub use option::{
-    Flags, OptionWords, OptionWordsFault, attribute_bits, option_bytes, optional_text,
+    Flags, OptionPaths, OptionWords, OptionWordsFault, attribute_bits, option_bytes, optional_text,
     single_backslashes,
 };
 pub use reason::{FaultReason, Sizes, open_reason, option_reason};

@@ -4,7 +4,7 @@ ghost use Rattle.std.specs.Prelude.{◌≡◌, map, IfOk};
 ghost use Rattle.uefi_option.specs.LoadOption.{OptionParts, SpellsOption};
 ghost use Rattle.uefi_names.specs.Standard.{standard_table};
 ghost use Rattle.uefi_names.specs.Reading.{IsNamedText};
-ghost use Rattle.boot_texts.specs.OptionOfWords.{bit_if, said_attributes, ArePathTexts, IsOptionOfWords};
+ghost use Rattle.boot_texts.specs.OptionOfWords.{bit_if, said_attributes, ArePathTexts, ArePaths, IsOptionOfWords};
 
 use crate::description::{DescriptionFault, append_text, description_units};
 use crate::reason::{FaultReason, named_reason, option_words};
@@ -29,10 +29,19 @@ pub struct OptionWords<'a> {
     /// The description as text, in which a backslash, `u` and four hexadecimal digits are the unit of UTF-16 of this number,
     /// as in JSON. Any other backslash is itself.
     pub description: &'a str,
-    /// The text of each device path.
-    pub paths: &'a [&'a str],
+    /// The device paths.
+    pub paths: OptionPaths<'a>,
     /// The optional data.
     pub optional: &'a [u8],
+}
+
+/// What the device paths of a load option are made of.
+#[derive(Clone, Copy, Debug)]
+pub enum OptionPaths<'a> {
+    /// The text of each.
+    Texts(&'a [&'a str]),
+    /// The paths themselves.
+    Paths(&'a [Path]),
 }
 
 /// What is said of a load option's attributes, one bit each (UEFI 2.10, 3.1.3).
@@ -128,13 +137,13 @@ fn bit_if(is_so: bool, bit: u32) -> u32
     if is_so { bit } else { 0 }
 }
 
-/// The bytes of the load option of these words (UEFI 2.10, 3.1.3). The description becomes units of UTF-16, and each
-/// path's text is read as `uefi_names` reads it. So the description of each option is had again from the one that its JSON
+/// The bytes of the load option of these words (UEFI 2.10, 3.1.3). The description becomes units of UTF-16, and the text
+/// of a path is read as `uefi_names` reads it. So the description of each option is had again from the one that its JSON
 /// has, unless that has `description_hex` beside it.
 ///
 /// # Errors
 ///
-/// The fault of the first path that has one: [`OptionWordsFault::EmptyPath`] if it is empty,
+/// The fault of the first text of a path that has one: [`OptionWordsFault::EmptyPath`] if it is empty,
 /// [`OptionWordsFault::PathOfBytes`] if it is bytes of a path in hexadecimal digits, [`OptionWordsFault::Slashes`] if
 /// the name of a file in it has slashes, which firmware takes for no folder, and [`OptionWordsFault::Path`] if it stands
 /// for no path. Otherwise [`OptionWordsFault::Description`] if a backslash in the description looks like an escape and is
@@ -146,13 +155,27 @@ pub fn option_bytes(alloc: Global, words: &OptionWords<'_>) -> Result<Vec<u8>, O
     ensures { IfOk result (λ bytes.
         (option : OptionParts) × IsOptionOfWords words.now option × SpellsOption bytes.items option) }
 {
-    let paths = read_paths(alloc, words.paths)?;
+    match words.paths {
+        OptionPaths::Texts(texts) => option_of(alloc, words, &read_paths(alloc, texts)?),
+        OptionPaths::Paths(paths) => option_of(alloc, words, paths),
+    }
+}
+
+/// The bytes of the load option of these words, which has these paths.
+fn option_of(
+    alloc: Global,
+    words: &OptionWords<'_>,
+    paths: &[Path],
+) -> Result<Vec<u8>, OptionWordsFault>
+    ensures { IfOk result (λ bytes. ArePaths words.now.paths paths.now →
+        (option : OptionParts) × IsOptionOfWords words.now option × SpellsOption bytes.items option) }
+{
     let description = description_units(alloc, words.description)?;
     let option = make_option(
         alloc,
         words.attributes,
         &description,
-        &paths,
+        paths,
         words.optional,
     )?;
     Ok(write_option(alloc, &option)?)

@@ -1,5 +1,5 @@
 -- What a look at a machine can say of where a path leads.
-use Rattle.std.specs.Prelude.{◌≡◌}
+use Rattle.std.specs.Prelude.{◌≡◌, ◌⊎◌}
 use Rattle.entry_checks.specs.declared.lead.Lead.{Lead}
 use Rattle.entry_checks.specs.declared.lead.Lead.TheVariants as lead
 use Rattle.entry_checks.specs.declared.target.Target.{Target}
@@ -7,17 +7,8 @@ use Rattle.entry_checks.specs.declared.target.Target.TheVariants as target
 use Rattle.disk_files.specs.declared.found.PartitionSearch.{PartitionSearch}
 use Rattle.disk_files.specs.declared.found.PartitionSearch.TheVariants as search
 
--- of a partition: that it is there or not or several times, or can't be sought, as it has no signature or the machine tells
--- nothing
-abbrev pub OfPartition : Lead → Type 0
-OfPartition lead.Partition = Unit {0}
-OfPartition lead.NoPartition = Unit {0}
-OfPartition lead.Several = Unit {0}
-OfPartition lead.Untold = Unit {0}
-OfPartition lead.Unsigned = Unit {0}
-OfPartition _ = ⊥
-
--- of a file on one: also what is in its place, and why it couldn't be looked at
+-- of a file on a partition: that either is there or not, or the partition several times; what is in its place; and why
+-- they couldn't be looked at, as the partition has no signature or the machine tells nothing
 abbrev pub OfFile : Lead → Type 0
 OfFile lead.File = Unit {0}
 OfFile lead.NoFile = Unit {0}
@@ -29,6 +20,10 @@ OfFile lead.Several = Unit {0}
 OfFile lead.Untold = Unit {0}
 OfFile lead.Unsigned = Unit {0}
 OfFile _ = ⊥
+
+-- of a partition: the same of the file that firmware seeks on it, or that the partition is there
+abbrev pub OfPartition : Lead → Type 0
+OfPartition found = OfFile found ⊎ (found ≡ lead.Partition)
 
 -- what isn't looked at stays as the path says it
 abbrev pub CanBe : Target → Lead → Type 0
