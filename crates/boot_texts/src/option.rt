@@ -171,13 +171,7 @@ fn option_of(
         (option : OptionParts) × IsOptionOfWords words.now option × SpellsOption bytes.items option) }
 {
     let description = description_units(alloc, words.description)?;
-    let option = make_option(
-        alloc,
-        words.attributes,
-        &description,
-        paths,
-        words.optional,
-    )?;
+    let option = make_option(alloc, words.attributes, &description, paths, words.optional)?;
     Ok(write_option(alloc, &option)?)
 }
 

@@ -22,6 +22,7 @@ abbrev pub weight_of_image : ImageState → Weight
 weight_of_image image.Refused = Fault
 weight_of_image image.Unsafe = Fault
 weight_of_image image.Foreign = Fault
+weight_of_image image.OfX8664 = Remark
 weight_of_image _ = Unseen
 
 abbrev pub weight_of : Finding → Weight
@@ -59,6 +60,7 @@ abbrev pub kind_of_image : ImageState → List ℕ
 kind_of_image image.Refused = codes "image"
 kind_of_image image.Unsafe = codes "image_unsafe"
 kind_of_image image.Foreign = codes "image_foreign"
+kind_of_image image.OfX8664 = codes "image_x86_64"
 kind_of_image image.Undecided = codes "image_undecided"
 kind_of_image image.Unknown = codes "image_unknown"
 kind_of_image image.Unreadable = codes "image_unreadable"

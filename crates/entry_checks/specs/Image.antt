@@ -45,9 +45,10 @@ state_by_effect effect.Undecided = image.Undecided
 abbrev pub state_on_x86_64 : ImageFault → ImageState
 state_on_x86_64 found = if is_foreign found then image.Foreign else state_by_effect (effect_of found)
 
--- firmware may be of the file's processor, of which nothing is known then
-abbrev pub state_if_untold : ImageFault → ImageState
-state_if_untold found = if is_foreign found then image.Unknown else state_by_effect (effect_of found)
+-- firmware may be of the file's processor: if that is another than x86-64, nothing is known of it
+abbrev pub state_if_untold : Option ImageFault → ImageState
+state_if_untold None = image.OfX8664
+state_if_untold (Some found) = if is_foreign found then image.Unknown else state_by_effect (effect_of found)
 
 -- a file without a fault is for x86-64, and what no boot manager takes for an application is one nowhere
 abbrev pub state_on_others : Option ImageFault → ImageState
@@ -57,5 +58,5 @@ state_on_others (Some found) = if is_of_boot_manager found then image.Refused el
 -- the first fault of a file, or none, for firmware of a processor
 abbrev pub image_state_of : Processor → Option ImageFault → Option ImageState
 image_state_of X8664 found = option_map state_on_x86_64 found
-image_state_of Untold found = option_map state_if_untold found
+image_state_of Untold found = Some (state_if_untold found)
 image_state_of Other found = Some (state_on_others found)

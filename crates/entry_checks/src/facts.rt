@@ -37,7 +37,7 @@ pub struct OptionFacts {
     pub attributes: u32,
     /// Where it leads.
     pub lead: Lead,
-    /// What is known of the file that is there, unless nothing is wrong with it, or none was looked at.
+    /// What is known of the file that is there, unless firmware starts it, or none was looked at.
     pub image: Option<ImageState>,
     /// Whether an entry that is told before leads to the same file with the same data.
     pub is_twin: bool,

@@ -104,7 +104,7 @@ impl Lead {
                 "not looked at: the system doesn't tell what its partitions are known by",
             ),
             Lead::Unmounted => unseen("not_mounted", "not looked at: its partition isn't mounted"),
-            Lead::Closed => unseen("not_readable", "not looked at: its folder may not be read"),
+            Lead::Closed => unseen("not_readable", "not looked at: its folder can't be read"),
             Lead::Unsigned => unseen("unsigned", "not looked at: its partition has no signature"),
             Lead::Onward => unseen(
                 "onward",
@@ -139,6 +139,7 @@ impl ImageState {
                 "image_foreign",
                 "the file is for another processor than this machine's",
             ),
+            ImageState::OfX8664 => remark("image_x86_64", "the file is for x86-64"),
             ImageState::Undecided => unseen(
                 "image_undecided",
                 "not looked at: more than the file decides whether firmware starts it",

@@ -23,7 +23,7 @@ pub enum Processor {
     Untold,
 }
 
-/// What is known of a file that firmware is to start, unless it is that nothing is wrong with it.
+/// What is known of a file that firmware is to start, unless it is that firmware starts it.
 #[derive(Clone, Copy, Debug, PartialEq, Eq)]
 pub enum ImageState {
     /// Firmware doesn't start it.
@@ -32,6 +32,8 @@ pub enum ImageState {
     Unsafe,
     /// It is for another processor than firmware's.
     Foreign,
+    /// Firmware starts it if that is of x86-64.
+    OfX8664,
     /// Its bytes don't tell whether firmware starts it.
     Undecided,
     /// What firmware asks of a file for such a processor isn't known.
@@ -73,7 +75,7 @@ pub fn image_state(processor: Processor, fault: Option<ImageFault>) -> Option<Im
 {
     match processor {
         Processor::X8664 => fault.map(on_x86_64),
-        Processor::Untold => fault.map(if_untold),
+        Processor::Untold => Some(if_untold(fault)),
         Processor::Other => Some(on_others(fault)),
     }
 }
@@ -89,14 +91,14 @@ fn on_x86_64(fault: ImageFault) -> ImageState
     }
 }
 
-/// What is known of a file with this fault, where firmware is of a processor that isn't known.
-fn if_untold(fault: ImageFault) -> ImageState
+/// What is known of a file with this fault or none, where firmware's processor isn't known.
+fn if_untold(fault: Option<ImageFault>) -> ImageState
     ensures { result ≡ state_if_untold fault }
 {
-    if is_foreign(&fault) {
-        ImageState::Unknown
-    } else {
-        by_effect(fault.effect())
+    match fault {
+        None => ImageState::OfX8664,
+        Some(fault) if is_foreign(&fault) => ImageState::Unknown,
+        Some(fault) => by_effect(fault.effect()),
     }
 }
 

@@ -7,8 +7,17 @@ use Rattle.entry_checks.specs.declared.target.Target.TheVariants as target
 use Rattle.disk_files.specs.declared.found.PartitionSearch.{PartitionSearch}
 use Rattle.disk_files.specs.declared.found.PartitionSearch.TheVariants as search
 
--- of a file on a partition: that either is there or not, or the partition several times; what is in its place; and why
--- they couldn't be looked at, as the partition has no signature or the machine tells nothing
+-- of a partition: that it is there or not or several times, or can't be sought, as it has no signature or the machine tells
+-- nothing
+abbrev pub OfPartition : Lead → Type 0
+OfPartition lead.Partition = Unit {0}
+OfPartition lead.NoPartition = Unit {0}
+OfPartition lead.Several = Unit {0}
+OfPartition lead.Untold = Unit {0}
+OfPartition lead.Unsigned = Unit {0}
+OfPartition _ = ⊥
+
+-- of a file on one: also what is in its place, and why it couldn't be looked at
 abbrev pub OfFile : Lead → Type 0
 OfFile lead.File = Unit {0}
 OfFile lead.NoFile = Unit {0}
@@ -21,14 +30,11 @@ OfFile lead.Untold = Unit {0}
 OfFile lead.Unsigned = Unit {0}
 OfFile _ = ⊥
 
--- of a partition: the same of the file that firmware seeks on it, or that the partition is there
-abbrev pub OfPartition : Lead → Type 0
-OfPartition found = OfFile found ⊎ (found ≡ lead.Partition)
-
--- what isn't looked at stays as the path says it
+-- what isn't looked at stays as the path says it; of a partition alone the file that firmware seeks there is looked at, if
+-- its name is known
 abbrev pub CanBe : Target → Lead → Type 0
 CanBe (target.File partition name) found = OfFile found
-CanBe (target.Partition partition) found = OfPartition found
+CanBe (target.Partition partition) found = OfPartition found ⊎ OfFile found
 CanBe (target.Unseen told) found = found ≡ told
 
 -- what a search says that doesn't come to one partition

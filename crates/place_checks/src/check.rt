@@ -43,7 +43,10 @@ pub fn check_place<R: Files + Input + Print + Eprint + AllocGlobal>(
 ) -> Result<Verdict, Failure> {
     let alloc = rt.alloc();
     let vars = read_place(rt, words.place)?;
-    let checked = check_vars(Machine::new(rt, words.root, is_folder(rt, words.place)?), &vars)?;
+    let checked = check_vars(
+        Machine::new(rt, words.root, is_folder(rt, words.place)?),
+        &vars,
+    )?;
     let text = if words.json {
         json_of(alloc, &checked)?
     } else {

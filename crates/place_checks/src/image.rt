@@ -14,7 +14,7 @@ use whole_files::{LIMIT, RegularFile, open_regular, read_input};
 /// What is known of a file that an entry leads to.
 #[derive(Drop)]
 pub(crate) struct SeenImage {
-    /// What is wrong with it, or why that isn't known: nothing, if nothing is wrong, or no file was looked at.
+    /// Whether firmware starts it: nothing, if it does, or no file was looked at.
     pub(crate) state: Option<ImageState>,
     /// Why that is so.
     pub(crate) detail: String,
@@ -39,7 +39,7 @@ impl SeenImage {
     {
         let detail = match fault {
             Some(fault) => format!(in alloc; "{fault}")?,
-            None => String::from_str(alloc, "it is for x86-64")?,
+            None => String::from_str(alloc, without_fault(processor))?,
         };
         Ok(SeenImage {
             state: image_state(processor, fault),
@@ -92,6 +92,14 @@ pub(crate) fn look_at_image<R: Files + AllocGlobal>(
             let detail = format!(in alloc; "{error}")?;
             SeenImage::unseen(alloc, ImageState::Unreadable, &detail)
         }
+    }
+}
+
+/// What is told of a file without a fault, if anything is, where firmware is of this processor.
+fn without_fault(processor: Processor) -> &'static str {
+    match processor {
+        Processor::Untold => "firmware's processor isn't known here",
+        Processor::X8664 | Processor::Other => "it is for x86-64",
     }
 }
 

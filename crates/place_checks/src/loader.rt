@@ -59,6 +59,9 @@ fn note_of(alloc: Global, seen: &SeenImage) -> Result<Option<LoaderNote>, AllocE
         return Ok(None);
     };
     let row = state.row();
+    if row.weight == Weight::Remark {
+        return Ok(None);
+    }
     Ok(Some(LoaderNote {
         is_fault: row.weight == Weight::Fault,
         words: format!(in alloc; "{}: {}", row.words, seen.detail)?,

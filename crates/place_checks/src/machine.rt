@@ -1,21 +1,21 @@
 //! The machine on which files are sought.
 
-ghost use Rattle.std.specs.Prelude.{◌≡◌, IfOk};
+ghost use Rattle.std.specs.Prelude.{◌≡◌, ◌⊎◌, IfOk};
 ghost use Rattle.place_checks.specs.Look.{CanBe, OfPartition, OfFile, IsTold};
 
+use crate::image::{SeenImage, look_at_image};
 use disk_files::{
     PartitionSearch, SeenMounts, SeenPartitions, find_partition, machine_mounts,
     machine_partitions, mounted_folders,
 };
-use crate::image::{SeenImage, look_at_image};
 use entry_checks::{Lead, Processor, Target, name_among, processor_of};
 use partitions::DeviceNumber;
 use std::alloc::{AllocError, Global};
+use std::collections::BTreeMap;
 use std::fs;
 use std::io::{self, ErrorKind};
 use std::rt::Files;
 use uefi_path::HardDriveNode;
-use std::collections::BTreeMap;
 use var_places::{Failure, shown};
 use whole_files::{RegularFile, read_regular};
 
@@ -81,7 +81,7 @@ enum Step {
     To(String),
     /// To nothing.
     Nowhere,
-    /// The folder that it should be in may not be read.
+    /// The folder that it should be in can't be read.
     Closed,
 }
 
@@ -203,12 +203,20 @@ impl<'a, R: Files + AllocGlobal> Machine<'a, R> {
 
     /// Looks whether a partition is on the machine, and the file that firmware seeks there, if its name is known.
     fn look_at_partition(&mut self, partition: &HardDriveNode) -> Result<Seen, Failure>
+        ensures { IfOk result (λ seen. OfPartition seen.lead ⊎ OfFile seen.lead) }
+    {
+        if self.processor()? == Processor::X8664 {
+            self.look_at_file(partition, DEFAULT_FILE)
+        } else {
+            self.look_for_partition(partition)
+        }
+    }
+
+    /// Looks whether a partition is on the machine.
+    fn look_for_partition(&mut self, partition: &HardDriveNode) -> Result<Seen, Failure>
         ensures { IfOk result (λ seen. OfPartition seen.lead) }
     {
         let alloc = self.rt.alloc();
-        if self.processor()? == Processor::X8664 {
-            return self.look_at_file(partition, DEFAULT_FILE);
-        }
         match find_partition(self.partitions()?, partition) {
             PartitionSearch::Found(_) => Ok(Seen::bare(alloc, Lead::Partition)),
             found => Ok(without_partition(alloc, found)?),
@@ -296,8 +304,8 @@ impl<'a, R: Files + AllocGlobal> Machine<'a, R> {
             Ok(names) => Ok(step_among(alloc, folder, &names, name)?),
             Err(error) => match error.kind() {
                 ErrorKind::NotFound | ErrorKind::NotADirectory => Ok(Step::Nowhere),
-                ErrorKind::PermissionDenied => Ok(Step::Closed),
-                _ => Err(Failure::from_read(alloc, folder, error)),
+                ErrorKind::OutOfMemory => Err(Failure::Memory),
+                _ => Ok(Step::Closed),
             },
         }
     }
@@ -320,6 +328,7 @@ impl<'a, R: Files + AllocGlobal> Machine<'a, R> {
 /// Where a path leads whose partition is sought, if this comes of it, which isn't one partition.
 fn without_partition(alloc: Global, found: PartitionSearch<'_>) -> Result<Seen, AllocError>
     ensures told { IfOk result (λ seen. IsTold found.entry seen.lead) }
+    ensures partition { IfOk result (λ seen. OfPartition seen.lead) }
     ensures file { IfOk result (λ seen. OfFile seen.lead) }
 {
     match found {

@@ -5,9 +5,10 @@ use crate::action::{
 };
 use boot_requests::InputFormat;
 use boot_texts::{
-    DigitsFault, FrameWords, FrameWordsFault, OptionPaths, OptionWords, OptionWordsFault, attribute_bits,
-    attributes_of_text, entry_of_digits, explain_json, explain_report, frame_bytes, frame_line,
-    number_of_digits, option_bytes, optional_text, seconds_of_digits, single_backslashes,
+    DigitsFault, FrameWords, FrameWordsFault, OptionPaths, OptionWords, OptionWordsFault,
+    attribute_bits, attributes_of_text, entry_of_digits, explain_json, explain_report, frame_bytes,
+    frame_line, number_of_digits, option_bytes, optional_text, seconds_of_digits,
+    single_backslashes,
 };
 use disk_files::{disk_path, loader_path};
 use hex::FromHexError;
@@ -169,7 +170,12 @@ fn look_at_loader<R: Files + Eprint + AllocGlobal>(
     };
     match found {
         None => {}
-        Some(LoaderNote { is_fault, words: told }) if is_fault && !start.force => {
+        Some(
+            LoaderNote {
+                is_fault,
+                words: told,
+            },
+        ) if is_fault && !start.force => {
             let told = format_args!("{told}: --force adds the entry all the same");
             return Err(Failure::from_fault(alloc, words.file, told));
         }
