@@ -86,8 +86,8 @@ static CHECK_COMMANDS: [CommandRow; 1] = [CommandRow {
     about: "Tells which boot entries can be started, and what is wrong with the others",
     long_about: Some(
         "Tells which boot entries can be started on this machine, and what is wrong with the others: first those that the \
-        next boot tries, in its order. Each is looked for by its partition and its file, if that is mounted, and the file is \
-        read, whether firmware starts it.\n\n\
+        next boot tries, in its order. Each is looked for by its partition and its file, if that is mounted, \
+        and the file's headers are read.\n\n\
         The status is 0 if nothing is wrong with the first one, 1 if something is or there is none, and above 1 if it \
         could not be told.",
     ),
