@@ -101,7 +101,7 @@ complete -c bootvars -n '__bootvars_at bootvars add' -l state -r -F -d 'The fold
 complete -c bootvars -n '__bootvars_at bootvars add' -l boot-id -x -d 'The identity of the machine'\''s start, if an update of a variable file has something left to do'
 complete -c bootvars -n '__bootvars_at bootvars add' -l machine -x -d 'What the machine is called, in place of its UUID or the path of PLACE'
 complete -c bootvars -n '__bootvars_at bootvars add' -l adopt -d 'Takes over what another machine'\''s updates left in FOLDER, unless there is something left to do'
-complete -c bootvars -n '__bootvars_at bootvars add' -l force -d 'Writes a variable file that is damaged'
+complete -c bootvars -n '__bootvars_at bootvars add' -l force -d 'Adds a file that firmware doesn'\''t start, and writes a variable file that is damaged'
 complete -c bootvars -n '__bootvars_at bootvars add' -l help -s h -d 'Print help (see a summary with '\''-h'\'')'
 complete -c bootvars -n '__bootvars_at bootvars add' -l version -s V -d 'Print version'
 complete -c bootvars -n '__bootvars_at bootvars remove' -l dry-run -d 'Prints the changes and makes none'

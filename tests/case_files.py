@@ -70,6 +70,16 @@ def bytes_of(stated: Stated) -> bytes:
     return bytes.fromhex(text_of(stated))
 
 
+def image_of(image: Stated, stated: Dict[str, Stated]) -> bytes:
+    """The bytes of an image, of which a case states other bytes at offsets, and how many there are."""
+    changed = bytearray(bytes_of(image))
+    for place, digits in stated.get("changes", {}).items():
+        other, start = bytes_of(digits), int(place, 16)
+        changed[start : start + len(other)] = other
+    length = stated.get("len", len(changed))
+    return bytes(changed[:length]).ljust(length, b"\0")
+
+
 def _text_of_piece(piece: Stated) -> str:
     if isinstance(piece, str):
         return piece

@@ -12,7 +12,7 @@ from pathlib import Path
 from typing import Dict, List, Optional, Set
 
 from asking import KEEPS_FILES, Answer, NoAnswer, Surroundings, ask, shown
-from case_files import Case, Stated, bytes_of, text_of
+from case_files import Case, Stated, bytes_of, image_of, text_of
 
 SECONDS = 300
 """After how many seconds a command line has no answer."""
@@ -39,7 +39,7 @@ def runs_in_a_folder(case: Case) -> bool:
     members = case.members
     if any(name in members for name in IN_MEMORY):
         return False
-    stated = ("files", "texts", "after", "links", "devices", "unchecked")
+    stated = ("files", "texts", "images", "after", "links", "devices", "unchecked")
     return not any(path.startswith("/") for name in stated for path in members.get(name, []))
 
 
@@ -132,6 +132,8 @@ class Contents:
         self.files = {path: bytes_of(it) for path, it in stated.items() if path[-1] != "/"}
         texts: Dict[str, Stated] = members.get("texts", {})
         self.files.update({path: text_of(it).encode() for path, it in texts.items()})
+        images: Dict[str, Dict[str, Stated]] = members.get("images", {})
+        self.files.update({path: image_of(members["image"], it) for path, it in images.items()})
         self.devices: List[str] = members.get("devices", [])
         for path in self.devices:
             self.files.pop(path, None)

@@ -2,6 +2,8 @@
 use Rattle.std.specs.Prelude.{ℕ, List, codes}
 use Rattle.entry_checks.specs.declared.lead.Lead.{Lead}
 use Rattle.entry_checks.specs.declared.lead.Lead.TheVariants as lead
+use Rattle.entry_checks.specs.declared.image.ImageState.{ImageState}
+use Rattle.entry_checks.specs.declared.image.ImageState.TheVariants as image
 use Rattle.entry_checks.specs.declared.finding.Finding.{Finding}
 use Rattle.entry_checks.specs.declared.finding.Finding.TheVariants as finding
 use Rattle.entry_checks.specs.declared.finding.Weight.{Weight}
@@ -12,9 +14,16 @@ abbrev pub weight_of_lead : Lead → Weight
 weight_of_lead lead.File = Remark
 weight_of_lead lead.NoFile = Fault
 weight_of_lead lead.Folder = Fault
-weight_of_lead lead.Partition = Remark
 weight_of_lead lead.NoPartition = Fault
 weight_of_lead _ = Unseen
+
+-- the file of an entry: it is wrong if firmware doesn't start it, or goes wrong
+abbrev pub weight_of_image : ImageState → Weight
+weight_of_image image.Refused = Fault
+weight_of_image image.Unsafe = Fault
+weight_of_image image.Foreign = Fault
+weight_of_image image.OfX8664 = Remark
+weight_of_image _ = Unseen
 
 abbrev pub weight_of : Finding → Weight
 weight_of finding.Undecodable = Fault
@@ -23,6 +32,7 @@ weight_of finding.OtherCategory = Remark
 weight_of finding.Hidden = Remark
 weight_of finding.Unnamed = Remark
 weight_of (finding.Leads found) = weight_of_lead found
+weight_of (finding.Image found) = weight_of_image found
 weight_of finding.Twin = Fault
 
 -- ---- what JSON calls it
@@ -46,6 +56,17 @@ kind_of_lead lead.Firmware = codes "firmware"
 kind_of_lead lead.Legacy = codes "legacy"
 kind_of_lead lead.Device = codes "device"
 
+abbrev pub kind_of_image : ImageState → List ℕ
+kind_of_image image.Refused = codes "image"
+kind_of_image image.Unsafe = codes "image_unsafe"
+kind_of_image image.Foreign = codes "image_foreign"
+kind_of_image image.OfX8664 = codes "image_x86_64"
+kind_of_image image.Undecided = codes "image_undecided"
+kind_of_image image.Unknown = codes "image_unknown"
+kind_of_image image.Unreadable = codes "image_unreadable"
+kind_of_image image.TooLong = codes "image_too_long"
+kind_of_image image.Irregular = codes "image_irregular"
+
 abbrev pub kind_of : Finding → List ℕ
 kind_of finding.Undecodable = codes "undecodable"
 kind_of finding.Inactive = codes "inactive"
@@ -53,4 +74,5 @@ kind_of finding.OtherCategory = codes "category"
 kind_of finding.Hidden = codes "hidden"
 kind_of finding.Unnamed = codes "unnamed"
 kind_of (finding.Leads found) = kind_of_lead found
+kind_of (finding.Image found) = kind_of_image found
 kind_of finding.Twin = codes "same_file"

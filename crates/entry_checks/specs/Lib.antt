@@ -1,4 +1,5 @@
 -- What contracts are in terms of.
+pub mod Image
 pub mod Finding
 pub mod Facts
 pub mod Numbers

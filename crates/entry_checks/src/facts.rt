@@ -1,10 +1,11 @@
 //! What is known of an entry, and what is found by that.
 
-ghost use Rattle.std.specs.Prelude.{◌≡◌, ◌++◌, ◌↔◌, IfOk, OnOk, IsTrue};
-ghost use Rattle.std.specs.List.{AllByRecursion};
-ghost use Rattle.entry_checks.specs.Facts.{when, findings_of, option_findings_of, is_hidden, is_inactive, is_of_other_category, IsNoFault};
+ghost use Rattle.std.specs.Prelude.{◌≡◌, ◌++◌, IfOk, OnOk};
+ghost use Rattle.std.specs.List.{list_any};
+ghost use Rattle.entry_checks.specs.Facts.{when, image_findings_of, findings_of, option_findings_of, is_hidden, is_inactive, is_of_other_category, is_fault, is_unseen, state_of};
 
 use crate::finding::{Finding, Weight};
+use crate::image::ImageState;
 use crate::lead::Lead;
 use std::alloc::{AllocError, Global};
 use uefi_option::{CATEGORY_BOOT, HIDDEN, category, is_active};
@@ -36,6 +37,8 @@ pub struct OptionFacts {
     pub attributes: u32,
     /// Where it leads.
     pub lead: Lead,
+    /// What is known of the file that is there, unless firmware starts it, or none was looked at.
+    pub image: Option<ImageState>,
     /// Whether an entry that is told before leads to the same file with the same data.
     pub is_twin: bool,
 }
@@ -70,6 +73,7 @@ fn push_option(
     let attributes = option.attributes;
     let is_next = facts.is_next;
     found.push(Finding::Leads(option.lead))?;
+    push_image(option.image, found)?;
     push_if(option.is_twin, Finding::Twin, found)?;
     push_if(
         !is_next && !facts.is_unnamed && is_inactive(attributes),
@@ -82,6 +86,17 @@ fn push_option(
         found,
     )?;
     push_if(is_hidden(attributes), Finding::Hidden, found)
+}
+
+/// Appends what is found of the file, if that is anything.
+fn push_image(image: Option<ImageState>, found: &mut Vec<Finding>) -> Result<(), AllocError>
+    ensures { OnOk result (found.new.items ≡ found.old.items ++ image_findings_of image) }
+{
+    let Some(image) = image else {
+        return Ok(());
+    };
+    found.push(Finding::Image(image))?;
+    Ok(())
 }
 
 /// Appends a finding, if it is one.
@@ -116,16 +131,54 @@ fn is_hidden(attributes: u32) -> bool
     attributes & HIDDEN != 0
 }
 
-/// Whether nothing is wrong by these findings of an entry.
-pub fn is_ok(found: &[Finding]) -> bool
-    ensures { IsTrue result ↔ AllByRecursion IsNoFault found.now }
-{
-    found.iter().all(|finding| is_no_fault(*finding))
+/// Whether an entry can be started.
+#[derive(Clone, Copy, Debug, PartialEq, Eq)]
+pub enum State {
+    /// All was looked at, and nothing is wrong.
+    Ok,
+    /// Something is wrong.
+    Wrong,
+    /// Nothing is wrong as far as it was looked at, and something wasn't.
+    Unknown,
 }
 
-/// Whether the finding says of nothing that it is wrong.
-fn is_no_fault(finding: Finding) -> bool
-    ensures { IsTrue result ↔ IsNoFault finding }
+/// Whether an entry can be started, by these findings.
+pub fn entry_state(found: &[Finding]) -> State
+    ensures { result ≡ state_of found.now }
 {
-    finding.row().weight != Weight::Fault
+    if has_fault(found) {
+        State::Wrong
+    } else if has_unseen(found) {
+        State::Unknown
+    } else {
+        State::Ok
+    }
+}
+
+/// Whether a finding says that something is wrong.
+fn has_fault(found: &[Finding]) -> bool
+    ensures { result ≡ list_any is_fault found.now }
+{
+    found.iter().any(is_fault)
+}
+
+/// Whether a finding says that something wasn't looked at.
+fn has_unseen(found: &[Finding]) -> bool
+    ensures { result ≡ list_any is_unseen found.now }
+{
+    found.iter().any(is_unseen)
+}
+
+/// Whether the finding says that something is wrong.
+fn is_fault(finding: &Finding) -> bool
+    ensures { result ≡ is_fault finding.now }
+{
+    matches!(finding.row().weight, Weight::Fault)
+}
+
+/// Whether the finding says that something wasn't looked at.
+fn is_unseen(finding: &Finding) -> bool
+    ensures { result ≡ is_unseen finding.now }
+{
+    matches!(finding.row().weight, Weight::Unseen)
 }

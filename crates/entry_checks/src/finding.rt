@@ -1,8 +1,9 @@
 //! What is found of an entry, and the words for it.
 
 ghost use Rattle.std.specs.Prelude.{◌≡◌};
-ghost use Rattle.entry_checks.specs.Finding.{kind_of, kind_of_lead, weight_of, weight_of_lead};
+ghost use Rattle.entry_checks.specs.Finding.{kind_of, kind_of_lead, kind_of_image, weight_of, weight_of_lead, weight_of_image};
 
+use crate::image::ImageState;
 use crate::lead::Lead;
 
 /// What is found of an entry.
@@ -20,6 +21,8 @@ pub enum Finding {
     Unnamed,
     /// Where it leads.
     Leads(Lead),
+    /// What is known of the file to which it leads.
+    Image(ImageState),
     /// It leads to the same file as another one, with the same data.
     Twin,
 }
@@ -68,6 +71,7 @@ impl Finding {
                 "neither BootOrder nor BootNext names it, so no boot tries it",
             ),
             Finding::Leads(lead) => lead.row(),
+            Finding::Image(image) => image.row(),
             Finding::Twin => fault(
                 "same_file",
                 "it leads to one file, with the same data, with an entry above",
@@ -86,9 +90,9 @@ impl Lead {
             Lead::File => remark("file", "its file is there"),
             Lead::NoFile => fault("no_file", "its file isn't on its partition"),
             Lead::Folder => fault("folder", "a folder is where its file should be"),
-            Lead::Partition => remark(
+            Lead::Partition => unseen(
                 "partition",
-                "its partition is there, and firmware seeks its own file name on it",
+                "not looked at: firmware seeks its own file name on its partition",
             ),
             Lead::NoPartition => fault("no_partition", "its partition isn't on this machine"),
             Lead::Several => unseen(
@@ -100,7 +104,7 @@ impl Lead {
                 "not looked at: the system doesn't tell what its partitions are known by",
             ),
             Lead::Unmounted => unseen("not_mounted", "not looked at: its partition isn't mounted"),
-            Lead::Closed => unseen("not_readable", "not looked at: its folder may not be read"),
+            Lead::Closed => unseen("not_readable", "not looked at: its folder can't be read"),
             Lead::Unsigned => unseen("unsigned", "not looked at: its partition has no signature"),
             Lead::Onward => unseen(
                 "onward",
@@ -118,6 +122,41 @@ impl Lead {
             ),
             Lead::Legacy => unseen("legacy", "not looked at: it is for a BIOS"),
             Lead::Device => unseen("device", "not looked at: it leads to a device"),
+        }
+    }
+}
+
+impl ImageState {
+    /// Its row of the table.
+    pub fn row(self) -> FindingRow
+        ensures kind { result.kind.now ≡ kind_of_image self }
+        ensures weight { result.weight ≡ weight_of_image self }
+    {
+        match self {
+            ImageState::Refused => fault("image", "firmware doesn't start the file"),
+            ImageState::Unsafe => fault("image_unsafe", "firmware goes wrong with the file"),
+            ImageState::Foreign => fault(
+                "image_foreign",
+                "the file is for another processor than this machine's",
+            ),
+            ImageState::OfX8664 => remark("image_x86_64", "the file is for x86-64"),
+            ImageState::Undecided => unseen(
+                "image_undecided",
+                "not looked at: more than the file decides whether firmware starts it",
+            ),
+            ImageState::Unknown => unseen(
+                "image_unknown",
+                "not looked at: what firmware asks of the file is known for x86-64 alone",
+            ),
+            ImageState::Unreadable => unseen(
+                "image_unreadable",
+                "not looked at: the file can't be read",
+            ),
+            ImageState::TooLong => unseen("image_too_long", "not looked at: the file is too long"),
+            ImageState::Irregular => unseen(
+                "image_irregular",
+                "not looked at: a pipe or a device is where the file should be",
+            ),
         }
     }
 }

@@ -11,7 +11,7 @@ pub enum Lead {
     Folder,
     /// The partition is this machine's, and isn't mounted.
     Unmounted,
-    /// The partition is this machine's, and one of its folders may not be read.
+    /// The partition is this machine's, and one of its folders can't be read.
     Closed,
     /// The partition is this machine's, and the path names no file there.
     Partition,

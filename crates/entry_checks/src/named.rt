@@ -3,7 +3,7 @@
 ghost use Rattle.std.specs.Prelude.{◌≡◌, IfOk};
 ghost use Rattle.uefi_vars.specs.Vars.{entry_of};
 ghost use Rattle.uefi_vars.specs.Order.{HasOrder};
-ghost use Rattle.entry_checks.specs.Named.{IsOrderFinding, IsNextFinding, stale_in, stale_of};
+ghost use Rattle.entry_checks.specs.Named.{IsOrderFinding, IsNextFinding, is_order_wrong, stale_in, stale_of};
 
 use crate::numbers::{distinct, repeated};
 use std::alloc::{AllocError, Global};
@@ -75,6 +75,17 @@ fn stale_among(alloc: Global, vars: &Vars, numbers: &[u16]) -> Result<Vec<u16>, 
         }
     }
     Ok(stale)
+}
+
+/// Whether something is wrong with BootOrder by these findings, where it names a normal entry or none: numbers without an
+/// entry do harm only then, and numbers that come again do none.
+pub fn is_order_wrong(found: &OrderFindings, has_normal: bool) -> bool
+    ensures { result ≡ is_order_wrong found.now has_normal }
+{
+    match found {
+        OrderFindings::Unreadable => true,
+        OrderFindings::Numbers { stale, .. } => !has_normal && !stale.is_empty(),
+    }
 }
 
 /// What is wrong with BootNext, if anything.

@@ -1,5 +1,5 @@
 -- What a look at a machine can say of where a path leads.
-use Rattle.std.specs.Prelude.{◌≡◌}
+use Rattle.std.specs.Prelude.{◌≡◌, ◌⊎◌}
 use Rattle.entry_checks.specs.declared.lead.Lead.{Lead}
 use Rattle.entry_checks.specs.declared.lead.Lead.TheVariants as lead
 use Rattle.entry_checks.specs.declared.target.Target.{Target}
@@ -30,10 +30,11 @@ OfFile lead.Untold = Unit {0}
 OfFile lead.Unsigned = Unit {0}
 OfFile _ = ⊥
 
--- what isn't looked at stays as the path says it
+-- what isn't looked at stays as the path says it; of a partition alone the file that firmware seeks there is looked at, if
+-- its name is known
 abbrev pub CanBe : Target → Lead → Type 0
 CanBe (target.File partition name) found = OfFile found
-CanBe (target.Partition partition) found = OfPartition found
+CanBe (target.Partition partition) found = OfPartition found ⊎ OfFile found
 CanBe (target.Unseen told) found = found ≡ told
 
 -- what a search says that doesn't come to one partition

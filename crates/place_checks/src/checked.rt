@@ -1,16 +1,16 @@
 //! What is found of the variables of a place.
 
-ghost use Rattle.std.specs.Prelude.{◌≡◌, ◌↔◌, IsTrue};
-ghost use Rattle.std.specs.List.{AllByRecursion};
-ghost use Rattle.entry_checks.specs.Facts.{IsNoFault};
-ghost use Rattle.place_checks.specs.Verdict.{has_entry, IsFirstFine};
+ghost use Rattle.std.specs.Prelude.{◌≡◌};
+ghost use Rattle.entry_checks.specs.Facts.{state_of};
+ghost use Rattle.entry_checks.specs.Named.{is_order_wrong};
+ghost use Rattle.place_checks.specs.Verdict.{has_entry, has_normal, first_state, checked_state, verdict_of};
 
 use crate::check::Verdict;
 use crate::entry::{LookedEntry, look_at_entry};
 use crate::machine::Machine;
 use entry_checks::{
-    Facts, Finding, Held, Known, NextFinding, OptionFacts, OrderFindings, findings, is_ok, listed,
-    next_finding, order_findings, twins,
+    Facts, Finding, Held, Known, NextFinding, OptionFacts, OrderFindings, State, entry_state,
+    findings, is_order_wrong, listed, next_finding, order_findings, twins,
 };
 use std::alloc::{AllocError, Global};
 use std::rt::Files;
@@ -44,24 +44,50 @@ pub(crate) struct Found {
 }
 
 impl Found {
-    /// Whether nothing is wrong with it.
-    pub(crate) fn is_ok(&self) -> bool
-        ensures { IsTrue result ↔ AllByRecursion IsNoFault self.now.findings.items }
+    /// Whether it can be started.
+    pub(crate) fn state(&self) -> State
+        ensures { result ≡ state_of self.now.findings.items }
     {
-        is_ok(&self.findings)
+        entry_state(&self.findings)
     }
 }
 
 impl Checked {
-    /// What is said of the next boot: by the first entry of the plan, which is told first.
+    /// What is said of the next boot.
     pub(crate) fn verdict(&self) -> Verdict
-        ensures { (result ≡ Verdict.Fine) ↔
-            (IsTrue (has_entry self.now.plan) × IsFirstFine self.now.found.items) }
+        ensures { result ≡ verdict_of (checked_state self.now.plan self.now.found.items) }
     {
-        if self.has_plan() && is_first_ok(&self.found) {
-            Verdict::Fine
+        match self.state() {
+            State::Wrong => Verdict::Wrong,
+            State::Ok | State::Unknown => Verdict::Fine,
+        }
+    }
+
+    /// Whether what the next boot tries first can be started: the first entry of the plan, which is told first.
+    pub(crate) fn state(&self) -> State
+        ensures { result ≡ checked_state self.now.plan self.now.found.items }
+    {
+        if self.has_plan() {
+            first_state(&self.found)
         } else {
-            Verdict::Wrong
+            State::Wrong
+        }
+    }
+
+    /// Whether something is wrong with BootOrder.
+    pub(crate) fn is_order_wrong(&self) -> bool
+        ensures { result ≡ is_order_wrong self.now.order (has_normal self.now.plan) }
+    {
+        is_order_wrong(&self.order, self.has_normal())
+    }
+
+    /// Whether BootOrder names an entry that a normal boot tries.
+    fn has_normal(&self) -> bool
+        ensures { result ≡ has_normal self.now.plan }
+    {
+        match &self.plan {
+            Some(plan) => !plan.normal.is_empty(),
+            None => false,
         }
     }
 
@@ -76,26 +102,25 @@ impl Checked {
     }
 }
 
-/// Whether there is an entry, and nothing is wrong with the first one.
-fn is_first_ok(found: &[Found]) -> bool
-    ensures { IsTrue result ↔ IsFirstFine found.now }
+/// Whether the first entry can be started: one that isn't there can't.
+fn first_state(found: &[Found]) -> State
+    ensures { result ≡ first_state found.now }
 {
     match found {
-        [first, ..] => first.is_ok(),
-        [] => false,
+        [first, ..] => first.state(),
+        [] => State::Wrong,
     }
 }
 
-/// What is found of the variables, on the machine whose root this folder stands for.
+/// What is found of the variables, on this machine.
 pub(crate) fn check_vars<R: Files + AllocGlobal>(
-    rt: &R,
-    root: &str,
+    mut machine: Machine<'_, R>,
     vars: &Vars,
 ) -> Result<Checked, Failure> {
-    let alloc = rt.alloc();
+    let alloc = machine.rt.alloc();
     let plan = plan_if_any(alloc, vars)?;
     let numbers = told_numbers(alloc, vars, plan.as_ref())?;
-    let entries = look_at_entries(&mut Machine::new(rt, root), vars, &numbers)?;
+    let entries = look_at_entries(&mut machine, vars, &numbers)?;
     let found = find_in_entries(alloc, vars, &entries)?;
     Ok(Checked {
         plan,
@@ -195,6 +220,7 @@ fn facts_of(looked: &LookedEntry, twin: Option<u16>, next: Option<u16>, unnamed:
         Some(attributes) => Held::Option(OptionFacts {
             attributes,
             lead: looked.lead,
+            image: looked.image.state,
             is_twin: twin.is_some(),
         }),
         None => Held::NoOption,

@@ -1,5 +1,6 @@
 //! An entry, and where it leads.
 
+use crate::image::SeenImage;
 use crate::machine::{Machine, Seen};
 use boot_texts::option_reason;
 use entry_checks::{Lead, Target, destination, path_target};
@@ -24,6 +25,8 @@ pub(crate) struct LookedEntry {
     pub(crate) lead: Lead,
     /// What that is, or why its data is no load option.
     pub(crate) detail: String,
+    /// What is known of the file that is there.
+    pub(crate) image: SeenImage,
     /// What tells where it leads from other files, if it leads to one.
     pub(crate) destination: Option<Vec<u8>>,
 }
@@ -57,6 +60,7 @@ fn undecodable(
         title: String::new(alloc),
         lead: Lead::Device,
         detail: format!(in alloc; "{words}: {reason}")?,
+        image: SeenImage::none(alloc),
         destination: None,
     })
 }
@@ -84,6 +88,7 @@ fn look_at_option<R: Files + AllocGlobal>(
         title,
         lead: seen.lead,
         detail: seen.detail,
+        image: seen.image,
         destination,
     })
 }

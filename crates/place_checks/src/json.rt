@@ -1,15 +1,14 @@
 //! What is found, as JSON.
 
-use crate::check::Verdict;
 use crate::checked::{Checked, Found};
 use crate::entry::LookedEntry;
-use crate::words::weight_word;
+use crate::words::{state_word, weight_word};
 use boot_texts::json::{
     JsonObject, JsonWriter, Leaf, append_leaf, append_leaves, append_object, append_objects,
     json_line,
 };
 use boot_texts::{EntryDigits, EntryName};
-use entry_checks::{Finding, NextFinding, OrderFindings};
+use entry_checks::{Finding, NextFinding, OrderFindings, State};
 use std::alloc::{AllocError, Global};
 use uefi_vars::PlanNumbers;
 
@@ -32,8 +31,8 @@ struct ShownCheck<'a> {
 
 impl JsonObject for ShownCheck<'_> {
     fn append_members(&self, out: &mut JsonWriter) -> Result<(), AllocError> {
-        let is_ok = self.checked.verdict() == Verdict::Fine;
-        append_leaf("ok", Leaf::Flag(Some(is_ok)), out)?;
+        let state = state_word(self.checked.state());
+        append_leaf("state", Leaf::Word(Some(state)), out)?;
         let plan = self.checked.plan.as_ref().map(|plan| ShownPlan(plan));
         append_object("plan", plan.as_ref(), out)?;
         append_objects("entries", &self.entries, out)?;
@@ -63,8 +62,8 @@ impl JsonObject for ShownPlan<'_> {
 struct ShownEntry<'a> {
     /// Its number.
     number: u16,
-    /// Whether nothing is wrong with it.
-    is_ok: bool,
+    /// Whether it can be started.
+    state: State,
     findings: Vec<ShownFinding<'a>>,
 }
 
@@ -84,7 +83,7 @@ impl<'a> ShownEntry<'a> {
         }
         Ok(ShownEntry {
             number: entry.number,
-            is_ok: found.is_ok(),
+            state: found.state(),
             findings,
         })
     }
@@ -96,7 +95,7 @@ impl JsonObject for ShownEntry<'_> {
             &[
                 ("name", Leaf::Name(EntryName(self.number))),
                 ("entry", Leaf::Entry(Some(EntryDigits(self.number)))),
-                ("ok", Leaf::Flag(Some(self.is_ok))),
+                ("state", Leaf::Word(Some(state_word(self.state)))),
             ],
             out,
         )?;
@@ -131,6 +130,7 @@ impl JsonObject for ShownFinding<'_> {
 fn detail_of(entry: &LookedEntry, twin: Option<u16>, finding: Finding) -> Leaf<'_> {
     match (finding, twin) {
         (Finding::Undecodable | Finding::Leads(_), _) => Leaf::Text(Some(&entry.detail)),
+        (Finding::Image(_), _) => Leaf::Text(Some(&entry.image.detail)),
         (Finding::Twin, Some(twin)) => Leaf::Name(EntryName(twin)),
         _ => Leaf::Text(None),
     }

@@ -1,23 +1,38 @@
 //! The machine on which files are sought.
 
-ghost use Rattle.std.specs.Prelude.{◌≡◌, IfOk};
+ghost use Rattle.std.specs.Prelude.{◌≡◌, ◌⊎◌, IfOk};
 ghost use Rattle.place_checks.specs.Look.{CanBe, OfPartition, OfFile, IsTold};
 
+use crate::image::{SeenImage, look_at_image};
 use disk_files::{
     PartitionSearch, SeenMounts, SeenPartitions, find_partition, machine_mounts,
     machine_partitions, mounted_folders,
 };
-use entry_checks::{Lead, Target, name_among};
+use entry_checks::{Lead, Processor, Target, name_among, processor_of};
 use partitions::DeviceNumber;
 use std::alloc::{AllocError, Global};
+use std::collections::BTreeMap;
 use std::fs;
 use std::io::{self, ErrorKind};
 use std::rt::Files;
 use uefi_path::HardDriveNode;
 use var_places::{Failure, shown};
+use whole_files::{RegularFile, read_regular};
 
 /// What parts the names in the path of a file (UEFI 2.10, 10.3.5.4).
 const SEPARATOR: char = '\\';
+
+/// The name of the file that firmware for x86-64 seeks on a partition (UEFI 2.10, 3.5.1.1).
+const DEFAULT_FILE: &str = "\\EFI\\BOOT\\BOOTX64.EFI";
+
+/// Where Linux tells for which processor it is made.
+const ARCH: &str = "/proc/sys/kernel/arch";
+
+/// Where Linux tells how many bits the firmware's addresses have.
+const BITS: &str = "/sys/firmware/efi/fw_platform_size";
+
+/// How many bytes a text of the system's has at most that tells either.
+const TOLD_MAX: usize = 64;
 
 /// The path of all that a file system has.
 const ROOT: &str = "/";
@@ -28,10 +43,16 @@ pub(crate) struct Machine<'a, R> {
     pub(crate) rt: &'a R,
     /// The path of the folder, or nothing.
     root: &'a str,
+    /// Whether the variables are those that its own firmware has, as far as that can be told.
+    has_variables: bool,
+    /// Its firmware's processor, once that is read.
+    processor: Option<Processor>,
     /// Its partitions, once they are read.
     partitions: Option<SeenPartitions>,
     /// What is mounted, once that is read.
     mounts: Option<SeenMounts>,
+    /// What is known of the files that were looked at, by their paths: each is read once.
+    images: BTreeMap<String, SeenImage>,
 }
 
 /// Where a path leads.
@@ -40,6 +61,8 @@ pub(crate) struct Seen {
     pub(crate) lead: Lead,
     /// What was looked at, if the path doesn't say it.
     pub(crate) detail: String,
+    /// What is known of the file, if one is there.
+    pub(crate) image: SeenImage,
 }
 
 /// A partition that the machine has.
@@ -58,7 +81,7 @@ enum Step {
     To(String),
     /// To nothing.
     Nowhere,
-    /// The folder that it should be in may not be read.
+    /// The folder that it should be in can't be read.
     Closed,
 }
 
@@ -70,6 +93,7 @@ impl Seen {
         Seen {
             lead,
             detail: String::new(alloc),
+            image: SeenImage::none(alloc),
         }
     }
 
@@ -80,19 +104,65 @@ impl Seen {
         Ok(Seen {
             lead,
             detail: shown(alloc, path)?,
+            image: SeenImage::none(alloc),
         })
     }
 }
 
 impl<'a, R: Files + AllocGlobal> Machine<'a, R> {
-    /// The machine whose root this folder stands for, or this one if the path is empty.
-    pub(crate) fn new(rt: &'a R, root: &'a str) -> Machine<'a, R> {
+    /// The machine whose root this folder stands for, or this one if the path is empty, and whether the variables are its
+    /// firmware's: those of a folder are taken for that, and those of a file may be anybody's.
+    pub(crate) fn new(rt: &'a R, root: &'a str, has_variables: bool) -> Machine<'a, R> {
         Machine {
             rt,
             root,
+            has_variables,
+            processor: None,
             partitions: None,
             mounts: None,
+            images: BTreeMap::new(rt.alloc()),
         }
+    }
+
+    /// The processor of the firmware that has the variables.
+    fn processor(&mut self) -> Result<Processor, AllocError> {
+        if let Some(processor) = self.processor {
+            return Ok(processor);
+        }
+        let processor = if self.has_variables {
+            let arch = self.told(ARCH)?;
+            let bits = self.told(BITS)?;
+            processor_of(arch.as_deref(), bits.as_deref())
+        } else {
+            Processor::Untold
+        };
+        self.processor = Some(processor);
+        Ok(processor)
+    }
+
+    /// What the system tells in the file at this path, if it tells it.
+    fn told(&self, path: &str) -> Result<Option<Vec<u8>>, AllocError> {
+        let alloc = self.rt.alloc();
+        let path = format!(in alloc; "{}{path}", without_slash(self.root))?;
+        match read_regular(self.rt, &path, TOLD_MAX) {
+            Ok(RegularFile::Bytes(bytes)) => Ok(Some(bytes)),
+            Ok(_) => Ok(None),
+            Err(error) if error.kind() == ErrorKind::OutOfMemory => Err(AllocError),
+            Err(_) => Ok(None),
+        }
+    }
+
+    /// What is known of the file at this path.
+    pub(crate) fn image_at(&mut self, path: &str) -> Result<SeenImage, AllocError> {
+        if let Some(seen) = self.images.get(path) {
+            return seen.copy();
+        }
+        let processor = self.processor()?;
+        let seen = look_at_image(self.rt, path, processor)?;
+        let copy = seen.copy()?;
+        self.images
+            .insert(String::from_str(self.rt.alloc(), path)?, copy)?;
+        Ok(seen)
     }
 
     /// Its partitions.
@@ -122,14 +192,28 @@ impl<'a, R: Files + AllocGlobal> Machine<'a, R> {
         ensures { IfOk result (λ seen. CanBe target.entry seen.lead) }
     {
         match target {
-            Target::File(partition, name) => self.look_at_file(partition, name.units()),
+            Target::File(partition, name) => {
+                let name = String::from_utf16_lossy(self.rt.alloc(), name.units())?;
+                self.look_at_file(partition, &name)
+            }
             Target::Partition(partition) => self.look_at_partition(partition),
             Target::Unseen(lead) => Ok(Seen::bare(self.rt.alloc(), lead)),
         }
     }
 
-    /// Looks whether a partition is on the machine.
+    /// Looks whether a partition is on the machine, and the file that firmware seeks there, if its name is known.
     fn look_at_partition(&mut self, partition: &HardDriveNode) -> Result<Seen, Failure>
+        ensures { IfOk result (λ seen. OfPartition seen.lead ⊎ OfFile seen.lead) }
+    {
+        if self.processor()? == Processor::X8664 {
+            self.look_at_file(partition, DEFAULT_FILE)
+        } else {
+            self.look_for_partition(partition)
+        }
+    }
+
+    /// Looks whether a partition is on the machine.
+    fn look_for_partition(&mut self, partition: &HardDriveNode) -> Result<Seen, Failure>
         ensures { IfOk result (λ seen. OfPartition seen.lead) }
     {
         let alloc = self.rt.alloc();
@@ -140,7 +224,7 @@ impl<'a, R: Files + AllocGlobal> Machine<'a, R> {
     }
 
     /// Looks whether a file of this name is on a partition.
-    fn look_at_file(&mut self, partition: &HardDriveNode, name: &[u16]) -> Result<Seen, Failure>
+    fn look_at_file(&mut self, partition: &HardDriveNode, name: &str) -> Result<Seen, Failure>
         ensures { IfOk result (λ seen. OfFile seen.lead) }
     {
         let alloc = self.rt.alloc();
@@ -155,13 +239,12 @@ impl<'a, R: Files + AllocGlobal> Machine<'a, R> {
     }
 
     /// Looks whether a file of this name is on a partition that the machine has.
-    fn look_on_partition(&mut self, device: &Device, name: &[u16]) -> Result<Seen, Failure>
+    fn look_on_partition(&mut self, device: &Device, name: &str) -> Result<Seen, Failure>
         ensures { IfOk result (λ seen. OfFile seen.lead) }
     {
         let alloc = self.rt.alloc();
-        let name = String::from_utf16_lossy(alloc, name)?;
         match self.mounted_at(device.number)? {
-            Some(folder) => self.look_in_folder(folder, &name),
+            Some(folder) => self.look_in_folder(folder, name),
             None => {
                 let device = format!(in alloc; "/dev/{}", device.name)?;
                 Ok(Seen::at(alloc, Lead::Unmounted, &device)?)
@@ -180,7 +263,7 @@ impl<'a, R: Files + AllocGlobal> Machine<'a, R> {
     }
 
     /// Looks whether a file of this name is in the file system that is mounted at a folder.
-    fn look_in_folder(&self, folder: String, name: &str) -> Result<Seen, Failure>
+    fn look_in_folder(&mut self, folder: String, name: &str) -> Result<Seen, Failure>
         ensures { IfOk result (λ seen. OfFile seen.lead) }
     {
         let alloc = self.rt.alloc();
@@ -199,15 +282,18 @@ impl<'a, R: Files + AllocGlobal> Machine<'a, R> {
         self.look_at(&path)
     }
 
-    /// Looks whether a file or a folder is at this path, where something is.
-    fn look_at(&self, path: &str) -> Result<Seen, Failure>
+    /// Looks whether a file or a folder is at this path, where something is, and what is known of the file.
+    fn look_at(&mut self, path: &str) -> Result<Seen, Failure>
         ensures { IfOk result (λ seen. OfFile seen.lead) }
     {
         let alloc = self.rt.alloc();
         match fs::metadata(self.rt, path) {
             Ok(found) if found.is_dir() => Ok(Seen::at(alloc, Lead::Folder, path)?),
-            Ok(_) => Ok(Seen::at(alloc, Lead::File, path)?),
-            Err(error) => Err(Failure::from_read(alloc, path, error)),
+            _ => Ok(Seen {
+                lead: Lead::File,
+                detail: shown(alloc, path)?,
+                image: self.image_at(path)?,
+            }),
         }
     }
 
@@ -218,8 +304,8 @@ impl<'a, R: Files + AllocGlobal> Machine<'a, R> {
             Ok(names) => Ok(step_among(alloc, folder, &names, name)?),
             Err(error) => match error.kind() {
                 ErrorKind::NotFound | ErrorKind::NotADirectory => Ok(Step::Nowhere),
-                ErrorKind::PermissionDenied => Ok(Step::Closed),
-                _ => Err(Failure::from_read(alloc, folder, error)),
+                ErrorKind::OutOfMemory => Err(Failure::Memory),
+                _ => Ok(Step::Closed),
             },
         }
     }

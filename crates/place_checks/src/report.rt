@@ -16,7 +16,7 @@ pub(crate) fn report_of(alloc: Global, checked: &Checked) -> Result<String, Allo
     for (entry, found) in checked.entries.iter().zip(&checked.found) {
         append_entry(entry, found, &mut report)?;
     }
-    append_order(&checked.order, &mut report)?;
+    append_order(&checked.order, checked.is_order_wrong(), &mut report)?;
     append_next(checked.next, &mut report)?;
     Ok(report)
 }
@@ -36,7 +36,7 @@ fn append_plan(plan: Option<&PlanNumbers>, report: &mut String) -> Result<(), Al
 /// Appends the lines of an entry.
 fn append_entry(entry: &LookedEntry, found: &Found, report: &mut String) -> Result<(), AllocError> {
     let name = EntryName(entry.number);
-    let state = state_word(found.is_ok());
+    let state = state_word(found.state());
     let blank = if entry.title.is_empty() { "" } else { " " };
     writeln!(report, "{name} {state}{blank}{}", entry.title)?;
     for finding in &found.findings {
@@ -57,13 +57,18 @@ fn append_finding(
         (Finding::Undecodable | Finding::Leads(_), _) => {
             writeln!(report, "  {words}: {}", entry.detail)
         }
+        (Finding::Image(_), _) => writeln!(report, "  {words}: {}", entry.image.detail),
         (Finding::Twin, Some(twin)) => writeln!(report, "  {words}: {}", EntryName(twin)),
         _ => writeln!(report, "  {words}"),
     }
 }
 
-/// Appends the lines of BootOrder.
-fn append_order(order: &OrderFindings, report: &mut String) -> Result<(), AllocError> {
+/// Appends the lines of BootOrder, with which something is wrong or not.
+fn append_order(
+    order: &OrderFindings,
+    is_wrong: bool,
+    report: &mut String,
+) -> Result<(), AllocError> {
     match order {
         OrderFindings::Unreadable => {
             writeln!(
@@ -72,14 +77,19 @@ fn append_order(order: &OrderFindings, report: &mut String) -> Result<(), AllocE
                 open_reason(&OpenFault::BadOrder)
             )
         }
-        OrderFindings::Numbers { stale, twice } => append_numbers(stale, twice, report),
+        OrderFindings::Numbers { stale, twice } => {
+            report.push_str(if is_wrong {
+                "BootOrder wrong\n"
+            } else {
+                "BootOrder ok\n"
+            })?;
+            append_numbers(stale, twice, report)
+        }
     }
 }
 
-/// Appends the lines of a BootOrder that has these numbers without an entry, and these twice.
+/// Appends what is found of a BootOrder that has these numbers without an entry, and these twice.
 fn append_numbers(stale: &[u16], twice: &[u16], report: &mut String) -> Result<(), AllocError> {
-    let state = state_word(stale.is_empty() && twice.is_empty());
-    writeln!(report, "BootOrder {state}")?;
     for number in stale {
         writeln!(report, "  it names {number:04X}, which has no entry")?;
     }

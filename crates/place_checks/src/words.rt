@@ -1,6 +1,6 @@
 //! Numbers of entries, and words, as they are printed.
 
-use entry_checks::Weight;
+use entry_checks::{State, Weight};
 use std::fmt;
 
 /// Numbers of entries, each after a blank, or ` -` if there is none.
@@ -19,9 +19,13 @@ impl fmt::Display for NumberList<'_> {
     }
 }
 
-/// The word for whether nothing is wrong.
-pub(crate) fn state_word(is_ok: bool) -> &'static str {
-    if is_ok { "ok" } else { "wrong" }
+/// The word for whether an entry can be started.
+pub(crate) fn state_word(state: State) -> &'static str {
+    match state {
+        State::Ok => "ok",
+        State::Wrong => "wrong",
+        State::Unknown => "unknown",
+    }
 }
 
 /// What JSON calls what a finding says.

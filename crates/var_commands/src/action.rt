@@ -213,6 +213,17 @@ pub struct LoaderWords<'a> {
     pub part: Option<&'a str>,
     /// The path of the folder that stands for the root of the system, or nothing.
     pub root: &'a str,
+    /// What is to start it, if it is looked at whether that does.
+    pub start: Option<StartWords<'a>>,
+}
+
+/// The words that say what is to start a file.
+#[derive(Clone, Copy)]
+pub struct StartWords<'a> {
+    /// The place whose firmware it is.
+    pub place: &'a str,
+    /// Whether an entry is made although it doesn't.
+    pub force: bool,
 }
 
 /// What is said of a load option's attributes.

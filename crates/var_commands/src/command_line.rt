@@ -2,7 +2,7 @@
 
 use crate::action::{
     Action, AddWords, AttributeWords, ChangeWords, EntryChange, Form, LoadOptionWords, LoaderWords,
-    OptionalWords, PathWords, RequestWords, SetWords,
+    OptionalWords, PathWords, RequestWords, SetWords, StartWords,
 };
 use crate::commands::program;
 use crate::updates::Job;
@@ -174,8 +174,12 @@ fn add_of<'a>(matches: &'a ArgMatches<'_>) -> Option<AddWords<'a>> {
     } else {
         Position::Last
     };
+    let start = StartWords {
+        place: matches.get_str("PLACE")?,
+        force: matches.get_flag("force"),
+    };
     Some(AddWords {
-        option: option_of(matches)?,
+        option: started(option_of(matches)?, start),
         entry: matches.get_str("entry"),
         position,
         again: matches.get_flag("again"),
@@ -236,6 +240,20 @@ fn load_option_of<'a>(matches: &'a ArgMatches<'_>) -> Option<Action<'a>> {
     })
 }
 
+/// The words of a load option, whose file is to be started by this, if it names one.
+fn started<'a>(option: LoadOptionWords<'a>, start: StartWords<'a>) -> LoadOptionWords<'a> {
+    match option.paths {
+        PathWords::Loader(loader) => LoadOptionWords {
+            paths: PathWords::Loader(LoaderWords {
+                start: Some(start),
+                ..loader
+            }),
+            ..option
+        },
+        PathWords::Texts(_texts) => option,
+    }
+}
+
 fn option_of<'a>(matches: &'a ArgMatches<'_>) -> Option<LoadOptionWords<'a>> {
     Some(LoadOptionWords {
         description: matches.get_str("description")?,
@@ -252,6 +270,7 @@ fn paths_of<'a>(matches: &'a ArgMatches<'_>) -> Option<PathWords<'a>> {
             disk: matches.get_str("disk"),
             part: matches.get_str("part"),
             root: matches.get_str("root").unwrap_or(""),
+            start: None,
         })),
         None => Some(PathWords::Texts(matches.get_strs("path")?)),
     }

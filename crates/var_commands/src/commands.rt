@@ -86,7 +86,8 @@ static CHECK_COMMANDS: [CommandRow; 1] = [CommandRow {
     about: "Tells which boot entries can be started, and what is wrong with the others",
     long_about: Some(
         "Tells which boot entries can be started on this machine, and what is wrong with the others: first those that the \
-        next boot tries, in its order. Each is looked for by its partition and its file, if that is mounted.\n\n\
+        next boot tries, in its order. Each is looked for by its partition and its file, if that is mounted, \
+        and the file's headers are read.\n\n\
         The status is 0 if nothing is wrong with the first one, 1 if something is or there is none, and above 1 if it \
         could not be told.",
     ),
@@ -170,7 +171,7 @@ static ADD_COMMANDS: [CommandRow; 1] = [CommandRow {
     long_about: Some(
         "Adds an entry that starts a file, and prints its name, and then each change. The entry is put at the end of the \
         order. If an entry with the same description and the same paths is there already, its name is printed, and nothing \
-        is changed.",
+        is changed. A file that firmware doesn't start is refused without --force, if it is there to be looked at.",
     ),
     after_help: "Example:\n  bootvars add /sys/firmware/efi/efivars --description debian \\\n    \
         --loader /boot/efi/EFI/debian/shimx64.efi",
@@ -222,7 +223,10 @@ static ADD_COMMANDS: [CommandRow; 1] = [CommandRow {
         BOOT_ID,
         MACHINE,
         ADOPT,
-        FORCE,
+        ArgRow {
+            help: "Adds a file that firmware doesn't start, and writes a variable file that is damaged",
+            ..FORCE
+        },
     ],
     groups: &[
         PATHS,

@@ -5,18 +5,19 @@ use crate::action::{
 };
 use boot_requests::InputFormat;
 use boot_texts::{
-    DigitsFault, FrameWords, FrameWordsFault, OptionWords, OptionWordsFault, attribute_bits,
-    attributes_of_text, entry_of_digits, explain_json, explain_report, frame_bytes, frame_line,
-    number_of_digits, option_bytes, optional_text, seconds_of_digits, single_backslashes,
+    DigitsFault, FrameWords, FrameWordsFault, OptionPaths, OptionWords, OptionWordsFault,
+    attribute_bits, attributes_of_text, entry_of_digits, explain_json, explain_report, frame_bytes,
+    frame_line, number_of_digits, option_bytes, optional_text, seconds_of_digits,
+    single_backslashes,
 };
 use disk_files::{disk_path, loader_path};
 use hex::FromHexError;
+use place_checks::{LoaderNote, note_of_file, note_of_path};
 use std::alloc::{AllocError, Global};
 use std::rt::Files;
 use uefi_path::Path;
-use uefi_text::path_text;
 use var_places::{
-    Failure, Quoted, Reason, check_output, lock, name_of, no_option, print, read, write,
+    Failure, Quoted, Reason, check_output, lock, name_of, no_option, note, print, read, write,
 };
 use whole_files::OutputFile;
 
@@ -63,18 +64,20 @@ fn check_inputs<R: Files + AllocGlobal>(
 /// The path of a file below a root, which may be nothing. This fails only when out of memory.
 fn below(alloc: Global, root: &str, file: &str) -> Result<String, AllocError> {
     if root.is_empty() {
-        String::from_str(alloc, file)
-    } else {
-        format!(in alloc; "{root}/{file}")
+        return String::from_str(alloc, file);
     }
+    let slash = if file.starts_with('/') { "" } else { "/" };
+    format!(in alloc; "{}{slash}{file}", root.trim_end_matches('/'))
 }
 
-/// The bytes of the load option of these words.
+/// The bytes of the load option of these words. Tells on standard error what was found of the file that firmware is to
+/// load, if it is looked at.
 ///
 /// # Errors
 ///
 /// [`Failure::Words`] if a word isn't what it is to be; [`Failure::Read`] and [`Failure::Refused`] if the file with the
-/// optional data can't be read or is too long, and those of [`loader_path`] and [`disk_path`]; and [`Failure::Memory`] if
+/// optional data can't be read or is too long, and those of [`loader_path`] and [`disk_path`]; [`Failure::Refused`] if
+/// firmware doesn't start the file, and that isn't forced; and [`Failure::Memory`] if
 /// memory was refused.
 pub(crate) fn option_of_words<R: Files + Input + Eprint + AllocGlobal>(
     rt: &R,
@@ -83,41 +86,45 @@ pub(crate) fn option_of_words<R: Files + Input + Eprint + AllocGlobal>(
     let alloc = rt.alloc();
     let attributes = attributes(alloc, words.attributes)?;
     let optional = optional(rt, words.optional)?;
-    let paths = path_texts(rt, words.paths)?;
-    let paths = texts(alloc, &paths)?;
-    let made = option_bytes(
-        alloc,
-        &OptionWords {
-            attributes,
-            description: words.description,
-            paths: &paths,
-            optional: &optional,
-        },
-    );
-    match made {
+    match words.paths {
+        PathWords::Texts(paths) => {
+            let paths = single_texts(rt, paths)?;
+            let paths = texts(alloc, &paths)?;
+            let words = OptionWords {
+                attributes,
+                description: words.description,
+                paths: OptionPaths::Texts(&paths),
+                optional: &optional,
+            };
+            bytes_of_words(alloc, &words)
+        }
+        PathWords::Loader(loader) => {
+            let path = path_of_loader(rt, &loader)?;
+            look_at_loader(rt, &loader, &path)?;
+            let paths = [path];
+            let words = OptionWords {
+                attributes,
+                description: words.description,
+                paths: OptionPaths::Paths(&paths),
+                optional: &optional,
+            };
+            bytes_of_words(alloc, &words)
+        }
+    }
+}
+
+/// The bytes of the load option that is made of this.
+fn bytes_of_words(alloc: Global, words: &OptionWords<'_>) -> Result<Vec<u8>, Failure> {
+    match option_bytes(alloc, words) {
         Ok(bytes) => Ok(bytes),
         Err(OptionWordsFault::OutOfMemory) => Err(Failure::Memory),
         Err(fault) => Err(Failure::from_word(alloc, fault)),
     }
 }
 
-/// The text of each path, with single backslashes, as a path of UEFI has them. Tells on standard error which had others: it
-/// was escaped for a shell or for JSON.
-fn path_texts<R: Files + Eprint + AllocGlobal>(
-    rt: &R,
-    words: PathWords<'_>,
-) -> Result<Vec<String>, Failure> {
-    match words {
-        PathWords::Texts(texts) => Ok(single_texts(rt, texts)?),
-        PathWords::Loader(loader) => {
-            let text = path_text(rt.alloc(), &path_of_loader(rt, &loader)?)?;
-            Ok(single_texts(rt, &[text.as_str()])?)
-        }
-    }
-}
-
-/// The path that leads to the file that firmware is to load.
-fn path_of_loader<R: Files + AllocGlobal>(
+/// The path that leads to the file that firmware is to load. Tells on standard error if its name on a disk had doubled
+/// backslashes.
+fn path_of_loader<R: Files + Eprint + AllocGlobal>(
     rt: &R,
     words: &LoaderWords<'_>,
 ) -> Result<Path, Failure> {
@@ -128,7 +135,53 @@ fn path_of_loader<R: Files + AllocGlobal>(
         Some(word) => Some(part_of(rt.alloc(), word)?),
         None => None,
     };
-    disk_path(rt, words.root, disk, part, words.file)
+    let name = words.file.replace(rt.alloc(), '/', "\\")?;
+    match single_backslashes(rt.alloc(), &name)? {
+        Some(single) => {
+            note_doubled(rt, 1);
+            disk_path(rt, words.root, disk, part, &single)
+        }
+        None => disk_path(rt, words.root, disk, part, &name),
+    }
+}
+
+/// Looks whether firmware starts the file to which this path leads, if it is to be looked at, and tells on standard error
+/// what is found.
+///
+/// # Errors
+///
+/// [`Failure::Refused`] if firmware doesn't start it, and that isn't forced, and those of [`note_of_file`] and
+/// [`note_of_path`].
+fn look_at_loader<R: Files + Eprint + AllocGlobal>(
+    rt: &R,
+    words: &LoaderWords<'_>,
+    path: &Path,
+) -> Result<(), Failure> {
+    let alloc = rt.alloc();
+    let Some(start) = words.start else {
+        return Ok(());
+    };
+    let found = match words.disk {
+        Some(_) => note_of_path(rt, start.place, words.root, path)?,
+        None => {
+            let file = below(alloc, words.root, words.file)?;
+            note_of_file(rt, start.place, words.root, &file)?
+        }
+    };
+    match found {
+        None => {}
+        Some(
+            LoaderNote {
+                is_fault,
+                words: told,
+            },
+        ) if is_fault && !start.force => {
+            let told = format_args!("{told}: --force adds the entry all the same");
+            return Err(Failure::from_fault(alloc, words.file, told));
+        }
+        Some(LoaderNote { words: told, .. }) => note(rt, words.file, told),
+    }
+    Ok(())
 }
 
 /// The number of the partition that a word names.

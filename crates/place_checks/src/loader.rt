@@ -1,0 +1,69 @@
+//! A loader for which an entry is to be made.
+
+use crate::image::SeenImage;
+use crate::machine::Machine;
+use entry_checks::{Weight, path_target};
+use std::alloc::{AllocError, Global};
+use std::rt::Files;
+use uefi_path::Path;
+use var_places::{Failure, is_folder};
+
+/// What is to be told of a loader.
+#[derive(Drop)]
+pub struct LoaderNote {
+    /// Whether it can't be started.
+    pub is_fault: bool,
+    /// The words for a person.
+    pub words: String,
+}
+
+/// What is to be told of the loader that is at this path of a system, if an entry of the place leads to it: whether
+/// firmware starts it. `root` is nothing, or the path of a folder that stands for the root of the system, of which the path
+/// of the file has that in front.
+///
+/// # Errors
+///
+/// [`Failure::Memory`] if memory was refused: a file that can't be read is told of.
+pub fn note_of_file<R: Files + AllocGlobal>(
+    rt: &R,
+    place: &str,
+    root: &str,
+    file: &str,
+) -> Result<Option<LoaderNote>, Failure> {
+    let mut machine = Machine::new(rt, root, is_folder(rt, place).unwrap_or(false));
+    let seen = machine.image_at(file)?;
+    Ok(note_of(rt.alloc(), &seen)?)
+}
+
+/// What is to be told of the loader to which this path leads, as of [`note_of_file`]: nothing, if its partition isn't
+/// mounted, or no file is there.
+///
+/// # Errors
+///
+/// [`Failure::Read`] if what the system tells of its disks can't be read; [`Failure::Refused`] if that isn't as it tells it;
+/// and [`Failure::Memory`] if memory was refused.
+pub fn note_of_path<R: Files + AllocGlobal>(
+    rt: &R,
+    place: &str,
+    root: &str,
+    path: &Path,
+) -> Result<Option<LoaderNote>, Failure> {
+    let mut machine = Machine::new(rt, root, is_folder(rt, place).unwrap_or(false));
+    let seen = machine.look(path_target(path))?;
+    Ok(note_of(rt.alloc(), &seen.image)?)
+}
+
+/// What is to be told of a loader of which this is known.
+fn note_of(alloc: Global, seen: &SeenImage) -> Result<Option<LoaderNote>, AllocError> {
+    let Some(state) = seen.state else {
+        return Ok(None);
+    };
+    let row = state.row();
+    if row.weight == Weight::Remark {
+        return Ok(None);
+    }
+    Ok(Some(LoaderNote {
+        is_fault: row.weight == Weight::Fault,
+        words: format!(in alloc; "{}: {}", row.words, seen.detail)?,
+    }))
+}
