@@ -60,20 +60,13 @@ impl fmt::Display for EntryName {
     }
 }
 
-/// That an entry is in no order after a change, or will be: the words for a person.
+/// That the entry of this number is in no order after a change, in words for a person.
 #[derive(Clone, Copy, Debug)]
-pub struct UnnamedWords {
-    /// The number of the entry.
-    pub entry: u16,
-    /// Whether the change is yet to be made.
-    pub is_coming: bool,
-}
+pub struct UnnamedWords(pub u16);
 
 impl fmt::Display for UnnamedWords {
     fn fmt<W: fmt::Write>(&self, f: &mut fmt::Formatter<W>) -> fmt::Result {
-        let name = EntryName(self.entry);
-        let will = if self.is_coming { "will be " } else { "" };
-        write!(f, "{name} {will}{}", Risk::Unnamed)
+        write!(f, "{} {}", EntryName(self.0), Risk::Unnamed)
     }
 }
 

@@ -153,11 +153,7 @@ pub fn diff_report(alloc: Global, from: &Vars, to: &Vars) -> Result<String, Allo
 /// Appends the lines of what changes of entries in no order.
 fn append_naming(change: &NamingChange, report: &mut String) -> Result<(), AllocError> {
     for number in &change.unnamed {
-        let words = UnnamedWords {
-            entry: *number,
-            is_coming: false,
-        };
-        writeln!(report, "{words}")?;
+        writeln!(report, "{}", UnnamedWords(*number))?;
     }
     for number in &change.named {
         writeln!(

@@ -23,7 +23,7 @@ pub enum Printing {
     Next,
 }
 
-/// The events of a script, wanted of a machine. Standard error is told which entries they leave in no order.
+/// The events of a script, wanted of a machine.
 #[derive(Clone, Copy)]
 pub struct WantedRequests<'a, 'b, 's> {
     /// The path of the machine's place.
@@ -104,7 +104,7 @@ impl Wanted for WantedRequests<'_, '_, '_> {
         };
         Ok(Told {
             text,
-            remarks: self.remarks(alloc, &unnamed, change.is_coming)?,
+            remarks: self.remarks(alloc, &unnamed)?,
         })
     }
 
@@ -116,20 +116,13 @@ impl Wanted for WantedRequests<'_, '_, '_> {
 }
 
 impl WantedRequests<'_, '_, '_> {
-    /// What standard error is told of the entries that are left in no order.
-    fn remarks(
-        &self,
-        alloc: Global,
-        unnamed: &[u16],
-        is_coming: bool,
-    ) -> Result<Remarks, AllocError> {
+    /// What standard error is told of the entries that are left in no order, unless what is printed says so.
+    fn remarks(&self, alloc: Global, unnamed: &[u16]) -> Result<Remarks, AllocError> {
         let mut remarks = Remarks::new(alloc);
-        for entry in unnamed {
-            let words = UnnamedWords {
-                entry: *entry,
-                is_coming,
-            };
-            remarks.push(self.place, format!(in alloc; "{words}")?)?;
+        if matches!(self.printing, Printing::Replies(ReplyForm::Lines)) {
+            for entry in unnamed {
+                remarks.push(self.place, format!(in alloc; "{}", UnnamedWords(*entry))?)?;
+            }
         }
         Ok(remarks)
     }

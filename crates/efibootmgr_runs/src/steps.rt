@@ -8,7 +8,7 @@ use boot_edits::{Addition, Edit, NewOrder, Position};
 use boot_texts::EntryName;
 use efibootmgr_words::Asked;
 use machine_changes::{ChangeOptions, PlaceKind, StateUse, change_machine};
-use place_edits::WantedEdit;
+use place_edits::{EditForm, WantedEdit};
 use std::alloc::Global;
 use std::rt::{Clock, Files};
 use uefi_vars::{BOOT_NEXT, TIMEOUT};
@@ -166,7 +166,7 @@ fn edit<R: Files<File: OutputFile> + Clock + Input + Print + Eprint + AllocGloba
     let wanted = WantedEdit {
         place: machine.place,
         edit,
-        json: false,
+        form: EditForm::Silent,
     };
     let options = ChangeOptions {
         machine: machine.words(),

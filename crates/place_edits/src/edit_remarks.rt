@@ -1,6 +1,6 @@
 //! What is told of an edit: what is printed of it, and what standard error is told.
 
-use crate::edits::WantedEdit;
+use crate::edits::{EditForm, WantedEdit};
 use crate::unnamed::remark_unnamed;
 use boot_edits::EditAnswer;
 use boot_texts::json::{JsonObject, JsonWriter, Leaf, append_leaves, json_line};
@@ -33,20 +33,26 @@ pub(crate) fn told_of(
     if is_folder {
         remark_losses(alloc, &mut remarks, place, change)?;
     }
-    remark_unnamed(alloc, &mut remarks, place, change)?;
+    if wanted.form == EditForm::Silent {
+        remark_unnamed(alloc, &mut remarks, place, change)?;
+    }
     Ok(Told {
-        text: printed(alloc, wanted.json, change, answer)?,
+        text: printed(alloc, wanted.form, change, answer)?,
         remarks,
     })
 }
 
-/// What is printed of an edit: of a new entry its name, and then what differs, as lines or as JSON.
+/// What is printed of an edit in this form: of a new entry its name, and then what differs.
 fn printed(
     alloc: Global,
-    json: bool,
+    form: EditForm,
     change: SetChange<'_>,
     answer: EditAnswer,
 ) -> Result<String, AllocError> {
+    if form == EditForm::Silent {
+        return Ok(String::new(alloc));
+    }
+    let json = form == EditForm::Json;
     let mut text = name_line(alloc, json, answer)?;
     text.push_str(&changes_text(alloc, change.from, change.to, json)?)?;
     Ok(text)

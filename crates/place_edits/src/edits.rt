@@ -10,16 +10,26 @@ use uefi_vars::Vars;
 use var_places::Failure;
 use wanted_changes::{Seen, SetChange, Told, Wanted};
 
-/// An edit that is wanted of a machine. What is printed of it is the name of an entry that is added, and what differs, as
-/// `diff` does; standard error is told what it loses and repairs, and which entries it leaves in no order.
+/// How an edit is printed: the name of an entry that is added, and then what differs, as `diff` has it.
+#[derive(Clone, Copy, Debug, PartialEq, Eq)]
+pub enum EditForm {
+    /// Not at all. Standard error is told which entries are left in no order.
+    Silent,
+    /// As lines.
+    Lines,
+    /// As JSON.
+    Json,
+}
+
+/// An edit that is wanted of a machine. Standard error is told what it loses and repairs.
 #[derive(Clone, Copy, Debug)]
 pub struct WantedEdit<'a> {
     /// The path of the machine's place.
     pub place: &'a str,
     /// What is to be changed.
     pub edit: Edit<'a>,
-    /// Whether JSON is printed.
-    pub json: bool,
+    /// How it is printed.
+    pub form: EditForm,
 }
 
 impl Wanted for WantedEdit<'_> {

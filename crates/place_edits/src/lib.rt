@@ -18,7 +18,7 @@ mod undo_run;
 mod unnamed;
 mod wanted_set;
 
-pub use edits::WantedEdit;
+pub use edits::{EditForm, WantedEdit};
 pub use entry::get_entry;
 pub use takeable::Takeable;
 pub use undo::{UndoWords, WantedUndo};

@@ -4,7 +4,8 @@ use boot_texts::{UnnamedWords, naming_change};
 use std::alloc::{AllocError, Global};
 use wanted_changes::{Remarks, SetChange};
 
-/// Remarks which entries are in no order after a change of this place and weren't so before it, or will be.
+/// Remarks which entries are in no order after a change of this place and weren't so before it. What is printed of the change
+/// doesn't say so.
 ///
 /// # Errors
 ///
@@ -16,11 +17,7 @@ pub(crate) fn remark_unnamed(
     change: SetChange<'_>,
 ) -> Result<(), AllocError> {
     for entry in &naming_change(alloc, change.from, change.to)?.unnamed {
-        let words = UnnamedWords {
-            entry: *entry,
-            is_coming: change.is_coming,
-        };
-        remarks.push(place, format!(in alloc; "{words}")?)?;
+        remarks.push(place, format!(in alloc; "{}", UnnamedWords(*entry))?)?;
     }
     Ok(())
 }

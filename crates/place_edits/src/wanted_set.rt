@@ -18,8 +18,9 @@ use var_places::Failure;
 use wanted_changes::{Remarks, Seen, SetChange, Told, Wanted};
 
 /// The boot variables of a set, wanted of a machine, whose Timeout stays if the set has none. Entries that would have to be
-/// stored in a folder and that firmware refuses are left out, which standard error is told, and which entries are in no order
-/// then and weren't so before. What is printed is each change; or how the two differ, for a dry run.
+/// stored in a folder and that firmware refuses are left out, which standard error is told. What is printed is each change, and
+/// standard error is told which entries are in no order then and weren't so before; or, as JSON or for a dry run, all that `diff`
+/// has.
 #[derive(Clone, Copy)]
 pub struct WantedSet<'a> {
     /// What the set is called.
@@ -84,9 +85,15 @@ impl Wanted for WantedSet<'_> {
         brought: &Takeable,
     ) -> Result<Told, Failure> {
         let mut remarks = self.remarks(alloc, &brought.missing)?;
+        if self.json || change.is_coming {
+            return Ok(Told {
+                text: changes_text(alloc, change.from, change.to, self.json)?,
+                remarks,
+            });
+        }
         remark_unnamed(alloc, &mut remarks, self.place, change)?;
         Ok(Told {
-            text: self.text(alloc, change)?,
+            text: change_lines(alloc, change)?,
             remarks,
         })
     }
@@ -149,15 +156,6 @@ impl WantedSet<'_> {
         }
         remark_missing(alloc, &mut remarks, self.name, (self.set, missing))?;
         Ok(remarks)
-    }
-
-    /// What is printed of the changes: JSON, all that `diff` shows for a dry run, or the lines of the changes alone.
-    fn text(&self, alloc: Global, change: SetChange<'_>) -> Result<String, AllocError> {
-        if self.json || change.is_coming {
-            changes_text(alloc, change.from, change.to, self.json)
-        } else {
-            change_lines(alloc, change)
-        }
     }
 }
 

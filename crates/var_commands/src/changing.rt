@@ -4,7 +4,7 @@ use crate::action::{AddWords, ChangeWords, EntryChange, Form};
 use crate::making::{entries_of, entry_of, option_of_words, seconds_of};
 use boot_edits::{Addition, Edit, NewOrder};
 use machine_changes::{ChangeOptions, StateUse, change_machine, kind_of_place};
-use place_edits::WantedEdit;
+use place_edits::{EditForm, WantedEdit};
 use std::rt::{Clock, Files};
 use var_places::Failure;
 use whole_files::OutputFile;
@@ -121,7 +121,10 @@ fn change<R: Files<File: OutputFile> + Clock + Input + Print + Eprint + AllocGlo
     let wanted = WantedEdit {
         place,
         edit,
-        json: matches!(words.form, Form::Json),
+        form: match words.form {
+            Form::Text => EditForm::Lines,
+            Form::Json => EditForm::Json,
+        },
     };
     let kind = kind_of_place(rt, place)?;
     let answered = change_machine(rt, &options, kind, &wanted)?;
