@@ -94,7 +94,7 @@ fn raw_len(section: &Section) -> usize
 }
 
 /// How many bytes the certificate table has.
-fn certificates_size(headers: &Headers<'_>) -> usize
+pub(crate) fn certificates_size(headers: &Headers<'_>) -> usize
     ensures { result ≡ certificates_size headers.now }
 {
     if headers.directory_count() as usize <= CERTIFICATES {

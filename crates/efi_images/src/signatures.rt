@@ -12,7 +12,7 @@ use thiserror::Error;
 const LIST_LEN: usize = 28;
 
 /// How many bytes a GUID has, that of a list's type or of a signature's owner.
-const GUID_LEN: usize = 16;
+pub(crate) const GUID_LEN: usize = 16;
 
 /// A signature list, where it is in the bytes.
 #[derive(Clone, Copy, Debug)]
