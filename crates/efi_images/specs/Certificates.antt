@@ -1,4 +1,4 @@
--- The attribute certificate table of an image (UEFI 2.10, 32.2.4 and 32.2.5), as firmware goes through it for signatures.
+-- The attribute certificate table of an image (UEFI 2.10, 32.2.4), as firmware goes through it for signatures.
 -- Numbers are little-endian.
 use Rattle.std.specs.Prelude.{ℕ, ◌+◌, ◌-◌, ◌*◌, ◌/◌, ◌<◌, ◌==◌, ◌&&◌, ◌||◌, Bool, bit_and, nat_le, nat_lt, IsTrue, IsFalse, List, [], ◌∷◌, length, Result, Ok, Err, if◌then◌else◌}
 use Rattle.std.specs.Cmp.Lexicographic.{pointwise}

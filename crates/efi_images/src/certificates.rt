@@ -1,4 +1,4 @@
-//! The attribute certificate table of an image (UEFI 2.10, 32.2.4 and 32.2.5), as firmware goes through it for signatures.
+//! The attribute certificate table of an image (UEFI 2.10, 32.2.4), as firmware goes through it for signatures.
 
 ghost use Rattle.std.specs.Prelude.{◌≡◌, ◌+◌, ◌<◌, ◌≤◌, ◌^◌, IfErr, IsTrue, length};
 ghost use Rattle.efi_images.specs.Certificates.{certificate_table, certificate_len, certificate_type, padded_len, is_whole, signature_bytes, is_of_hash, signing_of, joined, IsSigned};
