@@ -65,9 +65,10 @@ fn note_of_look(alloc: Global, seen: &Seen) -> Result<Option<LoaderNote>, AllocE
     if row.weight != Weight::Fault {
         return note_of(alloc, &seen.image);
     }
+    let part = if seen.detail.is_empty() { "" } else { ": " };
     Ok(Some(LoaderNote {
         is_fault: false,
-        words: format!(in alloc; "{}: {}", row.words, seen.detail)?,
+        words: format!(in alloc; "{}{part}{}", row.words, seen.detail)?,
     }))
 }
 
