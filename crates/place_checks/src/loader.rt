@@ -1,8 +1,8 @@
 //! A loader for which an entry is to be made.
 
 use crate::image::SeenImage;
-use crate::machine::Machine;
-use entry_checks::{Weight, path_target};
+use crate::machine::{Machine, Seen};
+use entry_checks::{Finding, Weight, path_target};
 use std::alloc::{AllocError, Global};
 use std::rt::Files;
 use uefi_path::Path;
@@ -35,13 +35,12 @@ pub fn note_of_file<R: Files + AllocGlobal>(
     Ok(note_of(rt.alloc(), &seen)?)
 }
 
-/// What is to be told of the loader to which this path leads, as of [`note_of_file`]: nothing, if its partition isn't
-/// mounted, or no file is there.
+/// What is to be told of the loader to which this path leads, as of [`note_of_file`], or that no file is there: nothing, if
+/// its partition isn't mounted.
 ///
 /// # Errors
 ///
-/// [`Failure::Read`] if what the system tells of its disks can't be read; [`Failure::Refused`] if that isn't as it tells it;
-/// and [`Failure::Memory`] if memory was refused.
+/// [`Failure::Memory`] if memory was refused: what the system doesn't tell is told of.
 pub fn note_of_path<R: Files + AllocGlobal>(
     rt: &R,
     place: &str,
@@ -49,8 +48,28 @@ pub fn note_of_path<R: Files + AllocGlobal>(
     path: &Path,
 ) -> Result<Option<LoaderNote>, Failure> {
     let mut machine = Machine::new(rt, root, is_folder(rt, place).unwrap_or(false));
-    let seen = machine.look(path_target(path))?;
-    Ok(note_of(rt.alloc(), &seen.image)?)
+    let alloc = rt.alloc();
+    match machine.look(path_target(path)) {
+        Ok(seen) => Ok(note_of_look(alloc, &seen)?),
+        Err(Failure::Memory) => Err(Failure::Memory),
+        Err(failure) => Ok(Some(LoaderNote {
+            is_fault: false,
+            words: format!(in alloc; "not looked at: {failure}")?,
+        })),
+    }
+}
+
+/// What is to be told of a loader that was looked for: it may be yet to be put there.
+fn note_of_look(alloc: Global, seen: &Seen) -> Result<Option<LoaderNote>, AllocError> {
+    let row = Finding::Leads(seen.lead).row();
+    if row.weight != Weight::Fault {
+        return note_of(alloc, &seen.image);
+    }
+    let part = if seen.detail.is_empty() { "" } else { ": " };
+    Ok(Some(LoaderNote {
+        is_fault: false,
+        words: format!(in alloc; "{}{part}{}", row.words, seen.detail)?,
+    }))
 }
 
 /// What is to be told of a loader of which this is known.
