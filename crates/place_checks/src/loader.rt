@@ -1,12 +1,12 @@
 //! A loader for which an entry is to be made.
 
 use crate::image::SeenImage;
-use crate::machine::{Machine, Seen};
-use entry_checks::{Finding, Weight, path_target};
+use crate::machine::{Machine, Seen, variables_folder};
+use entry_checks::{Finding, ImageState, Weight, path_target};
 use std::alloc::{AllocError, Global};
 use std::rt::Files;
 use uefi_path::Path;
-use var_places::{Failure, is_folder};
+use var_places::Failure;
 
 /// What is to be told of a loader.
 #[derive(Drop)]
@@ -18,7 +18,8 @@ pub struct LoaderNote {
 }
 
 /// What is to be told of the loader that is at this path of a system, if an entry of the place leads to it: whether
-/// firmware starts it. `root` is nothing, or the path of a folder that stands for the root of the system, of which the path
+/// firmware starts it, and its Secure Boot allows it. That Secure Boot is undecided isn't told: of signed loaders it always
+/// is. `root` is nothing, or the path of a folder that stands for the root of the system, of which the path
 /// of the file has that in front.
 ///
 /// # Errors
@@ -30,7 +31,7 @@ pub fn note_of_file<R: Files + AllocGlobal>(
     root: &str,
     file: &str,
 ) -> Result<Option<LoaderNote>, Failure> {
-    let mut machine = Machine::new(rt, root, is_folder(rt, place).unwrap_or(false));
+    let mut machine = Machine::new(rt, root, variables_folder(rt, place).unwrap_or(None));
     let seen = machine.image_at(file)?;
     Ok(note_of(rt.alloc(), &seen)?)
 }
@@ -47,7 +48,7 @@ pub fn note_of_path<R: Files + AllocGlobal>(
     root: &str,
     path: &Path,
 ) -> Result<Option<LoaderNote>, Failure> {
-    let mut machine = Machine::new(rt, root, is_folder(rt, place).unwrap_or(false));
+    let mut machine = Machine::new(rt, root, variables_folder(rt, place).unwrap_or(None));
     let alloc = rt.alloc();
     match machine.look(path_target(path)) {
         Ok(seen) => Ok(note_of_look(alloc, &seen)?),
@@ -78,7 +79,7 @@ fn note_of(alloc: Global, seen: &SeenImage) -> Result<Option<LoaderNote>, AllocE
         return Ok(None);
     };
     let row = state.row();
-    if row.weight == Weight::Remark {
+    if row.weight == Weight::Remark || state == ImageState::Unsettled {
         return Ok(None);
     }
     Ok(Some(LoaderNote {
