@@ -9,7 +9,6 @@ use Rattle.efi_images.specs.declared.fault.Stage.TheVariants.{BootManager}
 use Rattle.efi_images.specs.declared.fault.Effect.{Effect}
 use Rattle.efi_images.specs.declared.fault.Effect.TheVariants as effect
 use Rattle.efi_images.specs.Words.{stage_of, effect_of}
-use Rattle.efi_images.specs.declared.digest_fault.DigestFault.{DigestFault}
 use Rattle.efi_images.specs.declared.digest_fault.DigestFault.TheVariants as undigested
 use Rattle.efi_images.specs.declared.answer.SecureBootAnswer.{SecureBootAnswer}
 use Rattle.efi_images.specs.declared.answer.SecureBootAnswer.TheVariants as answer

@@ -98,10 +98,7 @@ pub(crate) fn read_secure_boot<R: Files + AllocGlobal>(
 }
 
 /// What Secure Boot decides by, if its variables can be read.
-fn read_variables<R: Files + AllocGlobal>(
-    rt: &R,
-    folder: &str,
-) -> Result<SeenSecureBoot, Unread> {
+fn read_variables<R: Files + AllocGlobal>(rt: &R, folder: &str) -> Result<SeenSecureBoot, Unread> {
     if read_data(rt, folder, SECURE_BOOT)?.as_slice() != ON {
         return Ok(SeenSecureBoot::Off);
     }
