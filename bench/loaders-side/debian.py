@@ -1,0 +1,148 @@
+"""Loaders of Debian's packages: their digests as other programs make them, what `bootvars check` says of them, and whether
+firmware starts them."""
+
+from __future__ import annotations
+
+import json
+import os
+import subprocess
+import sys
+import tempfile
+from dataclasses import dataclass
+from pathlib import Path
+from typing import Dict, Iterator, List, Optional
+
+from firmware import Patience
+from images import CERTIFICATES, Headers, digest
+from machine import ROOT
+from samples import Sample
+from signing import Failed, Signing, run
+from trials import Trials, Way
+
+PACKAGES = (
+    "grub-efi-amd64-signed",
+    "grub-efi-amd64-bin",
+    "systemd-boot-efi",
+    "shim-signed",
+    "shim-unsigned",
+    "fwupd-amd64-signed",
+    "fwupd-unsigned",
+    "refind",
+)
+
+SIGNED_DIGEST = bytes.fromhex("3031300d060960864801650304020105000420")
+"""How the digest of SHA-256 begins that a signature has of its image, in DER."""
+
+ALONE = Way("Debian's files, Secure Boot off", False, Patience(quiet=5), at_once=40)
+"""How they are tried. Some of them don't end, and the next is tried at another start."""
+
+
+@dataclass(frozen=True)
+class Stated:
+    """The digest of an image as another program states it."""
+
+    name: str
+    image: bytes
+    by: str
+    digest: bytes
+
+
+def download(work: Path) -> Dict[str, bytes]:
+    """The loaders of the packages, by their paths, each file once. A package that can't be had is told."""
+    files: Dict[str, bytes] = {}
+    for package in PACKAGES:
+        with tempfile.TemporaryDirectory(dir=work) as folder:
+            try:
+                fetch(package, Path(folder))
+            except (Failed, OSError) as fault:
+                print(f"left out: {package}: {str(fault).splitlines()[-1]}")
+                continue
+            for path in sorted(Path(folder, "all").rglob("*")):
+                is_loader = path.name.endswith((".efi", ".efi.signed", ".efi.stub"))
+                data = path.read_bytes() if is_loader and path.is_file() else b""
+                if data and data not in files.values():
+                    files[f"{package}/{path.name}"] = data
+    return files
+
+
+def fetch(package: str, folder: Path) -> None:
+    """Unpacks a package into the folder `all` of a folder.
+
+    Raises Failed if it can't be had, and OSError if there is no apt-get."""
+    got = subprocess.run(
+        ["apt-get", "download", package],
+        cwd=folder,
+        stdout=subprocess.PIPE,
+        stderr=subprocess.STDOUT,
+        check=False,
+    )
+    if got.returncode != 0:
+        raise Failed(got.stdout.decode(errors="replace").strip() or "apt-get fails")
+    run("dpkg-deb", "-x", *folder.glob("*.deb"), folder / "all")
+
+
+def stated(files: Dict[str, bytes], signing: Signing) -> Iterator[Stated]:
+    """What other programs state of the digests: pesign of each file; the signatures that it has; and sbsign, of the file
+    with a signature more, which may fill it up before."""
+    file = signing.work / "debian.efi"
+    for name, data in files.items():
+        file.write_bytes(data)
+        said = run("pesign", "-h", "-i", file).decode().split()
+        yield Stated(name, data, "pesign", bytes.fromhex(said[said.index("hash:") + 1]))
+        held = in_signature(data)
+        if held is not None:
+            yield Stated(name, data, "its signature", held)
+        signed = signing.sign(data, "trusted")
+        held = in_signature(signed)
+        if held is not None:
+            yield Stated(f"{name}, signed by sbsign", signed, "sbsign", held)
+        held = digest(data)
+        if held is not None:
+            yield Stated(name, data, "bench/loaders-side/images.py", held)
+
+
+def in_signature(data: bytes) -> Optional[bytes]:
+    """The digest by SHA-256 that the last of an image's signatures has, if it has one."""
+    table = Headers(data).directory(data, CERTIFICATES)
+    held = data[table.start : table.start + table.size]
+    place = held.rfind(SIGNED_DIGEST) + len(SIGNED_DIGEST)
+    return held[place : place + 32] if SIGNED_DIGEST in held else None
+
+
+def runner(work: Path) -> Path:
+    """The program that makes the calls of cases: the one that CASE_RUNNER names, or one that is compiled now."""
+    if "CASE_RUNNER" in os.environ:
+        return Path(os.environ["CASE_RUNNER"])
+    sys.path[:0] = [str(ROOT / "tools"), str(ROOT / "tests")]
+    import gate  # pylint: disable=import-outside-toplevel
+
+    return gate.compiled_runner(work)
+
+
+def compare_digests(found: List[Stated], work: Path) -> int:
+    """Has the library make each digest, as cases do. Gives how many differ."""
+    file = work / "digests.json"
+    groups = [
+        {
+            "call": "image_digest",
+            "image": it.image.hex(),
+            "cases": [{"name": f"{it.name}, by {it.by}", "answer": it.digest.hex()}],
+        }
+        for it in found
+    ]
+    file.write_text(json.dumps(groups), encoding="utf-8")
+    said = run(runner(work), "cases", file).decode()
+    lines = said.splitlines()
+    differ = int(lines[0].split(", ")[1].split()[0])
+    print(f"digests of Debian's files: {len(found)} compared, {differ} differ")
+    if differ:
+        print(said)
+    return differ
+
+
+def compare_all(trials: Trials, files: Dict[str, bytes]) -> int:
+    """Tries all of Debian's files. Gives how many digests differ."""
+    work = trials.firmware.work
+    differ = compare_digests(list(stated(files, trials.signing)), work)
+    trials.run([Sample(name, data) for name, data in files.items()], ALONE)
+    return differ

@@ -1,0 +1,77 @@
+"""How long `bootvars check` takes over 20 entries whose loaders are real ones, and one of 60 MB, all in the page cache."""
+
+from __future__ import annotations
+
+import os
+
+import subprocess
+import time
+from typing import Dict, List
+
+from firmware import Entry
+from images import Headers, put
+from machine import Machine
+from samples import Lists
+
+ENTRIES = 20
+
+LARGE = 60 << 20
+"""How many bytes the largest file has."""
+
+LEAST = 100 << 10
+"""How many bytes a file has at least to be taken for a loader."""
+
+ROUNDS = 15
+
+MOST = 0.050
+"""How many seconds more than before it may take."""
+
+
+def large(data: bytes) -> bytes:
+    """An image with so many zeros in its last section, as a kernel's image with all that it needs has them."""
+    headers = Headers(data)
+    sections = headers.sections(data)
+    index = max(range(len(sections)), key=lambda it: sections[it].raw_start)
+    place, held = headers.table + 40 * index, sections[index]
+    filled = data[: held.raw_start + held.raw_size].ljust(LARGE, b"\0")
+    size = len(filled) - held.raw_start
+    filled = put(put(filled, place + 8, "I", size), place + 16, "I", size)
+    pages = -(-(held.address + size) // 4096) * 4096
+    filled = put(filled, headers.pe + 80, "I", max(pages, headers.image_size))
+    return put(put(filled, headers.pe + 168, "I", 0), headers.pe + 172, "I", 0)
+
+
+def best(words: List[str]) -> float:
+    """The fewest seconds that a command takes."""
+    took = []
+    for _ in range(ROUNDS):
+        began = time.perf_counter()
+        subprocess.run(words, stdout=subprocess.DEVNULL, stderr=subprocess.DEVNULL, check=False)
+        took.append(time.perf_counter() - began)
+    return min(took)
+
+
+def measure(machine: Machine, files: Dict[str, bytes], lists: Lists) -> bool:
+    """Measures it, beside the program of before that BOOTVARS_BEFORE names, or else beside `show`. Says whether it takes
+    longer than it may."""
+    loaders = [it for it in files.values() if len(it) >= LEAST]
+    if not loaders:
+        print("time: there are no loaders to measure it with")
+        return False
+    machine.empty()
+    held = [large(loaders[0])] + [loaders[it % len(loaders)] for it in range(ENTRIES - 1)]
+    entries = []
+    for index, data in enumerate(held):
+        entries.append(Entry(f"Entry {index}", f"E{index}.EFI"))
+        (machine.partition / entries[-1].file).write_bytes(data)
+    machine.set_variables(entries, 0x64000, True, lists)
+    before, words = os.environ.get("BOOTVARS_BEFORE"), machine.words("check")
+    now = best(words)
+    old = best([before, *words[1:]]) if before else best(machine.words("show"))
+    beside = "the program of before" if before else "`show`, which looks at no file,"
+    size = sum(map(len, held)) / 1e6
+    print(
+        f"time: check of {ENTRIES} entries with {size:.0f} MB of files takes {now * 1000:.1f} ms, "
+        f"{beside} {old * 1000:.1f} ms: {(now - old) * 1000:.1f} ms more, at most {MOST * 1000:.0f} wanted"
+    )
+    return now - old > MOST
