@@ -12,8 +12,8 @@ from dataclasses import dataclass
 from pathlib import Path
 from typing import Dict, Iterator, List, Optional
 
-from firmware import Patience
-from images import CERTIFICATES, Headers, digest
+from ovmf_starts import Patience
+from images import CERTIFICATES, Headers, digest, number
 from machine import ROOT
 from samples import Sample
 from signing import Failed, Signing, run
@@ -102,11 +102,16 @@ def stated(files: Dict[str, bytes], signing: Signing) -> Iterator[Stated]:
 
 
 def in_signature(data: bytes) -> Optional[bytes]:
-    """The digest by SHA-256 that the last of an image's signatures has, if it has one."""
+    """The digest by SHA-256 that the last of an image's signatures has, if it has one. In a signature the image's comes
+    before that of a time stamp."""
     table = Headers(data).directory(data, CERTIFICATES)
-    held = data[table.start : table.start + table.size]
-    place = held.rfind(SIGNED_DIGEST) + len(SIGNED_DIGEST)
-    return held[place : place + 32] if SIGNED_DIGEST in held else None
+    place, end, last = table.start, table.start + table.size, b""
+    while place < end:
+        length = number(data, place)
+        last = data[place : place + length]
+        place += -(-length // 8) * 8
+    found = last.find(SIGNED_DIGEST) + len(SIGNED_DIGEST)
+    return last[found : found + 32] if SIGNED_DIGEST in last else None
 
 
 def runner(work: Path) -> Path:

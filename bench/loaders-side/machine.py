@@ -13,7 +13,7 @@ from enum import Enum
 from pathlib import Path
 from typing import Any, Dict, List, Sequence
 
-from firmware import KEPT, SIGNED, Entry, boot_values
+from ovmf_starts import KEPT, SIGNED, Entry, boot_values
 from samples import Lists
 
 ROOT = Path(__file__).resolve().parents[2]

@@ -8,7 +8,7 @@ import subprocess
 import time
 from typing import Dict, List
 
-from firmware import Entry
+from ovmf_starts import Entry
 from images import Headers, put
 from machine import Machine
 from samples import Lists

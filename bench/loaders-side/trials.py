@@ -8,7 +8,17 @@ from enum import Enum
 from typing import Dict, List, Optional, Sequence
 
 import beyond
-from firmware import Disk, Entry, Firmware, Outcome, Patience, Seen, make_disk, own_lists, read_line
+from ovmf_starts import (
+    Disk,
+    Entry,
+    Firmware,
+    Outcome,
+    Patience,
+    Seen,
+    make_disk,
+    own_lists,
+    read_line,
+)
 from kinds import RSA
 from machine import Machine, Told, Verdict
 from samples import Lists, Sample, lists_of, parts

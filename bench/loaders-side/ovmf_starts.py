@@ -111,7 +111,7 @@ class Patience:
     """For how many seconds there may be no new word: after the first one, and after an exception was told."""
 
     quiet: float = 30.0
-    crashed: float = 4.0
+    crashed: float = 1.0
 
 
 def make_disk(folder: Path, path: Path) -> Disk:
