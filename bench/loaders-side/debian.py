@@ -3,18 +3,15 @@ firmware starts them."""
 
 from __future__ import annotations
 
-import json
-import os
 import subprocess
-import sys
 import tempfile
 from dataclasses import dataclass
 from pathlib import Path
-from typing import Dict, Iterator, List, Optional
+from typing import Dict, Iterator, Optional
 
+import bootkeep
 from ovmf_starts import Patience
 from images import CERTIFICATES, Headers, digest, number
-from machine import ROOT
 from samples import Sample
 from signing import Failed, Signing, run
 from trials import Trials, Way
@@ -32,6 +29,9 @@ PACKAGES = (
 
 SIGNED_DIGEST = bytes.fromhex("3031300d060960864801650304020105000420")
 """How the digest of SHA-256 begins that a signature has of its image, in DER."""
+
+APPLICATION = 10
+"""The subsystem of EFI applications."""
 
 ALONE = Way("Debian's files, Secure Boot off", False, Patience(quiet=5), at_once=40)
 """How they are tried. Some of them don't end, and the next is tried at another start."""
@@ -101,6 +101,11 @@ def stated(files: Dict[str, bytes], signing: Signing) -> Iterator[Stated]:
             yield Stated(name, data, "bench/loaders-side/images.py", held)
 
 
+def is_application(data: bytes) -> bool:
+    """Whether an image is an application by its subsystem."""
+    return number(data, Headers(data).pe + 92, "H") == APPLICATION
+
+
 def in_signature(data: bytes) -> Optional[bytes]:
     """The digest by SHA-256 that the last of an image's signatures has, if it has one. In a signature the image's comes
     before that of a time stamp."""
@@ -114,40 +119,23 @@ def in_signature(data: bytes) -> Optional[bytes]:
     return last[found : found + 32] if SIGNED_DIGEST in last else None
 
 
-def runner(work: Path) -> Path:
-    """The program that makes the calls of cases: the one that CASE_RUNNER names, or one that is compiled now."""
-    if "CASE_RUNNER" in os.environ:
-        return Path(os.environ["CASE_RUNNER"])
-    sys.path[:0] = [str(ROOT / "tools"), str(ROOT / "tests")]
-    import gate  # pylint: disable=import-outside-toplevel
-
-    return gate.compiled_runner(work)
-
-
-def compare_digests(found: List[Stated], work: Path) -> int:
-    """Has the library make each digest, as cases do. Gives how many differ."""
-    file = work / "digests.json"
-    groups = [
-        {
-            "call": "image_digest",
-            "image": it.image.hex(),
-            "cases": [{"name": f"{it.name}, by {it.by}", "answer": it.digest.hex()}],
-        }
-        for it in found
-    ]
-    file.write_text(json.dumps(groups), encoding="utf-8")
-    said = run(runner(work), "cases", file).decode()
-    lines = said.splitlines()
-    differ = int(lines[0].split(", ")[1].split()[0])
-    print(f"digests of Debian's files: {len(found)} compared, {differ} differ")
-    if differ:
-        print(said)
+def compare_digests(files: Dict[str, bytes], signing: Signing) -> int:
+    """Has the library make each digest, and compares it. Gives how many differ. Of what is no application, as a driver,
+    the library makes none."""
+    compared = differ = 0
+    for it in stated(files, signing):
+        compared += 1
+        made = bootkeep.image_digest(it.image)
+        if made != it.digest:
+            differ += 1
+            print(f"  differs: {it.name}: {it.by} {it.digest.hex()}, the library {made.hex()}")
+    print(f"digests of Debian's files: {compared} compared, {differ} differ", flush=True)
     return differ
 
 
 def compare_all(trials: Trials, files: Dict[str, bytes]) -> int:
     """Tries all of Debian's files. Gives how many digests differ."""
-    work = trials.firmware.work
-    differ = compare_digests(list(stated(files, trials.signing)), work)
+    applications = {name: data for name, data in files.items() if is_application(data)}
+    differ = compare_digests(applications, trials.signing)
     trials.run([Sample(name, data) for name, data in files.items()], ALONE)
     return differ
