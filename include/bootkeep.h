@@ -114,10 +114,10 @@ extern "C" {
  * functions of the program's, and refers to nothing else. The other libraries don't call them.
  *
  * No call takes more than BOOTKEEP_STACK_MAX bytes of the stack, of which UEFI has 128 KiB (UEFI 2.10, 2.3.4): a plan,
- * a run and the events of a keeper up to 19,000, bootkeep_set_at_risk 14,000, and all others 2,500. What the three
- * functions take comes on top. `./build-c --firmware` prints it for each call: it adds up the frames that the compiler
- * tells, along the longest way down, and counts what calls itself, sorts of numbers and what goes down a tree of them,
- * as often as it does for 65,536 numbers.
+ * a run and the events of a keeper up to 19,000, bootkeep_set_at_risk 14,000, bootkeep_image_digest 10,000, and all
+ * others 2,700. What the three functions take comes on top. `./build-c --firmware` prints it for each call: it adds up
+ * the frames that the compiler tells, along the longest way down, and counts what calls itself, sorts of numbers and
+ * what goes down a tree of them, as often as it does for 65,536 numbers.
  *
  * The library uses no red zone, nothing of it is written, and it needs the processor's level x86-64-v2. Its calls have
  * the System V convention, so that XMM6 to XMM15 may be changed, which firmware wants back from what it calls (UEFI
@@ -330,6 +330,95 @@ struct bootkeep_refusal {
 #define BOOTKEEP_FRAME_BAD_PAYLOAD 0x0808
 /* The payload's load option isn't one. Only replies have this number. */
 #define BOOTKEEP_FRAME_OPTION 0x0809
+
+/*
+ * Of an image that firmware doesn't start. The place is that of the field that has the fault, or of a section's header.
+ * bootkeep_image_check tells by `*effect` what comes of it.
+ */
+
+/* The file has no bytes. */
+#define BOOTKEEP_IMAGE_EMPTY 0x0901
+/* The file ends in its DOS header. */
+#define BOOTKEEP_IMAGE_SHORT_DOS_HEADER 0x0902
+/* The file doesn't begin with MZ. */
+#define BOOTKEEP_IMAGE_DOS_SIGNATURE 0x0903
+/* There are no 264 bytes from e_lfanew on, as many as headers with 16 data directories have. */
+#define BOOTKEEP_IMAGE_PE_PLACE 0x0904
+/* There is no PE signature where e_lfanew says. */
+#define BOOTKEEP_IMAGE_PE_SIGNATURE 0x0905
+/* Magic is neither that of PE32 nor that of PE32+. */
+#define BOOTKEEP_IMAGE_MAGIC 0x0906
+/* The image is no EFI application. */
+#define BOOTKEEP_IMAGE_SUBSYSTEM 0x0907
+/* There are more data directories than the format has. */
+#define BOOTKEEP_IMAGE_DIRECTORY_COUNT 0x0908
+/* The optional header isn't as long as one with so many data directories. */
+#define BOOTKEEP_IMAGE_OPTIONAL_HEADER_SIZE 0x0909
+/* The image has no room for its section table and one header more. */
+#define BOOTKEEP_IMAGE_IMAGE_SIZE 0x090a
+/* The headers have no room for the section table. */
+#define BOOTKEEP_IMAGE_HEADERS_SIZE 0x090b
+/* The headers don't end in the image. */
+#define BOOTKEEP_IMAGE_HEADERS_BEYOND_IMAGE 0x090c
+/* The file ends in the headers. */
+#define BOOTKEEP_IMAGE_HEADERS_BEYOND_FILE 0x090d
+/* The file ends before the certificate table does. */
+#define BOOTKEEP_IMAGE_CERTIFICATES_BEYOND_FILE 0x090e
+/* The machine isn't one that firmware knows. */
+#define BOOTKEEP_IMAGE_MACHINE 0x090f
+/* A section lies in the headers, in the file or in memory. */
+#define BOOTKEEP_IMAGE_SECTION_IN_HEADERS 0x0910
+/* The file ends before a section does. */
+#define BOOTKEEP_IMAGE_SECTION_BEYOND_FILE 0x0911
+/* The debug directory is at an offset of more than four bytes. */
+#define BOOTKEEP_IMAGE_DEBUG_PLACE 0x0912
+/* The file ends in an entry of the debug directory. */
+#define BOOTKEEP_IMAGE_DEBUG_BEYOND_FILE 0x0913
+/* CodeView data are in no section: firmware loads them after the sections. */
+#define BOOTKEEP_IMAGE_UNMAPPED_CODE_VIEW 0x0914
+/* The image is one for ARM64. */
+#define BOOTKEEP_IMAGE_ARM64 0x0915
+/* The image takes more memory than is taken for granted, 64 MiB. */
+#define BOOTKEEP_IMAGE_MEMORY 0x0916
+/* The relocations are stripped, and the image's address is in the first page of memory. */
+#define BOOTKEEP_IMAGE_FIXED_BASE 0x0917
+/* The relocations are stripped: the memory at the image's address has to be free. */
+#define BOOTKEEP_IMAGE_RELOCATIONS_STRIPPED 0x0918
+/* Sections are aligned to nothing. */
+#define BOOTKEEP_IMAGE_SECTION_ALIGNMENT 0x0919
+/* A section isn't in the image. */
+#define BOOTKEEP_IMAGE_SECTION_BEYOND_IMAGE 0x091a
+/* A section is written after the image's memory. */
+#define BOOTKEEP_IMAGE_SECTION_BEYOND_MEMORY 0x091b
+/* A section without bytes in the file is written over the section table. */
+#define BOOTKEEP_IMAGE_SECTION_OVER_TABLE 0x091c
+/* The directory of relocations is the first after those that there are, and isn't in the headers. */
+#define BOOTKEEP_IMAGE_RELOCATIONS_NOT_LOADED 0x091d
+/* The relocations end after the last address of four bytes. */
+#define BOOTKEEP_IMAGE_RELOCATIONS_OVERFLOW 0x091e
+/* The relocations aren't in the image. */
+#define BOOTKEEP_IMAGE_RELOCATIONS_BEYOND_IMAGE 0x091f
+/* The image is one for IA32, which is loaded and not started. */
+#define BOOTKEEP_IMAGE_IA32 0x0920
+/* The image is EFI byte code, which needs an interpreter. */
+#define BOOTKEEP_IMAGE_BYTE_CODE 0x0921
+/* The image's entry point isn't in it. */
+#define BOOTKEEP_IMAGE_ENTRY_POINT 0x0922
+/* These two are of bootkeep_image_digest alone, without a place. Headers and sections have more bytes than the file. */
+#define BOOTKEEP_IMAGE_OVERLAP 0x0923
+/* The certificate table has more bytes than are left of the file after the headers and sections. */
+#define BOOTKEEP_IMAGE_CERTIFICATES_OVERLAP 0x0924
+
+/*
+ * Of signature lists. The place is that of the list with the fault.
+ */
+
+/* The bytes end in the 28 before the list's header. */
+#define BOOTKEEP_LISTS_CUT_HEADER 0x0a01
+/* The list has fewer bytes than its headers, or more than there are. */
+#define BOOTKEEP_LISTS_BAD_LIST_SIZE 0x0a02
+/* A signature has fewer than 16 bytes, or the signatures aren't whole. */
+#define BOOTKEEP_LISTS_BAD_SIGNATURE_SIZE 0x0a03
 
 /* ---- Words ------------------------------------------------------------------------------------------------------ */
 
@@ -884,6 +973,66 @@ uint32_t bootkeep_keeper_next_number(struct bootkeep_keeper *keeper, uint32_t *n
  */
 uint32_t bootkeep_keeper_close(struct bootkeep_keeper *keeper) BOOTKEEP_NONNULL((1));
 
+/* ---- Images ------------------------------------------------------------------------------------------------------ */
+
+/* Which part of firmware finds a fault: the boot manager, for which there is no such file then. */
+#define BOOTKEEP_STAGE_BOOT_MANAGER 0
+/* LoadImage. With Secure Boot the faults up to BOOTKEEP_IMAGE_DEBUG_BEYOND_FILE are found before it. */
+#define BOOTKEEP_STAGE_LOADER 1
+/* StartImage. */
+#define BOOTKEEP_STAGE_START 2
+
+/* What comes of a fault: firmware doesn't start the file. */
+#define BOOTKEEP_EFFECT_REFUSED 0
+/* Firmware doesn't look at it, and goes wrong: it writes after the image's memory, or runs what isn't in it. */
+#define BOOTKEEP_EFFECT_UNSAFE 1
+/* The file's bytes don't tell whether it starts: the machine decides. */
+#define BOOTKEEP_EFFECT_UNDECIDED 2
+
+/*
+ * What firmware for x86-64 asks of a file that an entry names before it starts it: `image` is all its bytes. The fault
+ * is the first one, in firmware's order; which part of firmware finds it is in `*stage`, and what comes of it in
+ * `*effect`. Without a fault the file may still be refused: docs/formats.md has what isn't looked at. This takes no
+ * memory.
+ *
+ *     BOOTKEEP_DONE      there is no fault
+ *     BOOTKEEP_REFUSED   a number of images
+ */
+uint32_t bootkeep_image_check(const uint8_t *image, size_t image_len, uint32_t *stage, uint32_t *effect,
+                              struct bootkeep_refusal *refusal) BOOTKEEP_CHECKED BOOTKEEP_NONNULL((3, 4, 5));
+
+/*
+ * The Authenticode digest of an image by SHA-256, in 32 bytes, by which a signature, db and dbx tell of it.
+ *
+ *     BOOTKEEP_DONE, BOOTKEEP_NO_ROOM, BOOTKEEP_NO_MEMORY
+ *     BOOTKEEP_REFUSED   a number of images: the boot manager's, and the loader's up to
+ *                        BOOTKEEP_IMAGE_SECTION_BEYOND_FILE, or one of the two of digests
+ */
+uint32_t bootkeep_image_digest(const uint8_t *image, size_t image_len, uint8_t *out, size_t cap, size_t *len,
+                               struct bootkeep_refusal *refusal) BOOTKEEP_CHECKED BOOTKEEP_NONNULL((5, 6));
+
+/*
+ * Where a signature list is (UEFI 2.10, 32.4.1). It begins with the GUID of its type, in 16 bytes; its header is after
+ * 28, and after that are its signatures, each of the GUID of its owner, in 16 bytes, and its data.
+ */
+struct bootkeep_signature_list {
+    size_t place;
+    size_t len;
+    size_t header_len;
+    size_t signature_len;
+};
+
+/*
+ * Where the signature lists are in the data of db, dbx or KEK, in their order: nothing is copied. `cap` and `*len`
+ * count lists.
+ *
+ *     BOOTKEEP_DONE, BOOTKEEP_NO_ROOM, BOOTKEEP_NO_MEMORY
+ *     BOOTKEEP_REFUSED   a number of signature lists
+ */
+uint32_t bootkeep_signature_lists(const uint8_t *bytes, size_t bytes_len, struct bootkeep_signature_list *lists,
+                                  size_t cap, size_t *len, struct bootkeep_refusal *refusal)
+    BOOTKEEP_CHECKED BOOTKEEP_NONNULL((5, 6));
+
 /* ---- Layouts ---------------------------------------------------------------------------------------------------- */
 
 /* Where the library has the fields of each struct. A compiler that can compares its own places with these. */
@@ -915,6 +1064,12 @@ BOOTKEEP_ASSERT(offsetof(struct bootkeep_variable, name_len) == 8);
 BOOTKEEP_ASSERT(offsetof(struct bootkeep_variable, data) == 16);
 BOOTKEEP_ASSERT(offsetof(struct bootkeep_variable, data_len) == 24);
 BOOTKEEP_ASSERT(sizeof(struct bootkeep_variable) == 32);
+
+BOOTKEEP_ASSERT(offsetof(struct bootkeep_signature_list, place) == 0);
+BOOTKEEP_ASSERT(offsetof(struct bootkeep_signature_list, len) == 8);
+BOOTKEEP_ASSERT(offsetof(struct bootkeep_signature_list, header_len) == 16);
+BOOTKEEP_ASSERT(offsetof(struct bootkeep_signature_list, signature_len) == 24);
+BOOTKEEP_ASSERT(sizeof(struct bootkeep_signature_list) == 32);
 
 BOOTKEEP_ASSERT(offsetof(struct bootkeep_named, variable) == 0);
 BOOTKEEP_ASSERT(offsetof(struct bootkeep_named, number) == 4);

@@ -245,11 +245,13 @@ def rust_faults(text: str) -> Dict[str, int]:
 
 PACKAGE_PREFIXES = {
     "ChangeKind": "CHANGE_",
+    "Effect": "EFFECT_",
     "EntryState": "ENTRY_",
     "Kind": "",
     "Outcome": "OUTCOME_",
     "ReplyKind": "REPLY_",
     "Request": "REQUEST_",
+    "Stage": "STAGE_",
 }
 """What the names of the members of these classes of the package begin with in the header."""
 

@@ -50,6 +50,7 @@ STRUCTS = {
     "bootkeep_refusal": Names("RawRefusal", "refusal.rt", "Refusal"),
     "bootkeep_option_parts": Names("RawParts", "option.rt", "OptionPlaces"),
     "bootkeep_variable": Names("RawVariable", "variable.rt", "VariablePlaces"),
+    "bootkeep_signature_list": Names("RawList", "lists.rt", "ListPlaces"),
     "bootkeep_named": Names("RawNamed", "named.rt", "NamedEntry"),
     "bootkeep_change": Names("RawChange", "change.rt", "ChangeNumbers"),
     "bootkeep_reply": Names("RawReply", "reply.rt", "ReplyNumbers"),

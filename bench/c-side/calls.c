@@ -229,9 +229,23 @@ static uint32_t once_other(struct call *call)
     return status;
 }
 
+/* Makes a call on an image or on signature lists. */
+static uint32_t once_image(struct call *call)
+{
+    uint32_t stage, effect;
+
+    if (is(call, "image_check"))
+        return bootkeep_image_check(GIVEN(0), &stage, &effect, &call->refusal);
+    if (is(call, "image_digest"))
+        return bootkeep_image_digest(GIVEN(0), OUT(0), &call->refusal);
+    return bootkeep_signature_lists(GIVEN(0), ITEMS(struct bootkeep_signature_list), &call->refusal);
+}
+
 /* Makes the call once. */
 static uint32_t once(struct call *call)
 {
+    if (!strncmp(call->name, "image_", 6) || is(call, "signature_lists"))
+        return once_image(call);
     if (ends_with(call, "_word"))
         return once_word(call);
     if (!strncmp(call->name, "set_", 4))
@@ -250,6 +264,8 @@ static size_t unit(const struct call *call)
 {
     if (is(call, "set_variables"))
         return sizeof(struct bootkeep_variable);
+    if (is(call, "signature_lists"))
+        return sizeof(struct bootkeep_signature_list);
     if (is(call, "set_named"))
         return sizeof(struct bootkeep_named);
     if (is(call, "set_changes"))

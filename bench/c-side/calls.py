@@ -172,6 +172,26 @@ def set_changes(before: bytes, after: bytes) -> str:
     return digits(changes)
 
 
+def image_check(data: bytes) -> str:
+    fault = bootkeep.image_check(data)
+    if fault is not None:
+        raise bootkeep.Refused(fault.kind, fault.place)
+    return ""
+
+
+def signature_lists(data: bytes) -> str:
+    """The places of the lists, as C has them. The module gives their parts, of which one without signatures doesn't say
+    how many bytes each has."""
+    places = b""
+    for one in bootkeep.signature_lists(data):
+        size = int.from_bytes(data[one.place + 24 : one.place + 28], "little")
+        assert all(len(signature) == size for signature in one.signatures)
+        length = 28 + len(one.header) + len(b"".join(one.signatures))
+        for number in (one.place, length, len(one.header), size):
+            places += number.to_bytes(8, "little")
+    return digits(places)
+
+
 def run(data: bytes, stream: bytes) -> str:
     after, lines = bootkeep.run(data, stream)
     text = "".join(f"{line}\n" for line in lines)
@@ -205,6 +225,9 @@ CALLS: Dict[str, Callable[..., str]] = {
     "set_get": lambda data, name: digits(bootkeep.set_get(data, text_of(name))),
     "set_put": lambda data, name, value: digits(bootkeep.set_put(data, text_of(name), value)),
     "set_remove": lambda data, name: digits(bootkeep.set_remove(data, text_of(name))),
+    "image_check": image_check,
+    "image_digest": lambda data: digits(bootkeep.image_digest(data)),
+    "signature_lists": signature_lists,
     "run": run,
 }
 

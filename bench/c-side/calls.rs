@@ -4,7 +4,7 @@
 
 use bootkeep::frame::Request;
 use bootkeep::set::{BootVariable, ChangeKind, EntryState, Plan};
-use bootkeep::{frame, option, path, set, Error, Fault, Keeper, Outcome, Refusal, Reply};
+use bootkeep::{frame, image, option, path, set, Error, Fault, Keeper, Outcome, Refusal, Reply};
 use std::io::{self, BufRead};
 
 const NO_ENTRY: u32 = 0x1_0000;
@@ -108,6 +108,12 @@ fn made(name: &str, given: &[Vec<u8>]) -> Result<String, Error> {
             option::make(number(first), description, &given[2], &given[3]).map(|bytes| digits(&bytes))
         }
         "frame_make" => frame_make(first, &given[1], &given[2]),
+        "image_check" => match image::check(first)? {
+            Some(fault) => Err(Error::Refused(fault.refusal)),
+            None => Ok(String::new()),
+        },
+        "image_digest" => image::digest(first).map(|digest| digits(&digest)),
+        "signature_lists" => signature_lists(first),
         "run" => {
             let (after, lines) = bootkeep::run(first, &given[1])?;
             Ok(format!("{} {}", digits(&after), digits(lines.as_bytes())))
@@ -182,6 +188,14 @@ fn frame_make(numbers: &[u8], option: &[u8], order: &[u8]) -> Result<String, Err
         _ => return refused(Fault::FrameBadKind, None),
     };
     frame::make(number(&numbers[..4]), request).map(|bytes| digits(&bytes))
+}
+
+fn signature_lists(bytes: &[u8]) -> Result<String, Error> {
+    let places = image::signature_lists(bytes)?.into_iter().flat_map(|list| {
+        let len = 28 + list.header.len() + list.signatures.len();
+        [list.place, len, list.header.len(), list.signature_len]
+    });
+    Ok(digits(&places.flat_map(usize::to_le_bytes).collect::<Vec<_>>()))
 }
 
 fn set_variables(set: &[u8]) -> Result<String, Error> {

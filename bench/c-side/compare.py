@@ -11,11 +11,12 @@ import argparse
 import json
 import random
 import re
+import struct
 import subprocess
 import sys
 import tempfile
 from pathlib import Path
-from typing import Iterable
+from typing import Any, Iterable
 
 FAMILIES = {
     "path": ["PATH"],
@@ -229,6 +230,31 @@ def frames_of(stream: bytes) -> list[bytes]:
     return frames
 
 
+def images_of(root: Path) -> Iterable[tuple[str, bytes, str]]:
+    """The images of the cases that have no fault, each with its call and the answer."""
+    cases = json.loads((root / "tests/cases/efi_images.json").read_text(encoding="utf-8"))
+    for part in cases:
+        for case in part["cases"]:
+            if part["call"] in ("image_digest", "check_image") and re.fullmatch(
+                "no fault|[0-9a-f]{64}", case["answer"]
+            ):
+                name = part["call"].replace("check_image", "image_check")
+                yield name, image_of(part["image"], case), case["answer"]
+
+
+def image_of(parts: list[Any], case: dict[str, Any]) -> bytes:
+    """The bytes of an image of a case, with its changes."""
+    image = bytearray()
+    for part in parts:
+        whole = isinstance(part, str)
+        image += bytes.fromhex(part) if whole else bytes.fromhex(part["of"]) * part["times"]
+    for place, data in case.get("changes", {}).items():
+        at, changed = int(place, 16), bytes.fromhex(data)
+        image[at : at + len(changed)] = changed
+    length = case.get("len", len(image))
+    return bytes(image[:length].ljust(length, b"\0"))
+
+
 class Cases:
     """Makes cases: the line for the driver, and what the command says."""
 
@@ -248,6 +274,7 @@ class Cases:
         ]
         self.paths = [paths_of(data) for data in whole]
         self.texts = [self.text(path) for path in self.paths]
+        self.images = list(images_of(root))
         cases = json.loads((root / "tests/cases/named_texts.json").read_text(encoding="utf-8"))
         self.names = [
             (bytes.fromhex(case["input"]), case["answer"])
@@ -419,6 +446,37 @@ class Cases:
             f"done {free}",
             f"done {self.state(entries, number)}",
         ]
+
+    def image_case(self) -> tuple[str, list[str]]:
+        """The digest of an image of the cases, and that firmware asks nothing else of one without a fault."""
+        call, image, answer = self.chance.choice(self.images)
+        wanted = "done" if call == "image_check" else f"done {answer}"
+        return f"{call} {digits(image)}", [wanted]
+
+    def lists_case(self) -> tuple[str, list[str]]:
+        """Where signature lists are, or the first that isn't one."""
+        data = b"".join(self.signature_list() for _ in range(self.chance.randrange(4)))
+        data = damage(self.chance, data)
+        line, places, at = f"signature_lists {digits(data)}", b"", 0
+        while at < len(data):
+            if len(data) - at < 28:
+                return line, [f"refused {self.side.kinds['LISTS_CUT_HEADER']} 0 {at} {NO_PLACE}"]
+            size, header, each = struct.unpack_from("<III", data, at + 16)
+            if not 28 + header <= size <= len(data) - at:
+                kind = self.side.kinds["LISTS_BAD_LIST_SIZE"]
+                return line, [f"refused {kind} 0 {at} {NO_PLACE}"]
+            if each < 16 or (size - 28 - header) % each:
+                kind = self.side.kinds["LISTS_BAD_SIGNATURE_SIZE"]
+                return line, [f"refused {kind} 0 {at} {NO_PLACE}"]
+            places += struct.pack("<QQQQ", at, size, header, each)
+            at += size
+        return line, [f"done {digits(places)}"]
+
+    def signature_list(self) -> bytes:
+        header, each = self.chance.choice([0, 0, 3]), self.chance.choice([16, 48, 20])
+        count = self.chance.randrange(4)
+        size = 28 + header + each * count
+        return bytes(16) + struct.pack("<III", size, header, each) + bytes(size - 28)
 
     def named_case(self) -> tuple[str, list[str]]:
         """What BootNext and BootOrder name, and what a boot makes of it."""
@@ -718,6 +776,8 @@ def main() -> int:
             cases.run_case,
             cases.keeper_case,
             cases.set_case,
+            cases.image_case,
+            cases.lists_case,
             cases.changes_case,
             cases.option_make_case,
             cases.frame_make_case,

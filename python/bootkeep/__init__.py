@@ -1,4 +1,4 @@
-"""Device paths, load options, sets of boot variables, and numbered requests over them.
+"""Device paths, load options, sets of boot variables, numbered requests over them, and files that firmware starts.
 
 The calls are those of the library for C, ``include/bootkeep.h``: what each accepts and refuses is proved. Bytes go in,
 and bytes, texts and values come out::
@@ -25,11 +25,13 @@ The shared library is found by the environment's ``BOOTKEEP_LIBRARY``, beside th
 from __future__ import annotations
 
 from ._faults import BytesLeft, Closed, Error, Refused, outcome_word, refusal_word, status_word
+from ._images import ImageFault, SignatureList, image_check, image_digest, signature_lists
 from ._keepers import Keeper, Reply, frame_make, run
 from ._library import library_version
 from ._numbers import (
     ChangeKind,
     DATA_MAX,
+    Effect,
     EntryState,
     FRAME_MAX,
     Kind,
@@ -45,6 +47,7 @@ from ._numbers import (
     Outcome,
     ReplyKind,
     Request,
+    Stage,
     VERSION,
     WORD_MAX,
 )
@@ -94,8 +97,10 @@ __all__ = [
     "Change",
     "ChangeKind",
     "Closed",
+    "Effect",
     "EntryState",
     "Error",
+    "ImageFault",
     "Keeper",
     "Kind",
     "LoadOption",
@@ -106,10 +111,14 @@ __all__ = [
     "Reply",
     "ReplyKind",
     "Request",
+    "SignatureList",
+    "Stage",
     "__version__",
     "check_path",
     "entries_at_risk",
     "frame_make",
+    "image_check",
+    "image_digest",
     "library_version",
     "option",
     "option_make",
@@ -135,6 +144,7 @@ __all__ = [
     "set_put",
     "set_remove",
     "set_variables",
+    "signature_lists",
     "status_word",
     "text_path",
 ]

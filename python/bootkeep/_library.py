@@ -42,6 +42,15 @@ class RawVariable(ctypes.Structure):
     ]
 
 
+class RawList(ctypes.Structure):
+    _fields_ = [
+        ("place", c_size_t),
+        ("len", c_size_t),
+        ("header_len", c_size_t),
+        ("signature_len", c_size_t),
+    ]
+
+
 class RawNamed(ctypes.Structure):
     _fields_ = [("variable", c_uint32), ("number", c_uint32), ("state", c_uint32)]
 
@@ -131,6 +140,9 @@ _CALLS: Dict[str, Tuple[Any, ...]] = {
     "bootkeep_keeper_set": (_KEEPER, *_OUT),
     "bootkeep_keeper_next_number": (_KEEPER, POINTER(c_uint32)),
     "bootkeep_keeper_close": (_KEEPER,),
+    "bootkeep_image_check": (*_IN, POINTER(c_uint32), POINTER(c_uint32), _WHY),
+    "bootkeep_image_digest": (*_IN, *_OUT, _WHY),
+    "bootkeep_signature_lists": (*_IN, POINTER(RawList), c_size_t, POINTER(c_size_t), _WHY),
 }
 
 

@@ -89,6 +89,45 @@ class Kind(IntEnum):
     FRAME_BAD_NUMBER = 0x0807
     FRAME_BAD_PAYLOAD = 0x0808
     FRAME_OPTION = 0x0809
+    IMAGE_EMPTY = 0x0901
+    IMAGE_SHORT_DOS_HEADER = 0x0902
+    IMAGE_DOS_SIGNATURE = 0x0903
+    IMAGE_PE_PLACE = 0x0904
+    IMAGE_PE_SIGNATURE = 0x0905
+    IMAGE_MAGIC = 0x0906
+    IMAGE_SUBSYSTEM = 0x0907
+    IMAGE_DIRECTORY_COUNT = 0x0908
+    IMAGE_OPTIONAL_HEADER_SIZE = 0x0909
+    IMAGE_IMAGE_SIZE = 0x090A
+    IMAGE_HEADERS_SIZE = 0x090B
+    IMAGE_HEADERS_BEYOND_IMAGE = 0x090C
+    IMAGE_HEADERS_BEYOND_FILE = 0x090D
+    IMAGE_CERTIFICATES_BEYOND_FILE = 0x090E
+    IMAGE_MACHINE = 0x090F
+    IMAGE_SECTION_IN_HEADERS = 0x0910
+    IMAGE_SECTION_BEYOND_FILE = 0x0911
+    IMAGE_DEBUG_PLACE = 0x0912
+    IMAGE_DEBUG_BEYOND_FILE = 0x0913
+    IMAGE_UNMAPPED_CODE_VIEW = 0x0914
+    IMAGE_ARM64 = 0x0915
+    IMAGE_MEMORY = 0x0916
+    IMAGE_FIXED_BASE = 0x0917
+    IMAGE_RELOCATIONS_STRIPPED = 0x0918
+    IMAGE_SECTION_ALIGNMENT = 0x0919
+    IMAGE_SECTION_BEYOND_IMAGE = 0x091A
+    IMAGE_SECTION_BEYOND_MEMORY = 0x091B
+    IMAGE_SECTION_OVER_TABLE = 0x091C
+    IMAGE_RELOCATIONS_NOT_LOADED = 0x091D
+    IMAGE_RELOCATIONS_OVERFLOW = 0x091E
+    IMAGE_RELOCATIONS_BEYOND_IMAGE = 0x091F
+    IMAGE_IA32 = 0x0920
+    IMAGE_BYTE_CODE = 0x0921
+    IMAGE_ENTRY_POINT = 0x0922
+    IMAGE_OVERLAP = 0x0923
+    IMAGE_CERTIFICATES_OVERLAP = 0x0924
+    LISTS_CUT_HEADER = 0x0A01
+    LISTS_BAD_LIST_SIZE = 0x0A02
+    LISTS_BAD_SIGNATURE_SIZE = 0x0A03
 
 
 class Request(IntEnum):
@@ -164,6 +203,28 @@ class ChangeKind(IntEnum):
     REPLACED = 2
     #: It is taken out.
     REMOVED = 3
+
+
+class Stage(IntEnum):
+    """Which part of firmware finds a fault of an image."""
+
+    #: The boot manager, for which there is no such file then.
+    BOOT_MANAGER = 0
+    #: LoadImage. With Secure Boot the faults up to ``IMAGE_DEBUG_BEYOND_FILE`` are found before it.
+    LOADER = 1
+    #: StartImage.
+    START = 2
+
+
+class Effect(IntEnum):
+    """What comes of a fault of an image."""
+
+    #: Firmware doesn't start the file.
+    REFUSED = 0
+    #: Firmware doesn't look at it, and goes wrong: it writes after the image's memory, or runs what isn't in it.
+    UNSAFE = 1
+    #: The file's bytes don't tell whether it starts: the machine decides.
+    UNDECIDED = 2
 
 
 def known(numbers: Type[IntEnum], number: int) -> int:

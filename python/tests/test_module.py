@@ -5,7 +5,9 @@ from __future__ import annotations
 import copy
 import doctest
 import gc
+import hashlib
 import itertools
+import json
 import os
 import pickle
 import subprocess
@@ -28,6 +30,19 @@ PATH = bytes.fromhex("02010c00d041030a00000000010106000001" "7fff0400")
 
 HEADER = 12
 THREADS = 50
+
+
+def image() -> bytes:
+    """An application for x86-64 of two sections, as the cases of images have it."""
+    groups = json.loads((ROOT / "tests/cases/efi_images.json").read_text(encoding="utf-8"))
+    parts = groups[0]["image"]
+    return b"".join(
+        bytes.fromhex(it) if isinstance(it, str) else bytes.fromhex(it["of"]) * it["times"]
+        for it in parts
+    )
+
+
+IMAGE = image()
 
 
 def frames(stream: bytes) -> List[bytes]:
@@ -134,6 +149,52 @@ class Values(unittest.TestCase):
         self.assertEqual(bootkeep.set_remove(with_one, "Nothing"), SET)
         self.assertRaises(KeyError, bootkeep.set_get, SET, "Nothing")
         self.assertRaises(KeyError, bootkeep.set_remove, SET, "Nothing")
+
+    def test_the_first_fault_of_an_image_is_told(self) -> None:
+        found = bootkeep.image_check(b"")
+        self.assertEqual(
+            found,
+            bootkeep.ImageFault(
+                bootkeep.Kind.IMAGE_EMPTY, 0, bootkeep.Stage.BOOT_MANAGER, bootkeep.Effect.REFUSED
+            ),
+        )
+        self.assertIsNone(bootkeep.image_check(IMAGE))
+        cut = bootkeep.image_check(IMAGE[:-1])
+        assert cut is not None
+        self.assertEqual((cut.kind, cut.place), (bootkeep.Kind.IMAGE_SECTION_BEYOND_FILE, 0x170))
+        self.assertEqual((cut.stage, cut.effect), (bootkeep.Stage.LOADER, bootkeep.Effect.REFUSED))
+        beyond = bootkeep.image_check(IMAGE[:0x68] + b"\0\x30" + IMAGE[0x6A:])
+        assert beyond is not None
+        self.assertEqual((beyond.kind, beyond.place), (bootkeep.Kind.IMAGE_ENTRY_POINT, 0x68))
+        self.assertEqual(
+            (beyond.stage, beyond.effect), (bootkeep.Stage.START, bootkeep.Effect.UNSAFE)
+        )
+
+    def test_an_image_has_a_digest(self) -> None:
+        # That which signtool and sbsign would sign: all of it but CheckSum and directory 4.
+        digested = IMAGE[:0x98] + IMAGE[0x9C:0xE8] + IMAGE[0xF0:]
+        self.assertEqual(bootkeep.image_digest(IMAGE), hashlib.sha256(digested).digest())
+        with self.assertRaises(bootkeep.Refused) as told:
+            bootkeep.image_digest(b"MZ")
+        self.assertEqual(told.exception.kind, bootkeep.Kind.IMAGE_SHORT_DOS_HEADER)
+
+    def test_signature_lists_are_found(self) -> None:
+        kind, owner = bytes(range(16)), b"\1" * 16
+        sizes = b"".join(number.to_bytes(4, "little") for number in (28 + 2 + 40, 2, 20))
+        data = kind + sizes + b"ab" + (owner + b"1234") + (owner + b"5678")
+        found = bootkeep.SignatureList(0, kind, b"ab", (owner + b"1234", owner + b"5678"))
+        self.assertEqual(bootkeep.signature_lists(data), (found,))
+        second = bootkeep.signature_lists(data * 2)[1]
+        self.assertEqual(
+            (second.place, second.signatures), (len(data), (owner + b"1234", owner + b"5678"))
+        )
+        self.assertEqual(bootkeep.signature_lists(b""), ())
+        with self.assertRaises(bootkeep.Refused) as told:
+            bootkeep.signature_lists(data + b"0")
+        self.assertEqual(
+            (told.exception.kind, told.exception.place),
+            (bootkeep.Kind.LISTS_CUT_HEADER, len(data)),
+        )
 
     def test_changes_have_names(self) -> None:
         after = bootkeep.set_remove(bootkeep.set_put(SET, "Boot00AF", b"1"), "BootNext")

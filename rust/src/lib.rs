@@ -48,6 +48,7 @@
 
 mod error;
 pub mod frame;
+pub mod image;
 mod keeper;
 #[allow(unsafe_code)]
 mod library;

@@ -44,6 +44,15 @@ pub(crate) struct RawVariable {
 
 #[repr(C)]
 #[derive(Clone, Copy, Default)]
+pub(crate) struct RawList {
+    pub(crate) place: usize,
+    pub(crate) len: usize,
+    pub(crate) header_len: usize,
+    pub(crate) signature_len: usize,
+}
+
+#[repr(C)]
+#[derive(Clone, Copy, Default)]
 pub(crate) struct RawNamed {
     pub(crate) variable: u32,
     pub(crate) number: u32,
@@ -82,6 +91,7 @@ struct RawKeeper {
 const _: () = assert!(size_of::<RawRefusal>() == 24);
 const _: () = assert!(size_of::<RawParts>() == 56);
 const _: () = assert!(size_of::<RawVariable>() == 32);
+const _: () = assert!(size_of::<RawList>() == 32);
 const _: () = assert!(size_of::<RawNamed>() == 12);
 const _: () = assert!(size_of::<RawChange>() == 8);
 const _: () = assert!(size_of::<RawReply>() == 64);
@@ -123,6 +133,9 @@ extern "C" {
     fn bootkeep_keeper_set(keeper: *mut RawKeeper, out: *mut u8, cap: usize, len: *mut usize) -> u32;
     fn bootkeep_keeper_next_number(keeper: *mut RawKeeper, number: *mut u32) -> u32;
     fn bootkeep_keeper_close(keeper: *mut RawKeeper) -> u32;
+    fn bootkeep_image_check(image: *const u8, image_len: usize, stage: *mut u32, effect: *mut u32, refusal: *mut RawRefusal) -> u32;
+    fn bootkeep_image_digest(image: *const u8, image_len: usize, out: *mut u8, cap: usize, len: *mut usize, refusal: *mut RawRefusal) -> u32;
+    fn bootkeep_signature_lists(bytes: *const u8, bytes_len: usize, lists: *mut RawList, cap: usize, len: *mut usize, refusal: *mut RawRefusal) -> u32;
 }
 
 /// The error of a status that isn't done.
@@ -360,6 +373,30 @@ pub(crate) fn set_variables(set: &[u8]) -> Result<Vec<RawVariable>, Error> {
 pub(crate) fn set_named(set: &[u8]) -> Result<Vec<RawNamed>, Error> {
     given_alone(ROOM, |named, len, refusal| unsafe {
         bootkeep_set_named(set.as_ptr(), set.len(), named.as_mut_ptr(), named.len(), len, refusal)
+    })
+}
+
+/// The first fault of an image, with the numbers of who finds it and of what comes of it.
+pub(crate) fn image_check(image: &[u8]) -> Result<Option<(RawRefusal, u32, u32)>, Error> {
+    let (mut stage, mut effect, mut refusal) = (0, 0, RawRefusal::default());
+    let status =
+        unsafe { bootkeep_image_check(image.as_ptr(), image.len(), &mut stage, &mut effect, &mut refusal) };
+    match status {
+        DONE => Ok(None),
+        REFUSED => Ok(Some((refusal, stage, effect))),
+        status => Err(error(status, &refusal)),
+    }
+}
+
+pub(crate) fn image_digest(image: &[u8]) -> Result<Vec<u8>, Error> {
+    given_alone(32, |out, len, refusal| unsafe {
+        bootkeep_image_digest(image.as_ptr(), image.len(), out.as_mut_ptr(), out.len(), len, refusal)
+    })
+}
+
+pub(crate) fn signature_lists(bytes: &[u8]) -> Result<Vec<RawList>, Error> {
+    given_alone(ROOM, |lists, len, refusal| unsafe {
+        bootkeep_signature_lists(bytes.as_ptr(), bytes.len(), lists.as_mut_ptr(), lists.len(), len, refusal)
     })
 }
 

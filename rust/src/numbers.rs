@@ -72,3 +72,11 @@ pub(crate) const OUTCOME_MISSING: u32 = 3;
 pub(crate) const OUTCOME_ORDER_REPEATS: u32 = 4;
 pub(crate) const OUTCOME_ORDER_UNKNOWN: u32 = 5;
 pub(crate) const OUTCOME_NO_FREE: u32 = 6;
+
+pub(crate) const STAGE_BOOT_MANAGER: u32 = 0;
+pub(crate) const STAGE_LOADER: u32 = 1;
+pub(crate) const STAGE_START: u32 = 2;
+
+pub(crate) const EFFECT_REFUSED: u32 = 0;
+pub(crate) const EFFECT_UNSAFE: u32 = 1;
+pub(crate) const EFFECT_UNDECIDED: u32 = 2;

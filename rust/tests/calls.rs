@@ -2,6 +2,7 @@
 
 use bootkeep::frame::{self, Request};
 use bootkeep::set::{BootVariable, ChangeKind, EntryState};
+use bootkeep::image::{self, Effect, Stage};
 use bootkeep::{option, path, set, Error, Fault, Keeper, Outcome, Reply};
 use std::collections::HashSet;
 
@@ -18,6 +19,35 @@ fn a_path_has_its_text_again() {
     let bytes = path::parse(TEXT).unwrap();
     assert_eq!(path::check(&bytes), Ok(bytes.len()));
     assert_eq!(path::parse(&path::text(&bytes).unwrap().0), Ok(bytes));
+}
+
+#[test]
+fn the_first_fault_of_an_image_is_told() {
+    let fault = image::check(b"").unwrap().unwrap();
+    assert_eq!((fault.refusal.fault, fault.refusal.place), (Fault::ImageEmpty, Some(0)));
+    assert_eq!((fault.stage, fault.effect), (Stage::BootManager, Effect::Refused));
+    let fault = image::check(&[b'M'; 64]).unwrap().unwrap();
+    assert_eq!((fault.refusal.fault, fault.refusal.place), (Fault::ImageDosSignature, Some(0)));
+    match image::digest(b"MZ").unwrap_err() {
+        Error::Refused(refusal) => assert_eq!(refusal.fault, Fault::ImageShortDosHeader),
+        other => panic!("{other}"),
+    }
+}
+
+#[test]
+fn signature_lists_are_found() {
+    let mut bytes = vec![7; 16];
+    for number in [28 + 2 + 40, 2, 20_u32] {
+        bytes.extend(number.to_le_bytes());
+    }
+    bytes.extend(b"ab");
+    bytes.extend([1; 40]);
+    let bytes = bytes.repeat(2);
+    let lists = image::signature_lists(&bytes).unwrap();
+    assert_eq!(lists.len(), 2);
+    assert_eq!((lists[1].place, lists[1].kind, lists[1].header), (70, &[7; 16][..], &b"ab"[..]));
+    assert_eq!((lists[1].signature_len, lists[1].signatures), (20, &[1; 40][..]));
+    assert_eq!(image::signature_lists(&bytes[..71]).unwrap_err(), refused_at(Fault::ListsCutHeader, 70));
 }
 
 #[test]
@@ -73,6 +103,10 @@ fn what_is_printed_for_a_person_is_read() {
 
 fn refused(fault: Fault) -> Error {
     Error::Refused(bootkeep::Refusal { fault, place: None, within: None })
+}
+
+fn refused_at(fault: Fault, place: usize) -> Error {
+    Error::Refused(bootkeep::Refusal { fault, place: Some(place), within: None })
 }
 
 #[test]

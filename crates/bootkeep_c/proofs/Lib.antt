@@ -12,3 +12,4 @@ pub mod NamesOfChanges
 pub mod NamedEntries
 pub mod PlacesInSets
 pub mod NamedTexts
+pub mod PlacesOfLists

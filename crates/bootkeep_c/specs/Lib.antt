@@ -21,3 +21,4 @@ pub mod Handle
 pub mod Steps
 pub mod Replies
 pub mod Words
+pub mod Images

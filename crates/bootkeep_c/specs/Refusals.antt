@@ -22,6 +22,13 @@ use Rattle.boot_requests.specs.declared.fault.FrameFault.{FrameFault}
 use Rattle.boot_requests.specs.declared.fault.FrameFault.TheVariants as frame
 use Rattle.boot_requests.specs.declared.script_fault.ScriptFault.{ScriptFault}
 use Rattle.boot_requests.specs.declared.script_fault.ScriptFault.TheVariants as script
+use Rattle.efi_images.specs.declared.fault.ImageFault.{ImageFault}
+use Rattle.efi_images.specs.declared.fault.ImageFault.TheVariants as image
+use Rattle.efi_images.specs.declared.digest_fault.DigestFault.{DigestFault}
+use Rattle.efi_images.specs.declared.digest_fault.DigestFault.TheVariants as undigested
+use Rattle.efi_images.specs.declared.signatures.ListFault.{ListFault}
+use Rattle.efi_images.specs.declared.signatures.ListFault.TheVariants as listed
+use Rattle.efi_images.specs.Words.{place_of}
 use Rattle.bootkeep_c.specs.declared.refusal.Refusal.{Refusal}
 use Rattle.bootkeep_c.specs.declared.failure.Failure.{Failure}
 use Rattle.bootkeep_c.specs.declared.failure.Failure.TheVariants as failure
@@ -143,6 +150,58 @@ frame_failure frame.BadNumber = bare 0x0807
 frame_failure frame.BadPayload = bare 0x0808
 frame_failure (frame.Option fault) = option_failure fault
 frame_failure frame.OutOfMemory = failure.Memory
+
+abbrev pub image_number : ImageFault → ℕ
+image_number image.Empty = 0x0901
+image_number (image.ShortDosHeader len) = 0x0902
+image_number (image.DosSignature found) = 0x0903
+image_number (image.PePlace found len) = 0x0904
+image_number (image.PeSignature place found) = 0x0905
+image_number (image.Magic place found) = 0x0906
+image_number (image.Subsystem place found) = 0x0907
+image_number (image.DirectoryCount place found) = 0x0908
+image_number (image.OptionalHeaderSize place found wanted) = 0x0909
+image_number (image.ImageSize place found wanted) = 0x090A
+image_number (image.HeadersSize place found wanted) = 0x090B
+image_number (image.HeadersBeyondImage place found image_size) = 0x090C
+image_number (image.HeadersBeyondFile place found len) = 0x090D
+image_number (image.CertificatesBeyondFile place start size len) = 0x090E
+image_number (image.Machine place found) = 0x090F
+image_number (image.SectionInHeaders section headers_size) = 0x0910
+image_number (image.SectionBeyondFile section len) = 0x0911
+image_number (image.DebugPlace place found) = 0x0912
+image_number (image.DebugBeyondFile place len) = 0x0913
+image_number (image.UnmappedCodeView place) = 0x0914
+image_number (image.Arm64 place) = 0x0915
+image_number (image.Memory place found) = 0x0916
+image_number (image.FixedBase place found) = 0x0917
+image_number (image.RelocationsStripped place) = 0x0918
+image_number (image.SectionAlignment place) = 0x0919
+image_number (image.SectionBeyondImage section image_size) = 0x091A
+image_number (image.SectionBeyondMemory section memory_size) = 0x091B
+image_number (image.SectionOverTable section table_end) = 0x091C
+image_number (image.RelocationsNotLoaded place) = 0x091D
+image_number (image.RelocationsOverflow place start size) = 0x091E
+image_number (image.RelocationsBeyondImage place start size image_size) = 0x091F
+image_number (image.Ia32 place) = 0x0920
+image_number (image.ByteCode place) = 0x0921
+image_number (image.EntryPoint place found image_size) = 0x0922
+
+abbrev pub image_failure : ImageFault → Failure
+image_failure fault = at_place (image_number fault) (place_of fault)
+
+-- an image that has no digest: a fault of its form is told as that of the image alone
+abbrev pub digest_failure : DigestFault → Failure
+digest_failure (undigested.Image fault) = image_failure fault
+digest_failure (undigested.Overlap found len) = bare 0x0923
+digest_failure (undigested.CertificatesOverlap found size len) = bare 0x0924
+digest_failure undigested.OutOfMemory = failure.Memory
+
+abbrev pub lists_failure : ListFault → Failure
+lists_failure (listed.CutHeader place) = at_place 0x0A01 place
+lists_failure (listed.BadListSize place len) = at_place 0x0A02 place
+lists_failure (listed.BadSignatureSize place len) = at_place 0x0A03 place
+lists_failure listed.OutOfMemory = failure.Memory
 
 -- ---- what a call tells
 

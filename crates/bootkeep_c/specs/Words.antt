@@ -99,6 +99,60 @@ frame_word kind =
     else (if kind == 0x0809 then Some (codes "FrameOption")
     else None))))))))
 
+abbrev pub image_word : ℕ → Option (List ℕ)
+image_word kind =
+    if kind == 0x0901 then Some (codes "ImageEmpty")
+    else (if kind == 0x0902 then Some (codes "ImageShortDosHeader")
+    else (if kind == 0x0903 then Some (codes "ImageDosSignature")
+    else (if kind == 0x0904 then Some (codes "ImagePePlace")
+    else (if kind == 0x0905 then Some (codes "ImagePeSignature")
+    else (if kind == 0x0906 then Some (codes "ImageMagic")
+    else (if kind == 0x0907 then Some (codes "ImageSubsystem")
+    else (if kind == 0x0908 then Some (codes "ImageDirectoryCount")
+    else (if kind == 0x0909 then Some (codes "ImageOptionalHeaderSize")
+    else (if kind == 0x090A then Some (codes "ImageImageSize")
+    else (if kind == 0x090B then Some (codes "ImageHeadersSize")
+    else (if kind == 0x090C then Some (codes "ImageHeadersBeyondImage")
+    else (if kind == 0x090D then Some (codes "ImageHeadersBeyondFile")
+    else (if kind == 0x090E then Some (codes "ImageCertificatesBeyondFile")
+    else (if kind == 0x090F then Some (codes "ImageMachine")
+    else (if kind == 0x0910 then Some (codes "ImageSectionInHeaders")
+    else (if kind == 0x0911 then Some (codes "ImageSectionBeyondFile")
+    else (if kind == 0x0912 then Some (codes "ImageDebugPlace")
+    else (if kind == 0x0913 then Some (codes "ImageDebugBeyondFile")
+    else (if kind == 0x0914 then Some (codes "ImageUnmappedCodeView")
+    else (if kind == 0x0915 then Some (codes "ImageArm64")
+    else (if kind == 0x0916 then Some (codes "ImageMemory")
+    else (if kind == 0x0917 then Some (codes "ImageFixedBase")
+    else (if kind == 0x0918 then Some (codes "ImageRelocationsStripped")
+    else (if kind == 0x0919 then Some (codes "ImageSectionAlignment")
+    else (if kind == 0x091A then Some (codes "ImageSectionBeyondImage")
+    else (if kind == 0x091B then Some (codes "ImageSectionBeyondMemory")
+    else (if kind == 0x091C then Some (codes "ImageSectionOverTable")
+    else (if kind == 0x091D then Some (codes "ImageRelocationsNotLoaded")
+    else (if kind == 0x091E then Some (codes "ImageRelocationsOverflow")
+    else (if kind == 0x091F then Some (codes "ImageRelocationsBeyondImage")
+    else (if kind == 0x0920 then Some (codes "ImageIa32")
+    else (if kind == 0x0921 then Some (codes "ImageByteCode")
+    else (if kind == 0x0922 then Some (codes "ImageEntryPoint")
+    else (if kind == 0x0923 then Some (codes "ImageOverlap")
+    else (if kind == 0x0924 then Some (codes "ImageCertificatesOverlap")
+    else None)))))))))))))))))))))))))))))))))))
+
+abbrev pub lists_word : ℕ → Option (List ℕ)
+lists_word kind =
+    if kind == 0x0A01 then Some (codes "ListsCutHeader")
+    else (if kind == 0x0A02 then Some (codes "ListsBadListSize")
+    else (if kind == 0x0A03 then Some (codes "ListsBadSignatureSize")
+    else None))
+
+-- of what a file has
+unfoldable pub file_word : ℕ → Option (List ℕ)
+file_word kind =
+    if kind / 0x100 == 9 then image_word kind
+    else (if kind / 0x100 == 10 then lists_word kind
+    else None)
+
 -- the upper byte of its number tells of what a refusal is
 abbrev pub refusal_word : ℕ → Option (List ℕ)
 refusal_word kind =
@@ -110,7 +164,7 @@ refusal_word kind =
     else (if kind / 0x100 == 6 then put_word kind
     else (if kind / 0x100 == 7 then stream_word kind
     else (if kind / 0x100 == 8 then frame_word kind
-    else None)))))))
+    else file_word kind)))))))
 
 -- ---- outcomes, and what is given
 

@@ -2,21 +2,24 @@
 
 ghost use Rattle.std.specs.Prelude.{◌≡◌};
 ghost use Rattle.bootkeep_c.specs.declared.failure.Failure.TheVariants as failure;
-ghost use Rattle.bootkeep_c.specs.Refusals.{at_place, bare, path_failure, text_failure, named_failure, list_failure, option_failure, set_failure, vars_failure, open_failure, put_failure, feed_failure, frame_failure, Tells};
+ghost use Rattle.bootkeep_c.specs.Refusals.{at_place, bare, path_failure, text_failure, named_failure, list_failure, option_failure, set_failure, vars_failure, open_failure, put_failure, feed_failure, frame_failure, image_failure, digest_failure, lists_failure, Tells};
 
+use crate::image_number::image_number;
 use crate::refusal::{
     FRAME_BAD_KIND, FRAME_BAD_MAGIC, FRAME_BAD_NUMBER, FRAME_BAD_PAYLOAD, FRAME_BAD_SIZE,
-    FRAME_BAD_VERSION, FRAME_SHORT, FRAME_TOO_LONG, NO_KIND, NO_PLACE, OPTION_EMPTY_LIST,
-    OPTION_LIST_PAST_END, OPTION_LIST_TOO_LONG, OPTION_NO_TERMINATOR, OPTION_PATH, OPTION_SHORT,
-    OPTION_ZERO_UNIT, PATH_BAD_END, PATH_BAD_LENGTH, PATH_NO_END, PATH_PAST_END, PATH_SHORT_HEADER,
-    PUT_BAD_NAME, PUT_DATA_TOO_LONG, PUT_EMPTY_DATA, Refusal, SET_BAD_DATA, SET_BAD_MAGIC,
-    SET_BAD_NAME, SET_NOT_RISING, SET_TRUNCATED, STREAM_BAD_MAGIC, STREAM_BAD_VERSION,
-    STREAM_TOO_LONG, TEXT_BAD_ARGUMENT, TEXT_BAD_COUNT, TEXT_BAD_DATA, TEXT_BAD_END,
-    TEXT_BAD_NUMBER, TEXT_BAD_SEGMENT, TEXT_OUT_OF_RANGE, TEXT_UNKNOWN_NAME, VARS_BAD_NEXT,
-    VARS_BAD_ORDER, VARS_BAD_STATE,
+    FRAME_BAD_VERSION, FRAME_SHORT, FRAME_TOO_LONG, IMAGE_CERTIFICATES_OVERLAP, IMAGE_OVERLAP,
+    LISTS_BAD_LIST_SIZE, LISTS_BAD_SIGNATURE_SIZE, LISTS_CUT_HEADER, NO_KIND, NO_PLACE,
+    OPTION_EMPTY_LIST, OPTION_LIST_PAST_END, OPTION_LIST_TOO_LONG, OPTION_NO_TERMINATOR,
+    OPTION_PATH, OPTION_SHORT, OPTION_ZERO_UNIT, PATH_BAD_END, PATH_BAD_LENGTH, PATH_NO_END,
+    PATH_PAST_END, PATH_SHORT_HEADER, PUT_BAD_NAME, PUT_DATA_TOO_LONG, PUT_EMPTY_DATA, Refusal,
+    SET_BAD_DATA, SET_BAD_MAGIC, SET_BAD_NAME, SET_NOT_RISING, SET_TRUNCATED, STREAM_BAD_MAGIC,
+    STREAM_BAD_VERSION, STREAM_TOO_LONG, TEXT_BAD_ARGUMENT, TEXT_BAD_COUNT, TEXT_BAD_DATA,
+    TEXT_BAD_END, TEXT_BAD_NUMBER, TEXT_BAD_SEGMENT, TEXT_OUT_OF_RANGE, TEXT_UNKNOWN_NAME,
+    VARS_BAD_NEXT, VARS_BAD_ORDER, VARS_BAD_STATE,
 };
 use crate::status::{NO_MEMORY, REFUSED};
 use boot_requests::{FeedFault, FrameFault, OpenFault};
+use efi_images::{DigestFault, ImageFault, ListFault};
 use std::alloc::{AllocError, AllocFailed};
 use uefi_names::NamedFault;
 use uefi_option::OptionFault;
@@ -241,6 +244,40 @@ impl From<FrameFault> for Failure {
             FrameFault::BadPayload => Failure::bare(FRAME_BAD_PAYLOAD),
             FrameFault::Option(fault) => Failure::from(fault),
             FrameFault::OutOfMemory => Failure::Memory,
+        }
+    }
+}
+
+impl From<ImageFault> for Failure {
+    ghost from_gives = { λ fault made. made ≡ image_failure fault };
+
+    fn from(fault: ImageFault) -> Failure {
+        Failure::at(image_number(&fault), fault.place())
+    }
+}
+
+impl From<DigestFault> for Failure {
+    ghost from_gives = { λ fault made. made ≡ digest_failure fault };
+
+    fn from(fault: DigestFault) -> Failure {
+        match fault {
+            DigestFault::Image(fault) => Failure::from(fault),
+            DigestFault::Overlap { .. } => Failure::bare(IMAGE_OVERLAP),
+            DigestFault::CertificatesOverlap { .. } => Failure::bare(IMAGE_CERTIFICATES_OVERLAP),
+            DigestFault::OutOfMemory => Failure::Memory,
+        }
+    }
+}
+
+impl From<ListFault> for Failure {
+    ghost from_gives = { λ fault made. made ≡ lists_failure fault };
+
+    fn from(fault: ListFault) -> Failure {
+        match fault {
+            ListFault::CutHeader(place) => Failure::at(LISTS_CUT_HEADER, place),
+            ListFault::BadListSize(place, _) => Failure::at(LISTS_BAD_LIST_SIZE, place),
+            ListFault::BadSignatureSize(place, _) => Failure::at(LISTS_BAD_SIGNATURE_SIZE, place),
+            ListFault::OutOfMemory => Failure::Memory,
         }
     }
 }

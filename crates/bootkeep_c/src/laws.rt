@@ -8,7 +8,17 @@ ghost use Rattle.bootkeep_c.specs.Words.{word_max};
 use crate::limits::WORD_MAX;
 use crate::refusal::{
     FRAME_BAD_KIND, FRAME_BAD_MAGIC, FRAME_BAD_NUMBER, FRAME_BAD_PAYLOAD, FRAME_BAD_SIZE,
-    FRAME_BAD_VERSION, FRAME_OPTION, FRAME_SHORT, FRAME_TOO_LONG, NO_KIND, NO_PLACE,
+    FRAME_BAD_VERSION, FRAME_OPTION, FRAME_SHORT, FRAME_TOO_LONG, IMAGE_ARM64, IMAGE_BYTE_CODE,
+    IMAGE_CERTIFICATES_BEYOND_FILE, IMAGE_CERTIFICATES_OVERLAP, IMAGE_DEBUG_BEYOND_FILE,
+    IMAGE_DEBUG_PLACE, IMAGE_DIRECTORY_COUNT, IMAGE_DOS_SIGNATURE, IMAGE_EMPTY, IMAGE_ENTRY_POINT,
+    IMAGE_FIXED_BASE, IMAGE_HEADERS_BEYOND_FILE, IMAGE_HEADERS_BEYOND_IMAGE, IMAGE_HEADERS_SIZE,
+    IMAGE_IA32, IMAGE_IMAGE_SIZE, IMAGE_MACHINE, IMAGE_MAGIC, IMAGE_MEMORY,
+    IMAGE_OPTIONAL_HEADER_SIZE, IMAGE_OVERLAP, IMAGE_PE_PLACE, IMAGE_PE_SIGNATURE,
+    IMAGE_RELOCATIONS_BEYOND_IMAGE, IMAGE_RELOCATIONS_NOT_LOADED, IMAGE_RELOCATIONS_OVERFLOW,
+    IMAGE_RELOCATIONS_STRIPPED, IMAGE_SECTION_ALIGNMENT, IMAGE_SECTION_BEYOND_FILE,
+    IMAGE_SECTION_BEYOND_IMAGE, IMAGE_SECTION_BEYOND_MEMORY, IMAGE_SECTION_IN_HEADERS,
+    IMAGE_SECTION_OVER_TABLE, IMAGE_SHORT_DOS_HEADER, IMAGE_SUBSYSTEM, IMAGE_UNMAPPED_CODE_VIEW,
+    LISTS_BAD_LIST_SIZE, LISTS_BAD_SIGNATURE_SIZE, LISTS_CUT_HEADER, NO_KIND, NO_PLACE,
     OPTION_EMPTY_LIST, OPTION_LIST_PAST_END, OPTION_LIST_TOO_LONG, OPTION_NO_TERMINATOR,
     OPTION_NOT_UTF8, OPTION_NOT_UTF16, OPTION_PATH, OPTION_SHORT, OPTION_ZERO_UNIT, PATH_BAD_END,
     PATH_BAD_LENGTH, PATH_NO_END, PATH_PAST_END, PATH_SHORT_HEADER, PUT_BAD_NAME,
@@ -86,5 +96,44 @@ pub fn numbers_of_refusals_stay()
     ensures frame_bad_number { FRAME_BAD_NUMBER ≡ 0x0807 }
     ensures frame_bad_payload { FRAME_BAD_PAYLOAD ≡ 0x0808 }
     ensures frame_option { FRAME_OPTION ≡ 0x0809 }
+    ensures image_empty { IMAGE_EMPTY ≡ 0x0901 }
+    ensures image_short_dos_header { IMAGE_SHORT_DOS_HEADER ≡ 0x0902 }
+    ensures image_dos_signature { IMAGE_DOS_SIGNATURE ≡ 0x0903 }
+    ensures image_pe_place { IMAGE_PE_PLACE ≡ 0x0904 }
+    ensures image_pe_signature { IMAGE_PE_SIGNATURE ≡ 0x0905 }
+    ensures image_magic { IMAGE_MAGIC ≡ 0x0906 }
+    ensures image_subsystem { IMAGE_SUBSYSTEM ≡ 0x0907 }
+    ensures image_directory_count { IMAGE_DIRECTORY_COUNT ≡ 0x0908 }
+    ensures image_optional_header_size { IMAGE_OPTIONAL_HEADER_SIZE ≡ 0x0909 }
+    ensures image_image_size { IMAGE_IMAGE_SIZE ≡ 0x090A }
+    ensures image_headers_size { IMAGE_HEADERS_SIZE ≡ 0x090B }
+    ensures image_headers_beyond_image { IMAGE_HEADERS_BEYOND_IMAGE ≡ 0x090C }
+    ensures image_headers_beyond_file { IMAGE_HEADERS_BEYOND_FILE ≡ 0x090D }
+    ensures image_certificates_beyond_file { IMAGE_CERTIFICATES_BEYOND_FILE ≡ 0x090E }
+    ensures image_machine { IMAGE_MACHINE ≡ 0x090F }
+    ensures image_section_in_headers { IMAGE_SECTION_IN_HEADERS ≡ 0x0910 }
+    ensures image_section_beyond_file { IMAGE_SECTION_BEYOND_FILE ≡ 0x0911 }
+    ensures image_debug_place { IMAGE_DEBUG_PLACE ≡ 0x0912 }
+    ensures image_debug_beyond_file { IMAGE_DEBUG_BEYOND_FILE ≡ 0x0913 }
+    ensures image_unmapped_code_view { IMAGE_UNMAPPED_CODE_VIEW ≡ 0x0914 }
+    ensures image_arm64 { IMAGE_ARM64 ≡ 0x0915 }
+    ensures image_memory { IMAGE_MEMORY ≡ 0x0916 }
+    ensures image_fixed_base { IMAGE_FIXED_BASE ≡ 0x0917 }
+    ensures image_relocations_stripped { IMAGE_RELOCATIONS_STRIPPED ≡ 0x0918 }
+    ensures image_section_alignment { IMAGE_SECTION_ALIGNMENT ≡ 0x0919 }
+    ensures image_section_beyond_image { IMAGE_SECTION_BEYOND_IMAGE ≡ 0x091A }
+    ensures image_section_beyond_memory { IMAGE_SECTION_BEYOND_MEMORY ≡ 0x091B }
+    ensures image_section_over_table { IMAGE_SECTION_OVER_TABLE ≡ 0x091C }
+    ensures image_relocations_not_loaded { IMAGE_RELOCATIONS_NOT_LOADED ≡ 0x091D }
+    ensures image_relocations_overflow { IMAGE_RELOCATIONS_OVERFLOW ≡ 0x091E }
+    ensures image_relocations_beyond_image { IMAGE_RELOCATIONS_BEYOND_IMAGE ≡ 0x091F }
+    ensures image_ia32 { IMAGE_IA32 ≡ 0x0920 }
+    ensures image_byte_code { IMAGE_BYTE_CODE ≡ 0x0921 }
+    ensures image_entry_point { IMAGE_ENTRY_POINT ≡ 0x0922 }
+    ensures image_overlap { IMAGE_OVERLAP ≡ 0x0923 }
+    ensures image_certificates_overlap { IMAGE_CERTIFICATES_OVERLAP ≡ 0x0924 }
+    ensures lists_cut_header { LISTS_CUT_HEADER ≡ 0x0A01 }
+    ensures lists_bad_list_size { LISTS_BAD_LIST_SIZE ≡ 0x0A02 }
+    ensures lists_bad_signature_size { LISTS_BAD_SIGNATURE_SIZE ≡ 0x0A03 }
     ensures no_place { NO_PLACE ≡ no_place }
 {}

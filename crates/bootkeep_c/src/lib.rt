@@ -13,10 +13,13 @@ mod entry;
 mod failure;
 mod frame;
 mod handle;
+mod image;
+mod image_number;
 mod keeper;
 mod keeper_reply;
 pub mod laws;
 mod limits;
+mod lists;
 mod making;
 mod named;
 mod named_path;
@@ -40,6 +43,7 @@ pub use entry::{EntryState, bootkeep_set_entry, bootkeep_set_lowest_free};
 pub use failure::Failure;
 pub use frame::{Asked, bootkeep_frame_make};
 pub use handle::{KeeperHandle, KeeperRoom};
+pub use image::{bootkeep_image_check, bootkeep_image_digest};
 pub use keeper::{
     bootkeep_keeper_close, bootkeep_keeper_deliver, bootkeep_keeper_hand,
     bootkeep_keeper_next_number, bootkeep_keeper_open, bootkeep_keeper_prepare,
@@ -49,6 +53,7 @@ pub use keeper_reply::{
     bootkeep_keeper_deliver_reply, bootkeep_keeper_hand_reply, bootkeep_keeper_prepare_reply,
     bootkeep_keeper_restart_reply,
 };
+pub use lists::{ListPlaces, bootkeep_signature_lists};
 pub use making::{bootkeep_option_make, bootkeep_option_make_units};
 pub use named::{NamedEntry, bootkeep_set_named};
 pub use named_path::bootkeep_path_names;

@@ -147,6 +147,123 @@ pub const FRAME_BAD_PAYLOAD: u32 = 0x0808;
 /// [`FrameFault::Option`](boot_requests::FrameFault::Option), with the option's fault beside it.
 pub const FRAME_OPTION: u32 = 0x0809;
 
+/// [`ImageFault::Empty`](efi_images::ImageFault::Empty).
+pub const IMAGE_EMPTY: u32 = 0x0901;
+
+/// [`ImageFault::ShortDosHeader`](efi_images::ImageFault::ShortDosHeader).
+pub const IMAGE_SHORT_DOS_HEADER: u32 = 0x0902;
+
+/// [`ImageFault::DosSignature`](efi_images::ImageFault::DosSignature).
+pub const IMAGE_DOS_SIGNATURE: u32 = 0x0903;
+
+/// [`ImageFault::PePlace`](efi_images::ImageFault::PePlace).
+pub const IMAGE_PE_PLACE: u32 = 0x0904;
+
+/// [`ImageFault::PeSignature`](efi_images::ImageFault::PeSignature).
+pub const IMAGE_PE_SIGNATURE: u32 = 0x0905;
+
+/// [`ImageFault::Magic`](efi_images::ImageFault::Magic).
+pub const IMAGE_MAGIC: u32 = 0x0906;
+
+/// [`ImageFault::Subsystem`](efi_images::ImageFault::Subsystem).
+pub const IMAGE_SUBSYSTEM: u32 = 0x0907;
+
+/// [`ImageFault::DirectoryCount`](efi_images::ImageFault::DirectoryCount).
+pub const IMAGE_DIRECTORY_COUNT: u32 = 0x0908;
+
+/// [`ImageFault::OptionalHeaderSize`](efi_images::ImageFault::OptionalHeaderSize).
+pub const IMAGE_OPTIONAL_HEADER_SIZE: u32 = 0x0909;
+
+/// [`ImageFault::ImageSize`](efi_images::ImageFault::ImageSize).
+pub const IMAGE_IMAGE_SIZE: u32 = 0x090A;
+
+/// [`ImageFault::HeadersSize`](efi_images::ImageFault::HeadersSize).
+pub const IMAGE_HEADERS_SIZE: u32 = 0x090B;
+
+/// [`ImageFault::HeadersBeyondImage`](efi_images::ImageFault::HeadersBeyondImage).
+pub const IMAGE_HEADERS_BEYOND_IMAGE: u32 = 0x090C;
+
+/// [`ImageFault::HeadersBeyondFile`](efi_images::ImageFault::HeadersBeyondFile).
+pub const IMAGE_HEADERS_BEYOND_FILE: u32 = 0x090D;
+
+/// [`ImageFault::CertificatesBeyondFile`](efi_images::ImageFault::CertificatesBeyondFile).
+pub const IMAGE_CERTIFICATES_BEYOND_FILE: u32 = 0x090E;
+
+/// [`ImageFault::Machine`](efi_images::ImageFault::Machine).
+pub const IMAGE_MACHINE: u32 = 0x090F;
+
+/// [`ImageFault::SectionInHeaders`](efi_images::ImageFault::SectionInHeaders).
+pub const IMAGE_SECTION_IN_HEADERS: u32 = 0x0910;
+
+/// [`ImageFault::SectionBeyondFile`](efi_images::ImageFault::SectionBeyondFile).
+pub const IMAGE_SECTION_BEYOND_FILE: u32 = 0x0911;
+
+/// [`ImageFault::DebugPlace`](efi_images::ImageFault::DebugPlace).
+pub const IMAGE_DEBUG_PLACE: u32 = 0x0912;
+
+/// [`ImageFault::DebugBeyondFile`](efi_images::ImageFault::DebugBeyondFile).
+pub const IMAGE_DEBUG_BEYOND_FILE: u32 = 0x0913;
+
+/// [`ImageFault::UnmappedCodeView`](efi_images::ImageFault::UnmappedCodeView).
+pub const IMAGE_UNMAPPED_CODE_VIEW: u32 = 0x0914;
+
+/// [`ImageFault::Arm64`](efi_images::ImageFault::Arm64).
+pub const IMAGE_ARM64: u32 = 0x0915;
+
+/// [`ImageFault::Memory`](efi_images::ImageFault::Memory).
+pub const IMAGE_MEMORY: u32 = 0x0916;
+
+/// [`ImageFault::FixedBase`](efi_images::ImageFault::FixedBase).
+pub const IMAGE_FIXED_BASE: u32 = 0x0917;
+
+/// [`ImageFault::RelocationsStripped`](efi_images::ImageFault::RelocationsStripped).
+pub const IMAGE_RELOCATIONS_STRIPPED: u32 = 0x0918;
+
+/// [`ImageFault::SectionAlignment`](efi_images::ImageFault::SectionAlignment).
+pub const IMAGE_SECTION_ALIGNMENT: u32 = 0x0919;
+
+/// [`ImageFault::SectionBeyondImage`](efi_images::ImageFault::SectionBeyondImage).
+pub const IMAGE_SECTION_BEYOND_IMAGE: u32 = 0x091A;
+
+/// [`ImageFault::SectionBeyondMemory`](efi_images::ImageFault::SectionBeyondMemory).
+pub const IMAGE_SECTION_BEYOND_MEMORY: u32 = 0x091B;
+
+/// [`ImageFault::SectionOverTable`](efi_images::ImageFault::SectionOverTable).
+pub const IMAGE_SECTION_OVER_TABLE: u32 = 0x091C;
+
+/// [`ImageFault::RelocationsNotLoaded`](efi_images::ImageFault::RelocationsNotLoaded).
+pub const IMAGE_RELOCATIONS_NOT_LOADED: u32 = 0x091D;
+
+/// [`ImageFault::RelocationsOverflow`](efi_images::ImageFault::RelocationsOverflow).
+pub const IMAGE_RELOCATIONS_OVERFLOW: u32 = 0x091E;
+
+/// [`ImageFault::RelocationsBeyondImage`](efi_images::ImageFault::RelocationsBeyondImage).
+pub const IMAGE_RELOCATIONS_BEYOND_IMAGE: u32 = 0x091F;
+
+/// [`ImageFault::Ia32`](efi_images::ImageFault::Ia32).
+pub const IMAGE_IA32: u32 = 0x0920;
+
+/// [`ImageFault::ByteCode`](efi_images::ImageFault::ByteCode).
+pub const IMAGE_BYTE_CODE: u32 = 0x0921;
+
+/// [`ImageFault::EntryPoint`](efi_images::ImageFault::EntryPoint).
+pub const IMAGE_ENTRY_POINT: u32 = 0x0922;
+
+/// [`DigestFault::Overlap`](efi_images::DigestFault::Overlap).
+pub const IMAGE_OVERLAP: u32 = 0x0923;
+
+/// [`DigestFault::CertificatesOverlap`](efi_images::DigestFault::CertificatesOverlap).
+pub const IMAGE_CERTIFICATES_OVERLAP: u32 = 0x0924;
+
+/// [`ListFault::CutHeader`](efi_images::ListFault::CutHeader).
+pub const LISTS_CUT_HEADER: u32 = 0x0A01;
+
+/// [`ListFault::BadListSize`](efi_images::ListFault::BadListSize).
+pub const LISTS_BAD_LIST_SIZE: u32 = 0x0A02;
+
+/// [`ListFault::BadSignatureSize`](efi_images::ListFault::BadSignatureSize).
+pub const LISTS_BAD_SIGNATURE_SIZE: u32 = 0x0A03;
+
 /// Why a call refuses: `struct bootkeep_refusal`.
 #[repr(C)]
 #[derive(Clone, Copy, Debug, PartialEq, Eq)]

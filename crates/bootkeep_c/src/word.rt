@@ -3,25 +3,109 @@
 ghost use Rattle.std.specs.Prelude.{◌≡◌, ◌≤◌, ◌<◌, length, IfSome};
 ghost use Rattle.std.specs.Option.{option_map};
 ghost use Rattle.bootkeep_c.specs.Status.{no_room};
-ghost use Rattle.bootkeep_c.specs.Words.{word_max, status_word, refusal_word, path_word, text_word, option_word, set_word, vars_word, put_word, stream_word, frame_word, outcome_word, GivesWord};
+ghost use Rattle.bootkeep_c.specs.Words.{word_max, status_word, refusal_word, path_word, text_word, option_word, set_word, vars_word, put_word, stream_word, frame_word, image_word, lists_word, file_word, outcome_word, GivesWord};
 
 use crate::buffer::give;
-use crate::refusal::{
-    FRAME_BAD_KIND, FRAME_BAD_MAGIC, FRAME_BAD_NUMBER, FRAME_BAD_PAYLOAD, FRAME_BAD_SIZE,
-    FRAME_BAD_VERSION, FRAME_OPTION, FRAME_SHORT, FRAME_TOO_LONG, OPTION_EMPTY_LIST,
-    OPTION_LIST_PAST_END, OPTION_LIST_TOO_LONG, OPTION_NO_TERMINATOR, OPTION_NOT_UTF8,
-    OPTION_NOT_UTF16, OPTION_PATH, OPTION_SHORT, OPTION_ZERO_UNIT, PATH_BAD_END, PATH_BAD_LENGTH,
-    PATH_NO_END, PATH_PAST_END, PATH_SHORT_HEADER, PUT_BAD_NAME, PUT_DATA_TOO_LONG, PUT_EMPTY_DATA,
-    SET_BAD_DATA, SET_BAD_MAGIC, SET_BAD_NAME, SET_NOT_RISING, SET_TRUNCATED, STREAM_BAD_MAGIC,
-    STREAM_BAD_VERSION, STREAM_REST, STREAM_TOO_LONG, TEXT_BAD_ARGUMENT, TEXT_BAD_COUNT,
-    TEXT_BAD_DATA, TEXT_BAD_END, TEXT_BAD_NUMBER, TEXT_BAD_SEGMENT, TEXT_NOT_UTF8,
-    TEXT_OUT_OF_RANGE, TEXT_UNKNOWN_NAME, VARS_BAD_NEXT, VARS_BAD_ORDER, VARS_BAD_STATE,
-};
-use crate::reply::{
-    OUTCOME_DONE, OUTCOME_EXISTS, OUTCOME_MISSING, OUTCOME_NO_FREE, OUTCOME_NONE,
-    OUTCOME_ORDER_REPEATS, OUTCOME_ORDER_UNKNOWN,
-};
-use crate::status::{ABSENT, BAD_SIZE, CLOSED, DONE, NO_MEMORY, NO_ROOM, REFUSED};
+use crate::refusal::FRAME_BAD_KIND;
+use crate::refusal::FRAME_BAD_MAGIC;
+use crate::refusal::FRAME_BAD_NUMBER;
+use crate::refusal::FRAME_BAD_PAYLOAD;
+use crate::refusal::FRAME_BAD_SIZE;
+use crate::refusal::FRAME_BAD_VERSION;
+use crate::refusal::FRAME_OPTION;
+use crate::refusal::FRAME_SHORT;
+use crate::refusal::FRAME_TOO_LONG;
+use crate::refusal::IMAGE_ARM64;
+use crate::refusal::IMAGE_BYTE_CODE;
+use crate::refusal::IMAGE_CERTIFICATES_BEYOND_FILE;
+use crate::refusal::IMAGE_CERTIFICATES_OVERLAP;
+use crate::refusal::IMAGE_DEBUG_BEYOND_FILE;
+use crate::refusal::IMAGE_DEBUG_PLACE;
+use crate::refusal::IMAGE_DIRECTORY_COUNT;
+use crate::refusal::IMAGE_DOS_SIGNATURE;
+use crate::refusal::IMAGE_EMPTY;
+use crate::refusal::IMAGE_ENTRY_POINT;
+use crate::refusal::IMAGE_FIXED_BASE;
+use crate::refusal::IMAGE_HEADERS_BEYOND_FILE;
+use crate::refusal::IMAGE_HEADERS_BEYOND_IMAGE;
+use crate::refusal::IMAGE_HEADERS_SIZE;
+use crate::refusal::IMAGE_IA32;
+use crate::refusal::IMAGE_IMAGE_SIZE;
+use crate::refusal::IMAGE_MACHINE;
+use crate::refusal::IMAGE_MAGIC;
+use crate::refusal::IMAGE_MEMORY;
+use crate::refusal::IMAGE_OPTIONAL_HEADER_SIZE;
+use crate::refusal::IMAGE_OVERLAP;
+use crate::refusal::IMAGE_PE_PLACE;
+use crate::refusal::IMAGE_PE_SIGNATURE;
+use crate::refusal::IMAGE_RELOCATIONS_BEYOND_IMAGE;
+use crate::refusal::IMAGE_RELOCATIONS_NOT_LOADED;
+use crate::refusal::IMAGE_RELOCATIONS_OVERFLOW;
+use crate::refusal::IMAGE_RELOCATIONS_STRIPPED;
+use crate::refusal::IMAGE_SECTION_ALIGNMENT;
+use crate::refusal::IMAGE_SECTION_BEYOND_FILE;
+use crate::refusal::IMAGE_SECTION_BEYOND_IMAGE;
+use crate::refusal::IMAGE_SECTION_BEYOND_MEMORY;
+use crate::refusal::IMAGE_SECTION_IN_HEADERS;
+use crate::refusal::IMAGE_SECTION_OVER_TABLE;
+use crate::refusal::IMAGE_SHORT_DOS_HEADER;
+use crate::refusal::IMAGE_SUBSYSTEM;
+use crate::refusal::IMAGE_UNMAPPED_CODE_VIEW;
+use crate::refusal::LISTS_BAD_LIST_SIZE;
+use crate::refusal::LISTS_BAD_SIGNATURE_SIZE;
+use crate::refusal::LISTS_CUT_HEADER;
+use crate::refusal::OPTION_EMPTY_LIST;
+use crate::refusal::OPTION_LIST_PAST_END;
+use crate::refusal::OPTION_LIST_TOO_LONG;
+use crate::refusal::OPTION_NO_TERMINATOR;
+use crate::refusal::OPTION_NOT_UTF8;
+use crate::refusal::OPTION_NOT_UTF16;
+use crate::refusal::OPTION_PATH;
+use crate::refusal::OPTION_SHORT;
+use crate::refusal::OPTION_ZERO_UNIT;
+use crate::refusal::PATH_BAD_END;
+use crate::refusal::PATH_BAD_LENGTH;
+use crate::refusal::PATH_NO_END;
+use crate::refusal::PATH_PAST_END;
+use crate::refusal::PATH_SHORT_HEADER;
+use crate::refusal::PUT_BAD_NAME;
+use crate::refusal::PUT_DATA_TOO_LONG;
+use crate::refusal::PUT_EMPTY_DATA;
+use crate::refusal::SET_BAD_DATA;
+use crate::refusal::SET_BAD_MAGIC;
+use crate::refusal::SET_BAD_NAME;
+use crate::refusal::SET_NOT_RISING;
+use crate::refusal::SET_TRUNCATED;
+use crate::refusal::STREAM_BAD_MAGIC;
+use crate::refusal::STREAM_BAD_VERSION;
+use crate::refusal::STREAM_REST;
+use crate::refusal::STREAM_TOO_LONG;
+use crate::refusal::TEXT_BAD_ARGUMENT;
+use crate::refusal::TEXT_BAD_COUNT;
+use crate::refusal::TEXT_BAD_DATA;
+use crate::refusal::TEXT_BAD_END;
+use crate::refusal::TEXT_BAD_NUMBER;
+use crate::refusal::TEXT_BAD_SEGMENT;
+use crate::refusal::TEXT_NOT_UTF8;
+use crate::refusal::TEXT_OUT_OF_RANGE;
+use crate::refusal::TEXT_UNKNOWN_NAME;
+use crate::refusal::VARS_BAD_NEXT;
+use crate::refusal::VARS_BAD_ORDER;
+use crate::refusal::VARS_BAD_STATE;
+use crate::reply::OUTCOME_DONE;
+use crate::reply::OUTCOME_EXISTS;
+use crate::reply::OUTCOME_MISSING;
+use crate::reply::OUTCOME_NO_FREE;
+use crate::reply::OUTCOME_NONE;
+use crate::reply::OUTCOME_ORDER_REPEATS;
+use crate::reply::OUTCOME_ORDER_UNKNOWN;
+use crate::status::ABSENT;
+use crate::status::BAD_SIZE;
+use crate::status::CLOSED;
+use crate::status::DONE;
+use crate::status::NO_MEMORY;
+use crate::status::NO_ROOM;
+use crate::status::REFUSED;
 
 /// The word of a status, if one has this number. This takes no memory.
 #[unsafe(no_mangle)]
@@ -111,6 +195,19 @@ fn word_of_refusal(kind: u32) -> Option<&'static str>
         6 => word_of_put(kind),
         7 => word_of_stream(kind),
         8 => word_of_frame(kind),
+        _ => word_of_file(kind),
+    }
+}
+
+/// The word of a refusal of what a file has.
+#[tactic(auto, unfolding(crate::specs::Words::file_word))]
+fn word_of_file(kind: u32) -> Option<&'static str>
+    ensures word { option_map (λ word. word.now) result ≡ file_word kind }
+    ensures len { IfSome result (λ word. length word.now ≤ word_max) }
+{
+    match kind / 0x100 {
+        9 => word_of_image(kind),
+        10 => word_of_lists(kind),
         _ => None,
     }
 }
@@ -238,6 +335,65 @@ fn word_of_frame(kind: u32) -> Option<&'static str>
         FRAME_BAD_NUMBER => Some("FrameBadNumber"),
         FRAME_BAD_PAYLOAD => Some("FrameBadPayload"),
         FRAME_OPTION => Some("FrameOption"),
+        _ => None,
+    }
+}
+
+/// The word of a refusal of an image.
+fn word_of_image(kind: u32) -> Option<&'static str>
+    ensures word { option_map (λ word. word.now) result ≡ image_word kind }
+    ensures len { IfSome result (λ word. length word.now ≤ word_max) }
+{
+    match kind {
+        IMAGE_EMPTY => Some("ImageEmpty"),
+        IMAGE_SHORT_DOS_HEADER => Some("ImageShortDosHeader"),
+        IMAGE_DOS_SIGNATURE => Some("ImageDosSignature"),
+        IMAGE_PE_PLACE => Some("ImagePePlace"),
+        IMAGE_PE_SIGNATURE => Some("ImagePeSignature"),
+        IMAGE_MAGIC => Some("ImageMagic"),
+        IMAGE_SUBSYSTEM => Some("ImageSubsystem"),
+        IMAGE_DIRECTORY_COUNT => Some("ImageDirectoryCount"),
+        IMAGE_OPTIONAL_HEADER_SIZE => Some("ImageOptionalHeaderSize"),
+        IMAGE_IMAGE_SIZE => Some("ImageImageSize"),
+        IMAGE_HEADERS_SIZE => Some("ImageHeadersSize"),
+        IMAGE_HEADERS_BEYOND_IMAGE => Some("ImageHeadersBeyondImage"),
+        IMAGE_HEADERS_BEYOND_FILE => Some("ImageHeadersBeyondFile"),
+        IMAGE_CERTIFICATES_BEYOND_FILE => Some("ImageCertificatesBeyondFile"),
+        IMAGE_MACHINE => Some("ImageMachine"),
+        IMAGE_SECTION_IN_HEADERS => Some("ImageSectionInHeaders"),
+        IMAGE_SECTION_BEYOND_FILE => Some("ImageSectionBeyondFile"),
+        IMAGE_DEBUG_PLACE => Some("ImageDebugPlace"),
+        IMAGE_DEBUG_BEYOND_FILE => Some("ImageDebugBeyondFile"),
+        IMAGE_UNMAPPED_CODE_VIEW => Some("ImageUnmappedCodeView"),
+        IMAGE_ARM64 => Some("ImageArm64"),
+        IMAGE_MEMORY => Some("ImageMemory"),
+        IMAGE_FIXED_BASE => Some("ImageFixedBase"),
+        IMAGE_RELOCATIONS_STRIPPED => Some("ImageRelocationsStripped"),
+        IMAGE_SECTION_ALIGNMENT => Some("ImageSectionAlignment"),
+        IMAGE_SECTION_BEYOND_IMAGE => Some("ImageSectionBeyondImage"),
+        IMAGE_SECTION_BEYOND_MEMORY => Some("ImageSectionBeyondMemory"),
+        IMAGE_SECTION_OVER_TABLE => Some("ImageSectionOverTable"),
+        IMAGE_RELOCATIONS_NOT_LOADED => Some("ImageRelocationsNotLoaded"),
+        IMAGE_RELOCATIONS_OVERFLOW => Some("ImageRelocationsOverflow"),
+        IMAGE_RELOCATIONS_BEYOND_IMAGE => Some("ImageRelocationsBeyondImage"),
+        IMAGE_IA32 => Some("ImageIa32"),
+        IMAGE_BYTE_CODE => Some("ImageByteCode"),
+        IMAGE_ENTRY_POINT => Some("ImageEntryPoint"),
+        IMAGE_OVERLAP => Some("ImageOverlap"),
+        IMAGE_CERTIFICATES_OVERLAP => Some("ImageCertificatesOverlap"),
+        _ => None,
+    }
+}
+
+/// The word of a refusal of signature lists.
+fn word_of_lists(kind: u32) -> Option<&'static str>
+    ensures word { option_map (λ word. word.now) result ≡ lists_word kind }
+    ensures len { IfSome result (λ word. length word.now ≤ word_max) }
+{
+    match kind {
+        LISTS_CUT_HEADER => Some("ListsCutHeader"),
+        LISTS_BAD_LIST_SIZE => Some("ListsBadListSize"),
+        LISTS_BAD_SIGNATURE_SIZE => Some("ListsBadSignatureSize"),
         _ => None,
     }
 }

@@ -15,7 +15,7 @@ place_here file index address s e below has =
     ap (λ all. file_place all address) (from_this file index s e below)
     ∙ ap (λ b. if b then ((address - s.virtual_address) + s.raw_place) else file_place (from file (index + 1)) address) has
 
--- it hasn't, so the address is in one behind it
+-- it hasn't, so the address is in one after it
 pub place_behind : (file : List ℕ) (index address : ℕ) (s : Section) → s ≡ section_of file index → index < section_count file
     → has_address s address ≡ false → file_place (from file index) address ≡ file_place (from file (index + 1)) address
 place_behind file index address s e below has =
@@ -36,7 +36,7 @@ held false others f e = grind arith
 
 -- ---- entries
 
--- what is told of the entry at this offset, if it is in the file, and of so many behind it
+-- what is told of the entry at this offset, if it is in the file, and of so many after it
 abbrev pub told_of_entry : List ℕ → ℕ → ℕ → Option ImageFault
 told_of_entry file place more =
     first_fault (if is_code_view file place

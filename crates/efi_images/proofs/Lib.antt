@@ -6,3 +6,7 @@ pub mod Passing
 pub mod Sums
 pub mod Undigested
 pub mod Grown
+pub mod Whole
+pub mod Among
+pub mod Answered
+pub mod Allowing

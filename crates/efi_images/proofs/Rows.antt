@@ -40,7 +40,7 @@ from_end file index e =
     let n : section_count file - index ≡ 0 = omega arith in
     rw n refl
 
--- the section of this index comes behind those before it
+-- the section of this index comes after those before it
 pub rows_more : (file : List ℕ) (index : ℕ) (s : Section) (before : List Section) → s ≡ section_of file index → index < section_count file
     → before ++ from file index ≡ sections file → (before ++ (s ∷ [])) ++ from file (index + 1) ≡ sections file
 rows_more file index s before e below all =
@@ -64,7 +64,7 @@ told_step checks file index below =
 pub told_end : (checks : Section → List Check) (file : List ℕ) (index : ℕ) → index ≡ section_count file → told_from checks file index ≡ None
 told_end checks file index e = ap (λ all. first_fault (flat_map checks all)) (from_end file index e)
 
--- the section of this index has no fault, so the first is behind it
+-- the section of this index has no fault, so the first is after it
 pub goes_on : (checks : Section → List Check) (file : List ℕ) (index : ℕ) (told : Option ImageFault) → index < section_count file
     → told ≡ told_from checks file index → None ≡ first_fault (checks (section_of file index)) → told ≡ told_from checks file (index + 1)
 goes_on checks file index told below is none =

@@ -117,7 +117,7 @@ memory_checks file =
 abbrev pub copied_size : Section → ℕ
 copied_size s = if s.virtual_size == 0 || nat_lt s.raw_size s.virtual_size then s.raw_size else s.virtual_size
 
--- how many bytes of memory are written for a section: those that are copied, and zeros behind them
+-- how many bytes of memory are written for a section: those that are copied, and zeros after them
 abbrev pub written_size : Section → ℕ
 written_size s = max (copied_size s) s.virtual_size
 

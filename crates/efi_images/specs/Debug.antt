@@ -7,7 +7,7 @@ use Rattle.efi_images.specs.Check.{Check, check}
 use Rattle.efi_images.specs.declared.section.Section.{Section}
 use Rattle.efi_images.specs.declared.fault.ImageFault.TheVariants as fault
 
--- The section has this address in memory. Its end is a number of four bytes, so it has none if it ends behind the last
+-- The section has this address in memory. Its end is a number of four bytes, so it has none if it ends after the last
 -- address.
 abbrev pub has_address : Section → ℕ → Bool
 has_address s address = nat_le s.virtual_address address && nat_lt address ((s.virtual_address + s.virtual_size) % 4294967296)

@@ -23,7 +23,7 @@ between file start end = part file start (end - start)
 
 -- ---- what is digested
 
--- the bytes behind CheckSum, which is at 88 behind the PE signature, up to the end of the headers, without directory 4
+-- the bytes after CheckSum, which is 88 bytes after the PE signature, up to the end of the headers, without directory 4
 abbrev pub behind_sum : List ℕ → List ℕ
 behind_sum file =
     if nat_lt 4 (directory_count file)
@@ -46,7 +46,7 @@ total_size file = headers_size file + sum_by (λ (s : Section). s.raw_size) (sec
 abbrev pub certificates_size : List ℕ → ℕ
 certificates_size file = if nat_lt 4 (directory_count file) then directory_size file 4 else 0
 
--- as many bytes as are left of the file behind those, up to the certificate table at the file's end
+-- as many bytes as are left of the file after those, up to the certificate table at the file's end
 unfoldable pub last_bytes : List ℕ → List ℕ
 last_bytes file = between file (total_size file) (length file - certificates_size file)
 

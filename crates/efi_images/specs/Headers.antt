@@ -1,5 +1,5 @@
 -- The header fields that firmware reads (PE/COFF, 3.1 to 3.4). Those of the file header and of the optional header are
--- told by how many bytes they are behind the first of the PE signature.
+-- told by how many bytes they are after the first of the PE signature.
 use Rattle.std.specs.Prelude.{ℕ, ◌+◌, ◌*◌, ◌≤◌, ◌==◌, Bool, not, bit_and, List, length, if◌then◌else◌}
 use Rattle.efi_images.specs.Bytes.{u16_at, u32_at, u64_at}
 
@@ -42,7 +42,7 @@ is_plus file = magic file == 0x20B
 abbrev pub entry_point : List ℕ → ℕ
 entry_point file = u32_at file (pe_place file + 40)
 
--- how far ImageBase is behind the PE signature
+-- how far ImageBase is after the PE signature
 abbrev pub base_offset : List ℕ → ℕ
 base_offset file = if is_plus file then 48 else 52
 
@@ -95,7 +95,7 @@ directory_size file index = u32_at file (directory_place file index + 4)
 
 -- ---- the section table
 
--- where it begins: right behind the optional header, as long as that states to be
+-- where it begins: right after the optional header, as long as that states to be
 abbrev pub table_place : List ℕ → ℕ
 table_place file = pe_place file + (24 + optional_size file)
 

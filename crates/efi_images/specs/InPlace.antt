@@ -6,7 +6,7 @@ use Rattle.efi_images.specs.Sections.{sections}
 use Rattle.efi_images.specs.Checks.{memory_size, written_size}
 use Rattle.efi_images.specs.declared.section.Section.{Section}
 
--- the bytes that a section has in the file, if it has some, are there, and behind the headers
+-- the bytes that a section has in the file, if it has some, are there, and after the headers
 pub record IsInFile (file : List ℕ) (s : Section) : Type 0 where
   pub behind : 0 < s.raw_size → headers_size file ≤ s.raw_place
   pub within : 0 < s.raw_size → s.raw_place + s.raw_size ≤ length file

@@ -4,6 +4,8 @@ pub mod Words
 pub mod InPlace
 pub mod Digest
 pub mod Signatures
+pub mod Certificates
+pub mod SecureBoot
 -- what they rest on, and private contracts cite
 pub mod Bytes
 pub mod Headers

@@ -52,7 +52,7 @@ list_at bytes place =
       signatures = part bytes (place + (28 + header_len bytes place)) (signatures_len bytes place);
     })))
 
--- from this offset on the bytes are these lists, one right behind the other
+-- from this offset on the bytes are these lists, one right after the other
 pub data HasLists (bytes : List ℕ) : ℕ → List ListParts → Type 0 where
   at_end : HasLists bytes (length bytes) []
   one_more : {place : ℕ} {first : ListParts} {others : List ListParts} → place < length bytes → list_at bytes place ≡ Ok first

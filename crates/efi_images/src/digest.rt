@@ -19,7 +19,7 @@ use std::alloc::{AllocError, Global};
 /// How many bytes a digest has.
 pub const DIGEST_LEN: usize = 32;
 
-/// How far CheckSum is behind the PE signature.
+/// How many bytes CheckSum is after the PE signature.
 const SUM: usize = 88;
 
 /// How many bytes CheckSum has.
@@ -94,7 +94,7 @@ fn raw_len(section: &Section) -> usize
 }
 
 /// How many bytes the certificate table has.
-fn certificates_size(headers: &Headers<'_>) -> usize
+pub(crate) fn certificates_size(headers: &Headers<'_>) -> usize
     ensures { result ≡ certificates_size headers.now }
 {
     if headers.directory_count() as usize <= CERTIFICATES {
@@ -167,7 +167,7 @@ fn add_sections(file: &[u8], order: &[Section], hasher: &mut Sha256)
     }
 }
 
-/// The bytes of the file that are left behind as many as headers and sections have, without as many as the certificate
+/// The bytes of the file that are left after as many as headers and sections have, without as many as the certificate
 /// table has.
 #[tactic(auto, unfolding(crate::specs::Digest::last_bytes))]
 fn last_bytes<'a>(headers: &Headers<'a>) -> &'a [u8]

@@ -17,8 +17,8 @@ pub enum DigestFault {
         /// How many bytes the file has.
         len: usize,
     },
-    /// The certificate table has more bytes than are left of the file behind the headers and sections.
-    #[error("the certificate table has {size:#x} bytes, wanted behind {found:#x} in the file's {len:#x}")]
+    /// The certificate table has more bytes than are left of the file after the headers and sections.
+    #[error("the certificate table has {size:#x} bytes, wanted after {found:#x} in the file's {len:#x}")]
     CertificatesOverlap {
         /// How many bytes the headers and sections have.
         found: usize,

@@ -24,7 +24,7 @@ pub enum Stage {
 pub enum Effect {
     /// Firmware doesn't start the file.
     Refused,
-    /// Firmware doesn't look at the fault, and goes wrong: it writes behind the image's memory, or runs what isn't in it.
+    /// Firmware doesn't look at the fault, and goes wrong: it writes after the image's memory, or runs what isn't in it.
     Unsafe,
     /// The file's bytes don't tell whether it starts: the machine decides.
     Undecided,
@@ -160,7 +160,7 @@ pub enum ImageFault {
         found: u16,
     },
     /// A section lies in the headers, in the file or in memory.
-    #[error("the section of offset {:#x} is at {:#x}, in memory at {:#x}, wanted behind the headers, {headers_size:#x}", .section.place, .section.raw_place, .section.virtual_address)]
+    #[error("the section of offset {:#x} is at {:#x}, in memory at {:#x}, wanted after the headers, {headers_size:#x}", .section.place, .section.raw_place, .section.virtual_address)]
     SectionInHeaders {
         /// What the section's header states.
         section: Section,
@@ -191,7 +191,7 @@ pub enum ImageFault {
         /// How many bytes the file has.
         len: usize,
     },
-    /// CodeView data are in no section: firmware loads them behind the sections.
+    /// CodeView data are in no section: firmware loads them after the sections.
     #[error("the debug entry at offset {place:#x} is of CodeView data in no section, wanted in one")]
     UnmappedCodeView {
         /// The place of the entry.
@@ -239,7 +239,7 @@ pub enum ImageFault {
         /// What SizeOfImage is.
         image_size: u32,
     },
-    /// A section is written behind the image's memory.
+    /// A section is written after the image's memory.
     #[error("the section of offset {:#x} is written at {:#x}, wanted in the image's {memory_size:#x}", .section.place, .section.virtual_address)]
     SectionBeyondMemory {
         /// What the section's header states.
@@ -248,20 +248,20 @@ pub enum ImageFault {
         memory_size: u64,
     },
     /// A section without bytes in the file is written over the section table.
-    #[error("the section of offset {:#x} is cleared at {:#x}, wanted behind the section table, {table_end:#x}", .section.place, .section.virtual_address)]
+    #[error("the section of offset {:#x} is cleared at {:#x}, wanted after the section table, {table_end:#x}", .section.place, .section.virtual_address)]
     SectionOverTable {
         /// What the section's header states.
         section: Section,
         /// Where the section table ends.
         table_end: usize,
     },
-    /// The directory of relocations is the first behind those that there are, and isn't in the headers.
-    #[error("directory 5 at offset {place:#x} is behind the headers, wanted in them")]
+    /// The directory of relocations is the first after those that there are, and isn't in the headers.
+    #[error("directory 5 at offset {place:#x} is after the headers, wanted in them")]
     RelocationsNotLoaded {
         /// The place of the directory.
         place: usize,
     },
-    /// The relocations end behind the last address of four bytes.
+    /// The relocations end after the last address of four bytes.
     #[error("directory 5 at offset {place:#x} is {start:#x}+{size:#x} in memory, wanted below 0x100000000")]
     RelocationsOverflow {
         /// The place of the directory.

@@ -118,7 +118,7 @@ impl<'a> Headers<'a> {
         u32_at(self.file, self.pe + 40)
     }
 
-    /// How far ImageBase is behind the PE signature.
+    /// How far ImageBase is after the PE signature.
     pub(crate) fn base_offset(&self) -> usize
         ensures offset { result ≡ base_offset self.now }
         ensures bound { result ≤ 52 }

@@ -4,13 +4,16 @@
 //! [`check_image`] makes firmware's checks in its order, and tells the first [`ImageFault`]: which part of firmware finds
 //! it, what comes of it, and where it is. The bytes are lent, nothing is allocated, and the work is bounded by them,
 //! whatever they state. [`image_digest`] is the digest by which signatures, db and dbx tell of an image, and
-//! [`read_lists`] finds the lists of signatures in the data of these variables.
+//! [`read_lists`] finds the lists of signatures in the data of these variables. [`secure_boot_answer`] tells what Secure
+//! Boot answers by them, as far as that is told without the check of a signature.
 //!
 //! What EDK2's loader looks at besides is not looked at here: the names in CodeView data, the resource directory, the
 //! blocks of relocations, and signatures. So a file without a fault here may still be refused.
 #![tactic(auto)]
 
+mod answer;
 mod bytes;
+mod certificates;
 mod check;
 mod debug;
 mod digest;
@@ -21,13 +24,17 @@ pub mod laws;
 mod loader;
 mod loading;
 mod section;
+mod secure_boot;
 mod signatures;
 mod start;
 mod wanted;
 
+pub use answer::{SecureBootAnswer, Verdict};
+pub use certificates::Signing;
 pub use check::check_image;
 pub use digest::{DIGEST_LEN, image_digest};
 pub use digest_fault::DigestFault;
 pub use fault::{Effect, ImageFault, Stage};
 pub use section::Section;
+pub use secure_boot::{SecureBoot, secure_boot_answer};
 pub use signatures::{ListFault, SignatureList, read_lists};

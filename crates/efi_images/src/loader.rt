@@ -147,7 +147,7 @@ fn is_in_file(start: u32, size: u32, len: usize) -> bool
     size == 0 || start as usize + size as usize <= len.min(END_MAX)
 }
 
-/// That each section is behind the headers, and ends in the file.
+/// That each section is after the headers, and ends in the file.
 pub(crate) fn check_sections(headers: &Headers<'_>) -> Result<(), ImageFault>
     requires { HasTable headers.now }
     ensures { result_err result ≡ first_fault (flat_map (section_checks headers.now) (sections headers.now)) }
@@ -158,7 +158,7 @@ pub(crate) fn check_sections(headers: &Headers<'_>) -> Result<(), ImageFault>
     Ok(())
 }
 
-/// That this section is behind the headers, and ends in the file.
+/// That this section is after the headers, and ends in the file.
 fn check_section(headers: &Headers<'_>, section: Section) -> Result<(), ImageFault>
     ensures { result_err result ≡ first_fault (section_checks headers.now section) }
 {

@@ -12,7 +12,7 @@ use thiserror::Error;
 const LIST_LEN: usize = 28;
 
 /// How many bytes a GUID has, that of a list's type or of a signature's owner.
-const GUID_LEN: usize = 16;
+pub(crate) const GUID_LEN: usize = 16;
 
 /// A signature list, where it is in the bytes.
 #[derive(Clone, Copy, Debug)]
@@ -27,7 +27,7 @@ pub struct SignatureList<'a> {
     pub header: &'a [u8],
     /// How many bytes each signature has: 16 for the GUID of its owner, and its data.
     pub signature_len: usize,
-    /// The bytes of the signatures, one right behind the other. There may be none.
+    /// The bytes of the signatures, one right after the other. There may be none.
     pub signatures: &'a [u8],
 }
 
@@ -48,7 +48,7 @@ pub enum ListFault {
     OutOfMemory,
 }
 
-/// The signature lists that the bytes of db, dbx or KEK are, all of them, one right behind the other. The bytes are lent,
+/// The signature lists that the bytes of db, dbx or KEK are, all of them, one right after the other. The bytes are lent,
 /// and not copied.
 ///
 /// # Errors

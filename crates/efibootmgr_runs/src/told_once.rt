@@ -1,6 +1,6 @@
-//! A runtime that tells no line on standard error a second time.
+//! A runtime that tells each line on standard error once, as `efibootmgr`.
 
-use std::alloc::{Allocator, Global};
+use std::alloc::{AllocError, Allocator, Global};
 use std::cell::RefCell;
 use std::collections::BTreeSet;
 use std::fmt::Display;
@@ -10,8 +10,14 @@ use std::path::PathBuf;
 use std::rt::{Clock, Files};
 use std::time::Duration;
 
-/// Another runtime, of which standard error is told each line once. Each step of a run reads the variables anew, and would tell
-/// again what is left out of them.
+/// What lines of other libraries begin with, which speak as `bootvars`.
+const BOOTVARS: &str = "bootvars: ";
+
+/// What they begin with when they are told.
+const EFIBOOTMGR: &str = "efibootmgr: ";
+
+/// Another runtime, of which standard error is told each line once, as `efibootmgr` would tell it. Each step of a run reads the
+/// variables anew, and would tell again what is left out of them.
 #[derive(Drop)]
 pub(crate) struct ToldOnce<'a, R> {
     rt: &'a R,
@@ -27,9 +33,23 @@ impl<'a, R: AllocGlobal> ToldOnce<'a, R> {
         }
     }
 
+    /// The line of what is to be told, as `efibootmgr` would tell it.
+    ///
+    /// # Errors
+    ///
+    /// [`AllocError`] if memory was refused.
+    fn line_of<D: Display>(&self, value: &D) -> Result<String, AllocError> {
+        let alloc = self.rt.alloc();
+        let line = format!(in alloc; "{value}")?;
+        match line.strip_prefix(BOOTVARS) {
+            Some(rest) => format!(in alloc; "{EFIBOOTMGR}{rest}"),
+            None => Ok(line),
+        }
+    }
+
     /// Whether the line was told before. From now on it counts as told; if memory is refused for that, it may be told again.
-    fn is_told<D: Display>(&self, line: &D) -> bool {
-        let Ok(line) = format!(in self.rt.alloc(); "{line}") else {
+    fn is_told(&self, line: &str) -> bool {
+        let Ok(line) = String::from_str(self.rt.alloc(), line) else {
             return false;
         };
         match self.told.try_borrow_mut() {
@@ -53,10 +73,13 @@ impl<R: Eprint + AllocGlobal> Eprint for ToldOnce<'_, R> {
     }
 
     fn eprintln<D: Display + Drop>(&self, value: D) -> io::Result<()> {
-        if self.is_told(&value) {
+        let Ok(line) = self.line_of(&value) else {
+            return self.rt.eprintln(value);
+        };
+        if self.is_told(line.as_str()) {
             return Ok(());
         }
-        self.rt.eprintln(value)
+        self.rt.eprintln(line)
     }
 }
 

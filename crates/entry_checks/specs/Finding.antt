@@ -17,11 +17,12 @@ weight_of_lead lead.Folder = Fault
 weight_of_lead lead.NoPartition = Fault
 weight_of_lead _ = Unseen
 
--- the file of an entry: it is wrong if firmware doesn't start it, or goes wrong
+-- the file of an entry: it is wrong if firmware or its Secure Boot doesn't start it, or firmware goes wrong
 abbrev pub weight_of_image : ImageState → Weight
 weight_of_image image.Refused = Fault
 weight_of_image image.Unsafe = Fault
 weight_of_image image.Foreign = Fault
+weight_of_image image.Denied = Fault
 weight_of_image image.OfX8664 = Remark
 weight_of_image _ = Unseen
 
@@ -60,9 +61,11 @@ abbrev pub kind_of_image : ImageState → List ℕ
 kind_of_image image.Refused = codes "image"
 kind_of_image image.Unsafe = codes "image_unsafe"
 kind_of_image image.Foreign = codes "image_foreign"
+kind_of_image image.Denied = codes "secure_boot"
 kind_of_image image.OfX8664 = codes "image_x86_64"
 kind_of_image image.Undecided = codes "image_undecided"
 kind_of_image image.Unknown = codes "image_unknown"
+kind_of_image image.Unsettled = codes "secure_boot_undecided"
 kind_of_image image.Unreadable = codes "image_unreadable"
 kind_of_image image.TooLong = codes "image_too_long"
 kind_of_image image.Irregular = codes "image_irregular"

@@ -9,6 +9,12 @@ use Rattle.efi_images.specs.declared.fault.Stage.TheVariants.{BootManager}
 use Rattle.efi_images.specs.declared.fault.Effect.{Effect}
 use Rattle.efi_images.specs.declared.fault.Effect.TheVariants as effect
 use Rattle.efi_images.specs.Words.{stage_of, effect_of}
+use Rattle.efi_images.specs.declared.digest_fault.DigestFault.TheVariants as undigested
+use Rattle.efi_images.specs.declared.answer.SecureBootAnswer.{SecureBootAnswer}
+use Rattle.efi_images.specs.declared.answer.SecureBootAnswer.TheVariants as answer
+use Rattle.efi_images.specs.declared.answer.Verdict.{Verdict}
+use Rattle.efi_images.specs.declared.answer.Verdict.TheVariants as verdict
+use Rattle.efi_images.specs.SecureBoot.{verdict_of}
 use Rattle.entry_checks.specs.declared.image.Processor.{Processor}
 use Rattle.entry_checks.specs.declared.image.Processor.TheVariants.{X8664, Other, Untold}
 use Rattle.entry_checks.specs.declared.image.ImageState.{ImageState}
@@ -56,7 +62,37 @@ state_on_others None = image.Foreign
 state_on_others (Some found) = if is_of_boot_manager found then image.Refused else image.Unknown
 
 -- the first fault of a file, or none, for firmware of a processor
-abbrev pub image_state_of : Processor → Option ImageFault → Option ImageState
-image_state_of X8664 found = option_map state_on_x86_64 found
-image_state_of Untold found = Some (state_if_untold found)
-image_state_of Other found = Some (state_on_others found)
+abbrev pub loader_state_of : Processor → Option ImageFault → Option ImageState
+loader_state_of X8664 found = option_map state_on_x86_64 found
+loader_state_of Untold found = Some (state_if_untold found)
+loader_state_of Other found = Some (state_on_others found)
+
+-- ---- Secure Boot
+
+-- what Secure Boot itself says of a file: a file whose headers have a fault has no digest, and that fault says more, and whether
+-- it is one for firmware of another processor
+abbrev pub own_verdict_of : SecureBootAnswer → Verdict
+own_verdict_of (answer.NoDigest (undigested.Image found)) = verdict.Allowed
+own_verdict_of told = verdict_of told
+
+-- the boot manager looks before Secure Boot is asked
+abbrev pub is_found_before : Option ImageFault → Bool
+is_found_before None = false
+is_found_before (Some found) = is_of_boot_manager found
+
+-- of a file that Secure Boot denies
+abbrev pub denied_state : Processor → Option ImageFault → Option ImageState
+denied_state processor found = if is_found_before found then loader_state_of processor found else Some image.Denied
+
+-- of a file of which it isn't known whether Secure Boot allows it: what is known of it besides says more, but for what is no fault
+abbrev pub unsettled_state : Option ImageState → ImageState
+unsettled_state None = image.Unsettled
+unsettled_state (Some image.OfX8664) = image.Unsettled
+unsettled_state (Some known) = known
+
+-- the first fault of a file, or none, for firmware of a processor, whose Secure Boot says this of the file, in firmware's order:
+-- the boot manager looks first, then Secure Boot, and then the loader
+abbrev pub image_state_of : Processor → Option ImageFault → Verdict → Option ImageState
+image_state_of processor found verdict.Allowed = loader_state_of processor found
+image_state_of processor found verdict.Denied = denied_state processor found
+image_state_of processor found verdict.Undecided = Some (unsettled_state (loader_state_of processor found))

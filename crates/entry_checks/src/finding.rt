@@ -139,6 +139,7 @@ impl ImageState {
                 "image_foreign",
                 "the file is for another processor than this machine's",
             ),
+            ImageState::Denied => fault("secure_boot", "Secure Boot refuses the file"),
             ImageState::OfX8664 => remark("image_x86_64", "the file is for x86-64"),
             ImageState::Undecided => unseen(
                 "image_undecided",
@@ -147,6 +148,10 @@ impl ImageState {
             ImageState::Unknown => unseen(
                 "image_unknown",
                 "not looked at: what firmware asks of the file is known for x86-64 alone",
+            ),
+            ImageState::Unsettled => unseen(
+                "secure_boot_undecided",
+                "not looked at: whether Secure Boot allows the file",
             ),
             ImageState::Unreadable => unseen(
                 "image_unreadable",

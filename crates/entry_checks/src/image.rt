@@ -2,9 +2,9 @@
 
 ghost use Rattle.std.specs.Prelude.{◌≡◌};
 ghost use Rattle.std.specs.Option.{option_map};
-ghost use Rattle.entry_checks.specs.Image.{state_by_effect, state_on_x86_64, state_if_untold, state_on_others, image_state_of, is_foreign, is_of_boot_manager, told_processor, processor_of};
+ghost use Rattle.entry_checks.specs.Image.{state_by_effect, state_on_x86_64, state_if_untold, state_on_others, loader_state_of, denied_state, unsettled_state, image_state_of, own_verdict_of, is_found_before, is_foreign, is_of_boot_manager, told_processor, processor_of};
 
-use efi_images::{Effect, ImageFault, Stage};
+use efi_images::{DigestFault, Effect, ImageFault, SecureBootAnswer, Stage, Verdict};
 
 /// What Linux tells of x86-64.
 const ARCH_X86_64: &[u8] = b"x86_64\n";
@@ -32,12 +32,16 @@ pub enum ImageState {
     Unsafe,
     /// It is for another processor than firmware's.
     Foreign,
+    /// Secure Boot refuses it.
+    Denied,
     /// Firmware starts it if that is of x86-64.
     OfX8664,
     /// Its bytes don't tell whether firmware starts it.
     Undecided,
     /// What firmware asks of a file for such a processor isn't known.
     Unknown,
+    /// It isn't known whether Secure Boot allows it.
+    Unsettled,
     /// It can't be read.
     Unreadable,
     /// It has more bytes than are read.
@@ -68,10 +72,58 @@ fn told_processor(arch: &[u8], bits: &[u8]) -> Processor
     }
 }
 
+/// What Secure Boot itself says of a file to which it answers this: nothing against one that has no digest for a fault of its
+/// headers, since that fault says more.
+pub fn own_verdict(answer: &SecureBootAnswer) -> Verdict
+    ensures { result ≡ own_verdict_of answer.now }
+{
+    match answer {
+        SecureBootAnswer::NoDigest(DigestFault::Image(_fault)) => Verdict::Allowed,
+        _ => answer.verdict(),
+    }
+}
+
 /// What is known of a file with this fault, the first that [`check_image`](efi_images::check_image) finds, or with none,
-/// where firmware is of this processor.
-pub fn image_state(processor: Processor, fault: Option<ImageFault>) -> Option<ImageState>
-    ensures { result ≡ image_state_of processor fault }
+/// where firmware is of this processor, and its Secure Boot says this of the file: that it allows it too if it is off. The
+/// boot manager looks first, then Secure Boot, and then the loader (UEFI 2.10, 3.1.1, 32.5.3.3 and 7.4.1).
+pub fn image_state(
+    processor: Processor,
+    fault: Option<ImageFault>,
+    verdict: Verdict,
+) -> Option<ImageState>
+    ensures { result ≡ image_state_of processor fault verdict }
+{
+    match verdict {
+        Verdict::Allowed => loader_state(processor, fault),
+        Verdict::Denied => denied_state(processor, fault),
+        Verdict::Undecided => Some(unsettled_state(loader_state(processor, fault))),
+    }
+}
+
+/// What is known of a file with this fault or none that Secure Boot denies.
+fn denied_state(processor: Processor, fault: Option<ImageFault>) -> Option<ImageState>
+    ensures { result ≡ denied_state processor fault }
+{
+    if is_found_before(fault) {
+        loader_state(processor, fault)
+    } else {
+        Some(ImageState::Denied)
+    }
+}
+
+/// What is known of a file of which it isn't known whether Secure Boot allows it, where this is known of it besides.
+fn unsettled_state(known: Option<ImageState>) -> ImageState
+    ensures { result ≡ unsettled_state known }
+{
+    match known {
+        None | Some(ImageState::OfX8664) => ImageState::Unsettled,
+        Some(known) => known,
+    }
+}
+
+/// What is known of a file with this fault or none, where firmware is of this processor, but for Secure Boot.
+fn loader_state(processor: Processor, fault: Option<ImageFault>) -> Option<ImageState>
+    ensures { result ≡ loader_state_of processor fault }
 {
     match processor {
         Processor::X8664 => fault.map(on_x86_64),
@@ -133,6 +185,16 @@ fn is_foreign(fault: &ImageFault) -> bool
         fault,
         ImageFault::Machine { .. } | ImageFault::Arm64 { .. } | ImageFault::Ia32 { .. }
     )
+}
+
+/// Whether there is a fault that is found before Secure Boot is asked.
+fn is_found_before(fault: Option<ImageFault>) -> bool
+    ensures { result ≡ is_found_before fault }
+{
+    match fault {
+        Some(fault) => is_of_boot_manager(&fault),
+        None => false,
+    }
 }
 
 /// Whether the boot manager finds the fault.

@@ -1,5 +1,5 @@
 -- What a check says of the next boot.
-use Rattle.std.specs.Prelude.{ℕ, ◌==◌, Bool, false, ◌||◌, is_some, not, List, [], ◌∷◌, length, Option, Some, None, if◌then◌else◌}
+use Rattle.std.specs.Prelude.{◌==◌, Bool, false, ◌||◌, is_some, not, List, [], ◌∷◌, length, Option, Some, None, if◌then◌else◌}
 use Rattle.uefi_vars.specs.declared.boot_plan.PlanNumbers.{PlanNumbers}
 use Rattle.entry_checks.specs.declared.facts.State.{State}
 use Rattle.entry_checks.specs.declared.facts.State.TheVariants as state

@@ -4,10 +4,10 @@ ghost use Rattle.std.specs.Prelude.{IfOk};
 
 use crate::checked::check_vars;
 use crate::json::json_of;
-use crate::machine::Machine;
+use crate::machine::{Machine, variables_folder};
 use crate::report::report_of;
 use std::rt::Files;
-use var_places::{Failure, is_folder, print, read_place};
+use var_places::{Failure, print, read_place};
 
 /// The words of a check.
 #[derive(Clone, Copy)]
@@ -44,7 +44,7 @@ pub fn check_place<R: Files + Input + Print + Eprint + AllocGlobal>(
     let alloc = rt.alloc();
     let vars = read_place(rt, words.place)?;
     let checked = check_vars(
-        Machine::new(rt, words.root, is_folder(rt, words.place)?),
+        Machine::new(rt, words.root, variables_folder(rt, words.place)?),
         &vars,
     )?;
     let text = if words.json {

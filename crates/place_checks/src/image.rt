@@ -3,6 +3,7 @@
 ghost use Rattle.std.specs.Prelude.{◌≡◌, Some, IfOk};
 ghost use Rattle.entry_checks.specs.Image.{image_state_of};
 
+use crate::secure_boot::{SeenSecureBoot, Told, ask_secure_boot};
 use efi_images::{ImageFault, check_image};
 use entry_checks::{ImageState, Processor, image_state};
 use std::alloc::{AllocError, Global};
@@ -29,22 +30,23 @@ impl SeenImage {
         }
     }
 
-    /// What is known of a file with this fault or none, if it is started by firmware of this processor.
+    /// What is known of a file with this fault or none, if it is started by firmware of this processor, whose Secure Boot
+    /// says this of the file.
     fn judged(
         alloc: Global,
         processor: Processor,
         fault: Option<ImageFault>,
+        told: &Told,
     ) -> Result<SeenImage, AllocError>
-        ensures { IfOk result (λ seen. seen.state ≡ image_state_of processor fault) }
+        ensures { IfOk result (λ seen. seen.state ≡ image_state_of processor fault told.now.verdict) }
     {
-        let detail = match fault {
-            Some(fault) => format!(in alloc; "{fault}")?,
-            None => String::from_str(alloc, without_fault(processor))?,
+        let state = image_state(processor, fault, told.verdict);
+        let detail = match (state, fault) {
+            (Some(ImageState::Denied | ImageState::Unsettled), _) => told.detail.clone()?,
+            (_, Some(fault)) => format!(in alloc; "{fault}")?,
+            (_, None) => String::from_str(alloc, without_fault(processor))?,
         };
-        Ok(SeenImage {
-            state: image_state(processor, fault),
-            detail,
-        })
+        Ok(SeenImage { state, detail })
     }
 
     /// What is known of a file that isn't looked at, because of this.
@@ -68,17 +70,19 @@ impl SeenImage {
     }
 }
 
-/// What is known of the file at this path, if it is started by firmware of this processor. Only a regular file is opened,
-/// and one that is too long isn't read.
+/// What is known of the file at this path, if it is started by firmware of this processor with this Secure Boot. Only a
+/// regular file is opened, and one that is too long isn't read.
 pub(crate) fn look_at_image<R: Files + AllocGlobal>(
     rt: &R,
     path: &str,
     processor: Processor,
+    secure_boot: &SeenSecureBoot,
 ) -> Result<SeenImage, AllocError> {
     let alloc = rt.alloc();
     match read_image(rt, path) {
         Ok(RegularFile::Bytes(bytes)) => {
-            SeenImage::judged(alloc, processor, check_image(&bytes).err())
+            let told = ask_secure_boot(alloc, &bytes, secure_boot)?;
+            SeenImage::judged(alloc, processor, check_image(&bytes).err(), &told)
         }
         Ok(RegularFile::TooMuch) => {
             let detail = format!(in alloc; "it has more than {LIMIT} bytes")?;

@@ -1,12 +1,12 @@
 //! A loader for which an entry is to be made.
 
 use crate::image::SeenImage;
-use crate::machine::Machine;
-use entry_checks::{Weight, path_target};
+use crate::machine::{Machine, Seen, variables_folder};
+use entry_checks::{Finding, ImageState, Weight, path_target};
 use std::alloc::{AllocError, Global};
 use std::rt::Files;
 use uefi_path::Path;
-use var_places::{Failure, is_folder};
+use var_places::Failure;
 
 /// What is to be told of a loader.
 #[derive(Drop)]
@@ -18,7 +18,8 @@ pub struct LoaderNote {
 }
 
 /// What is to be told of the loader that is at this path of a system, if an entry of the place leads to it: whether
-/// firmware starts it. `root` is nothing, or the path of a folder that stands for the root of the system, of which the path
+/// firmware starts it, and its Secure Boot allows it. That Secure Boot is undecided isn't told: of signed loaders it always
+/// is. `root` is nothing, or the path of a folder that stands for the root of the system, of which the path
 /// of the file has that in front.
 ///
 /// # Errors
@@ -30,27 +31,46 @@ pub fn note_of_file<R: Files + AllocGlobal>(
     root: &str,
     file: &str,
 ) -> Result<Option<LoaderNote>, Failure> {
-    let mut machine = Machine::new(rt, root, is_folder(rt, place).unwrap_or(false));
+    let mut machine = Machine::new(rt, root, variables_folder(rt, place).unwrap_or(None));
     let seen = machine.image_at(file)?;
     Ok(note_of(rt.alloc(), &seen)?)
 }
 
-/// What is to be told of the loader to which this path leads, as of [`note_of_file`]: nothing, if its partition isn't
-/// mounted, or no file is there.
+/// What is to be told of the loader to which this path leads, as of [`note_of_file`], or that no file is there: nothing, if
+/// its partition isn't mounted.
 ///
 /// # Errors
 ///
-/// [`Failure::Read`] if what the system tells of its disks can't be read; [`Failure::Refused`] if that isn't as it tells it;
-/// and [`Failure::Memory`] if memory was refused.
+/// [`Failure::Memory`] if memory was refused: what the system doesn't tell is told of.
 pub fn note_of_path<R: Files + AllocGlobal>(
     rt: &R,
     place: &str,
     root: &str,
     path: &Path,
 ) -> Result<Option<LoaderNote>, Failure> {
-    let mut machine = Machine::new(rt, root, is_folder(rt, place).unwrap_or(false));
-    let seen = machine.look(path_target(path))?;
-    Ok(note_of(rt.alloc(), &seen.image)?)
+    let mut machine = Machine::new(rt, root, variables_folder(rt, place).unwrap_or(None));
+    let alloc = rt.alloc();
+    match machine.look(path_target(path)) {
+        Ok(seen) => Ok(note_of_look(alloc, &seen)?),
+        Err(Failure::Memory) => Err(Failure::Memory),
+        Err(failure) => Ok(Some(LoaderNote {
+            is_fault: false,
+            words: format!(in alloc; "not looked at: {failure}")?,
+        })),
+    }
+}
+
+/// What is to be told of a loader that was looked for: it may be yet to be put there.
+fn note_of_look(alloc: Global, seen: &Seen) -> Result<Option<LoaderNote>, AllocError> {
+    let row = Finding::Leads(seen.lead).row();
+    if row.weight != Weight::Fault {
+        return note_of(alloc, &seen.image);
+    }
+    let part = if seen.detail.is_empty() { "" } else { ": " };
+    Ok(Some(LoaderNote {
+        is_fault: false,
+        words: format!(in alloc; "{}{part}{}", row.words, seen.detail)?,
+    }))
 }
 
 /// What is to be told of a loader of which this is known.
@@ -59,7 +79,7 @@ fn note_of(alloc: Global, seen: &SeenImage) -> Result<Option<LoaderNote>, AllocE
         return Ok(None);
     };
     let row = state.row();
-    if row.weight == Weight::Remark {
+    if row.weight == Weight::Remark || state == ImageState::Unsettled {
         return Ok(None);
     }
     Ok(Some(LoaderNote {

@@ -4,6 +4,7 @@ ghost use Rattle.std.specs.Prelude.{◌≡◌, ◌⊎◌, IfOk};
 ghost use Rattle.place_checks.specs.Look.{CanBe, OfPartition, OfFile, IsTold};
 
 use crate::image::{SeenImage, look_at_image};
+use crate::secure_boot::{SeenSecureBoot, read_secure_boot};
 use disk_files::{
     PartitionSearch, SeenMounts, SeenPartitions, find_partition, machine_mounts,
     machine_partitions, mounted_folders,
@@ -16,7 +17,7 @@ use std::fs;
 use std::io::{self, ErrorKind};
 use std::rt::Files;
 use uefi_path::HardDriveNode;
-use var_places::{Failure, shown};
+use var_places::{Failure, is_folder, shown};
 use whole_files::{RegularFile, read_regular};
 
 /// What parts the names in the path of a file (UEFI 2.10, 10.3.5.4).
@@ -43,10 +44,12 @@ pub(crate) struct Machine<'a, R> {
     pub(crate) rt: &'a R,
     /// The path of the folder, or nothing.
     root: &'a str,
-    /// Whether the variables are those that its own firmware has, as far as that can be told.
-    has_variables: bool,
+    /// The folder in which Linux shows the variables of its firmware, if they are in one.
+    variables: Option<&'a str>,
     /// Its firmware's processor, once that is read.
     processor: Option<Processor>,
+    /// What its Secure Boot decides by, once that is read.
+    secure_boot: Option<SeenSecureBoot>,
     /// Its partitions, once they are read.
     partitions: Option<SeenPartitions>,
     /// What is mounted, once that is read.
@@ -110,14 +113,15 @@ impl Seen {
 }
 
 impl<'a, R: Files + AllocGlobal> Machine<'a, R> {
-    /// The machine whose root this folder stands for, or this one if the path is empty, and whether the variables are its
-    /// firmware's: those of a folder are taken for that, and those of a file may be anybody's.
-    pub(crate) fn new(rt: &'a R, root: &'a str, has_variables: bool) -> Machine<'a, R> {
+    /// The machine whose root this folder stands for, or this one if the path is empty. The variables of a folder, which the
+    /// root isn't put before, are taken for its firmware's, and those of a file may be anybody's.
+    pub(crate) fn new(rt: &'a R, root: &'a str, variables: Option<&'a str>) -> Machine<'a, R> {
         Machine {
             rt,
             root,
-            has_variables,
+            variables,
             processor: None,
+            secure_boot: None,
             partitions: None,
             mounts: None,
             images: BTreeMap::new(rt.alloc()),
@@ -129,7 +133,7 @@ impl<'a, R: Files + AllocGlobal> Machine<'a, R> {
         if let Some(processor) = self.processor {
             return Ok(processor);
         }
-        let processor = if self.has_variables {
+        let processor = if self.variables.is_some() {
             let arch = self.told(ARCH)?;
             let bits = self.told(BITS)?;
             processor_of(arch.as_deref(), bits.as_deref())
@@ -138,6 +142,20 @@ impl<'a, R: Files + AllocGlobal> Machine<'a, R> {
         };
         self.processor = Some(processor);
         Ok(processor)
+    }
+
+    /// What Secure Boot of the firmware that has the variables decides by.
+    fn secure_boot(&mut self) -> Result<&SeenSecureBoot, AllocError> {
+        if self.secure_boot.is_none() {
+            self.secure_boot = Some(match self.variables {
+                Some(folder) => read_secure_boot(self.rt, folder)?,
+                None => SeenSecureBoot::Off,
+            });
+        }
+        match &self.secure_boot {
+            Some(seen) => Ok(seen),
+            None => unreachable!(),
+        }
     }
 
     /// What the system tells in the file at this path, if it tells it.
@@ -158,7 +176,8 @@ impl<'a, R: Files + AllocGlobal> Machine<'a, R> {
             return seen.copy();
         }
         let processor = self.processor()?;
-        let seen = look_at_image(self.rt, path, processor)?;
+        let rt = self.rt;
+        let seen = look_at_image(rt, path, processor, self.secure_boot()?)?;
         let copy = seen.copy()?;
         self.images
             .insert(String::from_str(self.rt.alloc(), path)?, copy)?;
@@ -322,6 +341,22 @@ impl<'a, R: Files + AllocGlobal> Machine<'a, R> {
             }
         }
         Ok(names)
+    }
+}
+
+/// The place, if it is a folder in which Linux shows variables.
+///
+/// # Errors
+///
+/// Those of [`is_folder`].
+pub(crate) fn variables_folder<'a, R: Files + AllocGlobal>(
+    rt: &R,
+    place: &'a str,
+) -> Result<Option<&'a str>, Failure> {
+    if is_folder(rt, place)? {
+        Ok(Some(place))
+    } else {
+        Ok(None)
     }
 }
 

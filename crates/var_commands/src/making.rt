@@ -150,8 +150,7 @@ fn path_of_loader<R: Files + Eprint + AllocGlobal>(
 ///
 /// # Errors
 ///
-/// [`Failure::Refused`] if firmware doesn't start it, and that isn't forced, and those of [`note_of_file`] and
-/// [`note_of_path`].
+/// [`Failure::Refused`] if firmware doesn't start it, and that isn't forced, and [`Failure::Memory`] if memory was refused.
 fn look_at_loader<R: Files + Eprint + AllocGlobal>(
     rt: &R,
     words: &LoaderWords<'_>,

@@ -1,0 +1,210 @@
+//! Whether Secure Boot lets firmware load an image.
+
+ghost use Rattle.std.specs.Prelude.{◌≡◌, ◌≢◌, ◌+◌, ◌*◌, ◌/◌, ◌≤◌, ◌||◌, IfOk, map, length};
+ghost use Rattle.std.specs.List.{list_any};
+ghost use Rattle.efi_images.specs.declared.signatures.SignatureList.{SignatureList};
+ghost use Rattle.efi_images.specs.Signatures.{list_parts};
+ghost use Rattle.efi_images.specs.SecureBoot.{is_of_digests, is_among, has_digest, has_others, is_in_dbx, db_answer, IsDbAnswer, IsListsAnswer, IsSecureBootAnswer};
+
+use crate::answer::SecureBootAnswer;
+use crate::certificates::{Signing, certificate_table, read_certificates};
+use crate::check::check_boot_manager;
+use crate::digest::{DIGEST_LEN, image_digest, part};
+use crate::digest_fault::DigestFault;
+use crate::loader::CERTIFICATES;
+use crate::signatures::{GUID_LEN, ListFault, SignatureList, read_lists};
+use std::alloc::{AllocError, Global};
+
+/// EFI_CERT_SHA256_GUID, as it is stored.
+const SHA256_GUID: [u8; 16] = [
+    0x26, 0x16, 0xC4, 0xC1, 0x4C, 0x50, 0x92, 0x40, 0xAC, 0xA9, 0x41, 0xF9, 0x36, 0x93, 0x43, 0x28,
+];
+
+/// How many bytes a signature has that is a digest by SHA-256.
+const SIGNATURE_LEN: usize = GUID_LEN + DIGEST_LEN;
+
+/// What Secure Boot decides by.
+#[derive(Clone, Copy, Debug)]
+pub struct SecureBoot<'a> {
+    /// Whether it is on: the variable SecureBoot is 1.
+    pub is_on: bool,
+    /// The data of db, which tells of what is allowed. No bytes if there is no such variable.
+    pub db: &'a [u8],
+    /// The data of dbx, which tells of what is denied. No bytes if there is no such variable.
+    pub dbx: &'a [u8],
+}
+
+/// What Secure Boot answers to an image, as EDK2's firmware decides it, and as far as it is told without the check of a
+/// signature. An image that isn't signed is denied if its digest is in dbx, and else allowed if it is in db. One with a
+/// signature over that digest is denied if it is in dbx, or if db has neither it nor a certificate; else
+/// [`SecureBootAnswer::Signed`] says that only the check of its signatures tells. Digests by SHA-1, SHA-384 and SHA-512 are
+/// not compared.
+///
+/// The boot manager's checks come before, and with Secure Boot the loader's up to [`ImageFault::DebugBeyondFile`], which
+/// [`check_image`](crate::check_image) makes. The fault of an image that has no digest is told here too.
+///
+/// [`ImageFault::DebugBeyondFile`]: crate::ImageFault::DebugBeyondFile
+///
+/// # Errors
+///
+/// `AllocError` if memory for lists of sections or signatures was refused.
+pub fn secure_boot_answer(
+    alloc: Global,
+    file: &[u8],
+    secure_boot: &SecureBoot<'_>,
+) -> Result<SecureBootAnswer, AllocError>
+    ensures { IfOk result (λ answer. IsSecureBootAnswer file.now secure_boot.now.is_on secure_boot.now.db.now secure_boot.now.dbx.now answer) }
+{
+    if !secure_boot.is_on {
+        return Ok(SecureBootAnswer::NotAsked);
+    }
+    let headers = match check_boot_manager(file) {
+        Ok(headers) => headers,
+        Err(fault) => return Ok(SecureBootAnswer::NoDigest(DigestFault::Image(fault))),
+    };
+    let digest = match image_digest(alloc, file) {
+        Ok(digest) => digest,
+        Err(fault) => {
+            return match fault {
+                DigestFault::OutOfMemory => Err(AllocError),
+                _ => Ok(SecureBootAnswer::NoDigest(fault)),
+            };
+        }
+    };
+    let signed = match read_certificates(certificate_table(&headers)) {
+        Ok(signed) => signed,
+        Err(place) => {
+            let place = headers.directory_start(CERTIFICATES) as usize + place;
+            return Ok(SecureBootAnswer::BadCertificates { place });
+        }
+    };
+    match signed {
+        Signing::Unknown => Ok(SecureBootAnswer::NoSignature),
+        _ => lists_answer(alloc, digest.as_slice(), signed, secure_boot),
+    }
+}
+
+/// What dbx and then db say of an image of this digest.
+fn lists_answer(
+    alloc: Global,
+    digest: &[u8],
+    signed: Signing,
+    secure_boot: &SecureBoot<'_>,
+) -> Result<SecureBootAnswer, AllocError>
+    ensures { IfOk result (λ answer. IsListsAnswer digest.now signed secure_boot.now.db.now secure_boot.now.dbx.now answer) }
+{
+    let denied = match read_lists(alloc, secure_boot.dbx) {
+        Ok(denied) => denied,
+        Err(fault) => {
+            return match fault {
+                ListFault::OutOfMemory => Err(AllocError),
+                _ => Ok(SecureBootAnswer::BadDbx(fault)),
+            };
+        }
+    };
+    if is_in_dbx(digest, signed, &denied) {
+        return Ok(SecureBootAnswer::InDbx);
+    }
+    allowed_answer(alloc, digest, signed, secure_boot.db)
+}
+
+/// What db says of an image of this digest that isn't in dbx.
+fn allowed_answer(
+    alloc: Global,
+    digest: &[u8],
+    signed: Signing,
+    db: &[u8],
+) -> Result<SecureBootAnswer, AllocError>
+    ensures { IfOk result (λ answer. IsDbAnswer digest.now signed db.now answer) }
+{
+    match read_lists(alloc, db) {
+        Ok(allowed) => Ok(db_answer(digest, signed, &allowed)),
+        Err(fault) => match fault {
+            ListFault::OutOfMemory => Err(AllocError),
+            _ => Ok(SecureBootAnswer::BadDb(fault)),
+        },
+    }
+}
+
+/// Whether dbx denies the image by its digest. One that is signed by another hash alone is looked for by that hash.
+#[tactic(auto, unfolding(crate::specs::SecureBoot::is_in_dbx))]
+fn is_in_dbx(digest: &[u8], signed: Signing, dbx: &[SignatureList<'_>]) -> bool
+    ensures { result ≡ is_in_dbx digest.now signed (map list_parts dbx.now) }
+{
+    match signed {
+        Signing::Other => false,
+        _ => has_digest(digest, dbx),
+    }
+}
+
+/// What db says of an image that isn't in dbx. A signed one may be allowed by what isn't compared.
+#[tactic(auto, unfolding(crate::specs::SecureBoot::db_answer))]
+fn db_answer(digest: &[u8], signed: Signing, db: &[SignatureList<'_>]) -> SecureBootAnswer
+    ensures { result ≡ db_answer digest.now signed (map list_parts db.now) }
+{
+    match signed {
+        Signing::Unsigned if has_digest(digest, db) => SecureBootAnswer::InDb,
+        Signing::Unsigned => SecureBootAnswer::NotSigned,
+        _ if may_allow(digest, db) => SecureBootAnswer::Signed,
+        _ => SecureBootAnswer::NotInDb,
+    }
+}
+
+/// Whether one of the lists has this digest, or signatures that aren't compared.
+fn may_allow(digest: &[u8], lists: &[SignatureList<'_>]) -> bool
+    ensures { result ≡ (list_any (λ (list : SignatureList). has_digest digest.now (list_parts list)) lists.now
+        || list_any (λ (list : SignatureList). has_others (list_parts list)) lists.now) }
+{
+    has_digest(digest, lists) || has_others(lists)
+}
+
+/// Whether one of the lists has this digest.
+fn has_digest(digest: &[u8], lists: &[SignatureList<'_>]) -> bool
+    ensures { result ≡ list_any (λ (list : SignatureList). has_digest digest.now (list_parts list)) lists.now }
+{
+    lists.iter().any(|list| list_has_digest(digest, list))
+}
+
+/// Whether one of the lists has signatures that are no digests by SHA-256.
+fn has_others(lists: &[SignatureList<'_>]) -> bool
+    ensures { result ≡ list_any (λ (list : SignatureList). has_others (list_parts list)) lists.now }
+{
+    lists.iter().any(list_has_others)
+}
+
+/// Whether the list has this digest.
+#[tactic(auto, unfolding(crate::specs::SecureBoot::has_digest))]
+fn list_has_digest(digest: &[u8], list: &SignatureList<'_>) -> bool
+    ensures { result ≡ has_digest digest.now (list_parts list.now) }
+{
+    is_of_digests(list) && list.signature_len == SIGNATURE_LEN && is_among(digest, list.signatures)
+}
+
+/// Whether the list has signatures that are no digests by SHA-256: certificates, or digests by another hash.
+#[tactic(auto, unfolding(crate::specs::SecureBoot::has_others))]
+fn list_has_others(list: &SignatureList<'_>) -> bool
+    ensures { result ≡ has_others (list_parts list.now) }
+{
+    !is_of_digests(list) && !list.signatures.is_empty()
+}
+
+/// Whether the list is one of digests by SHA-256.
+fn is_of_digests(list: &SignatureList<'_>) -> bool
+    ensures { result ≡ is_of_digests (list_parts list.now) }
+{
+    list.kind == SHA256_GUID.as_slice()
+}
+
+/// Whether one of these signatures is of this digest.
+fn is_among(digest: &[u8], signatures: &[u8]) -> bool
+    ensures { result ≡ is_among digest.now signatures.now 0 (length signatures.now / 48) }
+{
+    let mut place = 0;
+    for _ in 0..signatures.len() / SIGNATURE_LEN {
+        if part(signatures, place + GUID_LEN, DIGEST_LEN) == digest {
+            return true;
+        }
+        place += SIGNATURE_LEN;
+    }
+    false
+}
