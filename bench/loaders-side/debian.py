@@ -5,6 +5,7 @@ from __future__ import annotations
 
 import subprocess
 import tempfile
+import time
 from dataclasses import dataclass
 from pathlib import Path
 from typing import Dict, Iterator, Optional
@@ -119,17 +120,31 @@ def in_signature(data: bytes) -> Optional[bytes]:
     return last[found : found + 32] if SIGNED_DIGEST in last else None
 
 
+def library_digest(image: bytes) -> str:
+    """The digest that the library makes of an image, in digits, or why it makes none."""
+    try:
+        return bootkeep.image_digest(image).hex()
+    except bootkeep.Refused as fault:
+        return str(fault)
+
+
 def compare_digests(files: Dict[str, bytes], signing: Signing) -> int:
     """Has the library make each digest, and compares it. Gives how many differ. Of what is no application, as a driver,
     the library makes none."""
-    compared = differ = 0
+    compared = differ = size = 0
+    spent = 0.0
     for it in stated(files, signing):
-        compared += 1
-        made = bootkeep.image_digest(it.image)
-        if made != it.digest:
+        began = time.perf_counter()
+        made = library_digest(it.image)
+        spent += time.perf_counter() - began
+        compared, size = compared + 1, size + len(it.image)
+        if made != it.digest.hex():
             differ += 1
-            print(f"  differs: {it.name}: {it.by} {it.digest.hex()}, the library {made.hex()}")
-    print(f"digests of Debian's files: {compared} compared, {differ} differ", flush=True)
+            print(f"  differs: {it.name}: {it.by} {it.digest.hex()}, the library {made}")
+    speed = size / 1e6 / max(spent, 1e-6)
+    print(
+        f"digests of Debian's files: {compared} compared, {differ} differ, {speed:.0f} MB a second"
+    )
     return differ
 
 

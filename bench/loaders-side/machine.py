@@ -68,7 +68,7 @@ class Told:
         return Verdict.STARTS
 
     def __str__(self) -> str:
-        return "; ".join(map(str, self.findings))
+        return "; ".join(str(it) for it in self.findings if it.weight != "remark") or "nothing"
 
 
 class Machine:

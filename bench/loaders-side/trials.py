@@ -27,6 +27,9 @@ from signing import Signing
 AT_ONCE = 100
 """How many files a start has at most."""
 
+SIGNED = "secure_boot_undecided"
+"""The finding that a signature decides, which isn't looked at. Files that have it are counted, and not told."""
+
 LAST = "LAST.EFI"
 """The file of the last entry, which turns the machine off."""
 
@@ -201,7 +204,7 @@ def show(result: Result, way: Way) -> None:
     """Tells of a file what isn't plain."""
     if result.word in (Word.AGREE, Word.UNTOLD) and not result.seen.outcome == Outcome.CRASHED:
         return
-    if result.word == Word.UNDECIDED and way.is_secure and "sign" in result.sample.name:
+    if result.word == Word.UNDECIDED and any(it.kind == SIGNED for it in result.told.findings):
         return
     reason = f" ({result.reason})" if result.reason else ""
     print(f"  {result.word.value}: {way.name}: {result.sample.name}{reason}")
