@@ -62,7 +62,7 @@ class Loaded:
 
         Raises Reason."""
         if not any(it.start <= place and place + size <= it.end for it in self.filled):
-            raise Reason(f"{what} at {place:#x} is in no section, so what was in memory decides")
+            raise Reason(f"{what} is in no section, so what was in memory decides")
 
     def directory(self, index: int) -> Directory:
         """A directory, which is read from memory."""
@@ -139,12 +139,12 @@ class Resources:
         self.enter(0)
         index = 0
         while index < self.names:
-            self.loaded.known(self.entry, 8, "a resource")
+            self.loaded.known(self.entry, 8, f"the resource at {self.entry:#x}")
             name = number(self.loaded.memory, self.entry)
             if name & HIGH:
                 ask(name - HIGH < self.size, "a resource's name is beyond the directory's size")
                 at = self.start + name - HIGH
-                self.loaded.known(at, 8, "a resource's name")
+                self.loaded.known(at, 8, f"the resource's name at {at:#x}")
                 if self.loaded.memory[at : at + 8] == HII and self.descend():
                     return
             self.entry += 8
@@ -156,7 +156,7 @@ class Resources:
             place = number(self.loaded.memory, self.entry + 4)
             if place & HIGH:
                 self.enter(place - HIGH)
-                self.loaded.known(self.entry, 8, "a resource")
+                self.loaded.known(self.entry, 8, f"the resource at {self.entry:#x}")
         place = number(self.loaded.memory, self.entry + 4)
         if place & HIGH:
             return False
@@ -172,13 +172,14 @@ def code_view(loaded: Loaded) -> None:
     if entry is None:
         return
     ask(entry < loaded.size, f"the debug entry at {entry:#x} is beyond the image")
-    loaded.known(entry, 28, "the debug entry")
+    loaded.known(entry, 28, f"the debug entry at {entry:#x}")
     size, address = struct.unpack_from("<II", loaded.memory, entry + 16)
     if address:
-        ask(address < loaded.size, f"the CodeView data at {address:#x} are beyond the image")
-        loaded.known(address, 4, "the CodeView data")
+        what = f"the CodeView data at {address:#x}"
+        ask(address < loaded.size, f"{what} are beyond the image")
+        loaded.known(address, 4, what)
         least = LEAST.get(bytes(loaded.memory[address : address + 4]), 0)
-        ask(size >= least, f"the CodeView data have {size} bytes, fewer than {least}")
+        ask(size >= least, f"{what} have {size} bytes, fewer than {least}")
 
 
 def debug_entry(loaded: Loaded) -> Optional[int]:
