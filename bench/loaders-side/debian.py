@@ -11,8 +11,8 @@ from pathlib import Path
 from typing import Dict, Iterator, Optional
 
 import bootkeep
-from ovmf_starts import Patience
 from images import CERTIFICATES, Headers, digest, number
+from ovmf_starts import Patience
 from samples import Sample
 from signing import Failed, Signing, run
 from trials import Trials, Way
@@ -102,9 +102,13 @@ def stated(files: Dict[str, bytes], signing: Signing) -> Iterator[Stated]:
             yield Stated(name, data, "bench/loaders-side/images.py", held)
 
 
-def is_application(data: bytes) -> bool:
-    """Whether an image is an application by its subsystem."""
-    return number(data, Headers(data).pe + 92, "H") == APPLICATION
+def applications(files: Dict[str, bytes]) -> Dict[str, bytes]:
+    """The images that are applications by their subsystem, and no drivers."""
+    return {
+        name: data
+        for name, data in files.items()
+        if number(data, Headers(data).pe + 92, "H") == APPLICATION
+    }
 
 
 def in_signature(data: bytes) -> Optional[bytes]:
@@ -150,7 +154,6 @@ def compare_digests(files: Dict[str, bytes], signing: Signing) -> int:
 
 def compare_all(trials: Trials, files: Dict[str, bytes]) -> int:
     """Tries all of Debian's files. Gives how many digests differ."""
-    applications = {name: data for name, data in files.items() if is_application(data)}
-    differ = compare_digests(applications, trials.signing)
+    differ = compare_digests(applications(files), trials.signing)
     trials.run([Sample(name, data) for name, data in files.items()], ALONE)
     return differ

@@ -33,7 +33,7 @@ FIRST_WORD = 300
 """For how many seconds the first word on an entry is waited for. A start takes six of a processor that has nothing else to
 do."""
 
-SECRET = re.compile(r"\x1b\[[0-9;?]*[A-Za-z]|\x1b[=>()][0-9A-Z]?|\r")
+UNSEEN = re.compile(r"\x1b\[[0-9;?]*[A-Za-z]|\x1b[=>()][0-9A-Z]?|\r")
 """What a terminal does without showing it."""
 
 PIECE = re.compile(r"BdsDxe: (?=loading Boot|starting Boot|failed to )")
@@ -297,7 +297,7 @@ class Firmware:
 
 def shown(line: Path) -> str:
     """What a file of a serial line shows."""
-    return SECRET.sub("", line.read_text(encoding="utf-8", errors="replace"))
+    return UNSEEN.sub("", line.read_text(encoding="utf-8", errors="replace"))
 
 
 def read_line(text: str, count: int) -> Dict[int, Seen]:

@@ -3,14 +3,13 @@
 from __future__ import annotations
 
 import os
-
 import subprocess
 import time
 from typing import Dict, List
 
-from ovmf_starts import Entry
 from images import Headers, put
 from machine import Machine
+from ovmf_starts import Entry
 from samples import Lists
 
 ENTRIES = 20
@@ -55,10 +54,10 @@ def best(words: List[str]) -> float:
     return min(took)
 
 
-def measure(machine: Machine, files: Dict[str, bytes], lists: Lists) -> int:
+def measure(machine: Machine, applications: Dict[str, bytes], lists: Lists) -> int:
     """Measures it with Secure Boot off and on, beside the program of before that BOOTVARS_BEFORE names, or else beside
     `show`. Gives how often it takes longer than it may."""
-    loaders = [it for it in files.values() if len(it) >= LEAST]
+    loaders = [it for it in applications.values() if len(it) >= LEAST]
     if not loaders:
         print("time: there are no loaders to measure it with")
         return 0

@@ -8,6 +8,8 @@ from enum import Enum
 from typing import Dict, List, Optional, Sequence
 
 import beyond
+from kinds import RSA
+from machine import Machine, Told, Verdict
 from ovmf_starts import (
     Disk,
     Entry,
@@ -19,8 +21,6 @@ from ovmf_starts import (
     own_lists,
     read_line,
 )
-from kinds import RSA
-from machine import Machine, Told, Verdict
 from samples import Lists, Sample, lists_of, parts
 from signing import Signing
 
@@ -109,7 +109,7 @@ class Trials:
         told = self.machine.check()
         return [told[f"Boot{index:04X}"] for index in range(len(samples))]
 
-    def run(self, samples: Sequence[Sample], way: Way) -> List[Result]:
+    def run(self, samples: Sequence[Sample], way: Way) -> None:
         """Tries these files, and tells what differs and what isn't decided."""
         found: List[Result] = []
         for part in parts(list(samples), way.at_once):
@@ -122,14 +122,13 @@ class Trials:
             show(result, way)
         self.counts.update(counts)
         self.tried, self.started = self.tried + len(found), self.started + started
-        return found
 
     def try_part(self, samples: List[Sample], way: Way) -> List[Result]:
         """Tries files that are on one partition. What differs is started once more, alone: an image that goes wrong may
         leave firmware in disorder."""
         disk, lists = self.disk(samples), lists_of(samples, self.own)
         told = self.ask(samples, disk, way.is_secure, lists)
-        seen = self.observe(list(range(len(samples))), disk, lists, way)
+        seen = self.observe(range(len(samples)), disk, lists, way)
         found = []
         for index, sample in enumerate(samples):
             result = self.compare(sample, seen[index], told[index], way)
@@ -141,9 +140,12 @@ class Trials:
             found.append(result)
         return found
 
-    def observe(self, left: List[int], disk: Disk, lists: Lists, way: Way) -> Dict[int, Seen]:
-        """Starts the machine until each of these files was tried."""
-        found: Dict[int, Seen] = {}
+    def observe(self, wanted: Sequence[int], disk: Disk, lists: Lists, way: Way) -> Dict[int, Seen]:
+        """Starts the machine until each of these files was tried.
+
+        Raises RuntimeError if firmware tries none."""
+        found = {index: Seen(Outcome.UNTRIED) for index in wanted}
+        left = list(wanted)
         while left:
             entries = [Entry(f"File {index}", file_name(index)) for index in left]
             entries.append(Entry("last", LAST))
@@ -154,11 +156,12 @@ class Trials:
                     found[left[number]] = seen
             if told.get(len(left), Seen(Outcome.UNTRIED)).is_started:
                 break
-            reached = max((it for it in told if it < len(left)), default=0)
-            stopped = found.get(left[reached], Seen(Outcome.UNTRIED))
-            found[left[reached]] = stuck(stopped)
+            reached = max((it for it in told if it < len(left)), default=-1)
+            if reached < 0:
+                raise RuntimeError(f"firmware tries no entry: {text[-200:]!r}")
+            found[left[reached]] = stuck(found[left[reached]])
             left = left[reached + 1 :]
-        return {**{index: Seen(Outcome.UNTRIED) for index in left}, **found}
+        return found
 
     def compare(self, sample: Sample, seen: Seen, told: Told, way: Way) -> Result:
         """Whether firmware did what `check` says."""
@@ -202,7 +205,7 @@ def stuck(seen: Seen) -> Seen:
 
 def show(result: Result, way: Way) -> None:
     """Tells of a file what isn't plain."""
-    if result.word in (Word.AGREE, Word.UNTOLD) and not result.seen.outcome == Outcome.CRASHED:
+    if result.word in (Word.AGREE, Word.UNTOLD) and result.seen.outcome != Outcome.CRASHED:
         return
     if result.word == Word.UNDECIDED and any(it.kind == SIGNED for it in result.told.findings):
         return
