@@ -10,7 +10,6 @@ from dataclasses import dataclass
 from pathlib import Path
 from typing import Dict, Iterator, Optional
 
-import bootkeep
 from images import CERTIFICATES, Headers, digest, number
 from ovmf_starts import Patience
 from samples import Sample
@@ -125,7 +124,10 @@ def in_signature(data: bytes) -> Optional[bytes]:
 
 
 def library_digest(image: bytes) -> str:
-    """The digest that the library makes of an image, in digits, or why it makes none."""
+    """The digest that the library makes of an image, in digits, or why it makes none. The module is imported once the
+    library is built, which it loads."""
+    import bootkeep
+
     try:
         return bootkeep.image_digest(image).hex()
     except bootkeep.Refused as fault:
