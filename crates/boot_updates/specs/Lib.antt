@@ -1,3 +1,4 @@
 pub mod NextNumber
 pub mod Replies
 pub mod Told
+pub mod LeftOut

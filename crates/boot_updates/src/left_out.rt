@@ -1,13 +1,17 @@
 //! Variables of a machine that no set can hold, and that requests so can't change.
 
+ghost use Rattle.std.specs.Prelude.{◌↔◌, All, Contains, map, IfSome, IfNone, IsTrue};
+ghost use Rattle.std.specs.String.{string_bytes};
+ghost use Rattle.boot_updates.specs.LeftOut.{IsTouched};
+
 use crate::not_made::{NotMade, Refused};
 use crate::script::Script;
 use boot_requests::{Event, FrameFault, Request, read_frame};
 use boot_texts::EventPosition;
 use std::alloc::{AllocError, Global};
-use uefi_vars::{BOOT_NEXT, BOOT_ORDER};
+use uefi_vars::{BOOT_NEXT, BOOT_ORDER, laws as vars_laws};
 use var_places::Failure;
-use wanted_changes::{LEFT_OUT, left_out_entry, left_out_name};
+use wanted_changes::{LEFT_OUT, is_one_of};
 
 /// Refuses the script if a request in it would change one of the variables of these names, which no set can hold. It is
 /// looked at before anything is run, so also a request is refused that was applied before.
@@ -52,23 +56,28 @@ fn changed_by<'a>(
     }
 }
 
-/// The variable of these that the request would change. A request that makes an entry passes their numbers over.
-fn changed_by_request<'a>(request: &Request, left_out: &'a [String]) -> Option<&'a str> {
+/// The first of these variables that the request would change, or name.
+fn changed_by_request<'a>(request: &Request, left_out: &'a [String]) -> Option<&'a str>
+    ensures some { IfSome result (λ name. Contains (map string_bytes left_out.now) name.now × IsTouched request.now name.now) }
+    ensures none { IfNone result (All (λ name. ¬ IsTouched request.now (string_bytes name)) left_out.now) }
+{
+    left_out
+        .iter()
+        .map(String::as_str)
+        .find(|name| touches(request, name))
+}
+
+/// Whether the request changes the variable of this name, or names its entry. One that makes an entry passes taken numbers
+/// over.
+fn touches(request: &Request, name: &str) -> bool
+    ensures { IsTrue result ↔ IsTouched request.now name.now }
+{
+    vars_laws::constants_are_those_of_the_definitions();
     match request {
-        Request::Add(..) | Request::AddFree(_) | Request::AddFirst(_) => {
-            left_out_name(left_out, BOOT_ORDER)
-        }
-        Request::Replace(entry, _) | Request::Remove(entry) => left_out_entry(left_out, *entry),
-        Request::Next(entry) => {
-            left_out_entry(left_out, *entry).or_else(|| left_out_name(left_out, BOOT_NEXT))
-        }
-        Request::First(entry) => {
-            left_out_entry(left_out, *entry).or_else(|| left_out_name(left_out, BOOT_ORDER))
-        }
-        Request::Order(order) => order
-            .numbers()
-            .iter()
-            .find_map(|entry| left_out_entry(left_out, *entry))
-            .or_else(|| left_out_name(left_out, BOOT_ORDER)),
+        Request::Add(..) | Request::AddFree(_) | Request::AddFirst(_) => name == BOOT_ORDER,
+        Request::Replace(entry, _) | Request::Remove(entry) => is_one_of(&[*entry], name),
+        Request::Next(entry) => is_one_of(&[*entry], name) || name == BOOT_NEXT,
+        Request::First(entry) => is_one_of(&[*entry], name) || name == BOOT_ORDER,
+        Request::Order(order) => is_one_of(order.numbers(), name) || name == BOOT_ORDER,
     }
 }

@@ -10,7 +10,7 @@ ghost use Rattle.boot_requests.specs.Run.{gap_at, run_followed_by};
 ghost use Rattle.boot_requests.specs.Seen.{Seen, IsSeen};
 ghost use Rattle.boot_requests.specs.State.{State};
 ghost use Rattle.boot_updates.specs.NextNumber.{next_after};
-ghost use Rattle.boot_updates.specs.Replies.{IsBelow, IsCarriedOut, IsDone};
+ghost use Rattle.boot_updates.specs.Replies.{IsBelow, IsNumberBelow, IsCarriedOut, IsDone, AreDone};
 ghost use Rattle.boot_updates.specs.Told.{IsNoOther};
 ghost use Rattle.boot_updates.specs.declared.replies.Ended.TheVariants as ended;
 
@@ -135,7 +135,8 @@ fn next_after(before: u32, answer: &Answer) -> u32
 /// The next number after all events.
 #[tactic(auto, using(crate::proofs::NextTold::next_is_gap))]
 pub(crate) fn next_in(answered: &Answered) -> u32
-    ensures { (start : State) (seen : List Seen) → answered.now.first ≡ start.next_number →
+    ensures told { result ≡ fold next_after answered.now.first answered.now.answers.items }
+    ensures gap { (start : State) (seen : List Seen) → answered.now.first ≡ start.next_number →
         AreAnswers start [] seen (replies_of answered.now.answers.items) →
         result ≡ gap_at start.next_number (run_followed_by [] seen) }
 {
@@ -155,12 +156,10 @@ fn next_after_all(before: u32, answers: &[Answer]) -> u32
 
 /// Whether the answers say that all was done, and no repeat is known to be of another request.
 pub fn ending(answered: &Answered) -> Ended
-    ensures { result ≡ ended.AllDone → AllByRecursion IsNoOther answered.now.noted.same.items }
+    ensures { (result ≡ ended.AllDone) ↔ AreDone answered.now.first answered.now.answers.items answered.now.noted.same.items }
 {
     let next = next_in(answered);
-    if are_no_others(&answered.noted.same)
-        && answered.answers.iter().all(|answer| is_done(answer, next))
-    {
+    if are_no_others(&answered.noted.same) && are_done(&answered.answers, next) {
         Ended::AllDone
     } else {
         Ended::NotAll
@@ -184,20 +183,26 @@ fn is_no_other(same: &Option<bool>) -> bool
     }
 }
 
-/// Whether what the event with this answer asks for was done, if this is the next number after all events.
+/// Whether what the events with these answers ask for was done, if this is the next number after all of them.
+fn are_done(answers: &[Answer], next: u32) -> bool
+    ensures { IsTrue result ↔ AllByRecursion (IsDone next) answers.now }
+{
+    answers.iter().all(|answer| is_done(answer, next))
+}
+
+/// Whether what the event with this answer asks for was done, if this is the next number after all events. Of a request whose
+/// outcome isn't kept that isn't known, so it doesn't count as done.
 fn is_done(answer: &Answer, next: u32) -> bool
-    ensures { (event : Event) (seen : Seen) → IsSeen event seen → answer.now.request ≡ request_of seen →
-        IsTrue result → IsDone next event answer.now.reply answer.now.followers.items }
+    ensures { IsTrue result ↔ IsDone next answer.now }
 {
     match &answer.reply {
-        Reply::Malformed(_) | Reply::Ahead(_) | Reply::Conflict => false,
+        Reply::Malformed(_) | Reply::Ahead(_) | Reply::Conflict | Reply::Old => false,
         Reply::Waiting(_) => is_below(answer.request, next),
         Reply::Applied(outcome, _) => {
             is_carried_out(outcome) && are_carried_out(&answer.followers)
         }
         Reply::Repeat(outcome) => is_carried_out(outcome),
-        Reply::Old
-        | Reply::Prepared(_)
+        Reply::Prepared(_)
         | Reply::AlreadyPrepared
         | Reply::Plan(_)
         | Reply::NothingPrepared
@@ -221,7 +226,8 @@ fn is_carried_out(outcome: &Outcome) -> bool
 
 /// Whether this is the number of a request that is below the next one, and that so was applied.
 fn is_below(request: Option<u32>, next: u32) -> bool
-    ensures { (event : Event) (seen : Seen) → IsSeen event seen → request ≡ request_of seen →
+    ensures below { IsTrue result ↔ IsNumberBelow request next }
+    ensures applied { (event : Event) (seen : Seen) → IsSeen event seen → request ≡ request_of seen →
         IsTrue result → IsBelow event next }
 {
     match request {

@@ -13,7 +13,7 @@ use std::alloc::Global;
 use std::rt::{Clock, Files};
 use uefi_vars::{BOOT_NEXT, TIMEOUT};
 use var_places::{Failure, PlaceVars};
-use wanted_changes::left_out_entry;
+use wanted_changes::is_one_of;
 use whole_files::OutputFile;
 
 /// Makes each change that is asked for, in the order in which `efibootmgr` makes them.
@@ -104,7 +104,12 @@ fn check_free<R: Files + Eprint + AllocGlobal>(
     entry: u16,
 ) -> Result<(), Stopped> {
     let found = found_at(rt, machine, Step::Create)?;
-    if found.vars.entry(entry).is_none() && left_out_entry(&found.left_out, entry).is_none() {
+    if found.vars.entry(entry).is_none()
+        && !found
+            .left_out
+            .iter()
+            .any(|name| is_one_of(&[entry], name.as_str()))
+    {
         return Ok(());
     }
     let fault = format!(in rt.alloc(); "{} is there already", EntryName(entry))?;

@@ -1,3 +1,4 @@
 pub mod Brought
+pub mod LeftOut
 pub mod Takeable
 pub mod Undo

@@ -1,10 +1,14 @@
 //! Changes of variables that no set can hold, and that so stay as they are.
 
-use boot_edits::{Addition, Edit, NewOrder, Position};
+ghost use Rattle.std.specs.Prelude.{◌↔◌, All, Contains, map, IfSome, IfNone, IsTrue};
+ghost use Rattle.std.specs.String.{string_bytes};
+ghost use Rattle.place_edits.specs.LeftOut.{IsTouched};
+
+use boot_edits::{Edit, Position};
 use std::alloc::Global;
-use uefi_vars::{BOOT_NEXT, BOOT_ORDER, TIMEOUT};
+use uefi_vars::{BOOT_NEXT, BOOT_ORDER, TIMEOUT, laws as vars_laws};
 use var_places::Failure;
-use wanted_changes::{LEFT_OUT, left_out_entry, left_out_name};
+use wanted_changes::{LEFT_OUT, is_one_of};
 
 /// Refuses a change of one of the variables of these names, which no set can hold, in the place of this name.
 ///
@@ -24,35 +28,33 @@ pub(crate) fn check_edit(
     Err(Failure::from_run(alloc, place, fault.as_str()))
 }
 
-/// The variable of these that the edit would change, or name. One that makes an entry passes their numbers over.
-fn changed_by<'a>(edit: &Edit<'_>, left_out: &'a [String]) -> Option<&'a str> {
-    match edit {
-        Edit::Add(
-            Addition {
-                position: Position::NoOrder,
-                ..
-            },
-        ) => None,
-        Edit::Add(_) => left_out_name(left_out, BOOT_ORDER),
-        Edit::Remove(entries) => entry_among(left_out, entries)
-            .or_else(|| left_out_name(left_out, BOOT_ORDER))
-            .or_else(|| left_out_name(left_out, BOOT_NEXT)),
-        Edit::First(entries) | Edit::Order(NewOrder { entries, .. }) => {
-            entry_among(left_out, entries).or_else(|| left_out_name(left_out, BOOT_ORDER))
-        }
-        Edit::Unrepeat => left_out_name(left_out, BOOT_ORDER),
-        Edit::Next(Some(entry)) => left_out_entry(left_out, *entry).or_else(|| left_out_name(
-            left_out, BOOT_NEXT,
-        )),
-        Edit::Next(None) => left_out_name(left_out, BOOT_NEXT),
-        Edit::Timeout(_) => left_out_name(left_out, TIMEOUT),
-        Edit::Activate(entries) | Edit::Deactivate(entries) => entry_among(left_out, entries),
-    }
+/// The first of these variables that the edit would change, or name.
+fn changed_by<'a>(edit: &Edit<'_>, left_out: &'a [String]) -> Option<&'a str>
+    ensures some { IfSome result (λ name. Contains (map string_bytes left_out.now) name.now × IsTouched edit.now name.now) }
+    ensures none { IfNone result (All (λ name. ¬ IsTouched edit.now (string_bytes name)) left_out.now) }
+{
+    left_out
+        .iter()
+        .map(String::as_str)
+        .find(|name| touches(edit, name))
 }
 
-/// The name of the first of these entries that is one of these variables.
-fn entry_among<'a>(left_out: &'a [String], entries: &[u16]) -> Option<&'a str> {
-    entries
-        .iter()
-        .find_map(|entry| left_out_entry(left_out, *entry))
+/// Whether the edit changes the variable of this name, or names its entry. One that makes an entry passes taken numbers over.
+fn touches(edit: &Edit<'_>, name: &str) -> bool
+    ensures { IsTrue result ↔ IsTouched edit.now name.now }
+{
+    vars_laws::constants_are_those_of_the_definitions();
+    match edit {
+        Edit::Add(addition) => addition.position != Position::NoOrder && name == BOOT_ORDER,
+        Edit::Remove(entries) => {
+            is_one_of(entries, name) || name == BOOT_ORDER || name == BOOT_NEXT
+        }
+        Edit::First(entries) => is_one_of(entries, name) || name == BOOT_ORDER,
+        Edit::Order(new) => is_one_of(new.entries, name) || name == BOOT_ORDER,
+        Edit::Unrepeat => name == BOOT_ORDER,
+        Edit::Next(Some(entry)) => is_one_of(&[*entry], name) || name == BOOT_NEXT,
+        Edit::Next(None) => name == BOOT_NEXT,
+        Edit::Timeout(_) => name == TIMEOUT,
+        Edit::Activate(entries) | Edit::Deactivate(entries) => is_one_of(entries, name),
+    }
 }

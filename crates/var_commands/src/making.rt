@@ -77,8 +77,7 @@ fn below(alloc: Global, root: &str, file: &str) -> Result<String, AllocError> {
 ///
 /// [`Failure::Words`] if a word isn't what it is to be; [`Failure::Read`] and [`Failure::Refused`] if the file with the
 /// optional data can't be read or is too long, and those of [`loader_path`] and [`disk_path`]; [`Failure::Refused`] if
-/// firmware doesn't start the file, and that isn't forced; and [`Failure::Memory`] if
-/// memory was refused.
+/// firmware doesn't start the file, and that isn't forced; and [`Failure::Memory`] if memory was refused.
 pub(crate) fn option_of_words<R: Files + Input + Eprint + AllocGlobal>(
     rt: &R,
     words: &LoadOptionWords<'_>,

@@ -1,24 +1,21 @@
 //! Variables of a machine that no set can hold.
 
+ghost use Rattle.std.specs.Prelude.{◌↔◌, IsTrue};
+ghost use Rattle.wanted_changes.specs.LeftOut.{IsOneOf};
+
 use uefi_vars::{Vars, entry_number};
 
 /// Why such a variable isn't changed, in words that go on from its name.
 pub const LEFT_OUT: &str = "has no value or too long a one, and stays as it is";
 
-/// The name of the entry of this number, if it is one of these.
-pub fn left_out_entry(left_out: &[String], entry: u16) -> Option<&str> {
-    left_out
-        .iter()
-        .map(String::as_str)
-        .find(|name| entry_number(name) == Some(entry))
-}
-
-/// This name, if it is one of these.
-pub fn left_out_name<'a>(left_out: &'a [String], name: &str) -> Option<&'a str> {
-    left_out
-        .iter()
-        .map(String::as_str)
-        .find(|left| *left == name)
+/// Whether it is the name of one of these entries.
+pub fn is_one_of(entries: &[u16], name: &str) -> bool
+    ensures { IsTrue result ↔ IsOneOf entries.now name.now }
+{
+    match entry_number(name) {
+        Some(number) => entries.contains(&number),
+        None => false,
+    }
 }
 
 /// Takes the variables of these names out.

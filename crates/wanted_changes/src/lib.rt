@@ -2,8 +2,8 @@
 //! 2.10, chapter 3).
 //!
 //! A [`Wanted`] says what is to become of the variables, and what is [`Told`] of that; [`Seen`] is what it may know of the
-//! machine beside them. [`set_of`] takes the attributes off what a machine keeps, and [`left_out_entry`] and
-//! [`left_out_name`] find what no set can hold. [`MachineWords`] names a machine's place, and the folder with its journal.
+//! machine beside them. [`set_of`] takes the attributes off what a machine keeps, and [`leave_out`] takes out what no set
+//! can hold. [`MachineWords`] names a machine's place, and the folder with its journal.
 #![tactic(auto)]
 
 mod kept_notes;
@@ -14,7 +14,7 @@ mod told;
 mod wanted;
 
 pub use kept_notes::{KeptNotes, digits_of, identity_digits};
-pub use left_out::{LEFT_OUT, leave_out, left_out_entry, left_out_name};
+pub use left_out::{LEFT_OUT, is_one_of, leave_out};
 pub use machine_words::MachineWords;
 pub use sets::{SetChange, set_of};
 pub use told::{Remarks, Told};
