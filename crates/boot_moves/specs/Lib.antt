@@ -1,8 +1,8 @@
 pub mod Deeds
-pub mod Ending
-pub mod Exchanges
-pub mod Follows
-pub mod Kept
-pub mod Next
-pub mod Outcome
 pub mod Parts
+pub mod Ending
+pub mod Next
+pub mod Exchanges
+pub mod Kept
+pub mod Outcome
+pub mod Follows

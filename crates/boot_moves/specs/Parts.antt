@@ -4,8 +4,9 @@ use Rattle.boot_journal.specs.Store.{Store}
 use Rattle.boot_moves.specs.declared.parts.Answer.{Answer}
 use Rattle.boot_moves.specs.Deeds.{Act, Deed, told_then}
 
--- where it begins: what is there, under which identity of the machine's start, and what is run
+-- where it begins: what the machine is called, what is there, under which identity of its start, and what is run
 pub record Begun (R : Type 0) : Type 0 where
+  pub machine : List ℕ
   pub first : Store
   pub boot : List ℕ
   pub run : R

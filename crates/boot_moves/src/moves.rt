@@ -52,7 +52,7 @@ impl<R> Model for Moves<R> {
     ghost coded = { Prim.hlevel (codes, map_code) };
 
     ghost view = { λ m. record {
-      begun = record { first = store_of m.first; boot = m.boot; run = m.run };
+      begun = record { machine = m.machine; first = store_of m.first; boot = m.boot; run = m.run };
       trace = deeds_of m.told.items;
       asked = option_map act_of m.asked;
     } };
@@ -73,7 +73,7 @@ impl<R: Run> Moves<R> {
         run: R,
     ) -> Moves<R>
         ensures { result ≡ record {
-          begun = record { first = record { variables = vars; journal = journal }; boot = boot; run = run };
+          begun = record { machine = machine; first = record { variables = vars; journal = journal }; boot = boot; run = run };
           trace = [];
           asked = None;
         } }
@@ -87,6 +87,13 @@ impl<R: Run> Moves<R> {
             told: Vec::new(alloc),
             asked: None,
         }
+    }
+
+    /// What the machine is called, in the files of its journals.
+    pub fn machine(&self) -> &MachineName
+        ensures { result.now ≡ self.now.begun.machine }
+    {
+        &self.machine
     }
 
     /// The move that is asked for, if one is.
