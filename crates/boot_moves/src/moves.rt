@@ -25,7 +25,7 @@ pub enum Next<A, F> {
 }
 
 /// A command of [`boot_journal`] over a machine, one move at a time: see the library's head.
-#[derive(Drop)]
+#[derive(Debug, Drop)]
 pub struct Moves<R> {
     alloc: Global,
     machine: MachineName,
@@ -63,7 +63,8 @@ impl<R> Model for Moves<R> {
 impl<R: Run> Moves<R> {
     /// The command that runs this over the machine of this name, which has these variables and this journal. Those of the
     /// boot manager are given with their attributes. A BootKeepState among the variables doesn't count: the journal has it.
-    /// The identity is that of the machine's start.
+    /// The identity is that of the machine's start. That the journal is another machine's isn't noticed here:
+    /// [`read_journal`](boot_journal::read_journal) tells whose it is.
     pub fn new(
         alloc: Global,
         machine: MachineName,
