@@ -5,7 +5,8 @@
 //! a call of a [`Storage`](boot_journal::Storage), which is Rattle code. [`Moves`] is the same command turned round: it does
 //! nothing by itself. [`Moves::next`] says that a [`Move`] comes next, the caller makes it and tells by [`Moves::tell`] what
 //! became of it, an [`Answer`], and so on until [`Next::Ended`] has what the command answers. After a loss of power the
-//! caller throws it away, and begins a new one over what is there then.
+//! caller throws it away, and begins a new one over what is there then; with [`Nothing`] as its run that does what is left
+//! to do, and no more.
 //!
 //! It is a replay. It keeps what the machine had at first, and the moves with their answers, the first one first. For the
 //! next move it runs the command from the start over a machine that answers each move as it was told, and that stops at
@@ -29,10 +30,12 @@
 mod journals;
 pub mod laws;
 mod moves;
+mod nothing;
 mod parts;
 mod replay;
 mod replaying;
 mod same;
 
 pub use moves::{Moves, Next};
+pub use nothing::Nothing;
 pub use parts::{Answer, Move};

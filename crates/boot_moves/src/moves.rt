@@ -108,7 +108,8 @@ impl<R: Run> Moves<R> {
     ///
     /// # Errors
     ///
-    /// [`AllocError`] if memory was refused: nothing has happened, and the same call may be made again.
+    /// [`AllocError`] if memory was refused: nothing has happened, and the same call may be made again. A run that doesn't
+    /// lead to the same each time, as one that reads a cell, can't be told from that, and `next` then fails for ever.
     pub fn next(&mut self) -> Result<Next<R::Answer, R::Fault>, AllocError>
         // What was told stays, and what is asked for is the next move.
         ensures begun { self.new.begun ≡ self.old.begun }
