@@ -1,6 +1,6 @@
 -- What a caller and a command say to each other, and what that is among calls of `command`. In each list the newest is the
 -- first.
-use Rattle.std.specs.Prelude.{◌≡◌, ◌⊎◌, ℕ, List, [], ◌∷◌, Some, None, Result, Ok, Err, Vec}
+use Rattle.std.specs.Prelude.{◌≡◌, ◌⊎◌, ℕ, Bool, List, [], ◌∷◌, map, Option, Some, None, Result, Ok, Err, Vec}
 use Rattle.std.specs.Global.{Global}
 use Rattle.uefi_vars.specs.Vars.{Variables}
 use Rattle.boot_requests.specs.declared.answer.Answer.{Answer as Reply}
@@ -10,7 +10,10 @@ use Rattle.boot_journal.specs.declared.machine.UpdateError.{UpdateError}
 use Rattle.boot_journal.specs.declared.machine.UpdateError.TheVariants as update
 use Rattle.boot_journal.specs.declared.requests.Requests.{Requests}
 use Rattle.boot_journal.specs.declared.requests.RunFault.{RunFault}
-use Rattle.boot_journal.specs.Calls.{Ending, Done, Unchanged, NotRun, Open}
+use Rattle.boot_journal.specs.Calls.{Ending, Done, Unchanged, NotRun, Open, Call, Runs, Step, world_after}
+use Rattle.boot_journal.specs.Calls as call
+use Rattle.boot_journal.specs.Events.{World, happens}
+use Rattle.boot_journal.specs.Events as event
 use Rattle.boot_journal.specs.Requests.{IsAnswered}
 use Rattle.boot_journal.specs.RunFault.{IsRunFault}
 use Rattle.boot_journal.specs.Store.{Store}
@@ -100,3 +103,52 @@ ending_of (Err (command.Settling _)) = NotRun
 ending_of (Err command.OutOfMemory) = Unchanged
 ending_of (Err (command.Run _)) = Unchanged
 ending_of (Err (command.Updating error)) = update_ending error
+
+-- ---- one after the other
+
+-- how a command ended whose last exchange this was: another one leaves it open
+abbrev pub ending_by : {A F : Type 0} → Exchange A F → Ending
+ending_by Asks = Open
+ending_by (Ended result) = ending_of result
+ending_by Fails = Open
+ending_by (Tells answer) = Open
+
+abbrev pub ending_in : {R A F : Type 0} → List (Exchanged R A F) → Ending
+ending_in [] = Open
+ending_in (exchanged ∷ before) = ending_by exchanged.exchange
+
+-- what a caller or firmware does
+pub data Doing : Type 0 where
+  -- a command of requests, that its caller makes: how it begins, and what they say to each other
+  Makes : MovesParts Requests → List RequestsExchanged → Doing
+  -- the machine is started anew, under this identity, and firmware deletes BootNext or leaves it
+  Starts : List ℕ → Bool → Doing
+  -- firmware changes variables by itself
+  Firmware : List (List ℕ × Option (List ℕ)) → Doing
+
+-- from the one world to the other: a command begins with what is there, and leaves what may be there
+abbrev pub DoingLeads : World → Doing → World → Type 0
+DoingLeads w (Makes m exchanges) v =
+    IsNew m × (m.begun.boot ≡ w.boot) × (m.begun.first ≡ w.store) × AreOfRequests m exchanges
+    × (v.boot ≡ w.boot) × MayBeThere (value_after m exchanges) v.store
+DoingLeads w (Starts boot deletes) v = v ≡ happens w (event.Starts boot deletes)
+DoingLeads w (Firmware changes) v = v ≡ happens w (event.Firmware changes)
+
+-- something that is done, and the world after it
+pub record DoneStep : Type 0 where
+  pub doing : Doing
+  pub after : World
+
+-- the call that it is
+abbrev pub call_by : Doing → Call
+call_by (Makes m exchanges) = Runs m.begun.run.events.now (ending_in exchanges)
+call_by (Starts boot deletes) = call.Starts boot deletes
+call_by (Firmware changes) = call.Firmware changes
+
+abbrev pub step_by : DoneStep → Step
+step_by did = record { call = call_by did.doing; after = did.after }
+
+-- done one after the other, the newest first
+abbrev pub AreDone : World → List DoneStep → Type 0
+AreDone w [] = Unit {0}
+AreDone w (did ∷ before) = DoingLeads (world_after w (map step_by before)) did.doing did.after × AreDone w before

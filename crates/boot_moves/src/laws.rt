@@ -1,17 +1,17 @@
 //! Laws about commands that are made one move at a time, which proofs of other crates may use. Each function does nothing:
 //! its contract is the law.
 
-ghost use Rattle.std.specs.Prelude.{ℕ, List, ◌∷◌, Result, Vec};
+ghost use Rattle.std.specs.Prelude.{ℕ, List, ◌∷◌, map, Result, Vec};
 ghost use Rattle.std.specs.Global.{Global};
 ghost use Rattle.boot_requests.specs.declared.answer.Answer.{Answer};
 ghost use Rattle.boot_journal.specs.declared.machine.CommandError.{CommandError};
 ghost use Rattle.boot_journal.specs.declared.requests.Requests.{Requests};
 ghost use Rattle.boot_journal.specs.declared.requests.RunFault.{RunFault};
-ghost use Rattle.boot_journal.specs.Calls.{CallLeads, Runs, Open};
-ghost use Rattle.boot_journal.specs.Events.{world};
+ghost use Rattle.boot_journal.specs.Calls.{CallLeads, Runs, Open, AreSteps};
+ghost use Rattle.boot_journal.specs.Events.{World, world};
 ghost use Rattle.boot_journal.specs.Store.{Store};
 ghost use Rattle.boot_moves.specs.Deeds.{after_all};
-ghost use Rattle.boot_moves.specs.Exchanges.{Ended, RequestsExchanged, AreOfRequests, IsNew, MayBeThere, value_after, ending_of};
+ghost use Rattle.boot_moves.specs.Exchanges.{Ended, RequestsExchanged, AreOfRequests, IsNew, MayBeThere, value_after, ending_of, DoneStep, step_by, AreDone};
 ghost use Rattle.boot_moves.specs.Parts.{MovesParts};
 
 /// A command of requests whose moves its caller makes is a call of [`command`](boot_journal::command), as which the laws of
@@ -27,4 +27,12 @@ pub fn a_command_that_its_caller_makes_is_a_call()
     ensures cut { (m : MovesParts Requests) (exchanges : List RequestsExchanged) (left : Store) →
         IsNew m → AreOfRequests m exchanges → MayBeThere (value_after m exchanges) left →
         CallLeads (world m.begun.boot m.begun.first) (Runs m.begun.run.events.now Open) (world m.begun.boot left) }
+{}
+
+/// Commands of requests whose moves a caller makes, each of what is there then, ended or cut off whenever, and in between
+/// starts of the machine and what firmware does, are a list of calls of which the laws of [`boot_journal`] speak
+/// (`AreSteps`): so each number is applied once, as [`boot_journal::laws::calls_apply_each_number_once`] says of such a list,
+/// and so on.
+pub fn commands_that_their_callers_make_are_calls()
+    ensures { (w : World) (done : List DoneStep) → AreDone w done → AreSteps w (map step_by done) }
 {}
