@@ -226,10 +226,10 @@ class Runs(WithPrograms):
         self.assertIn("b: 1 passed, 1 failed\n    one differs\n", printed)
 
     def test_names(self) -> None:
-        programs = runner.Programs(self.program("echo '53 checks, 0 fail'"), {})
+        programs = runner.Programs(self.program("echo '57 checks, 0 fail'"), {})
         with contextlib.redirect_stdout(io.StringIO()):
-            self.assertEqual(runner.run(programs, True, ["checks"]), (53, 0))
-            self.assertEqual(runner.run(programs, True, ["checks", "none.json"]), (53, 1))
+            self.assertEqual(runner.run(programs, True, ["checks"]), (57, 0))
+            self.assertEqual(runner.run(programs, True, ["checks", "none.json"]), (57, 1))
 
     def test_wrong_answers_have_to_be_told(self) -> None:
         expected = self.folder / "expected"

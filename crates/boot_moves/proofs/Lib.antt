@@ -1,0 +1,4 @@
+pub mod Deeds
+pub mod Doings
+pub mod Exchanges
+pub mod Replays
