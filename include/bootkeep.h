@@ -789,8 +789,8 @@ struct bootkeep_change {
 /*
  * The changes that lead from one set to the boot manager's variables of another, Boot####, BootOrder, BootNext and
  * Timeout, in an order in which a machine can make them: after each of them BootOrder and BootNext name a missing entry
- * only if they did before all of them, or do after them. The data of a variable before and after is in the two sets. `cap` and
- * `*len` count changes.
+ * only if they did before all of them, or do after them. The data of a variable before and after is in the two sets.
+ * `cap` and `*len` count changes.
  *
  * BootKeepState isn't among them, and firmware refuses it: a program that makes the changes of a keeper on a machine
  * keeps that state elsewhere, and together with them, as is said at bootkeep_keeper_set.

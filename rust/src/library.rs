@@ -379,8 +379,7 @@ pub(crate) fn set_named(set: &[u8]) -> Result<Vec<RawNamed>, Error> {
 /// The first fault of an image, with the numbers of who finds it and of what comes of it.
 pub(crate) fn image_check(image: &[u8]) -> Result<Option<(RawRefusal, u32, u32)>, Error> {
     let (mut stage, mut effect, mut refusal) = (0, 0, RawRefusal::default());
-    let status =
-        unsafe { bootkeep_image_check(image.as_ptr(), image.len(), &mut stage, &mut effect, &mut refusal) };
+    let status = unsafe { bootkeep_image_check(image.as_ptr(), image.len(), &mut stage, &mut effect, &mut refusal) };
     match status {
         DONE => Ok(None),
         REFUSED => Ok(Some((refusal, stage, effect))),

@@ -1,8 +1,8 @@
 //! Calls of each family, over the examples.
 
 use bootkeep::frame::{self, Request};
-use bootkeep::set::{BootVariable, ChangeKind, EntryState};
 use bootkeep::image::{self, Effect, Stage};
+use bootkeep::set::{BootVariable, ChangeKind, EntryState};
 use bootkeep::{option, path, set, Error, Fault, Keeper, Outcome, Reply};
 use std::collections::HashSet;
 
