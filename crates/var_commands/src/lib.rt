@@ -18,6 +18,7 @@ mod refusals;
 mod table;
 mod undo_list;
 mod undoing;
+mod update_rows;
 mod updates;
 mod writing;
 
