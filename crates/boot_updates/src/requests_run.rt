@@ -2,13 +2,14 @@
 
 ghost use Rattle.std.specs.Prelude.{IfOk, IfErr};
 ghost use Rattle.boot_journal.specs.Cause.{IfRefused};
-ghost use Rattle.boot_journal.specs.RunFault.{IsOpenRefusal};
+ghost use Rattle.journaled_requests.specs.RunFault.{IsOpenRefusal};
 ghost use Rattle.boot_updates.specs.NextNumber.{IsNextOf};
 
 use crate::noted::{Noted, note_run};
 use crate::numbers::next_number;
-use boot_journal::{CallError, Requests, Run, RunFault, without_attributes};
+use boot_journal::{CallError, Run, without_attributes};
 use boot_requests::Answer;
+use journaled_requests::{Requests, RunFault};
 use std::alloc::Global;
 use uefi_vars::Vars;
 use wanted_changes::KeptNotes;
@@ -34,8 +35,8 @@ pub struct Answered {
 }
 
 impl Run for RequestsRun<'_> {
-    ghost use Rattle.boot_journal.specs.Requests.{IsAnswered};
-    ghost use Rattle.boot_journal.specs.RunFault.{IsRunFault};
+    ghost use Rattle.journaled_requests.specs.Requests.{IsAnswered};
+    ghost use Rattle.journaled_requests.specs.RunFault.{IsRunFault};
     ghost use Rattle.boot_updates.specs.NextNumber.{IsNextOf};
     ghost use Rattle.boot_updates.specs.Told.{AreToldBy};
 

@@ -5,8 +5,9 @@ use crate::not_made::{NotMade, from_run};
 use crate::replies::{Replies, ReplyForm, next_in};
 use crate::requests_run::{Answered, RequestsRun};
 use crate::script::Script;
-use boot_journal::{CallError, Requests, Run, RunFault};
+use boot_journal::{CallError, Run};
 use boot_texts::{Look, UnnamedWords, changes_text, look_json, naming_change};
+use journaled_requests::{Requests, RunFault};
 use std::alloc::{AllocError, Global};
 use uefi_vars::{KEEP_STATE, Vars};
 use var_places::Failure;
@@ -35,8 +36,8 @@ pub struct WantedRequests<'a, 'b, 's> {
 }
 
 impl Wanted for WantedRequests<'_, '_, '_> {
-    ghost use Rattle.boot_journal.specs.Requests.{IsAnswered};
-    ghost use Rattle.boot_journal.specs.RunFault.{IsRunFault};
+    ghost use Rattle.journaled_requests.specs.Requests.{IsAnswered};
+    ghost use Rattle.journaled_requests.specs.RunFault.{IsRunFault};
     ghost use Rattle.boot_updates.specs.NextNumber.{IsNextOf};
     ghost use Rattle.boot_updates.specs.Told.{AreToldBy};
 
