@@ -8,9 +8,9 @@ use crate::script::Script;
 use boot_journal::{CallError, Run};
 use boot_texts::{Look, UnnamedWords, changes_text, look_json, naming_change};
 use journaled_requests::{Requests, RunFault};
+use messages::Failure;
 use std::alloc::{AllocError, Global};
 use uefi_vars::{KEEP_STATE, Vars};
-use var_places::Failure;
 use wanted_changes::{Remarks, Seen, SetChange, Told, Wanted, identity_digits, leave_out};
 
 /// What is printed of an update.

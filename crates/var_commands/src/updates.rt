@@ -8,8 +8,9 @@ use boot_updates::{
 use machine_changes::{
     ChangeOptions, PlaceKind, StateUse, ToldAnswer, change_machine, settle_machine,
 };
+use messages::Failure;
 use std::rt::{Clock, Files};
-use var_places::{Failure, is_folder};
+use var_places::is_folder;
 use wanted_changes::MachineWords;
 use whole_files::OutputFile;
 

@@ -1,7 +1,7 @@
 -- The status that a program ends with for each failure.
 use Rattle.std.specs.Prelude.{ℕ}
-use Rattle.var_places.specs.declared.failure.Failure.{Failure}
-use Rattle.var_places.specs.declared.failure.Failure.TheVariants as failure
+use Rattle.messages.specs.declared.failure.Failure.{Failure}
+use Rattle.messages.specs.declared.failure.Failure.TheVariants as failure
 
 -- the status by which a failure is told
 abbrev pub status_of : Failure → ℕ

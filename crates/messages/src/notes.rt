@@ -1,8 +1,8 @@
 //! What is told beside an answer, and names and texts as messages show them.
 
+use crate::failure::Failure;
 use std::alloc::{AllocError, Global};
 use std::fmt::{self, Display};
-use var_stores::Damage;
 
 /// How many characters messages show of a text that isn't the user's path.
 pub const SHOWN_MAX: usize = 60;
@@ -44,12 +44,17 @@ impl Display for Length<'_> {
 }
 
 /// What is damaged of an emulator's variable file, in words that go on from what the file is called.
-#[derive(Clone, Copy)]
-pub(crate) struct DamageWords<'a>(pub(crate) &'a Damage);
+#[derive(Clone, Copy, Debug)]
+pub struct DamageWords {
+    /// The place of the first byte behind the last record that isn't erased: its offset in bytes from the file's first byte.
+    pub place: usize,
+    /// How many records can be read behind the last one.
+    pub records: usize,
+}
 
-impl Display for DamageWords<'_> {
+impl Display for DamageWords {
     fn fmt<W: fmt::Write>(&self, f: &mut fmt::Formatter<W>) -> fmt::Result {
-        let Damage { place, records } = self.0;
+        let DamageWords { place, records } = self;
         write!(f, "its store of variables is damaged at byte {place}: ")?;
         match records {
             0 => f.write_str("no record can be read behind it"),
@@ -92,4 +97,15 @@ pub fn note<R: Eprint, D: Display + Drop>(rt: &R, name: &str, text: D) {
     let name = ShownName(name);
     // If standard error takes nothing, there is no place left to say so.
     let _ = eprintln!(rt; "bootvars: {name}: {text}");
+}
+
+/// Writes the bytes to standard output.
+///
+/// # Errors
+///
+/// [`Failure::Closed`] if nobody reads it any more, [`Failure::Write`] if it doesn't take them for another reason, and
+/// [`Failure::Memory`] if memory was refused.
+pub fn print<R: Print + AllocGlobal>(rt: &R, bytes: &[u8]) -> Result<(), Failure> {
+    rt.write_all(bytes)
+        .map_err(|error| Failure::from_print(rt.alloc(), error))
 }

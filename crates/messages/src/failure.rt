@@ -1,8 +1,8 @@
 //! What keeps the program from doing what it was asked to.
 
 ghost use Rattle.std.specs.Prelude.{◌≡◌};
-ghost use Rattle.var_places.specs.Failure.{status_of};
-ghost use Rattle.var_places.specs.declared.failure.Failure.TheVariants as failure;
+ghost use Rattle.messages.specs.Failure.{status_of};
+ghost use Rattle.messages.specs.declared.failure.Failure.TheVariants as failure;
 
 use crate::notes::shown;
 use crate::reason::Reason;
