@@ -8,8 +8,9 @@ ghost use Rattle.boot_requests.specs.StoredState.{OpensAs};
 use crate::guarded::{Unmet, identity_of, unmet_of};
 use crate::noted::{Noted, note_run};
 use crate::numbers::next_number;
-use boot_journal::{CallError, Requests, Run, RunFault, without_attributes};
+use boot_journal::{CallError, Run, without_attributes};
 use boot_requests::Answer;
+use journaled_requests::{Requests, RunFault};
 use request_preconditions::{IDENTITY_LEN, MachineState, Precondition};
 use std::alloc::{AllocError, Global};
 use uefi_vars::Vars;
@@ -42,9 +43,9 @@ pub struct Answered {
 }
 
 impl Run for RequestsRun<'_> {
-    ghost use Rattle.boot_journal.specs.Requests.{IsAnswered};
-    ghost use Rattle.boot_journal.specs.RunFault.{IsRunFault};
     ghost use Rattle.boot_journal.specs.Attributes.{data_of};
+    ghost use Rattle.journaled_requests.specs.Requests.{IsAnswered};
+    ghost use Rattle.journaled_requests.specs.RunFault.{IsRunFault};
     ghost use Rattle.boot_updates.specs.Guarded.{AreMet, IsGuarded};
     ghost use Rattle.boot_updates.specs.NextNumber.{IsNextOf};
     ghost use Rattle.boot_updates.specs.Told.{AreToldBy};

@@ -6,12 +6,13 @@ use crate::not_made::{NotMade, from_run};
 use crate::replies::{Replies, ReplyForm, next_in};
 use crate::requests_run::{Answered, RequestsRun};
 use crate::script::Script;
-use boot_journal::{CallError, Requests, Run, RunFault};
+use boot_journal::{CallError, Run};
 use boot_texts::{Look, UnnamedWords, changes_text, look_json, naming_change};
+use journaled_requests::{Requests, RunFault};
+use messages::Failure;
 use request_preconditions::Precondition;
 use std::alloc::{AllocError, Global};
 use uefi_vars::{KEEP_STATE, Vars};
-use var_places::Failure;
 use wanted_changes::{Remarks, Seen, SetChange, Told, Wanted, identity_digits, leave_out};
 
 /// What is printed of an update.
@@ -39,9 +40,9 @@ pub struct WantedRequests<'a, 'b, 's> {
 }
 
 impl Wanted for WantedRequests<'_, '_, '_> {
-    ghost use Rattle.boot_journal.specs.Requests.{IsAnswered};
-    ghost use Rattle.boot_journal.specs.RunFault.{IsRunFault};
     ghost use Rattle.boot_journal.specs.Attributes.{data_of};
+    ghost use Rattle.journaled_requests.specs.Requests.{IsAnswered};
+    ghost use Rattle.journaled_requests.specs.RunFault.{IsRunFault};
     ghost use Rattle.boot_updates.specs.Guarded.{AreMet, IsGuarded};
     ghost use Rattle.boot_updates.specs.NextNumber.{IsNextOf};
     ghost use Rattle.boot_updates.specs.Told.{AreToldBy};

@@ -6,8 +6,9 @@ use crate::checked::check_vars;
 use crate::json::json_of;
 use crate::machine::{Machine, variables_folder};
 use crate::report::report_of;
+use messages::{Failure, print};
 use std::rt::Files;
-use var_places::{Failure, print, read_place};
+use var_places::read_place;
 
 /// The words of a check.
 #[derive(Clone, Copy)]

@@ -12,12 +12,12 @@ use entry_checks::{
     Facts, Finding, Held, Known, NextFinding, OptionFacts, OrderFindings, State, entry_state,
     findings, is_order_wrong, listed, next_finding, order_findings, twins,
 };
+use messages::Failure;
 use std::alloc::{AllocError, Global};
 use std::rt::Files;
 use uefi_vars::{
     PlanNumbers, VarFault, Vars, boot_next, entries_at_risk, entry_number, plan_numbers,
 };
-use var_places::Failure;
 
 /// What is found of the variables of a place.
 #[derive(Drop)]

@@ -5,7 +5,7 @@
 //! files on those that are mounted, whose headers `efi_images` checks, and of which it tells what Secure Boot answers, and
 //! prints what is found, as lines for a person or as JSON. What is found is said by `entry_checks`; docs/formats.md has
 //! each line and each member. [`note_of_file`] and [`note_of_path`] are what is told of a loader before an entry is made of
-//! it. What goes wrong is a `Failure` of `var_places`.
+//! it. What goes wrong is a `Failure` of `messages`.
 #![tactic(auto)]
 
 mod check;

@@ -3,10 +3,10 @@
 use crate::image::SeenImage;
 use crate::machine::{Machine, Seen, variables_folder};
 use entry_checks::{Finding, ImageState, Weight, path_target};
+use messages::Failure;
 use std::alloc::{AllocError, Global};
 use std::rt::Files;
 use uefi_path::Path;
-use var_places::Failure;
 
 /// What is to be told of a loader.
 #[derive(Drop)]

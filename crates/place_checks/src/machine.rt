@@ -10,6 +10,7 @@ use disk_files::{
     machine_partitions, mounted_folders,
 };
 use entry_checks::{Lead, Processor, Target, name_among, processor_of};
+use messages::{Failure, shown};
 use partitions::DeviceNumber;
 use std::alloc::{AllocError, Global};
 use std::collections::BTreeMap;
@@ -17,7 +18,7 @@ use std::fs;
 use std::io::{self, ErrorKind};
 use std::rt::Files;
 use uefi_path::HardDriveNode;
-use var_places::{Failure, is_folder, shown};
+use var_places::is_folder;
 use whole_files::{RegularFile, read_regular};
 
 /// What parts the names in the path of a file (UEFI 2.10, 10.3.5.4).

@@ -12,13 +12,12 @@ use boot_texts::{
 };
 use disk_files::{disk_path, loader_path};
 use hex::FromHexError;
+use messages::{Failure, Quoted, Reason, note, print};
 use place_checks::{LoaderNote, note_of_file, note_of_path};
 use std::alloc::{AllocError, Global};
 use std::rt::Files;
 use uefi_path::Path;
-use var_places::{
-    Failure, Quoted, Reason, check_output, lock, name_of, no_option, note, print, read, write,
-};
+use var_places::{check_output, lock, name_of, no_option, read, write};
 use whole_files::OutputFile;
 
 /// Makes a file with the load option of these words. Tells on standard error which paths had doubled backslashes.

@@ -2,7 +2,7 @@
 
 ghost use Rattle.std.specs.Prelude.{◌≡◌, MatchResult};
 ghost use Rattle.var_commands.specs.Ending.{ending_status};
-ghost use Rattle.var_places.specs.Failure.{status_of};
+ghost use Rattle.messages.specs.Failure.{status_of};
 
 use crate::action::{Action, Form};
 use crate::changing::change_entries;
@@ -15,6 +15,7 @@ use crate::writing::write_place;
 use boot_texts::{changes_text, timeout_json, timeout_report, vars_json, vars_report};
 use boot_updates::Ended;
 use clap::error::ErrorKind;
+use messages::{Failure, Reason, SHOWN_MAX, Shortened, print};
 use place_checks::{CheckWords, Verdict, check_place};
 use place_edits::{Takeable, get_entry};
 use std::alloc::{AllocError, Global};
@@ -22,8 +23,8 @@ use std::rt::{Clock, Env, Files};
 use std::{env, io};
 use uefi_vars::{Changes, KEEP_STATE, Vars, boot_changes, is_boot_name, write_set};
 use var_places::{
-    Failure, FileKind, Output, Reason, SHOWN_MAX, STANDARD, Shortened, check_output, file_kind,
-    has_keep_state, is_same_file, lock, name_of, print, read, read_place, write,
+    FileKind, Output, STANDARD, check_output, file_kind, has_keep_state, is_same_file, lock,
+    name_of, read, read_place, write,
 };
 use whole_files::OutputFile;
 

@@ -8,10 +8,11 @@ use boot_updates::{
 use machine_changes::{
     ChangeOptions, PlaceKind, StateUse, ToldAnswer, change_machine, settle_machine,
 };
+use messages::{Failure, Quoted};
 use request_preconditions::{Precondition, PreconditionFault, read_precondition};
 use std::alloc::Global;
 use std::rt::{Clock, Files};
-use var_places::{Failure, Quoted, is_folder};
+use var_places::is_folder;
 use wanted_changes::MachineWords;
 use whole_files::OutputFile;
 
