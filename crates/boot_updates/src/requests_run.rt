@@ -8,9 +8,9 @@ ghost use Rattle.boot_requests.specs.StoredState.{OpensAs};
 use crate::guarded::{Unmet, identity_of, unmet_of};
 use crate::noted::{Noted, note_run};
 use crate::numbers::next_number;
-use boot_journal::{CallError, Run, without_attributes};
+use boot_journal::{CallError, Run};
 use boot_requests::Answer;
-use journaled_requests::{Requests, RunFault};
+use journaled_requests::{Requests, RunFault, keeper_vars};
 use request_preconditions::{IDENTITY_LEN, MachineState, Precondition};
 use std::alloc::{AllocError, Global};
 use uefi_vars::Vars;
@@ -64,7 +64,7 @@ impl Run for RequestsRun<'_> {
 
     fn run(&self, alloc: Global, vars: &Vars) -> Result<(Vars, Answered), CallError<RunFault>> {
         let (to, answers) = self.requests.run(alloc, vars)?;
-        let set = without_attributes(alloc, vars)?;
+        let set = keeper_vars(alloc, vars)?;
         let first = first_number(alloc, &set)?;
         let journal = identity_of(self.notes);
         let state = MachineState {

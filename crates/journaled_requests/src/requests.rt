@@ -66,15 +66,19 @@ fn open(alloc: Global, vars: &Vars) -> Result<Keeper, CallError<RunFault>>
     ensures opened { IfOk result (λ keeper. (keeper ≡ plain_start keeper.state) × KeepsState vars.now keeper.state) }
     ensures refused { IfErr result (λ error. IfRefused error (IsOpenRefusal vars.now)) }
 {
-    let set = without(alloc, vars)?;
+    let set = keeper_vars(alloc, vars)?;
     match Keeper::open(alloc, set) {
         Ok(keeper) => Ok(keeper),
         Err(refused) => Err(open_error(refused.fault)),
     }
 }
 
-/// The variables without their attributes.
-fn without(alloc: Global, vars: &Vars) -> Result<Vars, CallError<RunFault>>
+/// What a keeper opens of what a machine keeps: its variables without attributes.
+///
+/// # Errors
+///
+/// [`RunFault::NoData`] if there is no byte after the attributes of a variable of the boot manager, and that memory was refused.
+pub fn keeper_vars(alloc: Global, vars: &Vars) -> Result<Vars, CallError<RunFault>>
     ensures set { IfOk result (λ set. set ≡ data_of vars.now) }
     ensures refused { IfErr result (λ error. IfRefused error (λ reason. (reason ≡ RunFault.NoData) × HasNoData vars.now)) }
 {
