@@ -1,6 +1,5 @@
-use Rattle.std.proofs.Common.{◌+◌, Ok, Err, OnOk, sym, ap, ◌∙◌}
+use Rattle.std.proofs.Common.{sym, ap}
 use Rattle.std.specs.Prelude.{is_some}
-use Rattle.uefi_vars.specs.ByNumber.{HasMet}
 use Rattle.uefi_vars.proofs.Repeats.{met_again, comes_first}
 use Rattle.uefi_vars.proofs.normal_entry.look_once.Goals as goal
 

@@ -1,4 +1,4 @@
-use Rattle.std.proofs.Common.{◌+◌, Ok, Err, OnOk, sym, ap, ◌∙◌}
+use Rattle.std.proofs.Common.{◌+◌, Ok, Err, OnOk, sym, ap}
 use Rattle.std.specs.Prelude.{is_some}
 use Rattle.uefi_vars.specs.ByNumber.{HasMet}
 use Rattle.uefi_vars.proofs.Repeats.{met_again, comes_first}

@@ -1,6 +1,6 @@
-use Rattle.std.proofs.Common.{◌≡◌, ℕ, ◌<◌, true, false, length, take, get_or, sym, ap, ◌∙◌, arith}
+use Rattle.std.proofs.Common.{◌≡◌, ◌<◌, true, false, length, take, get_or, sym, ◌∙◌, arith}
 use Rattle.std.proofs.lemmas.Bool.{not-true, not-false}
-use Rattle.std.proofs.lemmas.List.{take_more, take_all}
+use Rattle.std.proofs.lemmas.List.{take_more}
 use Rattle.uefi_vars.specs.ByNumber.{is_in}
 use Rattle.uefi_vars.proofs.Repeats.{placed_again, placed_before}
 use Rattle.uefi_vars.proofs.by_number.ByNumber.from_repeated.Goals as goal
