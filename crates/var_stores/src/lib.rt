@@ -2,9 +2,8 @@
 //! (UEFI specification, version 2.10, chapters 3 and 8).
 //!
 //! [`read_store`] finds the records of variables in a file, and [`store_vars`] makes a set of those that are there;
-//! [`stored_value`] is the value of one of them, of any vendor.
-//! [`VariableStore::damage`] tells of what isn't erased behind them. [`write_boot_vars`] gives the bytes of the file with
-//! the boot variables of another set.
+//! [`stored_value`] is the value of one of them, of any vendor. [`VariableStore::damage`] tells of what isn't erased
+//! behind them. [`write_boot_vars`] gives the bytes of the file with the boot variables of another set.
 #![tactic(auto)]
 
 mod damage;

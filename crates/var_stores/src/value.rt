@@ -12,8 +12,8 @@ use crate::writer::append_name;
 use std::alloc::{AllocError, Global};
 use uefi_path::Guid;
 
-/// The value of the variable of a store that has this name and this vendor's GUID (UEFI 2.10, 8.2), in as many bytes as the
-/// store has of it, also none: `None` if no such variable is there. Which record is there is as for
+/// The value of the variable of a store that has this name and this vendor's GUID (UEFI 2.10, 8.2), in as many bytes as
+/// the store has of it, also none: `None` if no such variable is there. Which record is there is as for
 /// [`store_vars`](crate::store_vars). A value is lent from the bytes of the store. Times and keys are in the headers of
 /// records, so of an authenticated variable, as db, the value is its data alone.
 ///
