@@ -84,7 +84,7 @@ fn word_of(failure: &Failure) -> &'static str {
         Failure::Busy(_) | Failure::Held(_) => "Busy",
         Failure::Memory => "OutOfMemory",
         Failure::Closed => "Closed",
-        Failure::Run { .. } | Failure::Refused { .. } => "Refused",
+        Failure::Run { .. } | Failure::Refused { .. } | Failure::Loader { .. } => "Refused",
     }
 }
 

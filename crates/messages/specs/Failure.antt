@@ -15,4 +15,5 @@ status_of (failure.Refused name reason) = 5
 status_of (failure.Busy name) = 7
 status_of (failure.Held name) = 7
 status_of (failure.Unsettled text) = 8
+status_of (failure.Loader name words) = 9
 status_of failure.Closed = 141

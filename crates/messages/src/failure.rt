@@ -61,6 +61,14 @@ pub enum Failure {
     /// Nobody reads standard output any more: that is told by the status alone.
     #[error("standard output is closed")]
     Closed,
+    /// Firmware doesn't start the loader for which an entry is to be made.
+    #[error("{name}: {words}")]
+    Loader {
+        /// What the file is called, as messages show it.
+        name: String,
+        /// What is found, in words.
+        words: String,
+    },
     /// An input is refused.
     #[error("{name}: {reason}")]
     Refused {
@@ -72,10 +80,11 @@ pub enum Failure {
 }
 
 impl Failure {
-    /// The status that the program ends with: 1 if a script or the variables that it is run over are refused, 2 if the words
-    /// of the command line are wrong, 3 if a file or a variable can't be read or changed, 4 if memory was refused, 5 if an
-    /// input is refused, 7 if somebody else has a lock, 8 if an update was neither made nor taken back, and 141 if nobody
-    /// reads standard output any more, as of a program that SIGPIPE ended.
+    /// The status that the program ends with: 1 if a script or the variables that it is run over are refused, 2 if the
+    /// words of the command line are wrong, 3 if a file or a variable can't be read or changed, 4 if memory was
+    /// refused, 5 if an input is refused, 7 if somebody else has a lock, 8 if an update was neither made nor taken
+    /// back, 9 if firmware doesn't start the loader for which an entry is to be made, and 141 if nobody reads standard
+    /// output any more, as of a program that SIGPIPE ended.
     pub fn status(&self) -> u8
         ensures { result ≡ status_of self.now }
     {
@@ -87,6 +96,7 @@ impl Failure {
             Failure::Refused { .. } => 5,
             Failure::Busy(_) | Failure::Held(_) => 7,
             Failure::Unsettled(_) => 8,
+            Failure::Loader { .. } => 9,
             Failure::Closed => 141,
         }
     }
@@ -139,6 +149,15 @@ impl Failure {
         }
     }
 
+    /// What it is to the program that firmware doesn't start the loader of this name, for which an entry is to be made,
+    /// as these words say.
+    pub fn from_loader<D: Display + Drop>(alloc: Global, name: &str, words: D) -> Failure {
+        match loader_refused(alloc, name, words) {
+            Ok(failure) => failure,
+            Err(AllocError) => Failure::Memory,
+        }
+    }
+
     /// What it is to the program that a script or variables of this name are refused for this fault, in words.
     pub fn from_run(alloc: Global, name: &str, fault: &str) -> Failure {
         match run_refused(alloc, name, fault) {
@@ -180,6 +199,19 @@ fn words_or_memory(words: &str) -> &str {
     } else {
         words
     }
+}
+
+/// What it is to the program that firmware doesn't start the loader of this name, as these words say. This fails only
+/// when out of memory.
+fn loader_refused<D: Display + Drop>(
+    alloc: Global,
+    name: &str,
+    words: D,
+) -> Result<Failure, AllocError> {
+    Ok(Failure::Loader {
+        name: shown(alloc, name)?,
+        words: format!(in alloc; "{words}")?,
+    })
 }
 
 /// What it is to the program that a script or variables of this name are refused for this fault. This fails only when out

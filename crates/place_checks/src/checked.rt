@@ -214,7 +214,7 @@ fn unnamed_numbers(alloc: Global, vars: &Vars) -> Result<Vec<u16>, AllocError> {
     }
 }
 
-/// What is known of an entry that has this twin, where BootNext has this number, and these entries are named by nothing.
+/// What is known of an entry that has this twin, if BootNext has this number, and these entries are named by nothing.
 fn facts_of(looked: &LookedEntry, twin: Option<u16>, next: Option<u16>, unnamed: &[u16]) -> Facts {
     let held = match looked.attributes {
         Some(attributes) => Held::Option(OptionFacts {
