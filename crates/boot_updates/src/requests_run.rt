@@ -7,9 +7,9 @@ ghost use Rattle.boot_updates.specs.NextNumber.{IsNextOf};
 
 use crate::noted::{Noted, note_run};
 use crate::numbers::next_number;
-use boot_journal::{CallError, Run, without_attributes};
+use boot_journal::{CallError, Run};
 use boot_requests::Answer;
-use journaled_requests::{Requests, RunFault};
+use journaled_requests::{Requests, RunFault, run_set};
 use std::alloc::Global;
 use uefi_vars::Vars;
 use wanted_changes::KeptNotes;
@@ -70,6 +70,6 @@ fn first_number(alloc: Global, vars: &Vars) -> Result<u32, CallError<RunFault>>
     ensures first { IfOk result (IsNextOf vars.now) }
     ensures refused { IfErr result (λ error. IfRefused error (IsOpenRefusal vars.now)) }
 {
-    let set = without_attributes(alloc, vars)?;
+    let set = run_set(alloc, vars)?;
     Ok(next_number(alloc, set)?.unwrap_or(0))
 }
