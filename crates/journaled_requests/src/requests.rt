@@ -3,7 +3,7 @@
 ghost use Rattle.std.specs.Prelude.{◌≡◌, ◌≢◌, IfOk, IfErr};
 ghost use Rattle.boot_requests.specs.declared.fault.OpenFault.{OpenFault};
 ghost use Rattle.boot_requests.specs.Turn.{plain_start};
-ghost use Rattle.boot_journal.specs.Attributes.{data_of, with_attributes, HasNoData, HasLongData};
+ghost use Rattle.boot_journal.specs.Attributes.{data_of, with_attributes, HasLongData};
 ghost use Rattle.boot_journal.specs.Cause.{IfRefused};
 ghost use Rattle.journaled_requests.specs.Requests.{KeepsState};
 ghost use Rattle.journaled_requests.specs.RunFault.{IsOpenRefusal};
@@ -66,21 +66,22 @@ fn open(alloc: Global, vars: &Vars) -> Result<Keeper, CallError<RunFault>>
     ensures opened { IfOk result (λ keeper. (keeper ≡ plain_start keeper.state) × KeepsState vars.now keeper.state) }
     ensures refused { IfErr result (λ error. IfRefused error (IsOpenRefusal vars.now)) }
 {
-    let set = keeper_vars(alloc, vars)?;
+    let set = run_set(alloc, vars)?;
     match Keeper::open(alloc, set) {
         Ok(keeper) => Ok(keeper),
         Err(refused) => Err(open_error(refused.fault)),
     }
 }
 
-/// What a keeper opens of what a machine keeps: its variables without attributes.
+/// The set that requests are run over: the variables that a machine keeps, without their attributes.
 ///
 /// # Errors
 ///
-/// [`RunFault::NoData`] if there is no byte after the attributes of a variable of the boot manager, and that memory was refused.
-pub fn keeper_vars(alloc: Global, vars: &Vars) -> Result<Vars, CallError<RunFault>>
+/// [`CallError::Refused`] with [`RunFault::NoData`] if a variable of the boot manager has no byte after its attributes, and
+/// [`CallError::OutOfMemory`] if memory was refused.
+pub fn run_set(alloc: Global, vars: &Vars) -> Result<Vars, CallError<RunFault>>
     ensures set { IfOk result (λ set. set ≡ data_of vars.now) }
-    ensures refused { IfErr result (λ error. IfRefused error (λ reason. (reason ≡ RunFault.NoData) × HasNoData vars.now)) }
+    ensures refused { IfErr result (λ error. IfRefused error (IsOpenRefusal vars.now)) }
 {
     match without_attributes(alloc, vars) {
         Ok(set) => Ok(set),
