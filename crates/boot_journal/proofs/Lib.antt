@@ -22,6 +22,7 @@ pub mod Commands
 pub mod Calls
 pub mod OwnCalls
 pub mod Errors
+pub mod Failures
 pub mod Between
 pub mod Next
 pub mod KeptChanges
