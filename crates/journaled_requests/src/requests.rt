@@ -51,7 +51,7 @@ impl Run for Requests<'_> {
     /// Takes the attributes off the variables of the boot manager, opens what is left, runs the events over it, and
     /// puts the attributes on again: a variable that is replaced has those that it had, and a new one has
     /// [`BOOT_ATTRIBUTES`](uefi_vars::BOOT_ATTRIBUTES).
-    fn run(&self, alloc: Global, vars: &Vars) -> Result<(Vars, Vec<Answer>), CallError<RunFault>> {
+    fn run(self, alloc: Global, vars: &Vars) -> Result<(Vars, Vec<Answer>), CallError<RunFault>> {
         laws::a_start_stands_for_no_events();
         laws::variables_open_as_one_state();
         let keeper = open(alloc, vars)?;
