@@ -1,6 +1,9 @@
 pub mod Firsts
 pub mod Rows
 pub mod Entries
+pub mod Written
+pub mod Blocks
+pub mod Names
 pub mod Told
 pub mod Passing
 pub mod Sums

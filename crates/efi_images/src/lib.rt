@@ -7,22 +7,29 @@
 //! [`read_lists`] finds the lists of signatures in the data of these variables. [`secure_boot_answer`] tells what Secure
 //! Boot answers by them, as far as that is told without the check of a signature.
 //!
-//! What EDK2's loader looks at besides is not looked at here: the names in CodeView data, the resource directory, the
-//! blocks of relocations, and signatures. So a file without a fault here may still be refused.
+//! Signatures aren't checked here: with Secure Boot on, a file without a fault here may still be denied.
 #![tactic(auto)]
 
 mod answer;
 mod bytes;
 mod certificates;
 mod check;
+mod code_view;
+mod code_view_fault;
 mod debug;
 mod digest;
 mod digest_fault;
 mod fault;
+mod fault_effect;
 mod headers;
 pub mod laws;
+mod loaded;
 mod loader;
 mod loading;
+mod relocation_fault;
+mod relocations;
+mod resource_fault;
+mod resources;
 mod section;
 mod secure_boot;
 mod signatures;
@@ -32,9 +39,12 @@ mod wanted;
 pub use answer::{SecureBootAnswer, Verdict};
 pub use certificates::Signing;
 pub use check::check_image;
+pub use code_view_fault::CodeViewFault;
 pub use digest::{DIGEST_LEN, image_digest};
 pub use digest_fault::DigestFault;
 pub use fault::{Effect, ImageFault, Stage};
+pub use relocation_fault::RelocationFault;
+pub use resource_fault::ResourceFault;
 pub use section::Section;
 pub use secure_boot::{SecureBoot, secure_boot_answer};
 pub use signatures::{ListFault, SignatureList, read_lists};
