@@ -10,3 +10,4 @@ pub mod Whole
 pub mod Among
 pub mod Answered
 pub mod Allowing
+mod Alike

@@ -12,3 +12,7 @@ pub mod Headers
 pub mod Sections
 pub mod Debug
 pub mod Check
+pub mod Der
+pub mod Names
+pub mod X509
+pub mod Signers
