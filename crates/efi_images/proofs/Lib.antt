@@ -10,4 +10,6 @@ pub mod Whole
 pub mod Among
 pub mod Answered
 pub mod Allowing
-mod Alike
+pub mod Alike
+pub mod Bundles
+pub mod Leading

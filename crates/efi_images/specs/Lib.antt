@@ -16,3 +16,4 @@ pub mod Der
 pub mod Names
 pub mod X509
 pub mod Signers
+pub mod Leads

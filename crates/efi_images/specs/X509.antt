@@ -1,6 +1,6 @@
 -- Certificates of X.509 (RFC 5280, 4.1), and those that a signature of PKCS #7 has with it (RFC 2315, 9.1), as far as they
 -- tell who may have signed.
-use Rattle.std.specs.Prelude.{ℕ, zero, suc, ◌==◌, List, [], ◌∷◌, Option, Some, None, if◌then◌else◌}
+use Rattle.std.specs.Prelude.{ℕ, zero, suc, ◌==◌, List, [], ◌∷◌, ◌++◌, length, Option, Some, None, if◌then◌else◌}
 use Rattle.efi_images.specs.Der.{◌>>=◌, ElementParts, element_of, field}
 use Rattle.efi_images.specs.declared.x509.Certificate.{Certificate}
 
@@ -50,15 +50,16 @@ bundle_of signature = do
   next ← element_of content.rest
   Some (if next.tag == 0xA0 then next.body else [])
 
--- how many certificates a signature may have with it
-abbrev pub bundle_max : ℕ
-bundle_max = 32
+-- these certificates, and more after them, if there are more
+abbrev pub in_front : List CertificateParts → Option (List CertificateParts) → Option (List CertificateParts)
+in_front first None = None
+in_front first (Some others) = Some (first ++ others)
 
 -- all certificates of these bytes, if there are no more than so many, and each is read
 unfoldable pub bundled : ℕ → List ℕ → Option (List CertificateParts)
-bundled left [] = Some []
-bundled zero bytes = None
-bundled (suc left) bytes = do
-  first ← certificate_of bytes
-  others ← bundled left first.rest
-  Some (first ∷ others)
+bundled zero bytes = if length bytes == 0 then Some [] else None
+bundled (suc left) bytes =
+    if length bytes == 0 then Some []
+    else do
+      first ← certificate_of bytes
+      in_front (first ∷ []) (bundled left first.rest)
