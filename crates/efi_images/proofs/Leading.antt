@@ -1,5 +1,5 @@
 -- Certificates of db, as they are gone through one after the other.
-use Rattle.std.proofs.Common.{◌≡◌, refl, ℕ, suc, ◌+◌, ◌-◌, ◌<◌, ◌≤◌, ◌==◌, ◌||◌, Bool, true, false, List, [], ◌∷◌, length, map, drop, Option, Some, None, ◌∙◌, ap, sym, arith}
+use Rattle.std.proofs.Common.{◌≡◌, refl, ℕ, suc, ◌+◌, ◌-◌, ◌<◌, ◌≤◌, ◌==◌, ◌||◌, Bool, true, false, List, [], ◌∷◌, length, map, drop, get_or, Option, Some, None, ◌∙◌, ap, sym, add-one, drop-cons, length-drop, arith}
 use Rattle.std.specs.List.{list_any}
 use Rattle.std.specs.Cmp.Lexicographic.{pointwise}
 use Rattle.efi_images.specs.Signatures.{ListParts, list_parts}
@@ -62,18 +62,32 @@ lead_ended signers dbx list len signatures count counter before most =
     let e : count - counter ≡ 0 = omega arith in
     rw e refl
 
-pub lists_step : (signers : List CertificateParts) (dbx : List ListParts) (index : ℕ) (all : List SignatureList) (first : SignatureList)
+lists_step : (signers : List CertificateParts) (dbx : List ListParts) (index : ℕ) (all : List SignatureList) (first : SignatureList)
     (others : List SignatureList) (before : Lead) → all ≡ first ∷ others
     → lists_lead signers dbx index (map list_parts all) before
     ≡ lists_lead signers dbx (index + 1) (map list_parts others) (list_lead signers dbx index (list_parts first) before)
 unfolding lists_lead
 lists_step signers dbx index all first others before e = rw e refl
 
-pub lists_ended : (signers : List CertificateParts) (dbx : List ListParts) (index : ℕ) (all : List SignatureList) (before : Lead)
+pub lists_step_at : (signers : List CertificateParts) (dbx : List ListParts) (index : ℕ) (all : List SignatureList) (one : SignatureList)
+    (before : Lead) → index < length all
+    → lists_lead signers dbx index (map list_parts (drop index all)) before
+    ≡ lists_lead signers dbx (index + 1) (map list_parts (drop (index + 1) all))
+    (list_lead signers dbx index (list_parts (get_or all index one)) before)
+lists_step_at signers dbx index all one before below =
+    lists_step signers dbx index (drop index all) (get_or all index one) (drop (index + 1) all) before
+    (drop-cons all index one below ∙ ap (λ n. get_or all index one ∷ drop n all) (sym (add-one index)))
+
+ended : (signers : List CertificateParts) (dbx : List ListParts) (index : ℕ) (all : List SignatureList) (before : Lead)
     → length all ≤ 0 → lists_lead signers dbx index (map list_parts all) before ≡ before
 unfolding lists_lead
-lists_ended signers dbx index [] before none = refl
-lists_ended signers dbx index (first ∷ others) before none = grind arith
+ended signers dbx index [] before none = refl
+ended signers dbx index (first ∷ others) before none = grind arith
+
+pub lists_ended : (signers : List CertificateParts) (dbx : List ListParts) (index : ℕ) (all : List SignatureList) (before : Lead)
+    → length all ≤ index → lists_lead signers dbx index (map list_parts (drop index all)) before ≡ before
+lists_ended signers dbx index all before most =
+    ended signers dbx index (drop index all) before (grind (arith, length-drop))
 
 pub of_certificates : (signers : List CertificateParts) (dbx : List ListParts) (index : ℕ) (l : ListParts) (before : Lead)
     → is_of_certificates l ≡ true

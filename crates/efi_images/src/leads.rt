@@ -57,12 +57,8 @@ pub(crate) fn find_lead(
     ensures { result ≡ lists_lead (map certificate_parts signers.now) (map list_parts dbx.now) 0 (map list_parts db.now) Lead.Nowhere }
 {
     let mut found = Lead::Nowhere;
-    let mut index = 0;
-    let mut rest = db;
-    while let [list, others @ ..] = rest {
-        found = list_lead(signers, dbx, index, list, found);
-        rest = others;
-        index += 1;
+    for index in 0..db.len() {
+        found = list_lead(signers, dbx, index, &db[index], found);
     }
     found
 }

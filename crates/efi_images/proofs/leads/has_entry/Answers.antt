@@ -6,13 +6,13 @@ use Rattle.efi_images.proofs.leads.has_entry.Goals as goal
 
 pub returns-then-eq : goal.returns-then-eq
 returns-then-eq c =
-    let below = rw c.entry_count.ensures at c.loop-test.true in
+    let below = rw c.entry_count-end.ensures at c.loop-test.true in
     sym (c.loop.invariant ∙ entry_here c.args.wanted.now c.args.list.now.signature_len c.loop.rest.now
     (entry_count (list_parts c.args.list.now)) c.loop.counter below (search rules))
 
 pub loop-preserved : goal.loop-preserved
 loop-preserved c =
-    let below = rw c.entry_count.ensures at c.loop-test.true in
+    let below = rw c.entry_count-end.ensures at c.loop-test.true in
     let len = c.args.list.now.signature_len in
     let count = entry_count (list_parts c.args.list.now) in
     c.loop.invariant
@@ -21,6 +21,6 @@ loop-preserved c =
 
 pub returns : goal.returns
 returns c =
-    let most = rw c.entry_count.ensures at c.loop-test.false in
+    let most = rw c.entry_count-end.ensures at c.loop-test.false in
     sym (c.loop.invariant ∙ no_entry_left c.args.wanted.now c.args.list.now.signature_len c.loop.rest.now
     (entry_count (list_parts c.args.list.now)) c.loop.counter most)

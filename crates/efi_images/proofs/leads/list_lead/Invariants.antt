@@ -10,5 +10,5 @@ invariant-loop-entry l =
     let dbx = map list_parts l.dbx in
     let len = l.list.signature_len in
     let count = entry_count (list_parts l.list) in
-    entries_lead signers dbx l.index 0 len l.list.signatures.now count l.before
+    entries_lead signers dbx l.index 0 len l.list.signatures.now count l.fn.before
     ≡ entries_lead signers dbx l.index l.entry len l.rest (count - l.entry) l.found
