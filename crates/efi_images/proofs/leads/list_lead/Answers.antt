@@ -12,7 +12,7 @@ returns-then-not-is_of_certificates c =
 
 pub loop-entry-preserved : goal.loop-entry-preserved
 loop-entry-preserved c =
-    let below = rw c.entry_count-end.ensures at c.loop-entry-test.true in
+    let below = rw c.entry_count-entry-end.ensures at c.loop-entry-test.true in
     let signers = map certificate_parts c.args.signers.now in
     let dbx = map list_parts c.args.dbx.now in
     let list = c.args.index in
@@ -31,7 +31,7 @@ loop-entry-preserved c =
 
 pub returns : goal.returns
 returns c =
-    let most = rw c.entry_count-end.ensures at c.loop-entry-test.false in
+    let most = rw c.entry_count-entry-end.ensures at c.loop-entry-test.false in
     let signers = map certificate_parts c.args.signers.now in
     let dbx = map list_parts c.args.dbx.now in
     sym (of_certificates signers dbx c.args.index (list_parts c.args.list.now) c.args.before
