@@ -38,8 +38,8 @@ pub(crate) struct Element<'a> {
     pub(crate) rest: &'a [u8],
 }
 
-/// The element that the bytes begin with. `None` if it isn't there in full, or if its length has another form than those of
-/// up to three bytes: so none of BER's without a length, and none of a form that could be read in two ways.
+/// The element that the bytes begin with. `None` if it isn't there in full, or if its length has another form than
+/// those of up to three bytes: so none of BER's without a length, and none of a form that could be read in two ways.
 #[tactic(auto, unfolding(crate::specs::Der::element_of))]
 pub(crate) fn read_element(bytes: &[u8]) -> Option<Element<'_>>
     ensures { option_map element_parts result ≡ element_of bytes.now }

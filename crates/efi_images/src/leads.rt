@@ -1,10 +1,11 @@
 //! Which certificate of db the signatures of an image may lead to, by the names in their certificates.
 //!
-//! EDK2 (DxeImageVerificationLib) allows a signed image by a certificate of db if OpenSSL goes from the signer's certificate,
-//! over those that the signature has with it, to that one: each is issued by the subject of the next, and the last is db's, or
-//! is issued by it. Before, it denies each image that a certificate of dbx allows in that way. Whether the values of the
-//! signatures are right isn't looked at here. So that no chain is overlooked, each certificate that a signature has with it
-//! counts as one of its chain, and names are taken for one unless they surely differ.
+//! EDK2 (DxeImageVerificationLib) allows a signed image by a certificate of db if OpenSSL goes from the signer's
+//! certificate, over those that the signature has with it, to that one: each is issued by the subject of the next, and
+//! the last is db's, or is issued by it. Before, it denies each image that a certificate of dbx allows in that way.
+//! Whether the values of the signatures are right isn't looked at here. So that no chain is overlooked, each
+//! certificate that a signature has with it counts as one of its chain, and names are taken for one unless they surely
+//! differ.
 
 ghost use Rattle.std.specs.Prelude.{◌≡◌, map, drop};
 ghost use Rattle.std.specs.List.{list_any};
@@ -101,8 +102,8 @@ fn lead_of(
     lead_by(leads(signers, bytes), have_certificate(bytes, dbx), list, entry)
 }
 
-/// Where they may lead to by the certificate that is there, if they may lead to it, and if dbx has it. `None` says that the
-/// certificate isn't read.
+/// Where they may lead to by the certificate that is there, if they may lead to it, and if dbx has it. `None` says that
+/// the certificate isn't read.
 fn lead_by(may_lead: Option<bool>, is_denied: bool, list: usize, entry: usize) -> Lead
     ensures { result ≡ lead_by may_lead is_denied list entry }
 {
@@ -140,8 +141,8 @@ fn leads_to(signer: &Certificate<'_>, subject: &[u8]) -> bool
     is_alike(signer.issuer, subject) || is_alike(signer.subject, subject)
 }
 
-/// What two certificates say: the first that allows an image comes first, then one that isn't read, then the first that is
-/// denied.
+/// What two certificates say: the first that allows an image comes first, then one that isn't read, then the first that
+/// is denied.
 fn joined(before: Lead, another: Lead) -> Lead
     ensures { result ≡ joined before another }
 {

@@ -5,8 +5,8 @@
 //! it, what comes of it, and where it is. The bytes are lent, nothing is allocated, and the work is bounded by them,
 //! whatever they state. [`image_digest`] is the digest by which signatures, db and dbx tell of an image, and
 //! [`read_lists`] finds the lists of signatures in the data of these variables. [`secure_boot_answer`] tells what Secure
-//! Boot answers by them, as far as that is told without the check of a signature's value: by the names in its certificates
-//! it tells an image that none of db's signed.
+//! Boot answers by them, as far as that is told without the check of a signature's value: by the names in its
+//! certificates it tells an image that none of db's signed.
 //!
 //! What EDK2's loader looks at besides is not looked at here: the names in CodeView data, the resource directory, the
 //! blocks of relocations, and the values of signatures. So a file without a fault here may still be refused.

@@ -1,9 +1,10 @@
 //! Names of X.509 (ITU-T X.501, 9.2), and when OpenSSL, by which EDK2 checks signatures, may take two for one.
 //!
-//! OpenSSL compares canonical forms (X509_NAME_cmp): texts in UTF-8, without spaces before and behind, with one space for
-//! several, and with small letters of ASCII. So two names whose bytes differ may be one. Here only what surely stays in that
-//! form is compared, which is enough to tell two names apart for certain: the object identifiers of the attributes, and of
-//! their texts the characters of ASCII that are no spaces, in small letters. What isn't read makes a name that may be each.
+//! OpenSSL compares canonical forms (X509_NAME_cmp): texts in UTF-8, without spaces before and behind, with one space
+//! for several, and with small letters of ASCII. So two names whose bytes differ may be one. Here only what surely
+//! stays in that form is compared, which is enough to tell two names apart for certain: the object identifiers of the
+//! attributes, and of their texts the characters of ASCII that are no spaces, in small letters. What isn't read makes a
+//! name that may be each.
 
 ghost use Rattle.std.specs.Prelude.{◌≡◌, ◌<◌, [], ◌∷◌, length, MatchOption};
 ghost use Rattle.std.specs.Option.{option_map};
@@ -62,8 +63,8 @@ fn is_unread(name: &[u8]) -> bool
     !name.is_empty() && read_attribute(name).is_none()
 }
 
-/// The attribute that the name begins with. `None` if it isn't a text, if its set has another (OpenSSL doesn't keep the order
-/// of those), or if it isn't read.
+/// The attribute that the name begins with. `None` if it isn't a text, if its set has another (OpenSSL doesn't keep the
+/// order of those), or if it isn't read.
 #[tactic(auto, unfolding(crate::specs::Names::attribute_of))]
 fn read_attribute(name: &[u8]) -> Option<Attribute<'_>>
     ensures { option_map attribute_parts result ≡ attribute_of name.now }

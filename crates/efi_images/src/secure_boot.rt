@@ -41,13 +41,13 @@ pub struct SecureBoot<'a> {
 
 /// What Secure Boot answers to an image, as EDK2's firmware decides it, and as far as it is told without the check of a
 /// signature. An image that isn't signed is denied if its digest is in dbx, and else allowed if it is in db. One with a
-/// signature over that digest is denied if it is in dbx, and one with any signature that firmware knows if db has neither its
-/// digest nor a certificate to which the signatures may lead by names, or none but such as dbx has too; else
-/// [`SecureBootAnswer::SignedBy`] tells which certificate of db that is, or [`SecureBootAnswer::Signed`] that it isn't told,
-/// and only the check of its signatures decides. Digests by SHA-1, SHA-384 and SHA-512 are not compared.
+/// signature over that digest is denied if it is in dbx, and one with any signature that firmware knows if db has
+/// neither its digest nor a certificate to which the signatures may lead by names, or none but such as dbx has too;
+/// else [`SecureBootAnswer::SignedBy`] tells which certificate of db that is, or [`SecureBootAnswer::Signed`] that it
+/// isn't told, and only the check of its signatures decides. Digests by SHA-1, SHA-384 and SHA-512 are not compared.
 ///
-/// The boot manager's checks come before, and with Secure Boot the loader's up to [`ImageFault::DebugBeyondFile`], which
-/// [`check_image`](crate::check_image) makes. The fault of an image that has no digest is told here too.
+/// The boot manager's checks come before, and with Secure Boot the loader's up to [`ImageFault::DebugBeyondFile`],
+/// which [`check_image`](crate::check_image) makes. The fault of an image that has no digest is told here too.
 ///
 /// [`ImageFault::DebugBeyondFile`]: crate::ImageFault::DebugBeyondFile
 ///

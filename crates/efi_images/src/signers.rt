@@ -15,8 +15,8 @@ const BUNDLE_MAX: usize = 32;
 /// How many certificates of an image are looked at.
 const SIGNATURES_MAX: usize = 32;
 
-/// The certificates that the signatures of an image with this certificate table have with them: those that firmware looks at,
-/// of all signatures that it knows. `None` if there are too many, or if some aren't read.
+/// The certificates that the signatures of an image with this certificate table have with them: those that firmware
+/// looks at, of all signatures that it knows. `None` if there are too many, or if some aren't read.
 ///
 /// # Errors
 ///
@@ -47,8 +47,8 @@ pub(crate) fn read_signers(
     Ok(Some(all))
 }
 
-/// Adds the certificates that a signature has with it, and tells whether that is all of them. Firmware doesn't look at one of
-/// a hash that it doesn't know.
+/// Adds the certificates that a signature has with it, and tells whether that is all of them. Firmware doesn't look at
+/// one of a hash that it doesn't know.
 fn add_signers<'a>(all: &mut Vec<Certificate<'a>>, signature: &'a [u8]) -> Result<bool, AllocError>
     ensures { IfOk result (λ done. Adds all.old.items all.new.items (signers_of signature.now) done) }
 {
