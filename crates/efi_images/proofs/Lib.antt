@@ -13,3 +13,6 @@ pub mod Whole
 pub mod Among
 pub mod Answered
 pub mod Allowing
+pub mod Alike
+pub mod Bundles
+pub mod Leading

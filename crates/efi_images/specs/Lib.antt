@@ -16,3 +16,8 @@ pub mod CodeView
 pub mod Resources
 pub mod Relocations
 pub mod Check
+pub mod Der
+pub mod Names
+pub mod X509
+pub mod Signers
+pub mod Leads
