@@ -1,5 +1,5 @@
 -- What lists of signatures say of an image.
-use Rattle.std.proofs.Common.{◌≡◌, ◌≢◌, ◌⊎◌, inl, inr, refl, ℕ, Result, Ok, Err, IfOk, Bool, ◌||◌, List, [], ◌∷◌, Option, None, map, ap, sym, ◌∙◌, if◌then◌else◌}
+use Rattle.std.proofs.Common.{◌≡◌, ◌≢◌, ◌⊎◌, inl, inr, refl, ℕ, Result, Ok, Err, IfOk, Bool, true, false, ◌||◌, List, [], ◌∷◌, Option, None, map, ap, sym, ◌∙◌, if◌then◌else◌}
 use Rattle.std.specs.List.{list_any}
 use Rattle.efi_images.specs.Signatures.{ListParts, list_parts}
 use Rattle.efi_images.specs.X509.{CertificateParts}
@@ -43,14 +43,14 @@ unsigned digest says signers dbx db found e is = let f = sym (e ∙ any_parts (h
 both : (digest : List ℕ) (signers : Option (List CertificateParts)) (dbx : List ListParts) (db : List SignatureList) (may : Bool)
     → may ≡ (list_any (λ (list : SignatureList). has_digest digest (list_parts list)) db || list_any (λ (list : SignatureList). has_others (list_parts list)) db)
     → (if list_any (has_digest digest) (map list_parts db) || list_any has_others (map list_parts db)
-      then answer.Signed else signers_answer signers dbx (map list_parts db))
+    then answer.Signed else signers_answer signers dbx (map list_parts db))
     ≡ (if may then answer.Signed else signers_answer signers dbx (map list_parts db))
 both digest signers dbx db may e =
     let a = sym (any_parts (has_digest digest) db) in
     let b = sym (any_parts has_others db) in
     rw a (rw b (ap (λ m. if m then answer.Signed else signers_answer signers dbx (map list_parts db)) (sym e)))
 
-pub undecided : (digest : List ℕ) (signed : Signing) (signers : Option (List CertificateParts)) (dbx : List ListParts)
+undecided : (digest : List ℕ) (signed : Signing) (signers : Option (List CertificateParts)) (dbx : List ListParts)
     (db : List SignatureList) (may : Bool)
     → may ≡ (list_any (λ (list : SignatureList). has_digest digest (list_parts list)) db || list_any (λ (list : SignatureList). has_others (list_parts list)) db)
     → signed ≢ signing.Unsigned
@@ -60,6 +60,23 @@ undecided digest signing.Unsigned signers dbx db may e other = absurd (other ref
 undecided digest signing.Unknown signers dbx db may e other = both digest signers dbx db may e
 undecided digest signing.Other signers dbx db may e other = both digest signers dbx db may e
 undecided digest signing.Sha256 signers dbx db may e other = both digest signers dbx db may e
+
+pub told_none : (digest : List ℕ) (signed : Signing) (signers : Option (List CertificateParts)) (dbx : List ListParts)
+    (db : List SignatureList) (may : Bool)
+    → may ≡ (list_any (λ (list : SignatureList). has_digest digest (list_parts list)) db || list_any (λ (list : SignatureList). has_others (list_parts list)) db)
+    → may ≡ true → signed ≢ signing.Unsigned → db_answer digest signed signers dbx (map list_parts db) ≡ answer.Signed
+told_none digest signed signers dbx db may e is other =
+    undecided digest signed signers dbx db may e other
+    ∙ ap (λ m. if m then answer.Signed else signers_answer signers dbx (map list_parts db)) is
+
+pub told_by_signers : (digest : List ℕ) (signed : Signing) (signers : Option (List CertificateParts)) (dbx : List ListParts)
+    (db : List SignatureList) (may : Bool)
+    → may ≡ (list_any (λ (list : SignatureList). has_digest digest (list_parts list)) db || list_any (λ (list : SignatureList). has_others (list_parts list)) db)
+    → may ≡ false → signed ≢ signing.Unsigned
+    → db_answer digest signed signers dbx (map list_parts db) ≡ signers_answer signers dbx (map list_parts db)
+told_by_signers digest signed signers dbx db may e is other =
+    undecided digest signed signers dbx db may e other
+    ∙ ap (λ m. if m then answer.Signed else signers_answer signers dbx (map list_parts db)) is
 
 pub untold : (dbx : List ListParts) (db : List SignatureList) (some : Bool)
     → some ≡ list_any (λ (list : SignatureList). has_certificates (list_parts list)) db

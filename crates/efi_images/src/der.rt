@@ -1,6 +1,6 @@
 //! Elements of DER (ITU-T X.690, 8.1), as far as the forms of signatures and certificates need them.
 
-ghost use Rattle.std.specs.Prelude.{◌≡◌, ◌+◌, ◌<◌, ◌≤◌, length, Some, OnSome, IfSome};
+ghost use Rattle.std.specs.Prelude.{◌≡◌, ◌+◌, ◌<◌};
 ghost use Rattle.std.specs.Option.{option_map};
 ghost use Rattle.efi_images.specs.Der.{byte_at, element_parts, element_at, element_of, field};
 

@@ -99,7 +99,12 @@ fn lead_of(
 ) -> Lead
     ensures { result ≡ lead_of (map certificate_parts signers.now) (map list_parts dbx.now) list entry bytes.now }
 {
-    lead_by(leads(signers, bytes), have_certificate(bytes, dbx), list, entry)
+    lead_by(
+        leads(signers, bytes),
+        have_certificate(bytes, dbx),
+        list,
+        entry,
+    )
 }
 
 /// Where they may lead to by the certificate that is there, if they may lead to it, and if dbx has it. `None` says that

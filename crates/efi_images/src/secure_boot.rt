@@ -171,7 +171,7 @@ fn db_answer(
 }
 
 /// What these lists of dbx and db say of an image whose signatures have these certificates with them, if they are read.
-#[tactic(auto, using(crate::proofs::Answered::untold), unfolding(crate::specs::SecureBoot::signers_answer))]
+#[tactic(auto, unfolding(crate::specs::SecureBoot::signers_answer))]
 fn signers_answer(
     signers: &Option<Vec<Certificate<'_>>>,
     dbx: &[SignatureList<'_>],

@@ -1,7 +1,7 @@
 //! Certificates of X.509 (RFC 5280, 4.1), and those that a signature of PKCS #7 has with it (RFC 2315, 9.1), as far as
 //! they tell who may have signed.
 
-ghost use Rattle.std.specs.Prelude.{◌≡◌, ◌<◌, length, IfSome};
+ghost use Rattle.std.specs.Prelude.{◌≡◌};
 ghost use Rattle.std.specs.Option.{option_map};
 ghost use Rattle.efi_images.specs.X509.{certificate_parts, after_version, certificate_of, bundle_of};
 

@@ -21,9 +21,9 @@ loop-entry-preserved c =
     let entry = c.loop-entry.entry in
     let left = entry_count (list_parts c.args.list.now) - (entry + 1) in
     let says =
-        c.joined-found.ensures
-        ∙ ap (λ lead. joined c.loop-entry.found lead)
-        (c.lead_of.ensures ∙ ap (λ bytes. lead_of signers dbx list entry bytes) c.entry_data-bytes.ensures) in
+    c.joined-found.ensures
+    ∙ ap (λ lead. joined c.loop-entry.found lead)
+    (c.lead_of.ensures ∙ ap (λ bytes. lead_of signers dbx list entry bytes) c.entry_data-bytes.ensures) in
     c.loop-entry.invariant
     ∙ lead_step signers dbx list len rest (entry_count (list_parts c.args.list.now)) entry c.loop-entry.found below
     ∙ ap (λ found. entries_lead signers dbx list (entry + 1) len (drop len rest) left found) (sym says)

@@ -41,7 +41,7 @@ returns-in-Unknown c =
     (subst (λ table. IsSigned table signing.Unsigned 0 (Ok c.in-Ok-read_certificates.signed))
     (c.certificate_table-table.ensures ∙ ap certificate_table same) c.in-Ok-read_certificates.ensures.certificates))
 
-pub returns-in_ok-signers-in_default-signed : goal.returns-in_default-signed
+pub returns-in_ok-signers-in_default-signed : goal.returns-in_ok-signers-in_default-signed
 returns-in_ok-signers-in_default-signed c =
     let same = c.in-Ok.ensures.headers in
     let table = c.certificate_table-table.ensures ∙ ap certificate_table same in

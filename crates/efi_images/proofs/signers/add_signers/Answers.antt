@@ -14,7 +14,7 @@ returns-in-Some c =
     let before = map certificate_parts c.args.all.now.items in
     ok_as c.add_bundle.result
     (λ done is. ap (in_front before)
-        (of_bundle c.args.signature.now c.in-Some.bundle.now (λ e. c.in_default.not-Unknown (c.signing_of.ensures ∙ e)) c.in-Some.ensures) ∙ is)
+    (of_bundle c.args.signature.now c.in-Some.bundle.now (λ e. c.in_default.not-Unknown (c.signing_of.ensures ∙ e)) c.in-Some.ensures) ∙ is)
     c.add_bundle.ensures
 
 pub returns-in-None : goal.returns-in-None

@@ -29,7 +29,7 @@ pub loop-preserved : goal.loop-preserved
 loop-preserved c =
     let added = rw (c.if-not-branch.false, c.signature_bytes.ensures) at c.in_ok-add_signers.ensures in
     ap (λ len. in_front (map certificate_parts c.add_signers.new.all.items)
-        (all_signers (32 - (c.loop.counter + 1)) c.args.table.now (c.loop.place + len))) c.padded_len.ensures.len
+    (all_signers (32 - (c.loop.counter + 1)) c.args.table.now (c.loop.place + len))) c.padded_len.ensures.len
     ∙ signers_more _ _ c.args.table.now c.loop.place c.loop.counter c.loop-test.true c.if-place-table.false
     (sym c.is_whole.ensures ∙ c.if-not-is_whole.false) added
     ∙ c.loop.invariant
