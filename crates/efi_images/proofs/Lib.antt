@@ -3,7 +3,7 @@ pub mod Rows
 pub mod Entries
 pub mod Written
 pub mod Blocks
-pub mod Names
+pub mod NameCounts
 pub mod Told
 pub mod Passing
 pub mod Sums

@@ -1,6 +1,6 @@
 //! CodeView data, as the loader reads them in memory.
 
-ghost use Rattle.std.specs.Prelude.{◌≡◌, ◌+◌, ◌-◌, ◌<◌, ◌≤◌, ◌^◌, Option, Some, length};
+ghost use Rattle.std.specs.Prelude.{◌≡◌, ◌+◌, ◌-◌, ◌<◌, ◌≤◌, ◌^◌, IfSome, Option, Some, length};
 ghost use Rattle.std.specs.Result.{result_err};
 ghost use Rattle.efi_images.specs.Sections.{HasTable};
 ghost use Rattle.efi_images.specs.Check.{first_fault};
@@ -26,6 +26,7 @@ const MTOC: u32 = 0x434F_544D;
 pub(crate) fn check_code_view(headers: &Headers<'_>, entry: Option<usize>) -> Result<(), ImageFault>
     requires table { HasTable headers.now }
     requires entry { entry ≡ code_view_place headers.now }
+    requires whole { IfSome entry (λ place. place + 28 ≤ length headers.now) }
     ensures { result_err result ≡ first_fault (code_view_checks headers.now) }
 {
     match entry {
@@ -36,11 +37,12 @@ pub(crate) fn check_code_view(headers: &Headers<'_>, entry: Option<usize>) -> Re
 
 /// The same of the entry at this offset of the file.
 fn check_entry(headers: &Headers<'_>, place: usize) -> Result<(), ImageFault>
-    requires { HasTable headers.now }
+    requires table { HasTable headers.now }
+    requires whole { place + 28 ≤ length headers.now }
     ensures { result_err result ≡ first_fault (loaded_entry_checks headers.now place) }
 {
     let address = headers.directory_start(DEBUG) as usize;
-    let found = address.saturating_add(place.saturating_sub(debug_place(headers)));
+    let found = address + place.saturating_sub(debug_place(headers));
     let image_size = headers.image_size();
     wanted(
         found < image_size as usize,

@@ -1,6 +1,6 @@
 //! The debug directory (PE/COFF, 6.1.1), as the loader looks for it in the file.
 
-ghost use Rattle.std.specs.Prelude.{◌≡◌, ◌+◌, ◌<◌, ◌≤◌, ◌^◌, IfOk, length};
+ghost use Rattle.std.specs.Prelude.{◌≡◌, ◌+◌, ◌<◌, ◌≤◌, ◌^◌, IfOk, IfSome, length};
 ghost use Rattle.std.specs.Result.{result_err};
 ghost use Rattle.efi_images.specs.Sections.{HasTable, sections};
 ghost use Rattle.efi_images.specs.Check.{first_fault};
@@ -31,6 +31,7 @@ pub(crate) fn check_debug(headers: &Headers<'_>) -> Result<Option<usize>, ImageF
     requires { HasTable headers.now }
     ensures fault { result_err result ≡ first_fault (debug_checks headers.now) }
     ensures entry { IfOk result (λ entry. entry ≡ code_view_place headers.now) }
+    ensures whole { IfOk result (λ entry. IfSome entry (λ place. place + 28 ≤ length headers.now)) }
 {
     let found = debug_place(headers);
     if found == 0 {
@@ -52,6 +53,7 @@ fn check_entries(file: &[u8], start: usize, count: usize) -> Result<Option<usize
     requires { start < 2 ^ 32 }
     ensures fault { result_err result ≡ first_fault (debug_entry_checks file.now start count) }
     ensures entry { IfOk result (λ entry. entry ≡ first_code_view file.now start count) }
+    ensures whole { IfOk result (λ entry. IfSome entry (λ place. place + 28 ≤ length file.now)) }
 {
     let len = file.len();
     let mut place = start;

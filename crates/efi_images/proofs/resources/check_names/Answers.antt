@@ -1,7 +1,7 @@
 use Rattle.std.proofs.Common.{◌+◌, ◌<◌, ◌∙◌, IfSome, sym, subst, arith}
 use Rattle.std.proofs.lemmas.Result.{err_from_is_err_and}
 use Rattle.efi_images.specs.declared.resources.NamedEntries.{NamedEntries}
-use Rattle.efi_images.proofs.Names.{names_over, names_stop, names_go_on, names_end}
+use Rattle.efi_images.proofs.NameCounts.{names_over, names_stop, names_go_on, names_end}
 use Rattle.efi_images.proofs.resources.check_names.Goals as goal
 
 pub returns-then-index-from : goal.returns-then-index-from
