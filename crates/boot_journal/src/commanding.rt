@@ -33,11 +33,7 @@ pub trait Run: Drop {
 
     /// Runs over these variables, and gives those after it, with the answer. It takes the run, which may have effects, so
     /// that there is no second one.
-    fn run(
-        self,
-        alloc: Global,
-        vars: &Vars,
-    ) -> Result<(Vars, Self::Answer), CallError<Self::Fault>>
+    fn run(self, alloc: Global, vars: &Vars) -> Result<(Vars, Self::Answer), CallError<Self::Fault>>
         ensures done { IfOk result (λ done. leads self vars.now done.0 done.1) }
         ensures refused { IfErr result (λ error. IfRefused error (refuses self vars.now)) };
 }

@@ -127,11 +127,7 @@ fn go_on<M: Machine>(
 /// refused a move: the earlier update that the journal is of is then taken back, and hasn't happened, also if a start in
 /// between used its BootNext. [`UpdateError::Unsettled`] if it refused to take changes back: the next settling goes on with
 /// that.
-#[tactic(auto, using(
-    crate::proofs::Settling::still_settling,
-    crate::proofs::Failures::untouched,
-    crate::proofs::Failures::none_failed
-))]
+#[tactic(auto, using(crate::proofs::Settling::still_settling, crate::proofs::Failures::untouched, crate::proofs::Failures::none_failed))]
 pub fn settle<M: Machine>(
     alloc: Global,
     machine: &mut M,
