@@ -31,7 +31,7 @@ impl Run for Restore<'_> {
     ghost refuses = { λ restore from fault. ⊥ };
 
     /// Takes the boot manager's variables of the set, and the other ones of the machine.
-    fn run(&self, alloc: Global, vars: &Vars) -> Result<(Vars, ()), CallError<()>> {
+    fn run(self, alloc: Global, vars: &Vars) -> Result<(Vars, ()), CallError<()>> {
         match restored(alloc, self.to, vars) {
             Ok(back) => Ok((back, ())),
             Err(_) => Err(CallError::OutOfMemory),

@@ -71,7 +71,7 @@ impl Run for EditRun<'_> {
     /// variable that is replaced has those that it had, and a new one has
     /// [`BOOT_ATTRIBUTES`](uefi_vars::BOOT_ATTRIBUTES).
     fn run(
-        &self,
+        self,
         alloc: Global,
         vars: &Vars,
     ) -> Result<(Vars, EditAnswer), CallError<EditRunFault>> {

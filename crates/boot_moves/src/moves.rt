@@ -60,7 +60,7 @@ impl<R> Model for Moves<R> {
     ghost invariant = { λ m. IfSome m.asked (λ _. vec_len m.told < vec_capacity m.told) };
 }
 
-impl<R: Run> Moves<R> {
+impl<R: Run + Copy> Moves<R> {
     /// The command that runs this over the machine of this name, which has these variables and this journal. Those of the
     /// boot manager are given with their attributes. A BootKeepState among the variables doesn't count: the journal has it.
     /// The identity is that of the machine's start. That the journal is another machine's isn't noticed here:
@@ -131,7 +131,7 @@ impl<R: Run> Moves<R> {
             first: &self.first,
             told: &self.told,
         };
-        match replay(self.alloc, start, &self.run, &self.boot)? {
+        match replay(self.alloc, start, self.run, &self.boot)? {
             Outcome::Asks(asked) => {
                 self.told.reserve(1)?;
                 self.asked = Some(asked);

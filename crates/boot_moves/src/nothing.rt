@@ -20,7 +20,7 @@ impl Run for Nothing {
 
     ghost refuses = { λ _ _ _. ⊥ };
 
-    fn run(&self, alloc: Global, vars: &Vars) -> Result<(Vars, ()), CallError<()>> {
+    fn run(self, alloc: Global, vars: &Vars) -> Result<(Vars, ()), CallError<()>> {
         Ok((vars.copy(alloc)?, ()))
     }
 }

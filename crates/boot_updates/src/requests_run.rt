@@ -62,7 +62,7 @@ impl Run for RequestsRun<'_> {
 
     ghost refuses = { λ run from fault. IsRunFault run.requests.events.now from fault };
 
-    fn run(&self, alloc: Global, vars: &Vars) -> Result<(Vars, Answered), CallError<RunFault>> {
+    fn run(self, alloc: Global, vars: &Vars) -> Result<(Vars, Answered), CallError<RunFault>> {
         let (to, answers) = self.requests.run(alloc, vars)?;
         let set = run_set(alloc, vars)?;
         let first = first_number(alloc, &set)?;

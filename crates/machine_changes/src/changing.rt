@@ -52,16 +52,16 @@ struct SeenRun<'a, 's, W> {
     seen: &'s Seen<'s>,
 }
 
-impl<W: Wanted> Run for SeenRun<'_, '_, W> {
+impl<W: Wanted> Run for &SeenRun<'_, '_, W> {
     type Answer = W::Answer;
 
     type Fault = W::Fault;
 
-    ghost leads = { λ run from to answer. W.leads run.wanted.now run.seen.now from to answer };
+    ghost leads = { λ run from to answer. W.leads run.now.wanted.now run.now.seen.now from to answer };
 
-    ghost refuses = { λ run from fault. W.refuses run.wanted.now run.seen.now from fault };
+    ghost refuses = { λ run from fault. W.refuses run.now.wanted.now run.now.seen.now from fault };
 
-    fn run(&self, alloc: Global, vars: &Vars) -> Result<(Vars, W::Answer), CallError<W::Fault>> {
+    fn run(self, alloc: Global, vars: &Vars) -> Result<(Vars, W::Answer), CallError<W::Fault>> {
         self.wanted.run(alloc, self.seen, vars)
     }
 }

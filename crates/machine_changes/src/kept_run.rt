@@ -69,13 +69,20 @@ pub(crate) enum KeptFault<F> {
 /// The run of a change that is asked for.
 #[derive(Drop)]
 struct KeptRun<'a, 'm, R, Q, T> {
+    /// The run that leads to the change.
+    run: Q,
+    /// What is done before the change is made.
+    preparation: Preparation<'a, 'm, R, T>,
+}
+
+/// What is done before a change is made.
+#[derive(Drop)]
+struct Preparation<'a, 'm, R, T> {
     /// What reaches the files.
     rt: &'a R,
     /// Where what was there before is kept.
     history: History<'a, 'm>,
-    /// The run that leads to the change.
-    run: &'a Q,
-    /// What is told of it.
+    /// What is told of the change.
     telling: &'a T,
 }
 
@@ -91,19 +98,20 @@ where
 
     type Fault = KeptFault<Q::Fault>;
 
-    ghost leads = { λ kept from to answered. Q.leads kept.run.now from to answered.answer
-        × T.tells kept.telling.now from to answered.answer answered.told };
+    ghost leads = { λ kept from to answered. Q.leads kept.run from to answered.answer
+        × T.tells kept.preparation.telling.now from to answered.answer answered.told };
 
     ghost refuses = { λ kept from fault.
-        IsKeptFault fault (Q.refuses kept.run.now from) (LeadsToChange (Q.leads kept.run.now) from) };
+        IsKeptFault fault (Q.refuses kept.run from) (LeadsToChange (Q.leads kept.run) from) };
 
     fn run(
-        &self,
+        self,
         alloc: Global,
         vars: &Vars,
     ) -> Result<(Vars, ToldAnswer<Q::Answer>), CallError<KeptFault<Q::Fault>>> {
-        match self.run.run(alloc, vars) {
-            Ok((to, answer)) => match self.prepare(alloc, vars, &to, &answer) {
+        let KeptRun { run, preparation } = self;
+        match run.run(alloc, vars) {
+            Ok((to, answer)) => match preparation.prepare(alloc, vars, &to, &answer) {
                 Ok(told) => Ok((to, ToldAnswer { answer, told })),
                 Err(error) => Err(error),
             },
@@ -113,20 +121,20 @@ where
     }
 }
 
-impl<R, Q, T> KeptRun<'_, '_, R, Q, T>
+impl<R, T> Preparation<'_, '_, R, T>
 where
     R: Files<File: OutputFile> + Clock + AllocGlobal,
-    Q: Run,
-    T: Telling<Q::Answer>,
 {
     /// Makes what is told of a change that is yet to be made, and keeps what is there before it.
-    fn prepare(
+    fn prepare<A, F>(
         &self,
         alloc: Global,
         from: &Vars,
         to: &Vars,
-        answer: &Q::Answer,
-    ) -> Result<Told, CallError<KeptFault<Q::Fault>>>
+        answer: &A,
+    ) -> Result<Told, CallError<KeptFault<F>>>
+    where
+        T: Telling<A>,
         ensures told { IfOk result (T.tells self.now.telling.now from.now to.now answer.now) }
         ensures refused { IfErr result (λ error. IfRefused error (IsUnprepared (changes_from from.now to.now ≢ []))) }
     {
@@ -156,7 +164,7 @@ where
 pub(crate) fn kept_command<R, M, Q, T>(
     rt: &R,
     machine: &mut M,
-    run: &Q,
+    run: Q,
     telling: &T,
     history: History<'_, '_>,
     boot: &BootId,
@@ -168,12 +176,14 @@ where
     T: Telling<Q::Answer>,
 {
     let run = KeptRun {
-        rt,
-        history,
         run,
-        telling,
+        preparation: Preparation {
+            rt,
+            history,
+            telling,
+        },
     };
-    let ended = command(rt.alloc(), machine, &run, boot);
+    let ended = command(rt.alloc(), machine, run, boot);
     if let Err(CommandError::Updating(UpdateError::TakenBack(_))) = &ended {
         forget_unmade(rt, machine, history);
     }

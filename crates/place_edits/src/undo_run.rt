@@ -95,7 +95,7 @@ impl<R: Files<File: OutputFile> + AllocGlobal> Run for UndoRun<'_, '_, R> {
     ghost refuses = { λ undo from fault. IsUndoFault undo.words.now.force undo.words.now.dry_run undo.changes.now
         (map string_bytes undo.seen.now.left_out.now) from fault };
 
-    fn run(&self, alloc: Global, vars: &Vars) -> Result<(Vars, Undone), CallError<UndoFault>> {
+    fn run(self, alloc: Global, vars: &Vars) -> Result<(Vars, Undone), CallError<UndoFault>> {
         let kept = self.last(alloc, vars)?;
         let undone = self.undone(alloc, vars, kept)?;
         let to = restored(alloc, vars, &undone.back.vars)?;

@@ -18,14 +18,14 @@ begins g c i = store_of (c.new-machine.ensures.first i) ∷ past (deeds_of (c.ne
 pub returns-clause-asks : goal.returns-clause-asks
 returns-clause-asks g c =
     let m = c.command-answered.new.machine in
-    asks_weaker _ _ c.outcome_of.result (λ asked is. of_command (g.R.Run.leads c.args.run.now) c.args.boot.now (store_of c.args.start.first.now) _
+    asks_weaker _ _ c.outcome_of.result (λ asked is. of_command (g.R.Run.leads c.args.run) c.args.boot.now (store_of c.args.start.first.now) _
     (store_of m.first.now) _ _ (deeds_of m.made.items) _ (starts g c) (begins g c) refl is c.command-answered.ensures.moves
     c.command-answered.ensures.any_moment) c.outcome_of.ensures.asks
 
 pub returns-clause-told : goal.returns-clause-told
 returns-clause-told g c =
     let m = c.command-answered.new.machine in
-    ends_weaker _ _ c.outcome_of.result (λ ended is. of_command (g.R.Run.leads c.args.run.now) c.args.boot.now (store_of c.args.start.first.now) _
+    ends_weaker _ _ c.outcome_of.result (λ ended is. of_command (g.R.Run.leads c.args.run) c.args.boot.now (store_of c.args.start.first.now) _
     (store_of m.first.now) _ _ (deeds_of m.made.items) _ (starts g c) (begins g c) refl is.0 c.command-answered.ensures.moves
     c.command-answered.ensures.any_moment) c.outcome_of.ensures.ends
 
@@ -34,8 +34,8 @@ returns-clause-ends g c =
     let m = c.command-answered.new.machine in
     let n = c.new-machine.result in
     let said = c.command-answered.ensures in
-    let leads = g.R.Run.leads c.args.run.now in
-    let refuses = g.R.Run.refuses c.args.run.now in
+    let leads = g.R.Run.leads c.args.run in
+    let refuses = g.R.Run.refuses c.args.run in
     let boot = c.args.boot.now in
     let first = store_of c.args.start.first.now in
     let same : store_of m.first.now ≡ first = first_is _ first (store_of m.first.now) _ _ (deeds_of m.made.items) (begins g c) refl said.moves in

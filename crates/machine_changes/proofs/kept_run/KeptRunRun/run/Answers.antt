@@ -7,7 +7,7 @@ use Rattle.machine_changes.proofs.kept_run.KeptRunRun.run.Goals as goal
 
 pub returns-in-Err-clause-refused : goal.returns-in-Err-clause-refused
 returns-in-Err-clause-refused g c =
-    let run = c.args.self.now.run.now in
+    let run = c.args.self.run in
     let from = c.args.vars.now in
     unprepared_so (g.Q.Run.refuses run from) (changes_from from c.in-Ok.to ≢ []) (LeadsToChange (g.Q.Run.leads run) from)
     (λ some. (c.in-Ok.to, c.in-Ok.answer, c.in-Ok.ensures.done, some))

@@ -7,7 +7,7 @@ use Rattle.place_edits.proofs.undo_run.UndoRunRun.run.Goals as goal
 
 pub returns-in_err-undone-clause-refused : goal.returns-in_err-undone-clause-refused
 returns-in_err-undone-clause-refused g c =
-    let run = c.args.self.now in
+    let run = c.args.self in
     let last = c.in_ok-kept.ensures.last in
     let p = err_from_is_err_and c.from_residual-in_err-undone.result c.from_residual-in_err-undone.ensures.1 in
     rw (p.1, p.2)
