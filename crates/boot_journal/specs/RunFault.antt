@@ -1,11 +1,12 @@
 -- Why a run of requests refuses what a machine keeps.
-use Rattle.std.specs.Prelude.{List, []}
+use Rattle.std.specs.Prelude.{ℕ, List, [], ◌++◌, codes}
 use Rattle.uefi_vars.specs.Vars.{Variables}
 use Rattle.boot_requests.specs.declared.event.Event.{Event}
 use Rattle.boot_requests.specs.Run.{run_followed_by, state_at}
 use Rattle.boot_requests.specs.Seen.{Seen, AreSeen}
 use Rattle.boot_requests.specs.State.{State, IsImage}
 use Rattle.boot_requests.specs.StoredState.{IsOpenFault}
+use Rattle.boot_requests.specs.Words.{open_fault_words}
 use Rattle.boot_journal.specs.declared.attributes.AttributesFault.{AttributesFault}
 use Rattle.boot_journal.specs.declared.attributes.AttributesFault.TheVariants as attributes
 use Rattle.boot_journal.specs.declared.machine.CallError.{CallError}
@@ -42,3 +43,9 @@ abbrev pub error_of : AttributesFault → CallError RunFault
 error_of attributes.NoData = Refused NoData
 error_of attributes.TooLong = Refused TooLong
 error_of attributes.OutOfMemory = OutOfMemory
+
+-- the words of a fault: its name and, after a blank, the words of the fault that it holds
+abbrev pub run_fault_words : RunFault → List ℕ
+run_fault_words (Open fault) = codes "Open " ++ open_fault_words fault
+run_fault_words NoData = codes "NoData"
+run_fault_words TooLong = codes "TooLong"

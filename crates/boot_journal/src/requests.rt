@@ -11,7 +11,7 @@ use crate::attributes::{AttributesFault, with_attributes, without_attributes};
 use crate::commanding::Run;
 use crate::machine::CallError;
 use boot_requests::{Answer, Event, Keeper, OpenFault, answer_events, laws};
-use std::alloc::Global;
+use std::alloc::{AllocError, Global};
 use thiserror::Error;
 use uefi_vars::Vars;
 
@@ -35,6 +35,25 @@ pub enum RunFault {
     /// [`DATA_MAX`](uefi_vars::DATA_MAX) bytes.
     #[error("TooLong")]
     TooLong,
+}
+
+impl RunFault {
+    ghost use Rattle.std.specs.String.{string_bytes};
+    ghost use Rattle.boot_journal.specs.RunFault.{run_fault_words};
+
+    /// The fault's name and, after a blank, the words of the fault of opening. This fails only when out of memory.
+    pub fn words(&self, alloc: Global) -> Result<String, AllocError>
+        ensures { IfOk result (λ text. string_bytes text ≡ run_fault_words self.now) }
+    {
+        match self {
+            RunFault::Open(fault) => {
+                let words = fault.words(alloc)?;
+                format!(in alloc; "Open {words}")
+            }
+            RunFault::NoData => String::from_str(alloc, "NoData"),
+            RunFault::TooLong => String::from_str(alloc, "TooLong"),
+        }
+    }
 }
 
 impl From<AttributesFault> for CallError<RunFault> {
