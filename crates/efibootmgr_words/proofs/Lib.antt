@@ -3,6 +3,7 @@ pub mod Cuts
 pub mod Digits
 pub mod Letters
 pub mod Orders
+pub mod OrderWords
 pub mod Reading
 pub mod Rows
 pub mod Saturated

@@ -1,6 +1,7 @@
 -- What contracts are in terms of.
 pub mod Asked
 pub mod Cut
+pub mod Lines
 pub mod Nodes
 pub mod Number
 pub mod Options
