@@ -21,7 +21,7 @@ from .certificates import CertificateError
 from .courier import MqttCourier, split_broker
 from .entries import Wanted
 from .goals import Goal
-from .ledger import Ledger, LedgerError
+from .ledger import Doubt, Ledger, LedgerError
 from .run import Sender
 
 LEDGER = "/var/lib/bootfleet/ledger"
@@ -137,6 +137,9 @@ def _add_running(commands: "argparse._SubParsersAction[argparse.ArgumentParser]"
         "--watch", nargs="?", metavar="SECONDS", type=float, const=2.0, help="and so on"
     )
 
+    backup = _add(commands, "backup", do_backup, "copies the ledger as it is at one moment")
+    backup.add_argument("file", metavar="FILE", type=Path)
+
 
 def _add_decisions(commands: "argparse._SubParsersAction[argparse.ArgumentParser]") -> None:
     for name, does, about in (
@@ -152,9 +155,19 @@ def _add_decisions(commands: "argparse._SubParsersAction[argparse.ArgumentParser
         made.add_argument("machines", metavar="MACHINE", nargs="+")
         if name != "resend":
             made.add_argument("--yes", action="store_true", help="without asking")
+        if name == "adopt":
+            _add_doubts(made)
     cancel = _add(commands, "cancel", do_cancel, "gives up what isn't reached yet of a job")
     cancel.add_argument("job", metavar="JOB", type=int)
     cancel.add_argument("machines", metavar="MACHINE", nargs="*")
+
+
+def _add_doubts(made: argparse.ArgumentParser) -> None:
+    for word, about in (
+        ("--done", "this `next` or `send` was done: it isn't sent again"),
+        ("--again", "this one wasn't: what isn't known to be done of it is sent again"),
+    ):
+        made.add_argument(word, metavar="JOB", type=int, action="append", default=[], help=about)
 
 
 # What is done
@@ -267,6 +280,14 @@ def _show_status(options: argparse.Namespace, found: status.Status) -> None:
         print("\033[H\033[2J" + "\n".join(status.as_table(found, columns, lines - 1)), flush=True)
 
 
+def do_backup(options: argparse.Namespace) -> int:
+    ledger = Ledger(options.ledger)
+    if options.file.exists() and os.path.samefile(options.file, options.ledger):
+        raise Problem(f"{options.file}: it is the ledger itself")
+    ledger.back_up(options.file)
+    return 0
+
+
 def do_resend(options: argparse.Namespace) -> int:
     ledger = Ledger(options.ledger)
     with ledger.transaction():
@@ -281,15 +302,42 @@ def do_adopt(options: argparse.Namespace) -> int:
         told = ledger.told(name)
         if told is None:
             raise Problem(f"{name}: it has told nothing of itself: mend it, and then `resend`")
-        machine, sent = ledger.machine(name), len(ledger.sent_frames(name))
+        machine, unanswered = ledger.machine(name), ledger.count_unanswered(name)
         print(f"{name}: {ledger.trouble(name)}")
         print(f" the ledger has:\n  journal {machine.journal or '-'}, next {machine.next}")
-        print(f"  {sent} requests without an answer, which are not sent again")
+        print(f"  {unanswered} requests without an answer, which are not sent again")
         print(f" the machine says:\n{machines.describe(told)}")
+        doubts = ledger.doubts(name)
+        for doubt in doubts:
+            print(f" it may have been done: {_words_of_doubt(doubt)}")
+        done = [doubt.job for doubt in doubts if _is_done(doubt, options)]
         if options.yes or _agrees("Go on from what the machine says?"):
             with ledger.transaction():
+                for job in done:
+                    ledger.say_done(name, job)
                 ledger.adopt(name, told)
     return 0
+
+
+def _words_of_doubt(doubt: Doubt) -> str:
+    return (
+        f"job {doubt.job}: {doubt.goal}: {doubt.done} of {doubt.of} known to be done,"
+        f" {doubt.unanswered} sent without an answer"
+    )
+
+
+def _is_done(doubt: Doubt, options: argparse.Namespace) -> bool:
+    """Whether what may have been done was done, as the words say, or whoever is asked."""
+    is_done, is_again = doubt.job in options.done, doubt.job in options.again
+    if is_done != is_again:
+        return is_done
+    if is_done:
+        raise Problem(f"job {doubt.job}: --done and --again say both")
+    if options.yes or not sys.stdin.isatty():
+        raise Problem(
+            f"{_words_of_doubt(doubt)}: --done {doubt.job} or --again {doubt.job} says which it is"
+        )
+    return not _agrees(f"Send what isn't known to be done of job {doubt.job} (again)?")
 
 
 def do_forget(options: argparse.Namespace) -> int:

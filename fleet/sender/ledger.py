@@ -1,8 +1,12 @@
 """The ledger: what was asked of each machine, and what came of it, in a file of SQLite.
 
 A **job** is what somebody asked for; a **goal** is a job for one machine. A machine's goals are gone after one by one,
-in the order of their jobs. A **request** is one number of a machine: its frame is stored with it before it is sent.
-Each time that a machine's numbers are taken up anew, by `adopt`, its `era` is one higher.
+in the order of their jobs. A **request** has a number of a machine: its frame is stored with it before it is sent. Each
+time that a machine's numbers are taken up anew, by `adopt`, its `era` is one higher.
+
+The requests of one message are an **attempt**. A message does nothing once the machine isn't as it was when the message
+was made, and then another attempt is made of the same numbers. One of the attempts is applied at most, as each begins
+with the machine's next number; which one it was the machine tells.
 
 A goal, and in it the requests:
 
@@ -11,10 +15,14 @@ A goal, and in it the requests:
       \\------> cancelled      somebody gave it up
 
     a look  ->  the goal is reached, or has failed, or asks for one request: number and frame are stored, state `sent`
-    sent    ->  done           the machine says that it was applied, and Done
-            ->  refused        it says that it was applied, with another outcome
-            ->  dropped        `adopt`: nobody knows, and it is never sent again
+    sent    ->  late           another attempt is made, or nothing is asked any more; a message may still be under way
+    sent, late ->  done        the machine says that it was applied, and Done
+               ->  refused     it says that it was applied, with another outcome
+               ->  passed      it isn't the one that was applied, and never will be
+               ->  dropped     `adopt`: nobody knows, and it is never sent again
     done, refused -> a look, which the same reply has
+
+What is done once, `next` and `send`, is remembered: which of its requests were done counts over attempts and eras.
 
 A machine with **trouble** is sent nothing. Only `resend`, `adopt`, `forget`, and `cancel` of the goal that failed end
 it.
@@ -27,20 +35,23 @@ Each write is in a transaction of SQLite, which is on the disk (`synchronous=FUL
 from __future__ import annotations
 
 import json
+import os
 import sqlite3
+import tempfile
 import time
 from contextlib import contextmanager
 from pathlib import Path
-from typing import Any, Dict, Iterable, Iterator, List, NamedTuple, Optional
+from typing import Any, Dict, Iterable, Iterator, List, NamedTuple, Optional, Sequence, Tuple
 
 from .goals import Asked, Goal, Past
+from .messages import Stored
 
 SCHEMA = """
 CREATE TABLE setting(name TEXT PRIMARY KEY, value TEXT NOT NULL) WITHOUT ROWID;
 CREATE TABLE machine(
     name TEXT PRIMARY KEY,
     era INTEGER NOT NULL DEFAULT 0,
-    next INTEGER NOT NULL DEFAULT 0,    -- the number of the next request
+    next INTEGER NOT NULL DEFAULT 0,    -- the next number: what became of those below it is known
     journal TEXT,                       -- the identity of its journal, once it told one
     entries INTEGER NOT NULL DEFAULT 0, -- how many entries it had when it was looked at last
     seen REAL,                          -- when it was heard of last
@@ -66,26 +77,33 @@ CREATE TABLE request(
     machine TEXT NOT NULL REFERENCES machine ON DELETE CASCADE,
     era INTEGER NOT NULL,
     number INTEGER NOT NULL,
+    attempt INTEGER NOT NULL,
     job INTEGER NOT NULL REFERENCES job,
+    part INTEGER NOT NULL,              -- which one of a `send` it is
     kind INTEGER NOT NULL,
     entry INTEGER,                      -- what it is about
     frame BLOB NOT NULL,
-    state TEXT NOT NULL DEFAULT 'sent' CHECK (state IN ('sent', 'done', 'refused', 'dropped')),
+    state TEXT NOT NULL DEFAULT 'sent'
+        CHECK (state IN ('sent', 'late', 'done', 'refused', 'passed', 'dropped')),
     outcome TEXT,
     stored INTEGER,                     -- the entry under which it stored an option
-    PRIMARY KEY(machine, era, number)
+    PRIMARY KEY(machine, era, number, attempt)
 ) WITHOUT ROWID;
 CREATE INDEX goal_open ON goal(machine) WHERE state = 'open';
 CREATE INDEX goal_job ON goal(job, state);
 CREATE INDEX request_sent ON request(machine) WHERE state = 'sent';
+CREATE INDEX request_job ON request(machine, job);
 CREATE INDEX machine_holder ON machine(holder) WHERE holder IS NOT NULL;
 CREATE INDEX machine_trouble ON machine(name) WHERE trouble IS NOT NULL;
 """
 
-VERSION = 1
+VERSION = 2
 
 HAS_WORK = """trouble IS NULL AND name IN
     (SELECT machine FROM goal WHERE state = 'open' UNION SELECT machine FROM request WHERE state = 'sent')"""
+
+IS_OPEN = "state IN ('sent', 'late')"
+"""Of which requests nobody knows what became of them."""
 
 LONGEST_LEFT = 60.0
 """For how many seconds at most a silent machine is left."""
@@ -114,6 +132,17 @@ class OpenGoal(NamedTuple):
     job: int
     goal: Goal
     past: Past
+
+
+class Doubt(NamedTuple):
+    """A goal of what is done once, of which it isn't known that all of it is done: how many requests are known to be, of
+    how many, and how many were sent without an answer."""
+
+    job: int
+    goal: Goal
+    done: int
+    of: int
+    unanswered: int
 
 
 class Ledger:
@@ -212,15 +241,32 @@ class Ledger:
 
     # What is under way
 
-    def sent_frames(self, name: str) -> List[bytes]:
-        """The frames of a machine that aren't answered yet, in the order of their numbers."""
-        return [
-            frame
-            for (frame,) in self.db.execute(
-                "SELECT frame FROM request WHERE machine = ? AND state = 'sent' ORDER BY era, number LIMIT ?",
-                (name, MOST_FRAMES),
-            )
-        ]
+    def unanswered(self, machine: Machine, number: int) -> List[Stored]:
+        """The requests of the attempt that was stored last of those that have this number, and of which nobody knows what
+        became of them."""
+        found = self.one(
+            f"SELECT MAX(attempt) FROM request WHERE machine = ? AND era = ? AND number = ? AND {IS_OPEN}",
+            machine.name,
+            machine.era,
+            number,
+        )
+        rows = self.db.execute(
+            "SELECT number, attempt, frame FROM request"
+            f" WHERE machine = ? AND era = ? AND number >= ? AND attempt = ? AND {IS_OPEN} ORDER BY number",
+            (machine.name, machine.era, machine.next, found[0]),
+        )
+        return [Stored(*row) for row in rows]
+
+    def count_unanswered(self, name: str) -> int:
+        """Of how many requests of a machine nobody knows what became of them."""
+        count = self.one(f"SELECT COUNT(*) FROM request WHERE machine = ? AND {IS_OPEN}", name)[0]
+        return int(count)
+
+    def is_asked(self, name: str) -> bool:
+        """Whether a machine has been sent a request that isn't answered."""
+        return (
+            self.one("SELECT 1 FROM request WHERE machine = ? AND state = 'sent'", name) is not None
+        )
 
     def has_open_goal(self, name: str) -> bool:
         return self.one("SELECT 1 FROM goal WHERE machine = ? AND state = 'open'", name) is not None
@@ -234,47 +280,147 @@ class Ledger:
         )
         if found is None:
             return None
-        job, goal, since = found
-        rows = self.db.execute(
-            "SELECT kind, entry, outcome, stored FROM request"
-            " WHERE machine = ? AND era = ? AND number >= ? AND job = ? AND outcome IS NOT NULL",
-            (machine.name, machine.era, since, job),
-        )
-        return OpenGoal(job, Goal.from_json(goal), Past(tuple(Asked(*row) for row in rows)))
+        job, goal, since = found[0], Goal.from_json(found[1]), found[2]
+        return OpenGoal(job, goal, self._past(machine, job, goal, since))
 
-    def add_request(self, machine: Machine, job: int, asked: Asked, frame: bytes) -> Machine:
-        """Stores a request under the machine's next number, which its frame has."""
+    def _past(self, machine: Machine, job: int, goal: Goal, since: int) -> Past:
+        """The answered requests of this attempt at a goal, and those before it that count for good."""
+        past = []
+        for era, number, *row in self.db.execute(
+            "SELECT era, number, kind, entry, outcome, stored, part FROM request"
+            " WHERE machine = ? AND job = ? AND outcome IS NOT NULL ORDER BY era, number",
+            (machine.name, job),
+        ):
+            asked = Asked(*row)
+            if goal.is_for_good(asked) or (era == machine.era and number >= since):
+                past.append(asked)
+        return Past(tuple(past))
+
+    def add_requests(
+        self, machine: Machine, job: int, requests: Sequence[Tuple[Asked, bytes]]
+    ) -> List[Stored]:
+        """Stores requests from the machine's next number on, which their frames have: one attempt, and the one that is
+        asked of the machine now. If they have been stored before, and nobody knows what became of them, it is that one.
+        """
+        attempts = self._attempts(machine)
+        held = [(job, frame) for _, frame in requests]
+        attempt = next((number for number in attempts if attempts[number] == held), None)
+        self.withdraw(machine)
+        if attempt is None:
+            attempt = max(attempts, default=-1) + 1
+            self._insert_requests(machine, job, attempt, requests)
+        else:
+            self.db.execute(
+                "UPDATE request SET state = 'sent' WHERE machine = ? AND era = ? AND number >= ? AND attempt = ?",
+                (machine.name, machine.era, machine.next, attempt),
+            )
+        numbers = range(machine.next, machine.next + len(requests))
+        return [Stored(number, attempt, frame) for number, (_, frame) in zip(numbers, requests)]
+
+    def _insert_requests(
+        self, machine: Machine, job: int, attempt: int, requests: Sequence[Tuple[Asked, bytes]]
+    ) -> None:
+        self.db.executemany(
+            "INSERT INTO request(machine, era, number, attempt, job, part, kind, entry, frame)"
+            " VALUES(?, ?, ?, ?, ?, ?, ?, ?, ?)",
+            [
+                (
+                    machine.name,
+                    machine.era,
+                    machine.next + at,
+                    attempt,
+                    job,
+                    asked.part,
+                    asked.kind,
+                    asked.entry,
+                    frame,
+                )
+                for at, (asked, frame) in enumerate(requests)
+            ],
+        )
+
+    def _attempts(self, machine: Machine) -> Dict[int, List[Tuple[int, bytes]]]:
+        """What was stored from the machine's next number on: the job and the frame of each, by its attempt."""
+        attempts: Dict[int, List[Tuple[int, bytes]]] = {}
+        for attempt, job, frame in self.db.execute(
+            "SELECT attempt, job, frame FROM request WHERE machine = ? AND era = ? AND number >= ?"
+            " ORDER BY attempt, number",
+            (machine.name, machine.era, machine.next),
+        ):
+            attempts.setdefault(attempt, []).append((job, frame))
+        return attempts
+
+    def count_attempts(self, machine: Machine) -> int:
+        """How many attempts were made at the machine's next number."""
+        return len(self._attempts(machine))
+
+    def withdraw(self, machine: Machine) -> None:
+        """A machine isn't asked any more what it was asked last, though a message may still be under way."""
         self.db.execute(
-            "INSERT INTO request(machine, era, number, job, kind, entry, frame) VALUES(?, ?, ?, ?, ?, ?, ?)",
-            (machine.name, machine.era, machine.next, job, asked.kind, asked.entry, frame),
+            "UPDATE request SET state = 'late' WHERE machine = ? AND state = 'sent'",
+            (machine.name,),
         )
-        self.db.execute("UPDATE machine SET next = next + 1 WHERE name = ?", (machine.name,))
-        return machine._replace(next=machine.next + 1)
 
-    def request_state(self, machine: Machine, number: int) -> Optional[str]:
-        found = self.one(
-            "SELECT state FROM request WHERE machine = ? AND era = ? AND number = ?",
-            machine.name,
-            machine.era,
-            number,
+    def is_known(self, machine: Machine, number: int) -> bool:
+        """Whether it is known what became of the request that the machine applied under a number."""
+        return (
+            self.one(
+                "SELECT 1 FROM request WHERE machine = ? AND era = ? AND number = ? AND outcome IS NOT NULL",
+                machine.name,
+                machine.era,
+                number,
+            )
+            is not None
         )
-        return None if found is None else str(found[0])
+
+    def has_request(self, machine: Machine, number: int) -> bool:
+        """Whether some request was stored under a number."""
+        return (
+            self.one(
+                "SELECT 1 FROM request WHERE machine = ? AND era = ? AND number = ?",
+                machine.name,
+                machine.era,
+                number,
+            )
+            is not None
+        )
 
     def answer_request(
-        self, machine: Machine, number: int, outcome: str, stored: Optional[int]
+        self, machine: Machine, request: Stored, outcome: str, stored: Optional[int]
     ) -> None:
         """A request was applied, with this outcome."""
         self.db.execute(
-            "UPDATE request SET state = ?, outcome = ?, stored = ? WHERE machine = ? AND era = ? AND number = ?",
+            "UPDATE request SET state = ?, outcome = ?, stored = ?"
+            " WHERE machine = ? AND era = ? AND number = ? AND attempt = ?",
             (
                 "done" if outcome == "Done" else "refused",
                 outcome,
                 stored,
                 machine.name,
                 machine.era,
-                number,
+                request.number,
+                request.attempt,
             ),
         )
+
+    def pass_request(self, machine: Machine, request: Stored) -> None:
+        """A request isn't the one that was applied under its number."""
+        self.db.execute(
+            "UPDATE request SET state = 'passed' WHERE machine = ? AND era = ? AND number = ? AND attempt = ?",
+            (machine.name, machine.era, request.number, request.attempt),
+        )
+
+    def move_on(self, machine: Machine, following: int) -> Machine:
+        """A machine has another next number, and it is known what became of those before: each attempt that wasn't
+        applied began with an earlier number, and never will be."""
+        if following == machine.next:
+            return machine
+        self.db.execute(
+            f"UPDATE request SET state = 'passed' WHERE machine = ? AND era = ? AND {IS_OPEN}",
+            (machine.name, machine.era),
+        )
+        self.db.execute("UPDATE machine SET next = ? WHERE name = ?", (following, machine.name))
+        return machine._replace(next=following)
 
     def end_goal(
         self, name: str, job: int, state: str, entry: Optional[int], note: Optional[str]
@@ -386,7 +532,7 @@ class Ledger:
         """Goes on with a machine as it says itself: from its journal and its next number on, with none of the requests
         that nobody knows the end of."""
         self.db.execute(
-            "UPDATE request SET state = 'dropped' WHERE machine = ? AND state = 'sent'", (name,)
+            f"UPDATE request SET state = 'dropped' WHERE machine = ? AND {IS_OPEN}", (name,)
         )
         self.db.execute(
             "UPDATE machine SET era = era + 1, journal = ?, next = ?, entries = ? WHERE name = ?",
@@ -397,6 +543,49 @@ class Ledger:
             "UPDATE goal SET since = ? WHERE machine = ? AND state = 'open'", (told["next"], name)
         )
 
+    def doubts(self, name: str) -> List[Doubt]:
+        """The goals of a machine that are done once, and that perhaps have been."""
+        rows = self.db.execute(
+            "SELECT job, job.goal FROM goal JOIN job ON job = id"
+            " WHERE machine = ? AND state IN ('open', 'failed') ORDER BY job",
+            (name,),
+        ).fetchall()
+        goals = [(job, Goal.from_json(goal)) for job, goal in rows]
+        return [self._doubt(name, job, goal) for job, goal in goals if goal.is_once()]
+
+    def _doubt(self, name: str, job: int, goal: Goal) -> Doubt:
+        done, unanswered = set(), set()
+        for kind, part, state in self.db.execute(
+            "SELECT kind, part, state FROM request WHERE machine = ? AND job = ?", (name, job)
+        ):
+            if state == "done" and goal.is_for_good(Asked(kind, outcome="Done")):
+                done.add(part)
+            elif state in ("sent", "late", "dropped"):
+                unanswered.add(part)
+        of = len(goal.frames) or 1
+        return Doubt(job, goal, len(done), of, len(unanswered - done))
+
+    def say_done(self, name: str, job: int) -> None:
+        """Somebody says that a goal was reached."""
+        self.end_goal(name, job, "reached", None, "somebody said so")
+
+    def back_up(self, path: Path) -> None:
+        """Copies the ledger as it is at one moment to a file of its own, which replaces what is there as a whole."""
+        descriptor, made = tempfile.mkstemp(dir=path.parent, prefix=".bootfleet-")
+        try:
+            copy = sqlite3.connect(made)
+            self.db.backup(copy)
+            # Of one file: the ledger's own has a second one beside it, with what was stored last.
+            copy.execute("PRAGMA journal_mode=DELETE")
+            copy.close()
+            os.fsync(descriptor)
+            os.replace(made, path)
+        except BaseException:
+            os.unlink(made)
+            raise
+        finally:
+            os.close(descriptor)
+
     def cancel(self, job: int, names: Optional[List[str]]) -> int:
         """Gives up the goals of a job that aren't reached, of these machines or of all. How many there were."""
         where = "job = ? AND state IN ('open', 'failed')"
@@ -404,6 +593,10 @@ class Ledger:
         chosen = [(name, state) for name, state in rows if names is None or name in names]
         for name, state in chosen:
             self.end_goal(name, job, "cancelled", None, None)
+            self.db.execute(
+                "UPDATE request SET state = 'late' WHERE machine = ? AND job = ? AND state = 'sent'",
+                (name, job),
+            )
             if state == "failed":
                 self._end_trouble_of_goal(name, job)
         return len(chosen)

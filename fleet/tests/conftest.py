@@ -2,6 +2,7 @@
 
 from __future__ import annotations
 
+import json
 import os
 import subprocess
 import sys
@@ -97,6 +98,21 @@ def load_agent() -> ModuleType:
 
 
 agent: Any = load_agent()
+
+
+def frames_of(payload: bytes) -> bytes:
+    """The frames of a message."""
+    return payload.partition(b"\n")[2]
+
+
+def update(machine: Folder, frames: bytes) -> Dict[str, Any]:
+    """Has a machine apply frames, as it is now, and gives what it replies."""
+    look = json.loads(agent.answer(b"", str(machine.state), str(machine.place)))
+    line = f"bootfleet 2 journal={look['journal']} next={look['next']}\n".encode()
+    held: Dict[str, Any] = json.loads(
+        agent.answer(line + frames, str(machine.state), str(machine.place))
+    )
+    return held
 
 
 def bootfleet(*words: object, status: int = 0) -> str:

@@ -7,11 +7,11 @@ import sqlite3
 import time
 from collections import deque
 from pathlib import Path
-from typing import Any, Callable, Deque, Dict, List, Optional, Sequence, Tuple
+from typing import Any, Callable, Deque, Dict, List, Sequence, Tuple
 
 import bootkeep
 import pytest
-from conftest import PATH, Folder, agent, goal, option
+from conftest import PATH, Folder, agent, frames_of, goal, option, update
 
 from sender import machines
 from sender import run as run_module
@@ -19,6 +19,8 @@ from sender.answers import Answer, digest, read_answer
 from sender.courier import Came
 from sender.goals import Goal
 from sender.ledger import Ledger
+from sender.machines import Taken
+from sender.messages import Message
 from sender.run import (
     FIRST_PAUSE,
     LONGEST_PAUSE,
@@ -46,7 +48,7 @@ class Hand:
         self.sent.append((name, payload))
         for copy in self.requests(self._next(0), payload):
             folder = self.machines[name]
-            said = agent.update(copy, str(folder.state), str(folder.place)).encode()
+            said = agent.answer(copy, str(folder.state), str(folder.place)).encode()
             self.came += [Came(name, it) for it in self.replies(self._next(1), said)]
 
     def _next(self, way: int) -> int:
@@ -83,7 +85,8 @@ def run(sender: Sender) -> bool:
 
 def frames(sender: Sender) -> List[bytes]:
     courier: Any = sender.courier
-    return list(dict.fromkeys(it for _, it in courier.sent if it.startswith(b"BQ")))
+    sent = dict.fromkeys(frames_of(it) for _, it in courier.sent)
+    return [it for it in sent if it]
 
 
 def test_goals_are_reached_one_after_the_other(sender: Sender, machine: Folder) -> None:
@@ -180,13 +183,9 @@ def test_another_journal_is_told(sender: Sender, machine: Folder) -> None:
 
 
 def test_another_ledger_is_told(sender: Sender, machine: Folder) -> None:
-    agent.update(
-        bootkeep.frame_make(0, bootkeep.Request.FIRST, entry=0),
-        str(machine.state),
-        str(machine.place),
-    )
+    update(machine, bootkeep.frame_make(0, bootkeep.Request.FIRST, entry=0))
     add(sender.ledger, goal("first", "b"))
-    assert troubled(sender) == "its next number is 1, and the ledger's is 0"
+    assert troubled(sender).startswith("its next number is 1, and the ledger's is 0: ")
 
 
 def test_another_request_of_the_number_is_told(sender: Sender, machine: Folder) -> None:
@@ -194,8 +193,8 @@ def test_another_request_of_the_number_is_told(sender: Sender, machine: Folder) 
     other = bootkeep.frame_make(0, bootkeep.Request.NEXT, entry=1)
 
     def come_before(number: int, payload: bytes) -> List[bytes]:
-        if payload.startswith(b"BQ"):
-            agent.update(other, str(machine.state), str(machine.place))
+        if frames_of(payload) and not number > 1:
+            update(machine, other)
         return [payload]
 
     courier: Any = sender.courier
@@ -207,7 +206,7 @@ def test_another_request_of_the_number_is_told(sender: Sender, machine: Folder) 
 
 def test_a_copied_folder_is_told(sender: Sender, machine: Folder, tmp_path: Path) -> None:
     other = Folder(tmp_path / "other", {0: option("a")}, [0])
-    agent.update(b"", str(other.state), str(other.place))
+    agent.answer(b"", str(other.state), str(other.place))
     (machine.state / "journal").write_bytes((other.state / "journal").read_bytes())
     add(sender.ledger, goal("first", "a"))
     assert "it is the journal of machine" in troubled(sender)
@@ -337,11 +336,11 @@ def test_what_fails_for_one_machine_fails_for_it_alone(
     """Whatever it is, and with nothing of it kept."""
     take = machines.take
 
-    def fail(ledger: Ledger, name: str, answer: Answer) -> Optional[str]:
-        trouble = take(ledger, name, answer)
+    def fail(ledger: Ledger, name: str, answer: Answer, asked: Message) -> Taken:
+        taken = take(ledger, name, answer, asked)
         if name == "m1":
             raise OverflowError("\x1b too large")
-        return trouble
+        return taken
 
     monkeypatch.setattr(machines, "take", fail)
     add(pair.ledger, goal("first", "new"), to=["m1", "m2"])
@@ -381,7 +380,7 @@ def test_only_what_was_asked_for_is_read(sender: Sender, monkeypatch: pytest.Mon
     sender.turn([])
     large = json.dumps({"to": digest(b"other"), "error": "x" * 700_000}).encode()
     came = [Came("m1", large)] * 500 + [Came("m2", large)] * 500 + [Came("m9", large)] * 500
-    asked = sender.held["m1"].asked
+    asked = sender.held["m1"].message.asked
     good = json.dumps({"to": asked, "status": 0, "refused": {"words": "busy", "do": "wait"}})
     began = time.process_time()
     sender.turn(came + [Came("m1", good.encode())] * 500)
@@ -427,12 +426,12 @@ def test_a_machine_that_has_just_come_is_asked_at_once(sender: Sender) -> None:
         sender._renew(100)
     held = sender.held["m1"]
     held.due, held.sent = 900.0, 5
-    reply = agent.update(b"", *(str(it) for it in (_folder(sender).state, _folder(sender).place)))
+    reply = agent.answer(b"", *(str(it) for it in (_folder(sender).state, _folder(sender).place)))
     said = sender._read([Came("m1", reply.encode())])
     with ledger.transaction():
         sender._take(said[0], 101)
     assert held.due <= 101 + sender.first_pause
-    assert (held.sent, held.asked) == (0, digest(held.payload))
+    assert (held.sent, held.message.asked) == (0, digest(held.message.payload))
 
 
 def test_a_clock_that_is_set_back_stops_nothing(
