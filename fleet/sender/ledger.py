@@ -54,6 +54,7 @@ CREATE TABLE machine(
     next INTEGER NOT NULL DEFAULT 0,    -- the next number: what became of those below it is known
     journal TEXT,                       -- the identity of its journal, once it told one
     entries INTEGER NOT NULL DEFAULT 0, -- how many entries it had when it was looked at last
+    unmet INTEGER NOT NULL DEFAULT 0,   -- how often in a row it wasn't as a message expects, and had applied nothing
     seen REAL,                          -- when it was heard of last
     note TEXT,                          -- why it refused what is sent again, if it did last
     trouble TEXT,
@@ -350,9 +351,10 @@ class Ledger:
             attempts.setdefault(attempt, []).append((job, frame))
         return attempts
 
-    def count_attempts(self, machine: Machine) -> int:
-        """How many attempts were made at the machine's next number."""
-        return len(self._attempts(machine))
+    def count_unmet(self, machine: Machine) -> int:
+        """Counts that a machine wasn't as a message expects. How often that was so since its next number moved on."""
+        self.db.execute("UPDATE machine SET unmet = unmet + 1 WHERE name = ?", (machine.name,))
+        return int(self.one("SELECT unmet FROM machine WHERE name = ?", machine.name)[0])
 
     def withdraw(self, machine: Machine) -> None:
         """A machine isn't asked any more what it was asked last, though a message may still be under way."""
@@ -419,7 +421,9 @@ class Ledger:
             f"UPDATE request SET state = 'passed' WHERE machine = ? AND era = ? AND {IS_OPEN}",
             (machine.name, machine.era),
         )
-        self.db.execute("UPDATE machine SET next = ? WHERE name = ?", (following, machine.name))
+        self.db.execute(
+            "UPDATE machine SET next = ?, unmet = 0 WHERE name = ?", (following, machine.name)
+        )
         return machine._replace(next=following)
 
     def end_goal(
@@ -514,7 +518,7 @@ class Ledger:
     def _reopen(self, name: str) -> None:
         """Ends a machine's trouble, and opens the goals that have failed for new attempts."""
         self.db.execute(
-            "UPDATE machine SET trouble = NULL, told = NULL, note = NULL, due = 0 WHERE name = ?",
+            "UPDATE machine SET trouble = NULL, told = NULL, note = NULL, unmet = 0, due = 0 WHERE name = ?",
             (name,),
         )
         self.db.execute(

@@ -26,8 +26,8 @@ MOST_NUMBERS = (1 << 32) - 1
 MOST_BYTES = 1 << 19
 """How many bytes of frames are sent at once, if they are more than one: a broker takes no message without end."""
 
-MOST_ATTEMPTS = 16
-"""How many attempts are made at one number: if none of them comes in time, something changes the machine each time."""
+MOST_UNMET = 16
+"""How often in a row a machine may be another one than a message expects: something changes it each time."""
 
 
 class Trouble(Exception):
@@ -63,6 +63,10 @@ def _next_message(
     if unknown:
         return messages.question(answer, unknown)
     machine = ledger.move_on(machine, answer.next)
+    if answer.unmet is not None and ledger.count_unmet(machine) >= MOST_UNMET:
+        raise Trouble(
+            f"it changes each time: {answer.unmet.found}, and not {answer.unmet.expected}"
+        )
     _compare_entries(machine, answer)
     ledger.looked_at(machine, answer.journal, len(answer.shown.entries))
     return _go_on(ledger, machine, answer)
@@ -159,8 +163,6 @@ def _ask(
 ) -> Message:
     """Stores requests, and gives the message that they are sent by."""
     stored = ledger.add_requests(machine, job, requests)
-    if ledger.count_attempts(machine) > MOST_ATTEMPTS:
-        raise Trouble(f"request {machine.next} came too late {MOST_ATTEMPTS} times: it changes")
     message = messages.request(answer, stored)
     if message.is_too_long():
         raise Trouble(f"request {machine.next} names too many entries, or BootOrder does")
