@@ -84,8 +84,13 @@ def _add_set_up(commands: "argparse._SubParsersAction[argparse.ArgumentParser]")
     init.add_argument("--certs", metavar="FOLDER", type=Path, required=True)
     enroll = _add(commands, "enroll", do_enroll, "takes machines in, with a certificate for each")
     enroll.add_argument("machines", metavar="MACHINE", nargs="+")
+    enroll.add_argument(
+        "--request", metavar="FILE", type=Path, help="of one machine that has made its key itself"
+    )
     sender = _add(commands, "enroll-sender", do_enroll_sender, "makes certificates of more senders")
     sender.add_argument("names", metavar="NAME", nargs="+")
+    revoke = _add(commands, "revoke", do_revoke, "takes rights away from machines or senders")
+    revoke.add_argument("names", metavar="NAME", nargs="+")
 
 
 def _add_goals(commands: "argparse._SubParsersAction[argparse.ArgumentParser]") -> None:
@@ -192,10 +197,15 @@ def do_enroll(options: argparse.Namespace) -> int:
     ledger = Ledger(options.ledger)
     for name in options.machines:
         certificates.check_name(name)
-        if name == certificates.BROKER or _is_sender(ledger, name):
+        if name == certificates.BROKER or certificates.is_sender(_certs(ledger), name):
             raise Problem(f"{name}: this name isn't a machine's")
+    if options.request is not None and len(options.machines) != 1:
+        raise Problem(f"{options.request}: a request is of one machine")
     for name in options.machines:
-        made = certificates.make_machine(_certs(ledger), name, _broker(ledger))
+        if options.request is None:
+            made = certificates.make_machine(_certs(ledger), name, _broker(ledger))
+        else:
+            made = certificates.sign_machine(_certs(ledger), name, _broker(ledger), options.request)
         with ledger.transaction():
             ledger.add_machine(name)
         print(f"{made}: copy it to the machine, as /etc/bootfleet")
@@ -210,6 +220,18 @@ def do_enroll_sender(options: argparse.Namespace) -> int:
             raise Problem(f"{name}: this name isn't a sender's")
         certificates.make_sender(_certs(ledger), name)
     print("let the broker read its acl anew (SIGHUP), and then `run --as NAME`")
+    return 0
+
+
+def do_revoke(options: argparse.Namespace) -> int:
+    ledger = Ledger(options.ledger)
+    for name in options.names:
+        certificates.check_name(name)
+        certificates.revoke(_certs(ledger), name)
+        print(f"{name}: it has no rights any more")
+    print(
+        "let the broker read its files anew (SIGHUP), or start it anew: who is connected stays so"
+    )
     return 0
 
 
@@ -346,6 +368,8 @@ def do_forget(options: argparse.Namespace) -> int:
         if not ledger.has_machine(name):
             raise Problem(f"{name}: there is no such machine in the ledger")
     if options.yes or _agrees(f"Forget what was asked of {' '.join(options.machines)}?"):
+        for name in options.machines:
+            certificates.forget_machine(_certs(ledger), name)
         with ledger.transaction():
             for name in options.machines:
                 ledger.forget(name)
@@ -484,11 +508,6 @@ def _broker(ledger: Ledger) -> str:
 
 def _certs(ledger: Ledger) -> Path:
     return Path(ledger.setting("certs") or "")
-
-
-def _is_sender(ledger: Ledger, name: str) -> bool:
-    acl = (_certs(ledger) / "acl").read_text(encoding="utf-8")
-    return f"user {name}\n" in acl
 
 
 def _open_private(path: str, flags: int) -> int:

@@ -10,6 +10,7 @@ import time
 from pathlib import Path
 from typing import Any, Dict, List, NamedTuple, Optional, Tuple
 
+from .endings import Ending, ending_soon
 from .entries import entry_name
 from .goals import Goal
 from .ledger import Ledger
@@ -46,6 +47,7 @@ class Status(NamedTuple):
     jobs: List[JobStatus]
     machines: List[MachineStatus]
     now: float
+    endings: List[Ending]
 
     def goals(self, state: str) -> int:
         return sum(job.counts[state] for job in self.jobs)
@@ -60,10 +62,11 @@ RANK = {"trouble": 0, "asked": 1, "open": 2, "quiet": 3}
 
 def read_status(ledger: Ledger) -> Status:
     """How it stands, at one moment."""
+    now = time.time()
+    endings = ending_soon(Path(ledger.setting("certs") or ""), now)
     with ledger.transaction():
-        now = time.time()
         machines = sorted(_machines(ledger, now), key=lambda it: (RANK[it.state], it.name))
-        return Status(_jobs(ledger), machines, now)
+        return Status(_jobs(ledger), machines, now, endings)
 
 
 def _jobs(ledger: Ledger) -> List[JobStatus]:
@@ -128,6 +131,7 @@ def as_json(status: Status) -> str:
         "time": int(status.now),
         "jobs": [job._asdict() for job in status.jobs],
         "machines": [machine._asdict() for machine in status.machines],
+        "certificates": [ending._asdict() for ending in status.endings],
     }
     return json.dumps(held)
 
@@ -147,9 +151,17 @@ def counts_line(status: Status) -> str:
     return f"{len(status.machines)} machines, {status.troubled()} in trouble; goals: {goals}"
 
 
+def endings_line(status: Status) -> str:
+    """Which certificates end soon, or have ended."""
+    told = [
+        f"{it.name} {'has ended' if it.days < 0 else f'in {it.days} days'}" for it in status.endings
+    ]
+    return f"certificates end: {', '.join(told)}"
+
+
 def as_table(status: Status, columns: int, lines: Optional[int] = None) -> List[str]:
     """All of it in lines of so many columns, and only the first machines if there are more than so many lines."""
-    out = [counts_line(status), ""]
+    out = [counts_line(status), *([endings_line(status)] if status.endings else []), ""]
     for job in status.jobs:
         done, of = job.counts["reached"], sum(job.counts.values())
         out.append(f"{job.job:>4}  {_bar(done, of, 20)} {done}/{of}  {job.goal}")
@@ -188,12 +200,13 @@ def as_page(status: Status, refresh: Optional[int] = None) -> str:
     """All of it as one page of HTML, which is read anew every so many seconds."""
     again = "" if refresh is None else f'<meta http-equiv="refresh" content="{refresh}">'
     when = time.strftime("%Y-%m-%d %H:%M:%S UTC", time.gmtime(status.now))
+    endings = f"<p>{html.escape(endings_line(status))}</p>" if status.endings else ""
     jobs = "".join(_job_row(job) for job in status.jobs)
     machines = "".join(_machine_row(machine) for machine in status.machines)
     return f"""<!DOCTYPE html>
 <html lang="en"><head><meta charset="utf-8">{again}<title>bootfleet</title>
 <meta name="viewport" content="width=device-width"><style>{STYLE}</style></head><body>
-<h1>Boot entries of the fleet</h1><p>{html.escape(counts_line(status))}. As of {when}.</p>
+<h1>Boot entries of the fleet</h1><p>{html.escape(counts_line(status))}. As of {when}.</p>{endings}
 <table><tr><th class="n">Job</th><th>Goal</th><th>Done</th><th class="n">Reached</th><th class="n">Open</th>
 <th class="n">Failed</th></tr>{jobs}</table>
 <table><tr><th>Machine</th><th>State</th><th class="n">Goals</th><th class="n">Goal</th><th class="n">Seen</th>

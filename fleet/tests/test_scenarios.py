@@ -18,6 +18,8 @@ from sender.ledger import Ledger
 from sender.machines import MOST_UNMET
 from sender.run import Sender
 
+Wish = Tuple[Request, Dict[str, Any]]
+
 
 def once(does: Callable[[], object]) -> Callable[[int, bytes], List[bytes]]:
     """Loses the first message with frames, and lets something be done at the machine meanwhile."""
@@ -45,7 +47,7 @@ def courier_of(sender: Sender) -> Hand:  # noqa: F811
     return courier
 
 
-def send(*requests: "Tuple[Request, Dict[str, Any]]") -> Goal:
+def send(*requests: Wish) -> Goal:
     """A job of requests that somebody made."""
     made = [bootkeep.frame_make(0, kind, **members) for kind, members in requests]
     return Goal("send", frames=tuple(made))
@@ -278,7 +280,7 @@ def test_next_is_set_again_if_somebody_says_so(
 def test_what_was_done_of_a_script_is_not_sent_by_resend(
     sender: Sender, machine: Folder  # noqa: F811
 ) -> None:
-    script = [
+    script: List[Wish] = [
         (Request.ADD_FREE, {"option": option("x")}),
         (Request.REMOVE, {"entry": 0x77}),
         (Request.ADD_FREE, {"option": option("y")}),
@@ -301,7 +303,7 @@ def test_what_was_done_of_a_script_is_not_sent_by_adopt(
     sender: Sender, machine: Folder  # noqa: F811
 ) -> None:
     """64 of 70 requests are answered, and then another ledger's request comes between."""
-    requests: List[Tuple[Request, Dict[str, Any]]] = [
+    requests: List[Wish] = [
         (Request.ADD_FREE, {"option": option(f"x{number}")}) for number in range(70)
     ]
     other = bootkeep.frame_make(64, Request.FIRST, entry=0)
