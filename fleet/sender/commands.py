@@ -16,7 +16,7 @@ from typing import IO, Callable, Dict, List
 
 import bootkeep
 
-from . import certificates, machines, status
+from . import certificates, machines, status, waves
 from .certificates import CertificateError
 from .courier import MqttCourier, split_broker
 from .entries import Wanted
@@ -134,10 +134,21 @@ def _add_running(commands: "argparse._SubParsersAction[argparse.ArgumentParser]"
     run.add_argument(
         "--as", dest="name", metavar="NAME", default=certificates.SENDER, help="by this certificate"
     )
+    run.add_argument(
+        "--waves",
+        metavar="SIZES",
+        help="so many machines first, then so many, as 1,5%%,100%%; 100%% is all at once",
+    )
+    run.add_argument(
+        "--stop-at", metavar="N", type=int, help="once so many of them are in trouble, none goes on"
+    )
     shown = _add(commands, "status", do_status, "shows how it stands")
     how = shown.add_mutually_exclusive_group()
     how.add_argument("--json", action="store_true")
     how.add_argument("--page", metavar="FILE", type=Path, help="writes a page of HTML")
+    how.add_argument(
+        "--metrics", metavar="FILE", type=Path, help="writes a text that Prometheus collects"
+    )
     shown.add_argument(
         "--watch", nargs="?", metavar="SECONDS", type=float, const=2.0, help="and so on"
     )
@@ -253,6 +264,12 @@ def do_send(options: argparse.Namespace) -> int:
 
 def do_run(options: argparse.Namespace) -> int:
     ledger = Ledger(options.ledger)
+    if options.waves is not None:
+        made = waves.read_waves(options.waves, options.stop_at)
+        with ledger.transaction():
+            ledger.set_waves(made if made.is_any() else None)
+    elif options.stop_at is not None:
+        raise Problem("--stop-at goes with --waves")
     lock = _lock(ledger, options.name)
     stopped: List[int] = []
     for number in (signal.SIGTERM, signal.SIGINT):
@@ -291,9 +308,12 @@ def _show_status(options: argparse.Namespace, found: status.Status) -> None:
     if options.json:
         print(status.as_json(found), flush=True)
         return
+    if options.metrics is not None:
+        status.write_whole(options.metrics, status.as_metrics(found))
+        return
     if options.page is not None:
         again = None if options.watch is None else max(1, round(options.watch))
-        status.write_page(options.page, status.as_page(found, again))
+        status.write_whole(options.page, status.as_page(found, again))
         return
     columns, lines = shutil.get_terminal_size()
     if options.watch is None:

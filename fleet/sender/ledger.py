@@ -27,6 +27,8 @@ What is done once, `next` and `send`, is remembered: which of its requests were 
 A machine with **trouble** is sent nothing. Only `resend`, `adopt`, `forget`, and `cancel` of the goal that failed end
 it.
 
+Where there are **waves**, no machine is held before the wave that it is in has begun.
+
 A machine has a **holder** up to a time, its lease: the sender which alone goes after its goals.
 
 Each write is in a transaction of SQLite, which is on the disk (`synchronous=FULL`) when it ends.
@@ -36,6 +38,7 @@ from __future__ import annotations
 
 import json
 import os
+import secrets
 import sqlite3
 import tempfile
 import time
@@ -45,6 +48,7 @@ from typing import Any, Dict, Iterable, Iterator, List, NamedTuple, Optional, Se
 
 from .goals import Asked, Goal, Past
 from .messages import Stored
+from .waves import Waves, draw
 
 SCHEMA = """
 CREATE TABLE setting(name TEXT PRIMARY KEY, value TEXT NOT NULL) WITHOUT ROWID;
@@ -61,7 +65,8 @@ CREATE TABLE machine(
     told TEXT,                          -- what it said of itself when the trouble began
     holder TEXT,
     until REAL NOT NULL DEFAULT 0,      -- when the lease ends
-    due REAL NOT NULL DEFAULT 0         -- it is silent: no sender takes it up before
+    due REAL NOT NULL DEFAULT 0,        -- it is silent: no sender takes it up before
+    wave INTEGER                        -- in which wave it is, if there are any
 ) WITHOUT ROWID;
 CREATE TABLE job(id INTEGER PRIMARY KEY, goal TEXT NOT NULL, made REAL NOT NULL);
 CREATE TABLE goal(
@@ -95,6 +100,7 @@ CREATE INDEX goal_job ON goal(job, state);
 CREATE INDEX request_sent ON request(machine) WHERE state = 'sent';
 CREATE INDEX request_job ON request(machine, job);
 CREATE INDEX machine_holder ON machine(holder) WHERE holder IS NOT NULL;
+CREATE INDEX machine_wave ON machine(wave) WHERE wave IS NOT NULL;
 CREATE INDEX machine_trouble ON machine(name) WHERE trouble IS NOT NULL;
 """
 
@@ -102,6 +108,9 @@ VERSION = 2
 
 HAS_WORK = """trouble IS NULL AND name IN
     (SELECT machine FROM goal WHERE state = 'open' UNION SELECT machine FROM request WHERE state = 'sent')"""
+
+HAS_BEGUN = "(wave IS NULL OR wave <= ?)"
+"""Which machines are in no wave that comes later than this one."""
 
 IS_OPEN = "state IN ('sent', 'late')"
 """Of which requests nobody knows what became of them."""
@@ -464,19 +473,21 @@ class Ledger:
         self.db.execute(
             "UPDATE machine SET until = ? WHERE holder IS NOT NULL AND until > ?", (until, until)
         )
+        begun = self.begun_wave()
         self.db.execute(
             f"UPDATE machine SET until = ? WHERE holder = ? AND {HAS_WORK}", (until, holder)
         )
         held = [
             name
             for (name,) in self.db.execute(
-                f"SELECT name FROM machine WHERE holder = ? AND {HAS_WORK}", (holder,)
+                f"SELECT name FROM machine WHERE holder = ? AND {HAS_WORK} AND {HAS_BEGUN}",
+                (holder, begun),
             )
         ]
         free = self.db.execute(
             "SELECT name FROM machine WHERE (holder IS NULL OR until < ?) AND (due <= ? OR due > ?)"
-            f" AND {HAS_WORK} LIMIT ?",
-            (now, now, now + LONGEST_LEFT, most - len(held)),
+            f" AND {HAS_WORK} AND {HAS_BEGUN} LIMIT ?",
+            (now, now, now + LONGEST_LEFT, begun, most - len(held)),
         ).fetchall()
         self.db.executemany(
             "UPDATE machine SET holder = ?, until = ? WHERE name = ?",
@@ -503,6 +514,60 @@ class Ledger:
             self.one("SELECT 1 FROM goal WHERE state IN ('open', 'failed') LIMIT 1") is None
             and self.one("SELECT 1 FROM machine WHERE trouble IS NOT NULL LIMIT 1") is None
         )
+
+    # Waves
+
+    def set_waves(self, waves: Optional[Waves]) -> None:
+        """Has machines gone after in these waves from now on, or all at once."""
+        self.db.execute("DELETE FROM setting WHERE name = 'waves'")
+        if waves is not None:
+            self._set("waves", waves.to_json())
+            if self.setting("seed") is None:
+                self._set("seed", secrets.token_hex(8))
+        self.draw_waves()
+
+    def _set(self, name: str, value: str) -> None:
+        self.db.execute("INSERT OR REPLACE INTO setting VALUES(?, ?)", (name, value))
+
+    def waves(self) -> Optional[Waves]:
+        held = self.setting("waves")
+        return None if held is None else Waves.from_json(held)
+
+    def draw_waves(self) -> None:
+        """Notes in which wave each machine is: of those of the jobs that aren't done."""
+        waves = self.waves()
+        if waves is None:
+            self.db.execute("UPDATE machine SET wave = NULL WHERE wave IS NOT NULL")
+            return
+        rows = self.db.execute(
+            "SELECT DISTINCT machine FROM goal WHERE job IN"
+            " (SELECT job FROM goal WHERE state IN ('open', 'failed'))"
+        )
+        drawn = draw((name for (name,) in rows), waves, self.setting("seed") or "")
+        rows = self.db.execute("SELECT name, wave FROM machine")
+        changed = [(drawn.get(name), name) for name, wave in rows if wave != drawn.get(name)]
+        self.db.executemany("UPDATE machine SET wave = ? WHERE name = ?", changed)
+
+    def begun_wave(self) -> int:
+        """The last wave that has begun; -1 if so many machines are in trouble that nothing goes on."""
+        if self.is_stopped():
+            return -1
+        (wave,) = self.one(f"SELECT MIN(wave) FROM machine WHERE {HAS_WORK}")
+        return 0 if wave is None else int(wave)
+
+    def is_stopped(self) -> bool:
+        """Whether so many machines of waves are in trouble that nothing goes on."""
+        waves = self.waves()
+        if waves is None or waves.stop_at is None:
+            return False
+        return self.count_wave_troubles() >= waves.stop_at
+
+    def count_wave_troubles(self) -> int:
+        """How many machines that are in a wave are in trouble."""
+        count = self.one(
+            "SELECT COUNT(*) FROM machine WHERE trouble IS NOT NULL AND wave IS NOT NULL"
+        )[0]
+        return int(count)
 
     # What somebody decides
 

@@ -92,6 +92,7 @@ class Sender:
     queue: List[Tuple[float, str]] = field(default_factory=list)
     counts: Counts = field(default_factory=Counts)
     leased: float = -math.inf
+    is_stopped: bool = False
 
     def __post_init__(self) -> None:
         self.holder = f"{self.name}:{os.getpid()}:{secrets.token_hex(4)}"
@@ -102,8 +103,12 @@ class Sender:
         try:
             while not is_stopped() and (ends is None or time.monotonic() < ends):
                 self.turn(self.courier.receive(BATCH))
-                if until_done and not self.held and self.ledger.is_done():
-                    return True
+                if until_done and not self.held:
+                    if self.ledger.is_done():
+                        return True
+                    self._tell_if_stopped()
+                    if self.is_stopped:
+                        return False
             return self.ledger.is_done()
         finally:
             with self.ledger.transaction():
@@ -133,6 +138,8 @@ class Sender:
     def _renew(self, now: float) -> None:
         """Takes the leases of machines that have something to be done, and loses those that others took meanwhile."""
         self.leased = now
+        self.ledger.draw_waves()
+        self._tell_if_stopped()
         day = time.time()
         names = self.ledger.hold(self.holder, MOST_HELD, day, day + LEASE)
         held = self.held
@@ -140,6 +147,18 @@ class Sender:
         for name in names:
             if name not in self.held:
                 self._begin(name, look(), now + random.random() * self.first_pause)
+
+    def _tell_if_stopped(self) -> None:
+        """Tells that nothing goes on, once until it does again."""
+        is_stopped = self.ledger.is_stopped()
+        if is_stopped and not self.is_stopped:
+            count = self.ledger.count_wave_troubles()
+            print(
+                f"bootfleet: {count} machines are in trouble: no other one is gone after",
+                file=sys.stderr,
+                flush=True,
+            )
+        self.is_stopped = is_stopped
 
     def _begin(self, name: str, message: Message, due: float) -> None:
         """A machine is asked something new."""
@@ -244,6 +263,8 @@ class Sender:
 
     def _stopped(self, name: str, why: str) -> None:
         self.held.pop(name, None)
+        if self.ledger.is_stopped():
+            self.leased = -math.inf  # Nothing goes on: all that is held is let go at once.
         print(f"bootfleet: {name}: {why}", file=sys.stderr, flush=True)
 
 
