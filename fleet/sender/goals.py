@@ -147,7 +147,7 @@ def _taken(goal: Goal, shown: Shown, past: Past) -> Step:
         left = sorted(it.number for it in shown.entries if goal.wanted[0].is_meant(it))
         return Ask(Asked(Request.REMOVE, left[0])) if left else Reached()
     if goal.kind == "next" and past.is_done(Request.NEXT):
-        return Reached(next(it.entry for it in past.asked if it.kind == Request.NEXT))
+        return Reached(next(it.entry for it in past.asked if goal.is_for_good(it)))
     found: List[int] = []
     for wanted in goal.wanted:
         entry = _find(wanted, goal.kind, shown, past)

@@ -96,7 +96,8 @@ def _check_unmet(answer: Answer, asked: Message) -> None:
 
 def _take_replies(ledger: Ledger, machine: Machine, answer: Answer, asked: Message) -> None:
     if len(answer.replies) != len(asked.requests):
-        raise Trouble(f"it has {len(answer.replies)} replies to {len(asked.requests)} requests")
+        told = f"it has {len(answer.replies)} replies to {len(asked.requests)} requests"
+        raise Trouble(f"{told}: its agent may be an older one")
     for request, reply in zip(asked.requests, answer.replies):
         _take_reply(ledger, machine, request, reply)
 

@@ -5,13 +5,27 @@ from __future__ import annotations
 import json
 import sqlite3
 import time
-from collections import deque
 from pathlib import Path
-from typing import Any, Callable, Deque, Dict, List, Sequence, Tuple
+from typing import Any, Dict, List
 
 import bootkeep
 import pytest
-from conftest import PATH, Folder, agent, frames_of, goal, option, update
+from conftest import (
+    PATH,
+    Deliver,
+    Folder,
+    Hand,
+    add,
+    agent,
+    frames,
+    frames_of,
+    goal,
+    hostile,
+    option,
+    run,
+    troubled,
+    update,
+)
 
 from sender import machines
 from sender import run as run_module
@@ -29,64 +43,6 @@ from sender.run import (
     SILENT_PAUSE,
     Sender,
 )
-
-Deliver = Callable[[int, bytes], List[bytes]]
-
-
-class Hand:
-    """A courier by hand: `requests` and `replies` say what comes of each message, by its number."""
-
-    def __init__(self, machines: Dict[str, Folder]) -> None:
-        self.machines = machines
-        self.count = [0, 0]
-        self.sent: List[Tuple[str, bytes]] = []
-        self.came: Deque[Came] = deque()
-        self.requests: Deliver = lambda _number, payload: [payload]
-        self.replies: Deliver = lambda _number, payload: [payload]
-
-    def send(self, name: str, payload: bytes) -> None:
-        self.sent.append((name, payload))
-        for copy in self.requests(self._next(0), payload):
-            folder = self.machines[name]
-            said = agent.answer(copy, str(folder.state), str(folder.place)).encode()
-            self.came += [Came(name, it) for it in self.replies(self._next(1), said)]
-
-    def _next(self, way: int) -> int:
-        self.count[way] += 1
-        return self.count[way] - 1
-
-    def receive(self, seconds: float) -> List[Came]:
-        came = list(self.came)
-        self.came.clear()
-        return came
-
-
-@pytest.fixture
-def sender(ledger: Ledger, machine: Folder) -> Sender:
-    return Sender(ledger, Hand({"m1": machine}), "sender", 0.01, 0.05)
-
-
-@pytest.fixture
-def pair(ledger: Ledger, machine: Folder, tmp_path: Path) -> Sender:
-    """A sender over two machines."""
-    other = Folder(tmp_path / "other", {0: option("a"), 1: option("b")}, [1, 0])
-    return Sender(ledger, Hand({"m1": machine, "m2": other}), "sender", 0.01, 0.05)
-
-
-def add(ledger: Ledger, *goals: Goal, to: Sequence[str] = ("m1",)) -> None:
-    with ledger.transaction():
-        for one in goals:
-            ledger.add_job(one, to)
-
-
-def run(sender: Sender) -> bool:
-    return sender.run(True, 60, lambda: False)
-
-
-def frames(sender: Sender) -> List[bytes]:
-    courier: Any = sender.courier
-    sent = dict.fromkeys(frames_of(it) for _, it in courier.sent)
-    return [it for it in sent if it]
 
 
 def test_goals_are_reached_one_after_the_other(sender: Sender, machine: Folder) -> None:
@@ -166,13 +122,6 @@ def test_frames_of_a_script_are_sent_64_at_once(sender: Sender, machine: Folder)
     assert machine.order() == [1, 0]
 
 
-def troubled(sender: Sender) -> str:
-    """Runs until nothing is left but trouble, which it gives."""
-    assert run(sender)
-    assert not sender.ledger.all_reached()
-    return sender.ledger.trouble("m1") or ""
-
-
 def test_another_journal_is_told(sender: Sender, machine: Folder) -> None:
     add(sender.ledger, goal("first", "a"))
     assert run(sender)
@@ -248,16 +197,6 @@ def test_what_is_no_reply_is_told(sender: Sender) -> None:
     courier.replies = lambda _number, _payload: [b"nonsense"]
     add(sender.ledger, goal("first", "a"))
     assert troubled(sender).startswith("what it said is no reply: ")
-
-
-def hostile(sender: Sender, make: Callable[[Dict[str, Any]], bytes]) -> None:
-    """Lets m1 reply by what is made of the true reply, and m2 truly, which has to come to its goal."""
-    courier: Any = sender.courier
-
-    def reply(number: int, payload: bytes) -> List[bytes]:
-        return [make(json.loads(payload)) if courier.sent[-1][0] == "m1" else payload]
-
-    courier.replies = reply
 
 
 @pytest.mark.parametrize(

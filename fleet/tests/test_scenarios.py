@@ -10,8 +10,21 @@ from typing import Any, Callable, Dict, List, Optional, Tuple
 import bootkeep
 import pytest
 from bootkeep import Request
-from conftest import Folder, agent, bootfleet, frames_of, goal, option, update
-from test_run import Hand, add, frames, hostile, pair, run, sender, troubled  # noqa: F401
+from conftest import (
+    Folder,
+    Hand,
+    add,
+    agent,
+    bootfleet,
+    frames,
+    frames_of,
+    goal,
+    hostile,
+    option,
+    run,
+    troubled,
+    update,
+)
 
 from sender.goals import Goal
 from sender.ledger import Ledger
@@ -41,7 +54,7 @@ def deliver(machine: Folder, payload: bytes) -> Dict[str, Any]:
     return held
 
 
-def courier_of(sender: Sender) -> Hand:  # noqa: F811
+def courier_of(sender: Sender) -> Hand:
     courier: Any = sender.courier
     assert isinstance(courier, Hand)
     return courier
@@ -53,7 +66,7 @@ def send(*requests: Wish) -> Goal:
     return Goal("send", frames=tuple(made))
 
 
-def adopt(sender: Sender, *words: object, status: int = 0) -> str:  # noqa: F811
+def adopt(sender: Sender, *words: object, status: int = 0) -> str:
     """Calls `adopt` for the machine."""
     return bootfleet("--ledger", sender.ledger.path, "adopt", "m1", "--yes", *words, status=status)
 
@@ -70,7 +83,7 @@ def states(ledger: Ledger) -> List[Tuple[Any, ...]]:
 
 @pytest.mark.parametrize("kind", ["remove", "first", "next"])
 def test_a_number_with_a_new_owner_is_left_alone(
-    sender: Sender, machine: Folder, kind: str  # noqa: F811
+    sender: Sender, machine: Folder, kind: str
 ) -> None:
     """The request is on its way for weeks, and meanwhile somebody installs another system, which gets the number."""
 
@@ -89,9 +102,7 @@ def test_a_number_with_a_new_owner_is_left_alone(
     assert machine.get("BootNext") == (b"\4\0" if kind == "next" else None)
 
 
-def test_a_number_that_is_taken_meanwhile_is_left_alone(
-    sender: Sender, machine: Folder  # noqa: F811
-) -> None:
+def test_a_number_that_is_taken_meanwhile_is_left_alone(sender: Sender, machine: Folder) -> None:
     """A script names an entry by its number, as it was when the script was sent."""
     courier_of(sender).requests = once(lambda: machine.put("Boot0000", option("debian")))
     add(sender.ledger, send((Request.REPLACE, {"entry": 0, "option": option("new")})))
@@ -102,7 +113,7 @@ def test_a_number_that_is_taken_meanwhile_is_left_alone(
 
 
 def test_an_order_that_changes_meanwhile_is_looked_at_again(
-    sender: Sender, machine: Folder  # noqa: F811
+    sender: Sender, machine: Folder
 ) -> None:
     """An installer adds the very entry in front: it is there once."""
 
@@ -117,9 +128,7 @@ def test_an_order_that_changes_meanwhile_is_looked_at_again(
     assert list(machine.entries().values()).count(option("new")) == 1
 
 
-def test_a_machine_that_changes_each_time_is_told(
-    sender: Sender, machine: Folder  # noqa: F811
-) -> None:
+def test_a_machine_that_changes_each_time_is_told(sender: Sender, machine: Folder) -> None:
     """Each time before a message comes something else puts itself in front."""
 
     def change(number: int, payload: bytes) -> List[bytes]:
@@ -142,9 +151,7 @@ def test_a_machine_that_changes_each_time_is_told(
 # Messages that come late, and again
 
 
-def test_an_earlier_attempt_that_comes_late_is_known(
-    sender: Sender, machine: Folder  # noqa: F811
-) -> None:
+def test_an_earlier_attempt_that_comes_late_is_known(sender: Sender, machine: Folder) -> None:
     """The entry moves to another number and back again: of the two requests the first is applied after all."""
     sent: List[bytes] = []
 
@@ -171,9 +178,7 @@ def test_an_earlier_attempt_that_comes_late_is_known(
     assert states(sender.ledger) == [(0, "done"), (0, "passed"), (1, "done")]
 
 
-def test_a_frame_is_not_applied_by_another_journal(
-    sender: Sender, machine: Folder  # noqa: F811
-) -> None:
+def test_a_frame_is_not_applied_by_another_journal(sender: Sender, machine: Folder) -> None:
     """The first request is applied, its reply and then the journal are lost, and the request comes again."""
 
     def lose(_number: int, payload: bytes) -> List[bytes]:
@@ -188,9 +193,7 @@ def test_a_frame_is_not_applied_by_another_journal(
     assert list(machine.entries().values()).count(option("new")) == 1
 
 
-def test_a_broker_that_repeats_everything_changes_nothing(
-    sender: Sender, machine: Folder  # noqa: F811
-) -> None:
+def test_a_broker_that_repeats_everything_changes_nothing(sender: Sender, machine: Folder) -> None:
     """Also after the machine was set up anew, with a journal that has applied nothing."""
     add(sender.ledger, goal("first", "new"), goal("next", "a"), goal("remove", "b"))
     assert run(sender) and sender.ledger.all_reached()
@@ -212,7 +215,7 @@ def machine_file(name: str) -> str:
     return f"{name}-8be4df61-93ca-11d2-aa0d-00e098032b8c"
 
 
-def test_a_machine_that_contradicts_itself_is_told(pair: Sender) -> None:  # noqa: F811
+def test_a_machine_that_contradicts_itself_is_told(pair: Sender) -> None:
     def make(held: Dict[str, Any]) -> bytes:
         unmet = {"expected": "next=0", "found": "next=9"}
         return json.dumps({**held, "replies": [], "unmet": unmet}).encode()
@@ -224,7 +227,7 @@ def test_a_machine_that_contradicts_itself_is_told(pair: Sender) -> None:  # noq
     assert pair.ledger.one("SELECT state FROM goal WHERE machine = 'm2'") == ("reached",)
 
 
-def test_a_machine_that_says_unmet_of_what_is_so_is_told(pair: Sender) -> None:  # noqa: F811
+def test_a_machine_that_says_unmet_of_what_is_so_is_told(pair: Sender) -> None:
     def make(held: Dict[str, Any]) -> bytes:
         if held["replies"]:
             held = {**held, "next": 0, "replies": []}
@@ -237,12 +240,22 @@ def test_a_machine_that_says_unmet_of_what_is_so_is_told(pair: Sender) -> None: 
     assert pair.ledger.trouble("m1") == "it says that next=0 isn't so, and shows that it is"
 
 
+def test_an_older_agent_is_told(pair: Sender) -> None:
+    """It takes what it is sent for a look, and applies nothing."""
+
+    def make(held: Dict[str, Any]) -> bytes:
+        return json.dumps({**held, "next": 0, "replies": []}).encode()
+
+    hostile(pair, make)
+    add(pair.ledger, goal("first", "new"), to=["m1", "m2"])
+    assert run(pair)
+    assert (pair.ledger.trouble("m1") or "").startswith("it has 0 replies to 1 requests: ")
+
+
 # What is done once
 
 
-def test_next_is_set_once_though_its_reply_is_lost(
-    sender: Sender, machine: Folder  # noqa: F811
-) -> None:
+def test_next_is_set_once_though_its_reply_is_lost(sender: Sender, machine: Folder) -> None:
     """The machine boots an installer, which wipes the journal: it isn't to boot it again."""
 
     def lose(_number: int, payload: bytes) -> List[bytes]:
@@ -265,9 +278,7 @@ def test_next_is_set_once_though_its_reply_is_lost(
     assert machine.get("BootNext") is None
 
 
-def test_next_is_set_again_if_somebody_says_so(
-    sender: Sender, machine: Folder  # noqa: F811
-) -> None:
+def test_next_is_set_again_if_somebody_says_so(sender: Sender, machine: Folder) -> None:
     courier_of(sender).requests = once((machine.state / "journal").unlink)
     add(sender.ledger, goal("next", "a"))
     assert troubled(sender).startswith("another journal: ")
@@ -277,9 +288,7 @@ def test_next_is_set_again_if_somebody_says_so(
     assert machine.get("BootNext") == b"\0\0"
 
 
-def test_what_was_done_of_a_script_is_not_sent_by_resend(
-    sender: Sender, machine: Folder  # noqa: F811
-) -> None:
+def test_what_was_done_of_a_script_is_not_sent_by_resend(sender: Sender, machine: Folder) -> None:
     script: List[Wish] = [
         (Request.ADD_FREE, {"option": option("x")}),
         (Request.REMOVE, {"entry": 0x77}),
@@ -299,9 +308,7 @@ def test_what_was_done_of_a_script_is_not_sent_by_resend(
     }
 
 
-def test_what_was_done_of_a_script_is_not_sent_by_adopt(
-    sender: Sender, machine: Folder  # noqa: F811
-) -> None:
+def test_what_was_done_of_a_script_is_not_sent_by_adopt(sender: Sender, machine: Folder) -> None:
     """64 of 70 requests are answered, and then another ledger's request comes between."""
     requests: List[Wish] = [
         (Request.ADD_FREE, {"option": option(f"x{number}")}) for number in range(70)
@@ -327,7 +334,7 @@ def test_what_was_done_of_a_script_is_not_sent_by_adopt(
 
 @pytest.mark.parametrize("word", ["--done", "--again"])
 def test_a_restored_ledger_does_nothing_twice(
-    sender: Sender, machine: Folder, tmp_path: Path, word: str  # noqa: F811
+    sender: Sender, machine: Folder, tmp_path: Path, word: str
 ) -> None:
     """The ledger of yesterday knows nothing of what was done today."""
     ledger, copy = sender.ledger, tmp_path / "copy"
@@ -349,9 +356,7 @@ def test_a_restored_ledger_does_nothing_twice(
     assert times == (1 if word == "--done" else 2)
 
 
-def test_a_restored_folder_of_a_journal_is_told(
-    sender: Sender, machine: Folder  # noqa: F811
-) -> None:
+def test_a_restored_folder_of_a_journal_is_told(sender: Sender, machine: Folder) -> None:
     add(sender.ledger, goal("first", "a"))
     saved: Optional[bytes] = None
     assert run(sender)
@@ -366,15 +371,13 @@ def test_a_restored_folder_of_a_journal_is_told(
     assert machine.order() == [1, 0]
 
 
-def test_a_backup_is_no_ledger_that_is_written_to(sender: Sender) -> None:  # noqa: F811
+def test_a_backup_is_no_ledger_that_is_written_to(sender: Sender) -> None:
     told = bootfleet("--ledger", sender.ledger.path, "backup", sender.ledger.path, status=3)
     assert "it is the ledger itself" in told
     assert sender.ledger.has_machine("m1")
 
 
-def test_what_is_cancelled_meanwhile_is_not_sent_again(
-    sender: Sender, machine: Folder  # noqa: F811
-) -> None:
+def test_what_is_cancelled_meanwhile_is_not_sent_again(sender: Sender, machine: Folder) -> None:
     """The machine is off for weeks, and somebody gives up what it was sent."""
     ledger = sender.ledger
     courier_of(sender).requests = lambda _n, payload: [] if frames_of(payload) else [payload]

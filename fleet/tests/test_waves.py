@@ -9,8 +9,7 @@ from pathlib import Path
 from typing import Dict, List, Optional
 
 import pytest
-from conftest import Folder, bootfleet, frames_of, goal, option
-from test_run import Hand
+from conftest import Folder, Hand, bootfleet, frames_of, goal, option
 
 from sender import status
 from sender.ledger import Ledger
