@@ -30,13 +30,14 @@ MOST = 0.050
 """How many seconds more than before it may take."""
 
 
-def large(data: bytes) -> bytes:
-    """An image with so many zeros in its last section, as a kernel's image with all that it needs has them."""
+def grown(data: bytes, length: int) -> bytes:
+    """An image with so many zeros in its last section that it has this length, as a kernel's image with all that it needs
+    has them."""
     headers = Headers(data)
     sections = headers.sections(data)
     index = max(range(len(sections)), key=lambda it: sections[it].raw_start)
     place, held = headers.table + 40 * index, sections[index]
-    filled = data[: held.raw_start + held.raw_size].ljust(LARGE, b"\0")
+    filled = data[: held.raw_start + held.raw_size].ljust(length, b"\0")
     size = len(filled) - held.raw_start
     filled = put(put(filled, place + 8, "I", size), place + 16, "I", size)
     pages = -(-(held.address + size) // 4096) * 4096
@@ -62,7 +63,7 @@ def measure(machine: Machine, applications: Dict[str, bytes], lists: Lists) -> i
         print("time: there are no loaders to measure it with")
         return 0
     machine.empty()
-    held = [large(loaders[0])] + [loaders[it % len(loaders)] for it in range(ENTRIES - 1)]
+    held = [grown(loaders[0], LARGE)] + [loaders[it % len(loaders)] for it in range(ENTRIES - 1)]
     entries = [Entry(f"Entry {index}", f"E{index}.EFI") for index in range(ENTRIES)]
     for entry, data in zip(entries, held):
         (machine.partition / entry.file).write_bytes(data)

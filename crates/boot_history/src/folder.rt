@@ -1,12 +1,12 @@
 //! The folders that records are in.
 
+use messages::Failure;
 use std::alloc::{AllocError, Global};
 use std::fs::DirBuilder;
 use std::io::{self, ErrorKind};
 use std::os::unix::fs::DirBuilderExt;
 use std::path::{Path, PathBuf};
 use std::rt::Files;
-use var_places::Failure;
 use whole_files::{folder_of, sync_folder};
 
 /// The state folder, unless another is given.

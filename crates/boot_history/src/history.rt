@@ -11,13 +11,13 @@ use crate::record::Record;
 use crate::stands::{Standing, standing_of};
 use crate::writer::write_record;
 use boot_journal::MachineName;
+use messages::{Failure, Reason};
 use std::alloc::{AllocError, Global};
 use std::fs;
 use std::io::{self, ErrorKind, Read};
 use std::path::{Path, PathBuf};
 use std::rt::Files;
 use uefi_vars::Vars;
-use var_places::{Failure, Reason};
 use whole_files::{
     LIMIT, OutputFile, RegularFile, open_regular, read_regular, replace_file, sync_folder,
 };

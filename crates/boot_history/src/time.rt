@@ -1,9 +1,9 @@
 //! The times of changes.
 
 use jiff::Timestamp;
+use messages::Failure;
 use std::alloc::{AllocError, Global};
 use std::rt::Clock;
-use var_places::Failure;
 
 /// The time now, as a [`Record`](crate::Record) has it: how many seconds after 1970-01-01T00:00:00Z.
 ///

@@ -12,15 +12,8 @@ pub mod Firmware
 pub mod Own
 pub mod Dangling
 pub mod WithAttributes
-pub mod Applied
-pub mod KeptAttributes
-pub mod Restarts
-pub mod Once
-pub mod Running
 pub mod Records
 pub mod Commands
-pub mod Calls
-pub mod OwnCalls
 pub mod Errors
 pub mod Between
 pub mod Next

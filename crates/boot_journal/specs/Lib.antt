@@ -10,11 +10,7 @@ pub mod JournalValue
 pub mod Cause
 pub mod Working
 pub mod Attributes
-pub mod Requests
-pub mod RunFault
-pub mod Once
 pub mod Commands
-pub mod Calls
 pub mod Asked
 pub mod Recorded
 pub mod RecordedValue

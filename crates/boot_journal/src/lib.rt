@@ -3,8 +3,8 @@
 //!
 //! Firmware stores one variable at a time, and power may fail between two of them. So a [`Machine`] has a [`Journal`] beside
 //! its variables: [`update`] first writes there what it is about to change, and [`settle`] does what a journal is left with,
-//! or takes it back if the machine refuses a move. [`command`] settles, runs something over the variables, such as
-//! [`Requests`], and updates. [`Recorded`] makes a machine of a [`Storage`]. [`read_journal`] reads a journal, and the
+//! or takes it back if the machine refuses a move. [`command`] settles, runs something over the variables, a [`Run`], and
+//! updates. [`Recorded`] makes a machine of a [`Storage`]. [`read_journal`] reads a journal, and the
 //! [`MachineName`] of the machine that it is of, from the bytes of a file, all of them, and [`write_journal`] writes them.
 //!
 //! What a machine keeps under the name of a variable of the boot manager, Boot####, BootOrder, BootNext or Timeout, is the
@@ -26,7 +26,6 @@ mod machine;
 mod machine_name;
 mod reader;
 mod recorded;
-mod requests;
 mod updating;
 mod work;
 mod writer;
@@ -42,6 +41,5 @@ pub use machine::{CallError, CommandError, Machine, UpdateError};
 pub use machine_name::{MACHINE_NAME_MAX, MachineName};
 pub use reader::read_journal;
 pub use recorded::{Recorded, Storage};
-pub use requests::{Requests, RunFault};
 pub use updating::{settle, update};
 pub use writer::write_journal;

@@ -2,9 +2,9 @@
 use Rattle.std.proofs.Common.{◌≡◌, ⊎_elim, List, [], ◌∷◌, map, refl, sym, subst, ◌∙◌, Vec}
 use Rattle.std.specs.Global.{Global}
 use Rattle.boot_requests.specs.declared.answer.Answer.{Answer as Reply}
-use Rattle.boot_journal.specs.declared.requests.Requests.{Requests}
-use Rattle.boot_journal.specs.declared.requests.RunFault.{RunFault}
-use Rattle.boot_journal.specs.Calls.{CallLeads, Runs, Open, world_after, AreSteps}
+use Rattle.journaled_requests.specs.declared.requests.Requests.{Requests}
+use Rattle.journaled_requests.specs.declared.requests.RunFault.{RunFault}
+use Rattle.journaled_requests.specs.Calls.{CallLeads, Runs, Open, world_after, AreSteps}
 use Rattle.boot_journal.specs.Events.{World, world}
 use Rattle.boot_journal.specs.Store.{Store}
 use Rattle.boot_moves.specs.Deeds.{after_all}

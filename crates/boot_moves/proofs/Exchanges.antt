@@ -8,13 +8,13 @@ use Rattle.boot_requests.specs.declared.event.Event.{Event}
 use Rattle.boot_journal.specs.declared.machine.CommandError.{CommandError}
 use Rattle.boot_journal.specs.declared.machine.CommandError.TheVariants as command
 use Rattle.boot_journal.specs.declared.machine.UpdateError.TheVariants as update
-use Rattle.boot_journal.specs.declared.requests.RunFault.{RunFault}
-use Rattle.boot_journal.specs.Calls.{CallLeads, Runs}
+use Rattle.journaled_requests.specs.declared.requests.RunFault.{RunFault}
+use Rattle.journaled_requests.specs.Calls.{CallLeads, Runs}
 use Rattle.boot_journal.specs.Commands.{IsCommanding}
 use Rattle.boot_journal.specs.Events.{world}
 use Rattle.boot_journal.specs.Journal.{PendingParts, Makes, TakesBack}
 use Rattle.boot_journal.specs.Moves.{cut_settling_by, cut_undoing_by}
-use Rattle.boot_journal.specs.Requests.{IsAnswered}
+use Rattle.journaled_requests.specs.Requests.{IsAnswered}
 use Rattle.boot_journal.specs.Store.{Store}
 use Rattle.boot_moves.specs.declared.parts.Answer.{Answer}
 use Rattle.boot_moves.specs.declared.parts.Answer.TheVariants.{Done, Refused, Perhaps}

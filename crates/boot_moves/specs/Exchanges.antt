@@ -8,14 +8,14 @@ use Rattle.boot_journal.specs.declared.machine.CommandError.{CommandError}
 use Rattle.boot_journal.specs.declared.machine.CommandError.TheVariants as command
 use Rattle.boot_journal.specs.declared.machine.UpdateError.{UpdateError}
 use Rattle.boot_journal.specs.declared.machine.UpdateError.TheVariants as update
-use Rattle.boot_journal.specs.declared.requests.Requests.{Requests}
-use Rattle.boot_journal.specs.declared.requests.RunFault.{RunFault}
-use Rattle.boot_journal.specs.Calls.{Ending, Done, Unchanged, NotRun, Open, Call, Runs, Step, world_after}
-use Rattle.boot_journal.specs.Calls as call
+use Rattle.journaled_requests.specs.declared.requests.Requests.{Requests}
+use Rattle.journaled_requests.specs.declared.requests.RunFault.{RunFault}
+use Rattle.journaled_requests.specs.Calls.{Ending, Done, Unchanged, NotRun, Open, Call, Runs, Step, world_after}
+use Rattle.journaled_requests.specs.Calls as call
 use Rattle.boot_journal.specs.Events.{World, happens}
 use Rattle.boot_journal.specs.Events as event
-use Rattle.boot_journal.specs.Requests.{IsAnswered}
-use Rattle.boot_journal.specs.RunFault.{IsRunFault}
+use Rattle.journaled_requests.specs.Requests.{IsAnswered}
+use Rattle.journaled_requests.specs.RunFault.{IsRunFault}
 use Rattle.boot_journal.specs.Store.{Store}
 use Rattle.boot_moves.specs.declared.parts.Answer.{Answer}
 use Rattle.boot_moves.specs.Deeds.{Act, did, after_all}

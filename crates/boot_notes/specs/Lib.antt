@@ -2,6 +2,3 @@ pub mod Digest
 pub mod Notes
 pub mod Bytes
 pub mod Fault
-pub mod Applied
-pub mod Same
-pub mod Noted

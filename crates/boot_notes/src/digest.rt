@@ -7,20 +7,20 @@ ghost use Rattle.boot_notes.specs.Digest.{IsFrameDigest, IsSame, digest_of, dige
 use sha2::{Digest, Sha256};
 
 /// How many bytes of a frame's digest are kept: the first ones of its SHA-256.
-pub(crate) const DIGEST_LEN: usize = 8;
+pub const DIGEST_LEN: usize = 8;
 
 /// The number of a request, and the digest of its frame.
 #[derive(Clone, Copy, Debug)]
-pub(crate) struct FrameDigest {
+pub struct FrameDigest {
     /// The number.
-    pub(crate) number: u32,
+    pub number: u32,
     /// The digest.
-    pub(crate) digest: [u8; DIGEST_LEN],
+    pub digest: [u8; DIGEST_LEN],
 }
 
 impl FrameDigest {
     /// The digest of this frame, the bytes of a request with this number.
-    pub(crate) fn new(number: u32, frame: &[u8]) -> FrameDigest
+    pub fn new(number: u32, frame: &[u8]) -> FrameDigest
         ensures { result ≡ frame_digest number frame.now }
     {
         FrameDigest {
@@ -49,7 +49,7 @@ fn digest_of(bytes: &[u8]) -> [u8; DIGEST_LEN]
 }
 
 /// The first of these that is of the request of this number.
-pub(crate) fn digest_under(digests: &[FrameDigest], number: u32) -> Option<[u8; DIGEST_LEN]>
+pub fn digest_under(digests: &[FrameDigest], number: u32) -> Option<[u8; DIGEST_LEN]>
     ensures { result ≡ digest_under digests.now number }
 {
     let kept = digests.iter().find(|kept| kept.number == number)?;
@@ -57,7 +57,7 @@ pub(crate) fn digest_under(digests: &[FrameDigest], number: u32) -> Option<[u8; 
 }
 
 /// Whether the frame is one with this digest: `None` if there is no digest.
-pub(crate) fn is_same(kept: Option<[u8; DIGEST_LEN]>, frame: &[u8]) -> Option<bool>
+pub fn is_same(kept: Option<[u8; DIGEST_LEN]>, frame: &[u8]) -> Option<bool>
     ensures { IsSame kept frame.now result }
 {
     let kept = kept?;

@@ -1,22 +1,11 @@
 //! Laws of the definitions. Each function's contract is one law; calling it does nothing.
 
-ghost use Rattle.std.specs.Prelude.{◌≡◌, ◌++◌, ◌<◌, ◌≤◌, ℕ, List, [], map};
+ghost use Rattle.std.specs.Prelude.{◌≡◌, ◌++◌, ◌<◌, ◌≤◌, ℕ, List};
 ghost use Rattle.std.specs.List.{AllByRecursion};
-ghost use Rattle.boot_requests.specs.declared.answer.Answer.{Answer};
-ghost use Rattle.boot_requests.specs.declared.event.Event.{Event};
-ghost use Rattle.boot_requests.specs.Answering.{replies_of, requests_of};
-ghost use Rattle.boot_requests.specs.Changes.{numbers_in};
-ghost use Rattle.boot_requests.specs.Followers.{request_of};
-ghost use Rattle.boot_requests.specs.Reply.{AreAnswers};
-ghost use Rattle.boot_requests.specs.Run.{history, run_followed_by};
-ghost use Rattle.boot_requests.specs.Seen.{Seen, AreSeen};
-ghost use Rattle.boot_requests.specs.State.{State};
 ghost use Rattle.boot_notes.specs.declared.digest.FrameDigest.{FrameDigest};
 ghost use Rattle.boot_notes.specs.declared.fault.NotesFault.{NotesFault};
-ghost use Rattle.boot_notes.specs.Applied.{applied_in};
 ghost use Rattle.boot_notes.specs.Bytes.{SpellsNotes};
 ghost use Rattle.boot_notes.specs.Fault.{IsNotesFault};
-ghost use Rattle.boot_notes.specs.Noted.{IsOfApplied};
 ghost use Rattle.boot_notes.specs.Notes.{NotesParts, HaveLast, after_run};
 
 /// Bytes spell notes, and a file behind them, in one way at most.
@@ -34,21 +23,6 @@ pub fn a_fault_leaves_no_notes()
 /// Bytes have one fault at most.
 pub fn bytes_have_one_notes_fault()
     ensures { (bytes : List ℕ) (a b : NotesFault) → IsNotesFault bytes a → IsNotesFault bytes b → a ≡ b }
-{}
-
-/// Each digest that is noted of a run, by the answers to its events, is that of the frame which was applied under its number.
-pub fn what_is_noted_was_applied()
-    ensures { (start : State) (events : List Event) (seen : List Seen) (answers : List Answer) →
-        AreSeen events seen → AreAnswers start [] seen (replies_of answers) → requests_of answers ≡ map request_of seen →
-        AllByRecursion (IsOfApplied start.next_number (run_followed_by [] seen)) (applied_in events answers) }
-{}
-
-/// A digest is noted of each request that a run applied, in the order in which it applied them.
-pub fn each_that_was_applied_is_noted()
-    ensures { (start : State) (events : List Event) (seen : List Seen) (answers : List Answer) →
-        AreSeen events seen → AreAnswers start [] seen (replies_of answers) → requests_of answers ≡ map request_of seen →
-        map (λ (kept : FrameDigest). kept.number) (applied_in events answers)
-        ≡ numbers_in (history start.next_number (run_followed_by [] seen)) }
 {}
 
 /// If notes have the last digests of all frames that were applied up to a run, then after it they have the last of all with

@@ -3,21 +3,19 @@
 //! request.
 //!
 //! [`Notes`] are both. [`split_notes`] reads them at the start of a journal's file, and [`with_notes`] writes them there, in
-//! this crate's own format. [`Notes::after_run`] notes which frames a run applied, by what it answered, and tells of each
-//! repeat whether it is the frame that was applied.
+//! this crate's own format. [`Notes::after_run`] adds the [`FrameDigest`] of each frame that a run applied, [`digest_under`]
+//! finds that of a number, and [`is_same`] tells whether it is of a frame.
 #![tactic(auto)]
 
-mod applied;
 mod digest;
 mod fault;
 pub mod laws;
-mod noted_run;
 mod notes;
 mod reader;
 mod writer;
 
+pub use digest::{DIGEST_LEN, FrameDigest, digest_under, is_same};
 pub use fault::NotesFault;
-pub use noted_run::NotedRun;
-pub use notes::{IDENTITY_LEN, KEPT_MAX, Notes};
+pub use notes::{IDENTITY_LEN, KEPT_MAX, Notes, last_of};
 pub use reader::{SplitNotes, split_notes};
 pub use writer::with_notes;

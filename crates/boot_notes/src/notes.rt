@@ -1,9 +1,9 @@
 //! What is kept beside a journal for those who send requests.
 
 ghost use Rattle.std.specs.Prelude.{◌≡◌, ◌≤◌, [], length, IfOk};
-ghost use Rattle.boot_notes.specs.Notes.{notes_of, kept_before, last_of, below};
+ghost use Rattle.boot_notes.specs.Notes.{notes_of, kept_before, after_run, last_of, below};
 
-use crate::digest::FrameDigest;
+use crate::digest::{FrameDigest, look_at_each};
 use std::alloc::{AllocError, Global};
 use std::marker::Model;
 
@@ -55,7 +55,7 @@ impl Notes {
     /// # Errors
     ///
     /// [`AllocError`] if memory was refused.
-    pub(crate) fn kept_before(
+    pub fn kept_before(
         &self,
         alloc: Global,
         next_number: u32,
@@ -64,6 +64,32 @@ impl Notes {
     {
         let lower = below(alloc, &self.digests, next_number)?;
         Vec::from_slice(alloc, last_of(&lower))
+    }
+
+    /// The notes after a run that began with this next number, and applied frames of these digests, in this order.
+    ///
+    /// They keep the digests of the last [`KEPT_MAX`] frames that were applied before the run, so that they are still there
+    /// if it is taken back, and behind them those of the last as many that the run applied. A digest of a number that isn't
+    /// below the next one is of a run that was taken back: it is never read, and isn't kept.
+    ///
+    /// # Errors
+    ///
+    /// [`AllocError`] if memory was refused.
+    pub fn after_run(
+        &self,
+        alloc: Global,
+        next_number: u32,
+        applied: &[FrameDigest],
+    ) -> Result<Notes, AllocError>
+        ensures { IfOk result (λ notes. notes ≡ after_run self.now next_number applied.now) }
+    {
+        let mut digests = self.kept_before(alloc, next_number)?;
+        digests.extend_from_slice(last_of(applied))?;
+        look_at_each(&digests);
+        Ok(Notes {
+            identity: self.identity,
+            digests,
+        })
     }
 }
 
@@ -85,7 +111,7 @@ fn below(
 }
 
 /// The last [`KEPT_MAX`] of these.
-pub(crate) fn last_of(digests: &[FrameDigest]) -> &[FrameDigest]
+pub fn last_of(digests: &[FrameDigest]) -> &[FrameDigest]
     ensures last { result.now ≡ last_of digests.now }
     ensures len { length result.now ≤ 64 }
 {

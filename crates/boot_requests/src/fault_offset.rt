@@ -1,8 +1,6 @@
 //! Where in the bytes of a frame a fault is.
 
-ghost use Rattle.std.specs.Prelude.{drop};
 ghost use Rattle.uefi_option.specs.declared.fault.OptionFault.{OptionFault};
-ghost use Rattle.uefi_option.specs.Fault.{IsFirstFault as IsFirstOptionFault};
 ghost use Rattle.boot_requests.specs.declared.fault.FrameFault.{FrameFault};
 ghost use Rattle.boot_requests.specs.FrameFault.{IsFirstFault};
 ghost use Rattle.boot_requests.specs.FaultOffset.{IsFaultOffset};
@@ -35,7 +33,7 @@ impl FrameFault {
 /// The offset of the load option in the bytes of a frame, if they have one.
 fn option_offset(bytes: &[u8]) -> usize
     ensures { (fault : OptionFault) → IsFirstFault bytes.now (FrameFault.Option fault) →
-        IsFirstOptionFault (drop result bytes.now) fault }
+        IsFaultOffset bytes.now (FrameFault.Option fault) result }
 {
     let Some(raw) = split_header(bytes) else {
         return HEADER_LEN;

@@ -70,6 +70,16 @@ pub fn each_number_is_applied_once()
     ensures next { (start : State) (run : List Seen) → (state_at start run).next_number ≡ gap_at start.next_number run }
 {}
 
+/// The gap is the first number, from the first one of the run on, whose request isn't accepted. So what a run applies are
+/// the accepted requests of the longest run of numbers that begins with the first one and has no gap.
+pub fn the_gap_is_the_first_number_that_is_not_accepted()
+    ensures accepted { (start : State) (run : List Seen) (number : ℕ) → let first = start.next_number in
+        first ≤ number → number < gap_at first run →
+        map.contains_key (accepted_requests first run) number ≡ true }
+    ensures gap { (start : State) (run : List Seen) → let first = start.next_number in
+        map.contains_key (accepted_requests first run) (gap_at first run) ≡ false }
+{}
+
 /// An entry is what the last request that stored or removed it asked for, and what it was at the start if there is
 /// none.
 pub fn each_entry_is_what_was_asked_last()

@@ -1,6 +1,6 @@
 //! Replies as text.
 
-ghost use Rattle.std.specs.Prelude.{◌≡◌, [], ◌∷◌, ◌++◌, IfOk, OnOk};
+ghost use Rattle.std.specs.Prelude.{◌≡◌, [], ◌∷◌, ◌++◌, IfOk, OnOk, OnErr};
 ghost use Rattle.std.specs.String.{string_bytes};
 ghost use Rattle.boot_requests.specs.Words.{line_of};
 
@@ -38,11 +38,13 @@ pub fn reply_line(alloc: Global, reply: &Reply) -> Result<String, AllocError>
     }
 }
 
-/// Appends the line of the reply and a line feed. This fails only when out of memory.
+/// Appends the line of the reply and a line feed. This fails only when out of memory, and the lines are then as they
+/// were.
 pub fn append_reply_line(alloc: Global, reply: &Reply, lines: &mut String) -> Result<(), AllocError>
-    ensures { OnOk result (string_bytes lines.new ≡ string_bytes lines.old ++ (line_of reply.now ++ 10 ∷ [])) }
+    ensures line { OnOk result (string_bytes lines.new ≡ string_bytes lines.old ++ (line_of reply.now ++ 10 ∷ [])) }
+    ensures unchanged { OnErr result (string_bytes lines.new ≡ string_bytes lines.old) }
 {
-    let line = reply_line(alloc, reply)?;
-    lines.push_str(&line)?;
-    lines.push('\n')
+    let mut line = reply_line(alloc, reply)?;
+    line.push('\n')?;
+    lines.push_str(&line)
 }

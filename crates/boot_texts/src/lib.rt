@@ -47,7 +47,7 @@ pub use digits::{
 pub use event_position::EventPosition;
 pub use explain::{Explained, explain_json, explain_report, refused_script};
 pub use frame::{FrameWords, FrameWordsFault, frame_bytes, frame_line};
-pub use look::{Look, look_json};
+pub use look::{Look, UnmetWords, look_json, unmet_json};
 pub use option::{
     Flags, OptionPaths, OptionWords, OptionWordsFault, attribute_bits, option_bytes, optional_text,
     single_backslashes,

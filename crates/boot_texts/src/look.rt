@@ -15,17 +15,62 @@ pub struct Look<'a> {
     pub next: u32,
     /// The identity of the journal, if it has one.
     pub journal: Option<&'a str>,
+    /// What isn't as it was expected, if something isn't: then no event was run.
+    pub unmet: Option<UnmetWords<'a>>,
     /// The replies to the events that were run, in their order.
     pub replies: &'a [ToldReply<'a>],
     /// The variables after them.
     pub vars: &'a Vars,
 }
 
-/// The same as it is shown.
+/// What isn't as it was expected, in the words of preconditions.
+#[derive(Clone, Copy, Debug)]
+pub struct UnmetWords<'a> {
+    /// What was expected, such as `next=7`.
+    pub expected: &'a str,
+    /// What is so instead, such as `next=9`.
+    pub found: &'a str,
+}
+
+impl JsonObject for UnmetWords<'_> {
+    fn append_members(&self, out: &mut JsonWriter) -> Result<(), AllocError> {
+        append_leaves(
+            &[
+                ("expected", Leaf::Text(Some(self.expected))),
+                ("found", Leaf::Text(Some(self.found))),
+            ],
+            out,
+        )
+    }
+}
+
+/// What isn't as it was expected as JSON, an object with it as its member `unmet` on one line that ends with a line feed.
+///
+/// # Errors
+///
+/// [`AllocError`] if memory was refused.
+pub fn unmet_json(alloc: Global, unmet: UnmetWords<'_>) -> Result<String, AllocError> {
+    json_line(alloc, &ShownUnmet { unmet })
+}
+
+/// The same as it is shown without a look.
+#[derive(Drop)]
+struct ShownUnmet<'a> {
+    unmet: UnmetWords<'a>,
+}
+
+impl JsonObject for ShownUnmet<'_> {
+    fn append_members(&self, out: &mut JsonWriter) -> Result<(), AllocError> {
+        append_object("unmet", Some(&self.unmet), out)
+    }
+}
+
+/// A look as it is shown.
 #[derive(Drop)]
 struct ShownLook<'a> {
     next: u32,
     journal: Option<&'a str>,
+    unmet: Option<UnmetWords<'a>>,
     replies: Vec<ShownReply<'a>>,
     shown: ShownVars<'a>,
 }
@@ -39,14 +84,15 @@ impl JsonObject for ShownLook<'_> {
             ],
             out,
         )?;
+        append_object("unmet", self.unmet.as_ref(), out)?;
         append_objects("replies", &self.replies, out)?;
         append_object("show", Some(&self.shown), out)
     }
 }
 
 /// Shows a look at a machine as JSON, an object on one line that ends with a line feed: the next number, the identity of the
-/// journal, the replies as [`reply_json`](crate::reply_json) has them, and what [`vars_json`](crate::vars_json) has.
-/// docs/formats.md has each member.
+/// journal, what isn't as it was expected, the replies as [`reply_json`](crate::reply_json) has them, and what
+/// [`vars_json`](crate::vars_json) has. docs/formats.md has each member.
 ///
 /// # Errors
 ///
@@ -59,6 +105,7 @@ pub fn look_json(alloc: Global, look: &Look<'_>) -> Result<String, AllocError> {
     let shown = ShownLook {
         next: look.next,
         journal: look.journal,
+        unmet: look.unmet,
         replies,
         shown: ShownVars::new(alloc, look.vars)?,
     };

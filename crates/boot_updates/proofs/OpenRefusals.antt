@@ -4,10 +4,10 @@ use Rattle.uefi_vars.specs.Vars.{Variables}
 use Rattle.boot_requests.specs.declared.event.Event.{Event}
 use Rattle.boot_journal.specs.declared.machine.CallError.{CallError}
 use Rattle.boot_journal.specs.declared.machine.CallError.TheVariants.{OutOfMemory, Refused}
-use Rattle.boot_journal.specs.declared.requests.RunFault.{RunFault}
-use Rattle.boot_journal.specs.declared.requests.RunFault.TheVariants as refusal
+use Rattle.journaled_requests.specs.declared.requests.RunFault.{RunFault}
+use Rattle.journaled_requests.specs.declared.requests.RunFault.TheVariants as refusal
 use Rattle.boot_journal.specs.Cause.{IfRefused}
-use Rattle.boot_journal.specs.RunFault.{IsRunFault, IsOpenRefusal}
+use Rattle.journaled_requests.specs.RunFault.{IsRunFault, IsOpenRefusal}
 
 run_refuses : (events : List Event) (from : Variables) (reason : RunFault) → IsOpenRefusal from reason → IsRunFault events from reason
 run_refuses events from (refusal.Open fault) why = why

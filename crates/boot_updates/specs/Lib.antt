@@ -2,3 +2,4 @@ pub mod NextNumber
 pub mod Replies
 pub mod Told
 pub mod LeftOut
+pub mod Guarded

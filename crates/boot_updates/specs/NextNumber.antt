@@ -5,7 +5,7 @@ use Rattle.boot_requests.specs.declared.answer.Answer.{Answer}
 use Rattle.boot_requests.specs.declared.reply.Reply.{Reply}
 use Rattle.boot_requests.specs.declared.reply.Reply.TheVariants as reply
 use Rattle.boot_requests.specs.State.{State}
-use Rattle.boot_journal.specs.Requests.{KeepsState}
+use Rattle.journaled_requests.specs.Requests.{KeepsState}
 
 -- the number is the next one over these variables, as a machine keeps them
 abbrev pub IsNextOf : Variables → ℕ → Type 0

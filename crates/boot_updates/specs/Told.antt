@@ -2,9 +2,9 @@
 use Rattle.std.specs.Prelude.{◌≡◌, ◌≢◌, ℕ, Bool, false, List, [], length, replicate, Option, Some, None}
 use Rattle.boot_requests.specs.declared.answer.Answer.{Answer}
 use Rattle.boot_requests.specs.declared.event.Event.{Event}
-use Rattle.boot_notes.specs.Applied.{sent_of}
+use Rattle.journaled_requests.specs.Applied.{sent_of}
 use Rattle.boot_notes.specs.Notes.{NotesParts, kept_before}
-use Rattle.boot_notes.specs.Same.{AreTold}
+use Rattle.journaled_requests.specs.Same.{AreTold}
 
 -- of each event of a run that began with this next number, whether it is a repeat of the frame that was applied under its
 -- number: nothing if no notes were kept

@@ -8,9 +8,9 @@ use crate::not_made::{NotMade, Refused};
 use crate::script::Script;
 use boot_requests::{Event, FrameFault, Request, read_frame};
 use boot_texts::EventPosition;
+use messages::Failure;
 use std::alloc::{AllocError, Global};
 use uefi_vars::{BOOT_NEXT, BOOT_ORDER, laws as vars_laws};
-use var_places::Failure;
 use wanted_changes::{LEFT_OUT, is_one_of};
 
 /// Refuses the script if a request in it would change one of the variables of these names, which no set can hold. It is

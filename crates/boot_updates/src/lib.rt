@@ -2,10 +2,12 @@
 //! in an emulator's variable file (UEFI specification, version 2.10, chapter 3).
 //!
 //! [`WantedRequests`] are the events of a [`Script`], which [`read_events`] reads, to be run over a machine's variables by
-//! `machine_changes`, whatever is cut off when; beside the journal it is noted which frames were applied. [`ending`] tells
+//! `machine_changes`, whatever is cut off when; beside the journal it is noted which frames were applied. None is run where
+//! something isn't as [`Precondition`](request_preconditions::Precondition)s expect it: that is [`Unmet`]. [`ending`] tells
 //! whether all was done, [`NotMade`] why nothing was, and [`next_number`] which request is to be applied next.
 #![tactic(auto)]
 
+mod guarded;
 mod left_out;
 mod not_made;
 mod noted;
@@ -15,6 +17,7 @@ mod requests_run;
 mod script;
 mod wanted;
 
+pub use guarded::Unmet;
 pub use not_made::NotMade;
 pub use noted::Noted;
 pub use numbers::next_number;

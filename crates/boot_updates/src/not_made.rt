@@ -1,10 +1,10 @@
 //! Why updates aren't made, for those who sent them.
 
-use boot_journal::RunFault;
 use boot_requests::{OpenFault, ScriptFault};
 use boot_texts::{Remedy, open_reason};
+use journaled_requests::RunFault;
+use messages::Failure;
 use std::alloc::{AllocError, AllocFailed, Global};
-use var_places::Failure;
 
 /// Why an update wasn't made.
 #[derive(Debug, Drop)]
@@ -84,7 +84,7 @@ fn word_of(failure: &Failure) -> &'static str {
         Failure::Busy(_) | Failure::Held(_) => "Busy",
         Failure::Memory => "OutOfMemory",
         Failure::Closed => "Closed",
-        Failure::Run { .. } | Failure::Refused { .. } => "Refused",
+        Failure::Run { .. } | Failure::Refused { .. } | Failure::Loader { .. } => "Refused",
     }
 }
 

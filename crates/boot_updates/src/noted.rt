@@ -3,8 +3,9 @@
 ghost use Rattle.std.specs.Prelude.{IfOk};
 ghost use Rattle.boot_updates.specs.Told.{AreToldBy};
 
-use boot_notes::{NotedRun, Notes};
+use boot_notes::Notes;
 use boot_requests::{Answer, Event};
+use journaled_requests::NotedRun;
 use std::alloc::{AllocError, Global};
 use wanted_changes::KeptNotes;
 
@@ -37,7 +38,13 @@ pub(crate) fn note_run(
     };
     match before {
         Some(before) => {
-            let NotedRun { notes, same } = before.after_run(alloc, next_number, events, answers)?;
+            let NotedRun { notes, same } = NotedRun::new(
+                alloc,
+                &before,
+                next_number,
+                events,
+                answers,
+            )?;
             let _ = kept.try_replace(Some(notes));
             Ok(Noted {
                 before: Some(before),

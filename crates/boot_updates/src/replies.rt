@@ -1,6 +1,6 @@
 //! What is printed of replies, and whether all was done.
 
-ghost use Rattle.std.specs.Prelude.{◌≡◌, ◌↔◌, List, [], IsTrue};
+ghost use Rattle.std.specs.Prelude.{◌≡◌, ◌↔◌, List, [], IsSome, IsTrue, None};
 ghost use Rattle.std.specs.List.{AllByRecursion, fold};
 ghost use Rattle.boot_requests.specs.declared.event.Event.{Event};
 ghost use Rattle.boot_requests.specs.Answering.{replies_of};
@@ -17,7 +17,7 @@ ghost use Rattle.boot_updates.specs.declared.replies.Ended.TheVariants as ended;
 use crate::requests_run::Answered;
 use crate::script::Script;
 use boot_requests::{Answer, Code, Outcome, Reply, reply_line};
-use boot_texts::{EventPosition, ToldReply, reply_json};
+use boot_texts::{EventPosition, ToldReply, UnmetWords, reply_json, unmet_json};
 use std::alloc::{AllocError, Global};
 
 /// How an update ended that was made.
@@ -28,6 +28,8 @@ pub enum Ended {
     /// Something that was delivered is no frame, or its number is too far ahead, or another request of its number waits or
     /// was applied, or a request still waits for one before it, or it couldn't be carried out.
     NotAll,
+    /// Something wasn't as it was expected, and nothing was done.
+    Unmet,
 }
 
 /// How replies are printed.
@@ -85,8 +87,20 @@ impl<'a> Replies<'_, '_, 'a> {
         Ok(text)
     }
 
-    /// The answers as JSON, an object on a line each.
+    /// What isn't as it was expected, if something isn't.
+    pub(crate) fn unmet(&self) -> Option<UnmetWords<'a>> {
+        let unmet = self.answered.unmet.as_ref()?;
+        Some(UnmetWords {
+            expected: unmet.expected.as_str(),
+            found: unmet.found.as_str(),
+        })
+    }
+
+    /// The answers as JSON, an object on a line each, or in their place what isn't as it was expected.
     fn json(&self, alloc: Global) -> Result<String, AllocError> {
+        if let Some(unmet) = self.unmet() {
+            return unmet_json(alloc, unmet);
+        }
         let mut text = String::new(alloc);
         for told in &self.told(alloc)? {
             text.push_str(&reply_json(alloc, told)?)?;
@@ -154,10 +168,15 @@ fn next_after_all(before: u32, answers: &[Answer]) -> u32
     next
 }
 
-/// Whether the answers say that all was done, and no repeat is known to be of another request.
+/// Whether events were run, the answers say that all was done, and no repeat is known to be of another request.
 pub fn ending(answered: &Answered) -> Ended
-    ensures { (result ≡ ended.AllDone) ↔ AreDone answered.now.first answered.now.answers.items answered.now.noted.same.items }
+    ensures unmet { (result ≡ ended.Unmet) ↔ IsSome answered.now.unmet }
+    ensures done { (result ≡ ended.AllDone) ↔ ((answered.now.unmet ≡ None)
+        × AreDone answered.now.first answered.now.answers.items answered.now.noted.same.items) }
 {
+    if answered.unmet.is_some() {
+        return Ended::Unmet;
+    }
     let next = next_in(answered);
     if are_no_others(&answered.noted.same) && are_done(&answered.answers, next) {
         Ended::AllDone

@@ -1,15 +1,18 @@
-//! Runs of requests over a machine's variables, of which it is noted what they applied.
+//! Runs of requests over a machine's variables, of which it is noted what they applied. None is made where something isn't as
+//! it was expected.
 
-ghost use Rattle.std.specs.Prelude.{IfOk, IfErr};
-ghost use Rattle.boot_journal.specs.Cause.{IfRefused};
-ghost use Rattle.boot_journal.specs.RunFault.{IsOpenRefusal};
-ghost use Rattle.boot_updates.specs.NextNumber.{IsNextOf};
+ghost use Rattle.std.specs.Prelude.{◌≡◌, [], Some, IfOk};
+ghost use Rattle.boot_requests.specs.State.{State};
+ghost use Rattle.boot_requests.specs.StoredState.{OpensAs};
 
+use crate::guarded::{Unmet, identity_of, unmet_of};
 use crate::noted::{Noted, note_run};
 use crate::numbers::next_number;
-use boot_journal::{CallError, Requests, Run, RunFault, without_attributes};
+use boot_journal::{CallError, Run};
 use boot_requests::Answer;
-use std::alloc::Global;
+use journaled_requests::{Requests, RunFault, keeper_vars};
+use request_preconditions::{IDENTITY_LEN, MachineState, Precondition};
+use std::alloc::{AllocError, Global};
 use uefi_vars::Vars;
 use wanted_changes::KeptNotes;
 
@@ -18,6 +21,8 @@ use wanted_changes::KeptNotes;
 pub(crate) struct RequestsRun<'a> {
     /// The events.
     pub(crate) requests: Requests<'a>,
+    /// What is expected of the machine.
+    pub(crate) preconditions: &'a [Precondition],
     /// What is kept beside the journal, to which the run adds the frames that it applies.
     pub(crate) notes: &'a KeptNotes,
 }
@@ -25,6 +30,10 @@ pub(crate) struct RequestsRun<'a> {
 /// What a run of events answers.
 #[derive(Drop)]
 pub struct Answered {
+    /// What isn't as it was expected, if something isn't: then no event was run.
+    pub unmet: Option<Unmet>,
+    /// The identity that was kept beside the journal before them, if one was.
+    pub journal: Option<[u8; IDENTITY_LEN]>,
     /// The next number before the events.
     pub first: u32,
     /// The answers to the events.
@@ -34,8 +43,10 @@ pub struct Answered {
 }
 
 impl Run for RequestsRun<'_> {
-    ghost use Rattle.boot_journal.specs.Requests.{IsAnswered};
-    ghost use Rattle.boot_journal.specs.RunFault.{IsRunFault};
+    ghost use Rattle.boot_journal.specs.Attributes.{data_of};
+    ghost use Rattle.journaled_requests.specs.Requests.{IsAnswered};
+    ghost use Rattle.journaled_requests.specs.RunFault.{IsRunFault};
+    ghost use Rattle.boot_updates.specs.Guarded.{AreMet, IsGuarded};
     ghost use Rattle.boot_updates.specs.NextNumber.{IsNextOf};
     ghost use Rattle.boot_updates.specs.Told.{AreToldBy};
 
@@ -43,19 +54,33 @@ impl Run for RequestsRun<'_> {
 
     type Fault = RunFault;
 
-    ghost leads = { λ run from to answered. IsAnswered run.requests.events.now from to answered.answers.items
-        × IsNextOf from answered.first
-        × AreToldBy answered.noted.before answered.first run.requests.events.now answered.answers.items answered.noted.same.items };
+    ghost leads = { λ run from to answered. IsNextOf from answered.first
+        × IsGuarded (AreMet answered.journal answered.first (data_of from) run.preconditions.now)
+        (IsAnswered run.requests.events.now from to answered.answers.items
+        × AreToldBy answered.noted.before answered.first run.requests.events.now answered.answers.items answered.noted.same.items)
+        from to answered.answers.items answered.unmet };
 
     ghost refuses = { λ run from fault. IsRunFault run.requests.events.now from fault };
 
     fn run(&self, alloc: Global, vars: &Vars) -> Result<(Vars, Answered), CallError<RunFault>> {
         let (to, answers) = self.requests.run(alloc, vars)?;
-        let first = first_number(alloc, vars)?;
+        let set = keeper_vars(alloc, vars)?;
+        let first = first_number(alloc, &set)?;
+        let journal = identity_of(self.notes);
+        let state = MachineState {
+            journal,
+            next_number: first,
+            vars: &set,
+        };
+        if let Some(unmet) = unmet_of(alloc, self.preconditions, &state)? {
+            return Ok((vars.copy(alloc)?, Answered::not_run(alloc, unmet, &state)));
+        }
         let noted = note_run(alloc, self.notes, first, self.requests.events, &answers)?;
         Ok((
             to,
             Answered {
+                unmet: None,
+                journal,
                 first,
                 answers,
                 noted,
@@ -64,11 +89,31 @@ impl Run for RequestsRun<'_> {
     }
 }
 
-/// The number of the request that is to be applied next over these variables, which a machine keeps, and a keeper opens.
-fn first_number(alloc: Global, vars: &Vars) -> Result<u32, CallError<RunFault>>
-    ensures first { IfOk result (IsNextOf vars.now) }
-    ensures refused { IfErr result (λ error. IfRefused error (IsOpenRefusal vars.now)) }
+impl Answered {
+    /// No event was run over the variables of the machine, since this isn't as it was expected.
+    fn not_run(alloc: Global, unmet: Unmet, state: &MachineState<'_>) -> Answered
+        ensures unmet { result.unmet ≡ Some unmet }
+        ensures journal { result.journal ≡ state.now.journal }
+        ensures first { result.first ≡ state.now.next_number }
+        ensures none { result.answers.items ≡ [] }
+    {
+        Answered {
+            unmet: Some(unmet),
+            journal: state.journal,
+            first: state.next_number,
+            answers: Vec::new(alloc),
+            noted: Noted {
+                before: None,
+                same: Vec::new(alloc),
+            },
+        }
+    }
+}
+
+/// The number of the request that is to be applied next over these variables, which have no attributes.
+fn first_number(alloc: Global, set: &Vars) -> Result<u32, AllocError>
+    ensures { IfOk result (λ number. (m : State) → OpensAs set.now m → number ≡ m.next_number) }
 {
-    let set = without_attributes(alloc, vars)?;
+    let set = set.copy(alloc)?;
     Ok(next_number(alloc, set)?.unwrap_or(0))
 }

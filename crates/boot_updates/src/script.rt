@@ -3,9 +3,10 @@
 use crate::not_made::{NotMade, Refused};
 use boot_requests::{Event, EventList, InputFormat};
 use boot_texts::refused_script;
+use messages::Failure;
 use std::alloc::Global;
 use std::rt::Files;
-use var_places::{Failure, name_of, read};
+use var_places::{name_of, read};
 
 /// The events of a script or a stream.
 #[derive(Drop)]

@@ -1,15 +1,18 @@
 //! Requests that are wanted of a machine, and what is printed of them.
 
+use crate::guarded::Unmet;
 use crate::left_out::check_requests;
 use crate::not_made::{NotMade, from_run};
 use crate::replies::{Replies, ReplyForm, next_in};
 use crate::requests_run::{Answered, RequestsRun};
 use crate::script::Script;
-use boot_journal::{CallError, Requests, Run, RunFault};
+use boot_journal::{CallError, Run};
 use boot_texts::{Look, UnnamedWords, changes_text, look_json, naming_change};
+use journaled_requests::{Requests, RunFault};
+use messages::Failure;
+use request_preconditions::Precondition;
 use std::alloc::{AllocError, Global};
 use uefi_vars::{KEEP_STATE, Vars};
-use var_places::Failure;
 use wanted_changes::{Remarks, Seen, SetChange, Told, Wanted, identity_digits, leave_out};
 
 /// What is printed of an update.
@@ -30,13 +33,17 @@ pub struct WantedRequests<'a, 'b, 's> {
     pub place: &'a str,
     /// The script.
     pub script: &'b Script<'s>,
+    /// What is expected of the machine: if something isn't so, no event is run.
+    pub preconditions: &'b [Precondition],
     /// What of it is printed.
     pub printing: Printing,
 }
 
 impl Wanted for WantedRequests<'_, '_, '_> {
-    ghost use Rattle.boot_journal.specs.Requests.{IsAnswered};
-    ghost use Rattle.boot_journal.specs.RunFault.{IsRunFault};
+    ghost use Rattle.boot_journal.specs.Attributes.{data_of};
+    ghost use Rattle.journaled_requests.specs.Requests.{IsAnswered};
+    ghost use Rattle.journaled_requests.specs.RunFault.{IsRunFault};
+    ghost use Rattle.boot_updates.specs.Guarded.{AreMet, IsGuarded};
     ghost use Rattle.boot_updates.specs.NextNumber.{IsNextOf};
     ghost use Rattle.boot_updates.specs.Told.{AreToldBy};
 
@@ -46,9 +53,11 @@ impl Wanted for WantedRequests<'_, '_, '_> {
 
     type Refusal = NotMade;
 
-    ghost leads = { λ wanted seen from to answered. IsAnswered wanted.script.now.events.items from to answered.answers.items
-        × IsNextOf from answered.first
-        × AreToldBy answered.noted.before answered.first wanted.script.now.events.items answered.answers.items answered.noted.same.items };
+    ghost leads = { λ wanted seen from to answered. IsNextOf from answered.first
+        × IsGuarded (AreMet answered.journal answered.first (data_of from) wanted.preconditions.now)
+        (IsAnswered wanted.script.now.events.items from to answered.answers.items
+        × AreToldBy answered.noted.before answered.first wanted.script.now.events.items answered.answers.items answered.noted.same.items)
+        from to answered.answers.items answered.unmet };
 
     ghost refuses = { λ wanted seen from fault. IsRunFault wanted.script.now.events.items from fault };
 
@@ -75,6 +84,7 @@ impl Wanted for WantedRequests<'_, '_, '_> {
             requests: Requests {
                 events: &script.events,
             },
+            preconditions: self.preconditions,
             notes: seen.notes,
         };
         run.run(alloc, vars)
@@ -104,7 +114,7 @@ impl Wanted for WantedRequests<'_, '_, '_> {
         };
         Ok(Told {
             text,
-            remarks: self.remarks(alloc, &unnamed)?,
+            remarks: self.remarks(alloc, answered, &unnamed)?,
         })
     }
 
@@ -116,9 +126,20 @@ impl Wanted for WantedRequests<'_, '_, '_> {
 }
 
 impl WantedRequests<'_, '_, '_> {
-    /// What standard error is told of the entries that are left in no order, unless what is printed says so.
-    fn remarks(&self, alloc: Global, unnamed: &[u16]) -> Result<Remarks, AllocError> {
+    /// What standard error is told: what isn't as it was expected, and the entries that are left in no order, unless what is
+    /// printed says so.
+    fn remarks(
+        &self,
+        alloc: Global,
+        answered: &Answered,
+        unnamed: &[u16],
+    ) -> Result<Remarks, AllocError> {
         let mut remarks = Remarks::new(alloc);
+        if let Some(Unmet { expected, found }) = &answered.unmet {
+            let text = format!(in alloc;
+                "{expected} was expected, and it is {found}: nothing was changed")?;
+            remarks.push(self.place, text)?;
+        }
         if matches!(self.printing, Printing::Replies(ReplyForm::Lines)) {
             for entry in unnamed {
                 remarks.push(self.place, format!(in alloc; "{}", UnnamedWords(*entry))?)?;
@@ -142,6 +163,7 @@ fn look_text(
     let look = Look {
         next: next_in(replies.answered),
         journal: replies.journal,
+        unmet: replies.unmet(),
         replies: &told,
         vars: &vars,
     };

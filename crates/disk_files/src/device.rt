@@ -8,6 +8,7 @@ ghost use Rattle.disk_files.specs.Device.{device_fault};
 use crate::fault::DiskFault;
 use crate::short_form::{file_path, slashed};
 use crate::system::System;
+use messages::Failure;
 use partitions::{DeviceNumber, Partition};
 use std::alloc::{AllocError, Global};
 use std::fs::{self, FileType};
@@ -16,7 +17,7 @@ use std::os::unix::fs::{FileTypeExt, MetadataExt};
 use std::path::Path;
 use std::rt::Files;
 use uefi_path::Path as DevicePath;
-use var_places::{Failure, resolved};
+use whole_files::resolved;
 
 /// The partition that is meant if a disk is named and no partition of it.
 const FIRST: u32 = 1;

@@ -4,11 +4,11 @@ ghost use Rattle.std.specs.Prelude.{◌≡◌, IfSome, IfNone};
 ghost use Rattle.disk_files.specs.DeviceLinks.{LeadsTo, NoneLeadsTo, IsLinked};
 
 use crate::system::System;
+use messages::Failure;
 use partitions::{PartitionId, read_partition_id};
 use std::fs;
 use std::io::ErrorKind;
 use std::rt::Files;
-use var_places::Failure;
 
 /// The folder that has them.
 const BY_PARTUUID: &str = "/dev/disk/by-partuuid";

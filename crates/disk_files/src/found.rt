@@ -9,12 +9,12 @@ ghost use Rattle.disk_files.specs.Search.{IsSearch, AreKnown};
 use crate::device_links::linked_identity;
 use crate::system::System;
 use crate::told::PartitionFolder;
+use messages::Failure;
 use partitions::{DeviceNumber, Partition, PartitionId};
 use std::fs;
 use std::io::ErrorKind;
 use std::rt::Files;
 use uefi_path::HardDriveNode;
-use var_places::Failure;
 
 /// The folder with a link to each disk and each partition, by its name.
 const DEVICES: &str = "/sys/class/block";

@@ -4,7 +4,7 @@
 //! the name of its disk or its partition and by its name there. [`machine_partitions`] and [`machine_mounts`] read what
 //! Linux tells of disks and of mounts, below a folder that stands for the root of the system; over that [`find_partition`]
 //! finds the partition that a node is of, and [`mounted_folders`] where it is mounted. What they make of the texts is said by
-//! `partitions`. What goes wrong is a `Failure` of `var_places`, which has the words of a [`DiskFault`] if something is
+//! `partitions`. What goes wrong is a `Failure` of `messages`, which has the words of a [`DiskFault`] if something is
 //! refused.
 #![tactic(auto)]
 

@@ -8,12 +8,13 @@ use crate::fault::DiskFault;
 use crate::seen_mounts::SeenMounts;
 use crate::short_form::file_path;
 use crate::system::System;
+use messages::Failure;
 use partitions::{DeviceNumber, Mount, Partition, leading_mount};
 use std::fs::{self, Metadata};
 use std::os::unix::fs::MetadataExt;
 use std::rt::Files;
 use uefi_path::Path;
-use var_places::{Failure, resolved};
+use whole_files::resolved;
 
 /// The device path of the file at this path, which is in a mounted file system: its partition and its name there, the
 /// short form that firmware completes (UEFI 2.10, 3.1.2). Links are followed.

@@ -2,11 +2,11 @@
 
 use crate::fault::DiskFault;
 use crate::system::System;
+use messages::Failure;
 use partitions::{DeviceNumber, Mount, MountsFault, leading_mount, read_mounts};
 use std::alloc::{AllocError, Global};
 use std::io::ErrorKind;
 use std::rt::Files;
-use var_places::Failure;
 use whole_files::LIMIT;
 
 /// The folder in which Linux tells of processes.

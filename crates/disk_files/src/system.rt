@@ -1,14 +1,14 @@
 //! What Linux tells in files, below a folder that stands for the root.
 
 use crate::fault::DiskFault;
+use messages::{Failure, shown};
 use partitions::{read_number, uevent_value};
 use std::alloc::{AllocError, Global};
 use std::fs;
 use std::io::{self, ErrorKind};
 use std::path::PathBuf;
 use std::rt::Files;
-use var_places::{Failure, resolved, shown};
-use whole_files::read_file;
+use whole_files::{read_file, resolved};
 
 /// How many bytes a file of /sys has at most: a page.
 const SYS_MAX: usize = 4096;

@@ -5,10 +5,10 @@ ghost use Rattle.std.specs.Prelude.{◌≡◌, IfOk};
 use crate::device_links::linked_identity;
 use crate::fault::DiskFault;
 use crate::system::System;
+use messages::Failure;
 use partitions::{DeviceNumber, Partition, PartitionId, read_device, read_partition_id};
 use std::path::Path;
 use std::rt::Files;
-use var_places::Failure;
 
 /// The file that only the folder of a partition has: its number.
 const NUMBER: &str = "partition";

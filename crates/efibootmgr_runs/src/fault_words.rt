@@ -1,8 +1,8 @@
 //! What is wrong with words, in words for a person.
 
 use efibootmgr_words::WordFault;
+use messages::Quoted;
 use std::fmt;
-use var_places::Quoted;
 
 /// A fault of words, with the word that it is of.
 #[derive(Clone, Copy)]

@@ -1,9 +1,10 @@
 //! The machine whose variables are changed and listed.
 
 use boot_history::DEFAULT_STATE;
+use messages::Failure;
 use std::env::{self, VarError};
 use std::rt::{Env, Files};
-use var_places::{Failure, Folder, read_folder};
+use var_places::{Folder, read_folder};
 use wanted_changes::MachineWords;
 
 /// The variable of the environment with the path of the folder of variables.

@@ -3,11 +3,12 @@
 use boot_texts::optional_text;
 use disk_files::disk_path;
 use efibootmgr_words::EntryWords;
+use messages::Failure;
 use std::alloc::Global;
 use std::rt::Files;
 use uefi_option::{ACTIVE, OptionFault, make_option, write_option};
 use uefi_path::{Path, read_units};
-use var_places::{Failure, read};
+use var_places::read;
 
 /// The bytes of the load option (UEFI 2.10, 3.1.3) that the words say: active, with the path of a file on a partition, and with
 /// the bytes of a file and other words as optional data.

@@ -8,11 +8,12 @@ use boot_edits::{Addition, Edit, NewOrder, Position};
 use boot_texts::EntryName;
 use efibootmgr_words::Asked;
 use machine_changes::{ChangeOptions, PlaceKind, StateUse, change_machine};
+use messages::Failure;
 use place_edits::{EditForm, WantedEdit};
 use std::alloc::Global;
 use std::rt::{Clock, Files};
 use uefi_vars::{BOOT_NEXT, TIMEOUT};
-use var_places::{Failure, PlaceVars};
+use var_places::PlaceVars;
 use wanted_changes::is_one_of;
 use whole_files::OutputFile;
 

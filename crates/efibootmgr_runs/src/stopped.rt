@@ -1,7 +1,7 @@
 //! Why a run stops.
 
+use messages::Failure;
 use std::alloc::AllocError;
-use var_places::Failure;
 
 /// What was to be done when a run stopped.
 #[derive(Clone, Copy, Debug, PartialEq, Eq)]

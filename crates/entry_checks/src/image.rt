@@ -61,7 +61,7 @@ pub fn processor_of(arch: Option<&[u8]>, bits: Option<&[u8]>) -> Processor
     }
 }
 
-/// The firmware's processor, where Linux tells both.
+/// The firmware's processor, if Linux tells both.
 fn told_processor(arch: &[u8], bits: &[u8]) -> Processor
     ensures { result ≡ told_processor arch.now bits.now }
 {
@@ -72,8 +72,8 @@ fn told_processor(arch: &[u8], bits: &[u8]) -> Processor
     }
 }
 
-/// What Secure Boot itself says of a file to which it answers this: nothing against one that has no digest for a fault of its
-/// headers, since that fault says more.
+/// What Secure Boot itself says of a file to which it answers this: nothing against one that has no digest for a fault
+/// of its headers, since that fault says more.
 pub fn own_verdict(answer: &SecureBootAnswer) -> Verdict
     ensures { result ≡ own_verdict_of answer.now }
 {
@@ -83,9 +83,9 @@ pub fn own_verdict(answer: &SecureBootAnswer) -> Verdict
     }
 }
 
-/// What is known of a file with this fault, the first that [`check_image`](efi_images::check_image) finds, or with none,
-/// where firmware is of this processor, and its Secure Boot says this of the file: that it allows it too if it is off. The
-/// boot manager looks first, then Secure Boot, and then the loader (UEFI 2.10, 3.1.1, 32.5.3.3 and 7.4.1).
+/// What is known of a file with this fault, the first that [`check_image`](efi_images::check_image) finds, or with
+/// none, if firmware is of this processor, and its Secure Boot says this of the file: that it allows it too if it is
+/// off. The boot manager looks first, then Secure Boot, and then the loader (UEFI 2.10, 3.1.1, 32.5.3.3 and 7.4.1).
 pub fn image_state(
     processor: Processor,
     fault: Option<ImageFault>,
@@ -111,7 +111,7 @@ fn denied_state(processor: Processor, fault: Option<ImageFault>) -> Option<Image
     }
 }
 
-/// What is known of a file of which it isn't known whether Secure Boot allows it, where this is known of it besides.
+/// What is known of a file of which it isn't known whether Secure Boot allows it, if this is known of it besides.
 fn unsettled_state(known: Option<ImageState>) -> ImageState
     ensures { result ≡ unsettled_state known }
 {
@@ -121,7 +121,7 @@ fn unsettled_state(known: Option<ImageState>) -> ImageState
     }
 }
 
-/// What is known of a file with this fault or none, where firmware is of this processor, but for Secure Boot.
+/// What is known of a file with this fault or none, if firmware is of this processor, but for Secure Boot.
 fn loader_state(processor: Processor, fault: Option<ImageFault>) -> Option<ImageState>
     ensures { result ≡ loader_state_of processor fault }
 {
@@ -132,7 +132,7 @@ fn loader_state(processor: Processor, fault: Option<ImageFault>) -> Option<Image
     }
 }
 
-/// What is known of a file with this fault, where firmware is of x86-64.
+/// What is known of a file with this fault, if firmware is of x86-64.
 fn on_x86_64(fault: ImageFault) -> ImageState
     ensures { result ≡ state_on_x86_64 fault }
 {
@@ -143,7 +143,7 @@ fn on_x86_64(fault: ImageFault) -> ImageState
     }
 }
 
-/// What is known of a file with this fault or none, where firmware's processor isn't known.
+/// What is known of a file with this fault or none, if firmware's processor isn't known.
 fn if_untold(fault: Option<ImageFault>) -> ImageState
     ensures { result ≡ state_if_untold fault }
 {
@@ -154,7 +154,7 @@ fn if_untold(fault: Option<ImageFault>) -> ImageState
     }
 }
 
-/// What is known of a file with this fault or none, where firmware is of another processor than x86-64: one without a
+/// What is known of a file with this fault or none, if firmware is of another processor than x86-64: one without a
 /// fault is for x86-64, and what no boot manager takes for an application is one nowhere.
 fn on_others(fault: Option<ImageFault>) -> ImageState
     ensures { result ≡ state_on_others fault }

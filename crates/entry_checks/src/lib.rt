@@ -1,12 +1,12 @@
 //! What may be wrong with boot entries, by their variables and by what is known of where they lead (UEFI specification,
 //! version 2.10, chapter 3).
 //!
-//! [`findings`] gives what is found of an entry, as [`Facts`] tell of it, and [`entry_state`] whether it can be started by
-//! that; a [`Finding`] has its words in a table. [`image_state`] is what the fault of a file and Secure Boot say of it, where
-//! firmware is of a [`Processor`]. [`order_findings`] and [`next_finding`] are what is found of BootOrder and BootNext, and
-//! [`listed`] is the order in which entries are told. [`path_target`] is where a path leads, as far as that can be looked
-//! at, [`destination`] tells one such file from others, and [`twins`] finds entries that lead to one; [`name_among`] finds a
-//! file by its name in a path. No file is read here: the caller looks.
+//! [`findings`] gives what is found of an entry, as [`Facts`] tell of it, and [`entry_state`] whether it can be started
+//! by that; a [`Finding`] has its words in a table. [`image_state`] is what the fault of a file and Secure Boot say of
+//! it, if firmware is of a [`Processor`]. [`order_findings`] and [`next_finding`] are what is found of BootOrder and
+//! BootNext, and [`listed`] is the order in which entries are told. [`path_target`] is where a path leads, as far as
+//! that can be looked at, [`destination`] tells one such file from others, and [`twins`] finds entries that lead to
+//! one; [`name_among`] finds a file by its name in a path. No file is read here: the caller looks.
 #![tactic(auto)]
 
 mod destinations;

@@ -2,7 +2,7 @@
 use Rattle.std.specs.Prelude.{◌≢◌, []}
 use Rattle.uefi_vars.specs.BootChange.{changes_from}
 use Rattle.uefi_vars.specs.Vars.{Variables}
-use Rattle.var_places.specs.declared.failure.Failure.TheVariants.{Memory}
+use Rattle.messages.specs.declared.failure.Failure.TheVariants.{Memory}
 use Rattle.machine_changes.specs.declared.kept_run.KeptFault.{KeptFault}
 use Rattle.machine_changes.specs.declared.kept_run.KeptFault.TheVariants.{Run, Telling, History}
 

@@ -1,9 +1,9 @@
 //! The identity of a machine's start.
 
 use boot_journal::BootId;
+use messages::{Failure, Quoted, Reason};
 use std::alloc::Global;
 use std::rt::Files;
-use var_places::{Failure, Quoted, Reason};
 use wanted_changes::MachineWords;
 use whole_files::read_file;
 

@@ -16,12 +16,13 @@ use crate::state_use::{StateUse, file_state, keep_before, state_folder};
 use crate::told::tell_of_due;
 use boot_journal::{CallError, CommandError, MachineName, Run};
 use boot_notes::Notes;
+use messages::{Failure, note};
 use std::alloc::Global;
 use std::cell::RefCell;
 use std::rc::Rc;
 use std::rt::{Clock, Files};
 use uefi_vars::Vars;
-use var_places::{Failure, lock_place, note, write};
+use var_places::{lock_place, write};
 use wanted_changes::{MachineWords, Seen, SetChange, Told, Wanted, set_of};
 use whole_files::OutputFile;
 

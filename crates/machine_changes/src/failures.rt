@@ -1,9 +1,9 @@
 //! What keeps a change from being made, in words.
 
 use boot_journal::{CallError, UpdateError};
+use messages::Failure;
 use std::alloc::Global;
 use std::fmt::{self, Display};
-use var_places::Failure;
 use wanted_changes::MachineWords;
 
 /// Why a move was refused.

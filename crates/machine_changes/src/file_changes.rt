@@ -7,10 +7,11 @@ use crate::standing::is_left_to;
 use crate::state_folder::{lock_folder, stored_journal};
 use crate::values::set_value;
 use boot_journal::settle;
+use messages::Failure;
 use std::alloc::Global;
 use std::rt::Files;
 use uefi_vars::{Vars, boot_changes, write_set};
-use var_places::{Failure, changed_variable_file, set_vars};
+use var_places::{changed_variable_file, set_vars};
 use wanted_changes::{MachineWords, set_of};
 use whole_files::OutputFile;
 

@@ -6,10 +6,10 @@ ghost use Rattle.boot_journal.specs.Cause.{IfRefused};
 
 use boot_history::{Record, Standing, newest, push, remove, standing_of, time_now};
 use boot_journal::{CallError, MachineName};
+use messages::Failure;
 use std::alloc::{AllocError, Global};
 use std::rt::{Clock, Files};
 use uefi_vars::{Vars, boot_changes};
-use var_places::Failure;
 use whole_files::OutputFile;
 
 /// Where what was there before the changes of a machine is kept, and by which words a change is told.

@@ -10,10 +10,10 @@ ghost use Rattle.wanted_changes.specs.declared.told.Told.{Told};
 
 use crate::history::History;
 use boot_journal::{BootId, CallError, CommandError, Machine, Run, UpdateError, command};
+use messages::Failure;
 use std::alloc::Global;
 use std::rt::{Clock, Files};
 use uefi_vars::Vars;
-use var_places::Failure;
 use wanted_changes::Told;
 use whole_files::OutputFile;
 

@@ -1,9 +1,10 @@
 //! What a machine keeps of its variables: of those of the boot manager the attributes too.
 
 use boot_journal::{AttributesFault, with_attributes};
+use messages::Failure;
 use std::alloc::{AllocError, Global};
 use uefi_vars::{ATTRIBUTES_LEN, BOOT_ATTRIBUTES, DATA_MAX, Vars, entry_number, is_boot_name};
-use var_places::{Failure, PlaceVars};
+use var_places::PlaceVars;
 use wanted_changes::leave_out;
 
 /// The variables of a machine, as it keeps them.

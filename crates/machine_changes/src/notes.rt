@@ -4,11 +4,11 @@ use crate::opened::Machine as PlaceMachine;
 use crate::storage::PlaceStorage;
 use boot_journal::Machine;
 use boot_notes::{IDENTITY_LEN, Notes};
+use messages::Failure;
 use std::fs::{File, OpenFile};
 use std::io::Read;
 use std::rc::Rc;
 use std::rt::Files;
-use var_places::Failure;
 use wanted_changes::KeptNotes;
 use whole_files::OutputFile;
 

@@ -9,15 +9,15 @@ use crate::state_folder::{StoredJournal, stored_with_notes};
 use crate::storage::{Place, PlaceStorage};
 use crate::told::tell_of_settling;
 use boot_journal::{BootId, Journal, Recorded};
+use messages::{Failure, Reason};
 use std::alloc::Global;
 use std::cell::RefCell;
 use std::rc::Rc;
 use std::rt::Files;
 use uefi_vars::Vars;
 use var_places::{
-    Failure, FileKind, PlaceVars, Reason, STANDARD, check_damage, file_kind, is_folder,
-    lock_place_file, lock_place_folder, name_of, no_place, read_folder, read_variables, set_vars,
-    variable_file,
+    FileKind, PlaceVars, STANDARD, check_damage, file_kind, is_folder, lock_place_file,
+    lock_place_folder, name_of, no_place, read_folder, read_variables, set_vars, variable_file,
 };
 use wanted_changes::MachineWords;
 use whole_files::OutputFile;

@@ -2,11 +2,12 @@
 
 use crate::storage::PlaceStorage;
 use boot_journal::{AttributesFault, Journal, JournalFile, MachineName};
+use messages::{Failure, Quoted};
 use std::alloc::Global;
 use std::io;
 use std::rt::Files;
 use uefi_vars::Vars;
-use var_places::{Failure, MachineIdentity, PRODUCT_UUID, Quoted, machine_identity};
+use var_places::{MachineIdentity, PRODUCT_UUID, machine_identity};
 use wanted_changes::MachineWords;
 use whole_files::OutputFile;
 

@@ -1,8 +1,9 @@
 //! What a place that is to be changed is.
 
+use messages::{Failure, Reason};
 use std::fs;
 use std::rt::Files;
-use var_places::{Failure, FileKind, Reason, STANDARD, file_kind, name_of, no_place, read};
+use var_places::{FileKind, STANDARD, file_kind, name_of, no_place, read};
 
 /// What a place is.
 #[derive(Clone, Copy, Debug, PartialEq, Eq)]

@@ -11,11 +11,11 @@ use crate::state_folder::{StoredJournal, journal_path, stored_with_notes};
 use crate::values::set_value;
 use boot_journal::{BootId, Change, Journal, JournalFile, MachineName};
 use boot_notes::Notes;
+use messages::{Failure, note};
 use std::alloc::{AllocError, Global};
 use std::io::ErrorKind;
 use std::rt::Files;
 use uefi_vars::{KEEP_STATE, Vars};
-use var_places::{Failure, note};
 use wanted_changes::MachineWords;
 
 /// What a machine stands for: its variables once what an earlier update has left to do is done.

@@ -5,13 +5,13 @@ ghost use Rattle.machine_changes.specs.StateAccess.{access_fault};
 
 use boot_journal::{JournalFault, JournalFile, read_journal};
 use boot_notes::{Notes, NotesFault, SplitNotes, split_notes};
+use messages::{Failure, Reason, shown};
 use std::alloc::{AllocError, Global};
 use std::fs::{self, File, Metadata, OpenFile};
 use std::io::{self, ErrorKind};
 use std::os::unix::fs::MetadataExt;
 use std::path::{Path, PathBuf};
 use std::rt::Files;
-use var_places::{Failure, Reason, shown};
 use whole_files::{LIMIT, OutputFile, RegularFile, read_regular};
 
 /// The name of the journal's file.

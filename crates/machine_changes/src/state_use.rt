@@ -4,10 +4,10 @@ use crate::history::History;
 use crate::state_folder::{StateFolder, lock_folder};
 use boot_history::make_state_folder;
 use boot_journal::{CallError, MachineName};
+use messages::{Failure, note};
 use std::fs;
 use std::rt::{Clock, Files};
 use uefi_vars::Vars;
-use var_places::{Failure, note};
 use wanted_changes::MachineWords;
 use whole_files::OutputFile;
 

@@ -5,13 +5,12 @@ use crate::owner::Identity;
 use crate::variable_file::{DueChange, is_in_file, write_due};
 use boot_journal::{CallError, Change, Journal, Storage, write_journal};
 use boot_notes::{Notes, with_notes};
+use messages::{Failure, Reason};
 use std::alloc::{AllocError, Global};
 use std::io::ErrorKind;
 use std::rc::Rc;
 use std::rt::Files;
-use var_places::{
-    ChangeFault, Failure, Folder, KeptChange, Reason, change_variable, has_value, set_variable,
-};
+use var_places::{ChangeFault, Folder, KeptChange, change_variable, has_value, set_variable};
 use wanted_changes::KeptNotes;
 use whole_files::{FileLock, LIMIT, OutputFile, RegularFile, read_regular, replace_file};
 

@@ -1,9 +1,9 @@
 //! What is told before an earlier update is finished.
 
 use boot_journal::{BootId, Change, Journal};
+use messages::note;
 use std::alloc::AllocError;
 use uefi_vars::{BOOT_NEXT, Vars};
-use var_places::note;
 
 /// Tells on standard error what finishing an earlier update, by this journal and under this identity, will do that wasn't
 /// meant: which variables it changes although somebody else changed them since, and that BootNext isn't set again.

@@ -3,10 +3,11 @@
 use crate::storage::from_change;
 use crate::values::set_value;
 use boot_journal::Change;
+use messages::Failure;
 use std::alloc::{AllocError, Global};
 use std::rt::Files;
 use uefi_vars::{ATTRIBUTES_LEN, Vars};
-use var_places::{ChangeFault, Failure, changed_variable_file, from_store, read_variables};
+use var_places::{ChangeFault, changed_variable_file, from_store, read_variables};
 use var_stores::{read_store, store_attributes, store_vars};
 use whole_files::{FileLock, OutputFile, rewrite_file};
 

@@ -1,3 +1,4 @@
 -- What contracts are in terms of.
 pub mod Look
+pub mod SecureBoot
 pub mod Verdict

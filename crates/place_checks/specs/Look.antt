@@ -7,8 +7,8 @@ use Rattle.entry_checks.specs.declared.target.Target.TheVariants as target
 use Rattle.disk_files.specs.declared.found.PartitionSearch.{PartitionSearch}
 use Rattle.disk_files.specs.declared.found.PartitionSearch.TheVariants as search
 
--- of a partition: that it is there or not or several times, or can't be sought, as it has no signature or the machine tells
--- nothing
+-- of a partition: that it is there or not or several times, or can't be sought, as it has no signature or the machine
+-- tells nothing
 abbrev pub OfPartition : Lead → Type 0
 OfPartition lead.Partition = Unit {0}
 OfPartition lead.NoPartition = Unit {0}
@@ -30,8 +30,8 @@ OfFile lead.Untold = Unit {0}
 OfFile lead.Unsigned = Unit {0}
 OfFile _ = ⊥
 
--- what isn't looked at stays as the path says it; of a partition alone the file that firmware seeks there is looked at, if
--- its name is known
+-- what isn't looked at stays as the path says it; of a partition alone the file that firmware seeks there is looked at,
+-- if its name is known
 abbrev pub CanBe : Target → Lead → Type 0
 CanBe (target.File partition name) found = OfFile found
 CanBe (target.Partition partition) found = OfPartition found ⊎ OfFile found

@@ -4,17 +4,19 @@ ghost use Rattle.std.specs.Prelude.{IfOk};
 
 use crate::checked::check_vars;
 use crate::json::json_of;
-use crate::machine::{Machine, variables_folder};
+use crate::machine::Machine;
+use crate::place::read_with_source;
 use crate::report::report_of;
+use messages::{Failure, print};
 use std::rt::Files;
-use var_places::{Failure, print, read_place};
 
 /// The words of a check.
 #[derive(Clone, Copy)]
 pub struct CheckWords<'a> {
     /// The place.
     pub place: &'a str,
-    /// Nothing, or the path of a folder that stands for the root of the system on which partitions and files are sought.
+    /// Nothing, or the path of a folder that stands for the root of the system on which partitions and files are
+    /// sought.
     pub root: &'a str,
     /// Whether JSON is printed.
     pub json: bool,
@@ -29,24 +31,21 @@ pub enum Verdict {
     Wrong,
 }
 
-/// Prints what is found of the boot entries of a place and of BootOrder and BootNext, first of those that the next boot tries,
-/// in its order, and tells whether what it tries first can be started.
+/// Prints what is found of the boot entries of a place and of BootOrder and BootNext, first of those that the next boot
+/// tries, in its order, and tells whether what it tries first can be started.
 ///
 /// # Errors
 ///
-/// [`Failure::Read`] if the place, or what the system tells of its disks, can't be read; [`Failure::Refused`] if it is no
-/// place, or what the system tells isn't as it tells it; [`Failure::Write`] and [`Failure::Closed`] if the answer can't be
-/// printed; and [`Failure::Memory`] if memory was refused.
+/// [`Failure::Read`] if the place, or what the system tells of its disks, can't be read; [`Failure::Refused`] if it is
+/// no place, or what the system tells isn't as it tells it; [`Failure::Write`] and [`Failure::Closed`] if the answer
+/// can't be printed; and [`Failure::Memory`] if memory was refused.
 pub fn check_place<R: Files + Input + Print + Eprint + AllocGlobal>(
     rt: &R,
     words: &CheckWords<'_>,
 ) -> Result<Verdict, Failure> {
     let alloc = rt.alloc();
-    let vars = read_place(rt, words.place)?;
-    let checked = check_vars(
-        Machine::new(rt, words.root, variables_folder(rt, words.place)?),
-        &vars,
-    )?;
+    let place = read_with_source(rt, words.place)?;
+    let checked = check_vars(Machine::new(rt, words.root, place.source), &place.vars)?;
     let text = if words.json {
         json_of(alloc, &checked)?
     } else {

@@ -12,12 +12,12 @@ use entry_checks::{
     Facts, Finding, Held, Known, NextFinding, OptionFacts, OrderFindings, State, entry_state,
     findings, is_order_wrong, listed, next_finding, order_findings, twins,
 };
+use messages::Failure;
 use std::alloc::{AllocError, Global};
 use std::rt::Files;
 use uefi_vars::{
     PlanNumbers, VarFault, Vars, boot_next, entries_at_risk, entry_number, plan_numbers,
 };
-use var_places::Failure;
 
 /// What is found of the variables of a place.
 #[derive(Drop)]
@@ -214,7 +214,7 @@ fn unnamed_numbers(alloc: Global, vars: &Vars) -> Result<Vec<u16>, AllocError> {
     }
 }
 
-/// What is known of an entry that has this twin, where BootNext has this number, and these entries are named by nothing.
+/// What is known of an entry that has this twin, if BootNext has this number, and these entries are named by nothing.
 fn facts_of(looked: &LookedEntry, twin: Option<u16>, next: Option<u16>, unnamed: &[u16]) -> Facts {
     let held = match looked.attributes {
         Some(attributes) => Held::Option(OptionFacts {

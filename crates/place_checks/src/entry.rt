@@ -4,13 +4,13 @@ use crate::image::SeenImage;
 use crate::machine::{Machine, Seen};
 use boot_texts::option_reason;
 use entry_checks::{Lead, Target, destination, path_target};
+use messages::Failure;
 use partitions::PartitionId;
 use std::alloc::{AllocError, Global};
 use std::rt::Files;
 use uefi_names::named_text;
 use uefi_option::{LoadOption, OptionFault, description_text, read_option};
 use uefi_path::Path;
-use var_places::Failure;
 
 /// An entry that was looked at.
 #[derive(Drop)]

@@ -30,8 +30,8 @@ impl SeenImage {
         }
     }
 
-    /// What is known of a file with this fault or none, if it is started by firmware of this processor, whose Secure Boot
-    /// says this of the file.
+    /// What is known of a file with this fault or none, if it is started by firmware of this processor, whose Secure
+    /// Boot says this of the file.
     fn judged(
         alloc: Global,
         processor: Processor,
@@ -99,7 +99,7 @@ pub(crate) fn look_at_image<R: Files + AllocGlobal>(
     }
 }
 
-/// What is told of a file without a fault, if anything is, where firmware is of this processor.
+/// What is told of a file without a fault, if anything is, by firmware's processor.
 fn without_fault(processor: Processor) -> &'static str {
     match processor {
         Processor::Untold => "firmware's processor isn't known here",

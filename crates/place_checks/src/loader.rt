@@ -1,12 +1,13 @@
 //! A loader for which an entry is to be made.
 
 use crate::image::SeenImage;
-use crate::machine::{Machine, Seen, variables_folder};
+use crate::machine::{Machine, Seen};
+use crate::place::source_at;
 use entry_checks::{Finding, ImageState, Weight, path_target};
+use messages::Failure;
 use std::alloc::{AllocError, Global};
 use std::rt::Files;
 use uefi_path::Path;
-use var_places::Failure;
 
 /// What is to be told of a loader.
 #[derive(Drop)]
@@ -18,9 +19,9 @@ pub struct LoaderNote {
 }
 
 /// What is to be told of the loader that is at this path of a system, if an entry of the place leads to it: whether
-/// firmware starts it, and its Secure Boot allows it. That Secure Boot is undecided isn't told: of signed loaders it always
-/// is. `root` is nothing, or the path of a folder that stands for the root of the system, of which the path
-/// of the file has that in front.
+/// firmware starts it, and its Secure Boot allows it. That Secure Boot is undecided isn't told: of signed loaders it
+/// always is. `root` is nothing, or the path of a folder that stands for the root of the system, of which the path of
+/// the file has that in front.
 ///
 /// # Errors
 ///
@@ -31,13 +32,13 @@ pub fn note_of_file<R: Files + AllocGlobal>(
     root: &str,
     file: &str,
 ) -> Result<Option<LoaderNote>, Failure> {
-    let mut machine = Machine::new(rt, root, variables_folder(rt, place).unwrap_or(None));
+    let mut machine = Machine::new(rt, root, source_at(rt, place)?);
     let seen = machine.image_at(file)?;
     Ok(note_of(rt.alloc(), &seen)?)
 }
 
-/// What is to be told of the loader to which this path leads, as of [`note_of_file`], or that no file is there: nothing, if
-/// its partition isn't mounted.
+/// What is to be told of the loader to which this path leads, as of [`note_of_file`], or that no file is there:
+/// nothing, if its partition isn't mounted.
 ///
 /// # Errors
 ///
@@ -48,7 +49,7 @@ pub fn note_of_path<R: Files + AllocGlobal>(
     root: &str,
     path: &Path,
 ) -> Result<Option<LoaderNote>, Failure> {
-    let mut machine = Machine::new(rt, root, variables_folder(rt, place).unwrap_or(None));
+    let mut machine = Machine::new(rt, root, source_at(rt, place)?);
     let alloc = rt.alloc();
     match machine.look(path_target(path)) {
         Ok(seen) => Ok(note_of_look(alloc, &seen)?),

@@ -4,12 +4,15 @@ ghost use Rattle.std.specs.Prelude.{◌≡◌, ◌⊎◌, IfOk};
 ghost use Rattle.place_checks.specs.Look.{CanBe, OfPartition, OfFile, IsTold};
 
 use crate::image::{SeenImage, look_at_image};
+use crate::place::Source;
 use crate::secure_boot::{SeenSecureBoot, read_secure_boot};
+use crate::stored_secure_boot::stored_secure_boot;
 use disk_files::{
     PartitionSearch, SeenMounts, SeenPartitions, find_partition, machine_mounts,
     machine_partitions, mounted_folders,
 };
 use entry_checks::{Lead, Processor, Target, name_among, processor_of};
+use messages::{Failure, shown};
 use partitions::DeviceNumber;
 use std::alloc::{AllocError, Global};
 use std::collections::BTreeMap;
@@ -17,7 +20,6 @@ use std::fs;
 use std::io::{self, ErrorKind};
 use std::rt::Files;
 use uefi_path::HardDriveNode;
-use var_places::{Failure, is_folder, shown};
 use whole_files::{RegularFile, read_regular};
 
 /// What parts the names in the path of a file (UEFI 2.10, 10.3.5.4).
@@ -44,8 +46,8 @@ pub(crate) struct Machine<'a, R> {
     pub(crate) rt: &'a R,
     /// The path of the folder, or nothing.
     root: &'a str,
-    /// The folder in which Linux shows the variables of its firmware, if they are in one.
-    variables: Option<&'a str>,
+    /// Where the variables of its firmware are.
+    source: Source<'a>,
     /// Its firmware's processor, once that is read.
     processor: Option<Processor>,
     /// What its Secure Boot decides by, once that is read.
@@ -113,13 +115,14 @@ impl Seen {
 }
 
 impl<'a, R: Files + AllocGlobal> Machine<'a, R> {
-    /// The machine whose root this folder stands for, or this one if the path is empty. The variables of a folder, which the
-    /// root isn't put before, are taken for its firmware's, and those of a file may be anybody's.
-    pub(crate) fn new(rt: &'a R, root: &'a str, variables: Option<&'a str>) -> Machine<'a, R> {
+    /// The machine whose root this folder stands for, or this one if the path is empty. The variables of a folder,
+    /// which the root isn't put before, are taken for its firmware's, those of a variable file for an emulator's of any
+    /// processor, and those of a set may be anybody's.
+    pub(crate) fn new(rt: &'a R, root: &'a str, source: Source<'a>) -> Machine<'a, R> {
         Machine {
             rt,
             root,
-            variables,
+            source,
             processor: None,
             secure_boot: None,
             partitions: None,
@@ -133,12 +136,13 @@ impl<'a, R: Files + AllocGlobal> Machine<'a, R> {
         if let Some(processor) = self.processor {
             return Ok(processor);
         }
-        let processor = if self.variables.is_some() {
-            let arch = self.told(ARCH)?;
-            let bits = self.told(BITS)?;
-            processor_of(arch.as_deref(), bits.as_deref())
-        } else {
-            Processor::Untold
+        let processor = match &self.source {
+            Source::Folder(_) => {
+                let arch = self.told(ARCH)?;
+                let bits = self.told(BITS)?;
+                processor_of(arch.as_deref(), bits.as_deref())
+            }
+            Source::File(_) | Source::Set => Processor::Untold,
         };
         self.processor = Some(processor);
         Ok(processor)
@@ -147,9 +151,10 @@ impl<'a, R: Files + AllocGlobal> Machine<'a, R> {
     /// What Secure Boot of the firmware that has the variables decides by.
     fn secure_boot(&mut self) -> Result<&SeenSecureBoot, AllocError> {
         if self.secure_boot.is_none() {
-            self.secure_boot = Some(match self.variables {
-                Some(folder) => read_secure_boot(self.rt, folder)?,
-                None => SeenSecureBoot::Off,
+            self.secure_boot = Some(match &self.source {
+                Source::Folder(folder) => read_secure_boot(self.rt, folder)?,
+                Source::File(bytes) => stored_secure_boot(self.rt.alloc(), bytes)?,
+                Source::Set => SeenSecureBoot::Off,
             });
         }
         match &self.secure_boot {
@@ -341,22 +346,6 @@ impl<'a, R: Files + AllocGlobal> Machine<'a, R> {
             }
         }
         Ok(names)
-    }
-}
-
-/// The place, if it is a folder in which Linux shows variables.
-///
-/// # Errors
-///
-/// Those of [`is_folder`].
-pub(crate) fn variables_folder<'a, R: Files + AllocGlobal>(
-    rt: &R,
-    place: &'a str,
-) -> Result<Option<&'a str>, Failure> {
-    if is_folder(rt, place)? {
-        Ok(Some(place))
-    } else {
-        Ok(None)
     }
 }
 

@@ -38,7 +38,7 @@ const DBX: Variable = Variable {
     vendor: "d719b2cb-3d3a-4596-a3bc-dad00e67656f",
 };
 
-/// The data of SecureBoot where it is on.
+/// The data of SecureBoot if it is on.
 const ON: &[u8] = &[1];
 
 /// What Secure Boot of a machine decides by.
@@ -81,7 +81,8 @@ impl From<AllocError> for Unread {
     }
 }
 
-/// What Secure Boot of the firmware decides by whose variables this folder shows. A variable that isn't there has no data.
+/// What Secure Boot of the firmware decides by whose variables this folder shows. A variable that isn't there has no
+/// data.
 ///
 /// # Errors
 ///

@@ -12,8 +12,8 @@ use Rattle.std.proofs.lemmas.Map.Lookups.{exact_bytes}
 use Rattle.std.proofs.lemmas.Map.Views.{tells_apart}
 use Rattle.std.proofs.lemmas.Option.{slice_get_read, same_Some}
 use Rattle.uefi_vars.specs.Vars.{Variables, name_cmp}
-use Rattle.var_places.specs.declared.failure.Failure.{Failure as PlaceFailure}
-use Rattle.var_places.specs.declared.failure.Failure.TheVariants.{Memory}
+use Rattle.messages.specs.declared.failure.Failure.{Failure as PlaceFailure}
+use Rattle.messages.specs.declared.failure.Failure.TheVariants.{Memory}
 use Rattle.boot_history.specs.declared.history.KeptRecord.{KeptRecord}
 use Rattle.boot_history.specs.declared.record.Record.{Record}
 use Rattle.boot_history.specs.declared.stands.Standing.TheVariants as standing

@@ -2,8 +2,8 @@
 use Rattle.std.specs.Prelude.{◌≡◌, ◌≢◌, ◌⊎◌, ℕ, List, Contains}
 use Rattle.std.specs.FinMap.{get}
 use Rattle.uefi_vars.specs.Vars.{Variables}
-use Rattle.var_places.specs.declared.failure.Failure.{Failure}
-use Rattle.var_places.specs.declared.failure.Failure.TheVariants.{Memory}
+use Rattle.messages.specs.declared.failure.Failure.{Failure}
+use Rattle.messages.specs.declared.failure.Failure.TheVariants.{Memory}
 use Rattle.boot_edits.specs.Restore.{IsRestored}
 use Rattle.boot_history.specs.Timeout.{or_timeout_of}
 use Rattle.boot_journal.specs.Attributes.{with_attributes}

@@ -5,7 +5,7 @@ use Rattle.std.specs.List.{slice_get}
 use Rattle.uefi_vars.specs.BootChange.{is_boot_name}
 use Rattle.uefi_vars.specs.Name.{next_text}
 use Rattle.uefi_vars.specs.Vars.{Variables}
-use Rattle.var_places.specs.declared.failure.Failure.TheVariants.{Memory}
+use Rattle.messages.specs.declared.failure.Failure.TheVariants.{Memory}
 use Rattle.boot_history.specs.declared.history.KeptRecord.{KeptRecord}
 use Rattle.boot_history.specs.declared.record.Record.{Record}
 use Rattle.boot_history.specs.declared.stands.Standing.{Standing}

@@ -5,12 +5,12 @@ use crate::unnamed::remark_unnamed;
 use boot_edits::EditAnswer;
 use boot_texts::json::{JsonObject, JsonWriter, Leaf, append_leaves, json_line};
 use boot_texts::{EntryDigits, EntryName, changes_text};
+use messages::Shortened;
 use std::alloc::{AllocError, Global};
 use uefi_option::check_option;
 use uefi_vars::{
     BOOT_NEXT, BOOT_ORDER, VarFault, boot_changes, boot_next, boot_order, entry_number,
 };
-use var_places::Shortened;
 use wanted_changes::{Remarks, SetChange, Told};
 
 /// What is told of an edit from the one set to the other, of a folder or a file, which answers so: what it adds, what differs,

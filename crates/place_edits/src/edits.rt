@@ -5,9 +5,9 @@ use crate::fault_words::from_edit_run;
 use crate::left_out::check_edit;
 use boot_edits::{Edit, EditAnswer, EditRun, EditRunFault};
 use boot_journal::{CallError, Run};
+use messages::Failure;
 use std::alloc::Global;
 use uefi_vars::Vars;
-use var_places::Failure;
 use wanted_changes::{Seen, SetChange, Told, Wanted};
 
 /// How an edit is printed: the name of an entry that is added, and then what differs, as `diff` has it.

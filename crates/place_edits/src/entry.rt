@@ -1,8 +1,9 @@
 //! The command `get`, which gives the load option of an entry.
 
 use boot_texts::EntryName;
+use messages::Failure;
 use std::rt::Files;
-use var_places::{Failure, check_output, lock, name_of, read_place, write};
+use var_places::{check_output, lock, name_of, read_place, write};
 use whole_files::OutputFile;
 
 /// Makes a file of the bytes of an entry of a place: the data of its variable, without attributes.

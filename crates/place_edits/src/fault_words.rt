@@ -2,9 +2,9 @@
 
 use boot_edits::{EditFault, EditRunFault};
 use boot_texts::EntryName;
+use messages::Failure;
 use std::alloc::{AllocError, Global};
 use std::fmt;
-use var_places::Failure;
 
 /// What it is to the program that the change of the place of this name is refused for this fault.
 fn from_edit(alloc: Global, place: &str, fault: EditFault) -> Failure {

@@ -5,9 +5,9 @@ ghost use Rattle.std.specs.String.{string_bytes};
 ghost use Rattle.place_edits.specs.LeftOut.{IsTouched};
 
 use boot_edits::{Edit, Position};
+use messages::Failure;
 use std::alloc::Global;
 use uefi_vars::{BOOT_NEXT, BOOT_ORDER, TIMEOUT, laws as vars_laws};
-use var_places::Failure;
 use wanted_changes::{LEFT_OUT, is_one_of};
 
 /// Refuses a change of one of the variables of these names, which no set can hold, in the place of this name.

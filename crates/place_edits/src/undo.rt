@@ -5,10 +5,10 @@ use crate::undo_run::{ChangedSince, UndoFault, UndoRun, Undone, call_error};
 use boot_history::{records_to_undo, remove, time_text};
 use boot_journal::{CallError, Run};
 use boot_texts::changes_text;
+use messages::{Failure, note, print};
 use std::alloc::Global;
 use std::rt::Files;
 use uefi_vars::Vars;
-use var_places::{Failure, note, print};
 use wanted_changes::{MachineWords, Remarks, Seen, SetChange, Told, Wanted, set_of};
 use whole_files::OutputFile;
 

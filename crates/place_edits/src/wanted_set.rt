@@ -12,9 +12,9 @@ use crate::unnamed::remark_unnamed;
 use boot_history::or_timeout_of;
 use boot_journal::{AttributesFault, CallError, with_attributes};
 use boot_texts::{change_report, changes_text};
+use messages::Failure;
 use std::alloc::{AllocError, Global};
 use uefi_vars::{KEEP_STATE, Vars, boot_changes};
-use var_places::Failure;
 use wanted_changes::{Remarks, Seen, SetChange, Told, Wanted};
 
 /// The boot variables of a set, wanted of a machine, whose Timeout stays if the set has none. Entries that would have to be

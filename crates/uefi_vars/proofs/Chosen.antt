@@ -1,28 +1,15 @@
 -- The numbers of a plan: what is kept and known of entries that were looked at, and which numbers are chosen.
-use Rattle.std.proofs.Common.{◌≡◌, ◌⊎◌, inl, inr, ◌↔◌, ℕ, ◌+◌, ◌<◌, IsTrue, List, [], ◌∷◌, ◌++◌, All, length, set, take, map, get_or}
-use Rattle.std.proofs.Common.{Option, Result, Ok, Err, IfSome, IfOk, refl, sym, ap, subst, ◌∙◌}
+use Rattle.std.proofs.Common.{◌≡◌, ◌↔◌, ℕ, ◌+◌, ◌<◌, IsTrue, List, [], ◌∷◌, ◌++◌, length, take, map, get_or}
+use Rattle.std.proofs.Common.{Option, Result, Ok, Err, IfOk, refl, sym, ap, subst, ◌∙◌}
 use Rattle.std.specs.Result.{IsOkAnd, is_ok}
 use Rattle.std.proofs.lemmas.Bool.{false≢true}
 use Rattle.std.proofs.lemmas.List.{map-append}
-use Rattle.std.proofs.lemmas.List.Elements.{All-set}
 use Rattle.uefi_option.specs.LoadOption.{OptionParts, SpellsOption}
 use Rattle.uefi_vars.specs.Vars.{Variables, entry_of}
 use Rattle.uefi_vars.specs.Order.{HasOrder, HasNext}
 use Rattle.uefi_vars.specs.Plan.{PlanParts, plan_parts, HasPlan, AreNumbersOf}
-use Rattle.uefi_vars.specs.declared.by_number.ByNumber.{ByNumber}
-use Rattle.uefi_vars.specs.ByNumber.{EachTells, kept_by}
 use Rattle.uefi_vars.specs.NormalEntry.{MayBeNormal, HasNormal, IsNextNumber, AreNormalNumbers}
 use Rattle.uefi_vars.proofs.Plans.{choice_of, choose, pass, plan_found}
-
--- ---- of what is kept
-
--- what is newly kept tells of its entry, so all still do
-pub still_tell : {K : Type 0} (Tells : ℕ → K → Type 0) (old new : ByNumber K) (number : ℕ) (value : K) → EachTells Tells old → Tells number value
-    → (new.slots.items ≡ old.slots.items) ⊎ ((place : ℕ) × (new.slots.items ≡ set old.slots.items place (kept_by number value))) → EachTells Tells new
-still_tell Tells old new number value each tells (inl same) = subst (All (λ slot. IfSome slot.kept (Tells slot.number))) (sym same) each
-still_tell Tells old new number value each tells (inr changed) =
-    let there = All-set (λ slot. IfSome slot.kept (Tells slot.number)) old.slots.items changed.0 (kept_by number value) tells each in
-    subst (All (λ slot. IfSome slot.kept (Tells slot.number))) (sym changed.1) there
 
 -- ---- of entries
 

@@ -20,5 +20,6 @@ pub mod PlanComparison
 pub mod Plans
 pub mod Readings
 pub mod Records
+pub mod Repeats
 pub mod Same
 pub mod Sets

@@ -1,89 +1,75 @@
 //! What is kept of entries by their numbers.
 
-ghost use Rattle.std.specs.Prelude.{◌≡◌, ◌⊎◌, ℕ, IfSome, IfOk, All, set};
-ghost use Rattle.uefi_vars.specs.ByNumber.{IsFree, IsKept, kept_by};
+ghost use Rattle.std.specs.Prelude.{◌≡◌, ◌==◌, ◌&&◌, ◌++◌, ◌∷◌, [], ℕ, List, not, Some, None, IfOk, OnOk, is_some, if◌then◌else◌};
+ghost use Rattle.std.specs.Option.{option_copied};
+ghost use Rattle.uefi_vars.specs.ByNumber.{is_in, is_repeated, place_of, kept_at, Tells};
 
 use std::alloc::{AllocError, Global};
+use std::collections::{BTreeMap, BTreeSet};
 
-/// A number with what is kept under it, if anything.
-#[derive(Drop)]
-pub(crate) struct Slot<T> {
-    number: u16,
-    kept: Option<T>,
-}
-
-/// What is kept of the entries whose numbers an order repeats. It takes memory for these numbers, however high they are.
+/// What is kept of the entries whose numbers an order repeats. It takes memory for the numbers of the order, however
+/// high they are.
 #[derive(Drop)]
 pub(crate) struct ByNumber<T> {
-    /// In the order of their numbers.
-    slots: Vec<Slot<T>>,
+    /// A place for each number that the order repeats, with what is kept there, if anything.
+    places: BTreeMap<u16, Option<T>>,
 }
 
-/// The numbers that occur more than once among these, in rising order.
-fn repeated_numbers(alloc: Global, numbers: &[u16]) -> Result<Vec<u16>, AllocError> {
-    // a bit for each number that was met
-    let mut met = [0u64; 1024];
-    let mut repeated = Vec::new(alloc);
-    for number in numbers {
-        let word = &mut met[usize::from(*number / 64)];
-        let bit = 1u64 << (*number % 64);
-        if *word & bit != 0 {
-            repeated.push(*number)?;
-        }
-        *word |= bit;
+/// Puts the number into the set. Whether it is new there.
+fn meet(met: &mut BTreeSet<u16>, number: u16) -> Result<bool, AllocError>
+    ensures { IfOk result (λ new. (numbers : List ℕ) → Tells met.old numbers →
+        (new ≡ not (is_in numbers number)) × Tells met.new (numbers ++ number ∷ [])) }
+{
+    match met.insert(number) {
+        Ok(new) => Ok(new),
+        Err(_) => Err(AllocError),
     }
-    repeated.as_mut_slice().sort_unstable();
-    repeated.dedup();
-    Ok(repeated)
 }
 
 impl<T: Drop> ByNumber<T> {
-    /// Room for what is kept under each number that this order repeats. Nothing is kept yet.
+    /// A place for each number that occurs more than once in this order, and for no other. Nothing is kept yet.
     pub(crate) fn from_repeated(alloc: Global, order: &[u16]) -> Result<ByNumber<T>, AllocError>
-        ensures { IfOk result (λ table. All IsFree table.slots.items) }
+        ensures { IfOk result (λ table. (number : ℕ) →
+            place_of table number ≡ (if is_repeated order.now number then Some None else None)) }
     {
-        let mut slots = Vec::new(alloc);
-        for number in &repeated_numbers(alloc, order)? {
-            slots.push(Slot {
-                number: *number,
-                kept: None,
-            })?;
+        let mut met = BTreeSet::new(alloc);
+        let mut table = ByNumber {
+            places: BTreeMap::new(alloc),
+        };
+        for number in order {
+            let new = meet(&mut met, *number)?;
+            if !new {
+                table.make_place(*number)?;
+            }
         }
-        Ok(ByNumber { slots })
+        Ok(table)
     }
 
-    /// Where the slot of this number is, if it has one.
-    fn place(&self, number: u16) -> Option<usize> {
-        self.slots
-            .as_slice()
-            .binary_search_by(|slot| slot.number.cmp(&number))
-            .ok()
+    /// Makes a place of this number, at which nothing is kept.
+    fn make_place(&mut self, number: u16) -> Result<(), AllocError>
+        ensures { OnOk result ((other : ℕ) →
+            place_of self.new other ≡ (if other == number then Some None else place_of self.old other)) }
+    {
+        match self.places.insert(number, None) {
+            Ok(_old) => Ok(()),
+            Err(_) => Err(AllocError),
+        }
     }
 
     /// What is kept under this number, if anything.
     pub(crate) fn get(&self, number: u16) -> Option<&T>
-        ensures { IfSome result (λ value. IsKept self.now number value.now) }
+        ensures { option_copied result ≡ kept_at self.now number }
     {
-        let slot = self.slots.get(self.place(number)?)?;
-        if slot.number != number {
-            return None;
-        }
-        slot.kept.as_ref()
+        self.places.get(&number)?.as_ref()
     }
 
-    /// Keeps the value under this number, if it has a slot.
+    /// Keeps the value under this number, if it has a place.
     pub(crate) fn keep(&mut self, number: u16, value: T)
-        ensures { (self.new.slots.items ≡ self.old.slots.items)
-            ⊎ ((place : ℕ) × (self.new.slots.items ≡ set self.old.slots.items place (kept_by number value))) }
+        ensures { (other : ℕ) → place_of self.new other
+            ≡ (if other == number && is_some (place_of self.old other) then Some (Some value) else place_of self.old other) }
     {
-        let Some(place) = self.place(number) else {
-            return;
-        };
-        if let Some(slot) = self.slots.get_mut(place) {
-            *slot = Slot {
-                number,
-                kept: Some(value),
-            };
+        if let Some(place) = self.places.get_mut(&number) {
+            *place = Some(value);
         }
     }
 }

@@ -1,9 +1,9 @@
 //! What one look at an entry tells: whether it is a normal option, and which.
 
-ghost use Rattle.std.specs.Prelude.{◌≡◌, ◌↔◌, Some, IfSome, IfNone, IfOk, OnOk, IsTrue};
+ghost use Rattle.std.specs.Prelude.{◌≡◌, ◌↔◌, ◌<◌, ◌+◌, false, length, take, slice_index, Some, IfSome, IfNone, IfOk, OnOk, IsTrue};
 ghost use Rattle.uefi_option.specs.LoadOption.{OptionParts, SpellsOption};
 ghost use Rattle.uefi_vars.specs.Vars.{entry_of};
-ghost use Rattle.uefi_vars.specs.ByNumber.{EachTells};
+ghost use Rattle.uefi_vars.specs.ByNumber.{is_in, EachTells, HasMet};
 ghost use Rattle.uefi_vars.specs.NormalEntry.{IsOptionIfAny, MayBeNormal, HasNormal, IsNormalIfAny, TellsNormal};
 
 use crate::boot_plan::{Choice, copy_if_any};
@@ -71,36 +71,83 @@ fn read_normal_entry(alloc: Global, vars: &Vars, number: u16) -> Result<Option<C
     }
 }
 
-/// Whether the entry of this number is a normal option. BootOrder may repeat the number of a long entry, so what was seen
-/// of an entry is kept, and none is looked at twice.
-pub(crate) fn look_once(vars: &Vars, number: u16, known: &mut ByNumber<bool>) -> bool
-    requires { EachTells (TellsNormal (entry_of vars.now)) known.old }
-    ensures answer { TellsNormal (entry_of vars.now) number result }
-    ensures known { EachTells (TellsNormal (entry_of vars.now)) known.new }
+/// Whether the entry of the number at this place of the order is a normal option. The order may repeat the number of a
+/// long entry, so what was seen of an entry is kept, and none is looked at twice.
+pub(crate) fn look_once(
+    vars: &Vars,
+    order: &[u16],
+    place: usize,
+    known: &mut ByNumber<bool>,
+) -> bool
+    requires within { place < length order.now }
+    requires tells { EachTells (TellsNormal (entry_of vars.now)) known.old }
+    requires met { HasMet order.now place known.old }
+    ensures answer { TellsNormal (entry_of vars.now) (slice_index order.now place) result }
+    ensures tells { EachTells (TellsNormal (entry_of vars.now)) known.new }
+    ensures met { HasMet order.now (place + 1) known.new }
 {
-    if let Some(normal) = known.get(number) {
+    if let Some(normal) = known.get(order[place]) {
         return *normal;
     }
+    look_first(vars, order, place, known)
+}
+
+/// The same where the number comes first, so that its entry wasn't looked at yet.
+fn look_first(vars: &Vars, order: &[u16], place: usize, known: &mut ByNumber<bool>) -> bool
+    requires within { place < length order.now }
+    requires first { is_in (take place order.now) (slice_index order.now place) ≡ false }
+    requires tells { EachTells (TellsNormal (entry_of vars.now)) known.old }
+    requires met { HasMet order.now place known.old }
+    ensures answer { TellsNormal (entry_of vars.now) (slice_index order.now place) result }
+    ensures tells { EachTells (TellsNormal (entry_of vars.now)) known.new }
+    ensures met { HasMet order.now (place + 1) known.new }
+{
+    let number = order[place];
     let normal = is_normal_entry(vars, number);
     known.keep(number, normal);
     normal
 }
 
-/// The option of the entry of this number with the number, if the entry is there and is a normal option. What was read
-/// of an entry is kept, and none is read twice: when its number comes again, this gives a copy.
+/// The option of the entry of the number at this place of the order with the number, if the entry is there and is a
+/// normal option. What was read of an entry is kept, and none is read twice: when its number comes again, this gives a
+/// copy.
 pub(crate) fn read_once(
     alloc: Global,
     vars: &Vars,
-    number: u16,
+    order: &[u16],
+    place: usize,
     known: &mut ByNumber<Option<Choice>>,
 ) -> Result<Option<Choice>, AllocError>
-    requires { EachTells (IsNormalIfAny (entry_of vars.now)) known.old }
-    ensures choice { IfOk result (IsNormalIfAny (entry_of vars.now) number) }
-    ensures known { OnOk result (EachTells (IsNormalIfAny (entry_of vars.now)) known.new) }
+    requires within { place < length order.now }
+    requires tells { EachTells (IsNormalIfAny (entry_of vars.now)) known.old }
+    requires met { HasMet order.now place known.old }
+    ensures choice { IfOk result (IsNormalIfAny (entry_of vars.now) (slice_index order.now place)) }
+    ensures tells { OnOk result (EachTells (IsNormalIfAny (entry_of vars.now)) known.new) }
+    ensures met { OnOk result (HasMet order.now (place + 1) known.new) }
 {
-    if let Some(choice) = known.get(number) {
+    if let Some(choice) = known.get(order[place]) {
         return copy_if_any(alloc, choice.as_ref());
     }
+    read_first(alloc, vars, order, place, known)
+}
+
+/// The same where the number comes first, so that its entry wasn't read yet.
+fn read_first(
+    alloc: Global,
+    vars: &Vars,
+    order: &[u16],
+    place: usize,
+    known: &mut ByNumber<Option<Choice>>,
+) -> Result<Option<Choice>, AllocError>
+    requires within { place < length order.now }
+    requires first { is_in (take place order.now) (slice_index order.now place) ≡ false }
+    requires tells { EachTells (IsNormalIfAny (entry_of vars.now)) known.old }
+    requires met { HasMet order.now place known.old }
+    ensures choice { IfOk result (IsNormalIfAny (entry_of vars.now) (slice_index order.now place)) }
+    ensures tells { OnOk result (EachTells (IsNormalIfAny (entry_of vars.now)) known.new) }
+    ensures met { OnOk result (HasMet order.now (place + 1) known.new) }
+{
+    let number = order[place];
     let choice = read_normal_entry(alloc, vars, number)?;
     let copy = copy_if_any(alloc, choice.as_ref())?;
     known.keep(number, choice);

@@ -70,8 +70,8 @@ fn read_normal_choices(alloc: Global, vars: &Vars, order: &[u16]) -> Result<Vec<
 {
     let mut known = ByNumber::from_repeated(alloc, order)?;
     let mut choices = Vec::new(alloc);
-    for number in order {
-        if let Some(choice) = read_once(alloc, vars, *number, &mut known)? {
+    for place in 0..order.len() {
+        if let Some(choice) = read_once(alloc, vars, order, place, &mut known)? {
             choices.push(choice)?;
         }
     }
@@ -85,9 +85,9 @@ fn normal_numbers(alloc: Global, vars: &Vars, order: &[u16]) -> Result<Vec<u16>,
 {
     let mut known = ByNumber::from_repeated(alloc, order)?;
     let mut numbers = Vec::new(alloc);
-    for number in order {
-        if look_once(vars, *number, &mut known) {
-            numbers.push(*number)?;
+    for place in 0..order.len() {
+        if look_once(vars, order, place, &mut known) {
+            numbers.push(order[place])?;
         }
     }
     Ok(numbers)

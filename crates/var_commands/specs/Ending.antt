@@ -9,3 +9,4 @@ ending_status ending.Done = 0
 ending_status ending.Differs = 1
 ending_status ending.Wrong = 1
 ending_status ending.NotAll = 6
+ending_status ending.Unmet = 9

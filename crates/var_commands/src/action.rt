@@ -70,6 +70,8 @@ pub enum Action<'a> {
     Update {
         /// The machine.
         machine: MachineWords<'a>,
+        /// What is expected of it.
+        expected: &'a [&'a str],
         /// What is to be done.
         job: Job<'a>,
     },

@@ -4,9 +4,9 @@ use crate::action::{AddWords, ChangeWords, EntryChange, Form};
 use crate::making::{entries_of, entry_of, option_of_words, seconds_of};
 use boot_edits::{Addition, Edit, NewOrder};
 use machine_changes::{ChangeOptions, StateUse, change_machine, kind_of_place};
+use messages::Failure;
 use place_edits::{EditForm, WantedEdit};
 use std::rt::{Clock, Files};
-use var_places::Failure;
 use whole_files::OutputFile;
 
 /// Makes the change that the words ask for, which are these of the command line, and prints it. What was there before is kept

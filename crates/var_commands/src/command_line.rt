@@ -91,6 +91,7 @@ fn write_of<'a>(matches: &'a ArgMatches<'_>) -> Option<Action<'a>> {
 fn update_of<'a>(matches: &'a ArgMatches<'_>) -> Option<Action<'a>> {
     Some(Action::Update {
         machine: machine_of(matches)?,
+        expected: matches.get_strs("expect").unwrap_or(&[]),
         job: job_of(matches)?,
     })
 }

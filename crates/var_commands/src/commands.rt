@@ -1,6 +1,7 @@
 //! The commands of the program: their words and their help.
 
 use crate::table::{ArgKind, ArgRow, CommandRow, GroupRow, add_commands, command};
+use crate::update_rows::UPDATE_COMMANDS;
 use clap::{ArgAction, Command};
 use std::alloc::{AllocError, Global};
 
@@ -18,15 +19,6 @@ A file that is named `-` is standard input, or standard output after --out.
 
 Example:
   bootvars show /sys/firmware/efi/efivars";
-
-/// What the help of `update` says.
-const UPDATE: &str = "\
-Runs the requests of a script over the boot variables of a machine, and changes the machine by what they lead to, as a \
-whole: if power fails in between, the next update goes on with it. Prints the replies. FOLDER keeps which requests were \
-applied, so each takes effect exactly once, however often it comes.
-
-The status is 0 if each request was applied or had been before, 6 if one of them wasn't or couldn't be carried out, 1 if \
-the script is refused, 7 if another update is at work, and another one if the machine can't be read or changed.";
 
 /// The program with its commands, in the order in which its help lists them.
 ///
@@ -457,73 +449,6 @@ static WRITE_COMMANDS: [CommandRow; 1] = [CommandRow {
     ..CommandRow::EMPTY
 }];
 
-/// The command that runs requests.
-static UPDATE_COMMANDS: [CommandRow; 1] = [CommandRow {
-    name: "update",
-    about: "Runs requests over a machine's boot variables, each exactly once",
-    long_about: Some(UPDATE),
-    after_help: "Example:\n  bootvars update --state /var/lib/bootkeep /sys/firmware/efi/efivars script",
-    args: &[
-        ArgRow {
-            help: "The folder or the variable file of the machine",
-            ..PLACE
-        },
-        ArgRow {
-            name: "SCRIPT",
-            help: "The script of requests",
-            is_required: false,
-            required_without: &["next", "settle", "look"],
-            excludes: &INSTEAD_OF_SCRIPT,
-            ..ArgRow::VALUE
-        },
-        ArgRow {
-            help: "The folder that keeps which requests were applied, and what is left to do",
-            is_required: true,
-            ..STATE
-        },
-        ArgRow {
-            name: "stream",
-            help: "SCRIPT is a stream of frames",
-            ..SCRIPT_FLAG
-        },
-        ArgRow {
-            name: "dry-run",
-            help: "Prints the replies and the changes, and makes none",
-            ..SCRIPT_FLAG
-        },
-        ArgRow {
-            name: "json",
-            help: "Prints JSON",
-            ..SCRIPT_FLAG
-        },
-        ArgRow {
-            name: "look",
-            help: "Prints the replies, the next number and what there is then, as one object of JSON",
-            excludes: &["next", "settle", "dry-run", "json"],
-            ..ArgRow::FLAG
-        },
-        ArgRow {
-            name: "next",
-            help: "Prints the number of the next request",
-            excludes: &["settle"],
-            ..ArgRow::FLAG
-        },
-        ArgRow {
-            name: "settle",
-            help: "Does what an update that was cut off has left to do",
-            ..ArgRow::FLAG
-        },
-        ArgRow {
-            help: "The identity of the machine's start; needed for a variable file",
-            ..BOOT_ID
-        },
-        MACHINE,
-        ADOPT,
-        FORCE,
-    ],
-    ..CommandRow::EMPTY
-}];
-
 /// The command that makes load options.
 static OPTION_COMMANDS: [CommandRow; 1] = [CommandRow {
     name: "option",
@@ -673,7 +598,7 @@ static EXPLAIN_COMMANDS: [CommandRow; 1] = [CommandRow {
 // The arguments of several commands.
 
 /// The place that a command reads.
-const PLACE: ArgRow = ArgRow {
+pub(crate) const PLACE: ArgRow = ArgRow {
     name: "PLACE",
     help: "The place that is read",
     ..ArgRow::VALUE
@@ -716,7 +641,7 @@ const OUT: ArgRow = ArgRow {
 };
 
 /// The flag to write what is damaged.
-const FORCE: ArgRow = ArgRow {
+pub(crate) const FORCE: ArgRow = ArgRow {
     name: "force",
     help: "Writes a variable file that is damaged",
     ..ArgRow::FLAG
@@ -737,7 +662,7 @@ const DRY_RUN: ArgRow = ArgRow {
 };
 
 /// The folder with the journal.
-const STATE: ArgRow = ArgRow {
+pub(crate) const STATE: ArgRow = ArgRow {
     name: "state",
     help: "The folder that keeps what is left to do and what was there before, in place of /var/lib/bootkeep",
     kind: ArgKind::Option("FOLDER"),
@@ -745,7 +670,7 @@ const STATE: ArgRow = ArgRow {
 };
 
 /// The identity of a start.
-const BOOT_ID: ArgRow = ArgRow {
+pub(crate) const BOOT_ID: ArgRow = ArgRow {
     name: "boot-id",
     help: "The identity of the machine's start, if an update of a variable file has something left to do",
     kind: ArgKind::Option("ID"),
@@ -753,7 +678,7 @@ const BOOT_ID: ArgRow = ArgRow {
 };
 
 /// The name of a machine.
-const MACHINE: ArgRow = ArgRow {
+pub(crate) const MACHINE: ArgRow = ArgRow {
     name: "machine",
     help: "What the machine is called, in place of its UUID or the path of PLACE",
     kind: ArgKind::Option("ID"),
@@ -761,7 +686,7 @@ const MACHINE: ArgRow = ArgRow {
 };
 
 /// The flag to take over a journal.
-const ADOPT: ArgRow = ArgRow {
+pub(crate) const ADOPT: ArgRow = ArgRow {
     name: "adopt",
     help: "Takes over what another machine's updates left in FOLDER, unless there is something left to do",
     ..ArgRow::FLAG
@@ -885,19 +810,6 @@ const OPTIONAL: GroupRow = GroupRow {
     name: "optional",
     args: &["optional-hex", "optional-file", "optional-text"],
     is_required: false,
-};
-
-// Those of `update`.
-
-/// The flags that are given in the place of a script.
-const INSTEAD_OF_SCRIPT: [&str; 2] = ["next", "settle"];
-
-/// A flag of `update` that goes with a script alone. The conflicts have to be named here, since `clap` no longer asks for
-/// the script where a flag excludes it.
-const SCRIPT_FLAG: ArgRow = ArgRow {
-    needs: &["SCRIPT"],
-    excludes: &INSTEAD_OF_SCRIPT,
-    ..ArgRow::FLAG
 };
 
 /// The command whose words are those of `efibootmgr`: they aren't read by this table, which has it for the help alone.

@@ -3,9 +3,9 @@
 //! and 10).
 //!
 //! [`run`] does what the words of a command line ask for, and returns the status to end with. Where variables are is a
-//! place, which the library `var_places` reads and changes, with the messages and the statuses of what goes wrong. What is
-//! printed of variables and requests is in the library `boot_texts`; here are the words of the command line and what is
-//! done for each.
+//! place, which the library `var_places` reads and changes; the messages and the statuses of what goes wrong are in the
+//! library `messages`. What is printed of variables and requests is in the library `boot_texts`; here are the words of the
+//! command line and what is done for each.
 #![tactic(auto)]
 
 mod action;
@@ -18,6 +18,7 @@ mod refusals;
 mod table;
 mod undo_list;
 mod undoing;
+mod update_rows;
 mod updates;
 mod writing;
 

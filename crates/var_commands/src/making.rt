@@ -12,13 +12,12 @@ use boot_texts::{
 };
 use disk_files::{disk_path, loader_path};
 use hex::FromHexError;
+use messages::{Failure, Quoted, Reason, note, print};
 use place_checks::{LoaderNote, note_of_file, note_of_path};
 use std::alloc::{AllocError, Global};
 use std::rt::Files;
 use uefi_path::Path;
-use var_places::{
-    Failure, Quoted, Reason, check_output, lock, name_of, no_option, note, print, read, write,
-};
+use var_places::{check_output, lock, name_of, no_option, read, write};
 use whole_files::OutputFile;
 
 /// Makes a file with the load option of these words. Tells on standard error which paths had doubled backslashes.
@@ -76,7 +75,7 @@ fn below(alloc: Global, root: &str, file: &str) -> Result<String, AllocError> {
 /// # Errors
 ///
 /// [`Failure::Words`] if a word isn't what it is to be; [`Failure::Read`] and [`Failure::Refused`] if the file with the
-/// optional data can't be read or is too long, and those of [`loader_path`] and [`disk_path`]; [`Failure::Refused`] if
+/// optional data can't be read or is too long, and those of [`loader_path`] and [`disk_path`]; [`Failure::Loader`] if
 /// firmware doesn't start the file, and that isn't forced; and [`Failure::Memory`] if memory was refused.
 pub(crate) fn option_of_words<R: Files + Input + Eprint + AllocGlobal>(
     rt: &R,
@@ -149,7 +148,7 @@ fn path_of_loader<R: Files + Eprint + AllocGlobal>(
 ///
 /// # Errors
 ///
-/// [`Failure::Refused`] if firmware doesn't start it, and that isn't forced, and [`Failure::Memory`] if memory was refused.
+/// [`Failure::Loader`] if firmware doesn't start it, and that isn't forced, and [`Failure::Memory`] if memory was refused.
 fn look_at_loader<R: Files + Eprint + AllocGlobal>(
     rt: &R,
     words: &LoaderWords<'_>,
@@ -175,7 +174,7 @@ fn look_at_loader<R: Files + Eprint + AllocGlobal>(
             },
         ) if is_fault && !start.force => {
             let told = format_args!("{told}: --force adds the entry all the same");
-            return Err(Failure::from_fault(alloc, words.file, told));
+            return Err(Failure::from_loader(alloc, words.file, told));
         }
         Some(LoaderNote { words: told, .. }) => note(rt, words.file, told),
     }

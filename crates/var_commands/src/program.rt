@@ -2,7 +2,7 @@
 
 ghost use Rattle.std.specs.Prelude.{◌≡◌, MatchResult};
 ghost use Rattle.var_commands.specs.Ending.{ending_status};
-ghost use Rattle.var_places.specs.Failure.{status_of};
+ghost use Rattle.messages.specs.Failure.{status_of};
 
 use crate::action::{Action, Form};
 use crate::changing::change_entries;
@@ -15,6 +15,7 @@ use crate::writing::write_place;
 use boot_texts::{changes_text, timeout_json, timeout_report, vars_json, vars_report};
 use boot_updates::Ended;
 use clap::error::ErrorKind;
+use messages::{Failure, Reason, SHOWN_MAX, Shortened, print};
 use place_checks::{CheckWords, Verdict, check_place};
 use place_edits::{Takeable, get_entry};
 use std::alloc::{AllocError, Global};
@@ -22,8 +23,8 @@ use std::rt::{Clock, Env, Files};
 use std::{env, io};
 use uefi_vars::{Changes, KEEP_STATE, Vars, boot_changes, is_boot_name, write_set};
 use var_places::{
-    Failure, FileKind, Output, Reason, SHOWN_MAX, STANDARD, Shortened, check_output, file_kind,
-    has_keep_state, is_same_file, lock, name_of, print, read, read_place, write,
+    FileKind, Output, STANDARD, check_output, file_kind, has_keep_state, is_same_file, lock,
+    name_of, read, read_place, write,
 };
 use whole_files::OutputFile;
 
@@ -38,11 +39,13 @@ pub(crate) enum Ending {
     Wrong,
     /// It ran requests, and not all of them were applied and carried out; or it left out what firmware refuses.
     NotAll,
+    /// It was to run requests, and didn't, since something isn't as it was expected.
+    Unmet,
 }
 
 impl Ending {
     /// The status that the program ends with: 1 if two places differ or something is wrong with the first entry, 6 if not
-    /// all requests were applied and carried out, otherwise 0.
+    /// all requests were applied and carried out, 9 if none was run since something isn't as it was expected, otherwise 0.
     fn status(self) -> u8
         ensures { result ≡ ending_status self }
     {
@@ -50,13 +53,14 @@ impl Ending {
             Ending::Done => 0,
             Ending::Differs | Ending::Wrong => 1,
             Ending::NotAll => 6,
+            Ending::Unmet => 9,
         }
     }
 }
 
 /// Does what the words of the command line ask for, and returns the status to end with: 0, or 1 if two places were
 /// compared and differ or something is wrong with the first entry that was checked, 6 if requests were run and not all of
-/// them were applied and carried out; or, with a message on standard error, 1 if requests aren't run, 2 if the words are
+/// them were applied and carried out, 9 if none was run since something isn't as it was expected; or, with a message on standard error, 1 if requests aren't run, 2 if the words are
 /// wrong, 3 if a file or a variable can't be read or changed, 4 if memory was refused, 5 if an input is refused, 7 if
 /// another update is at work, and 8 if an update was neither made nor taken back; or 141, without a message, if nobody
 /// reads standard output any more. Words that begin with `efibootmgr` are that program's.
@@ -223,11 +227,16 @@ fn act<R: Files<File: OutputFile> + Clock + Input + Print + Eprint + AllocGlobal
             done(list_changes(rt, &machine, matches!(form, Form::Json)))
         }
         Action::Write(set) => write_place(rt, &set, words).map(ending_of),
-        Action::Update { machine, job } => {
+        Action::Update {
+            machine,
+            expected,
+            job,
+        } => {
             update_place(
                 rt,
                 &UpdateWords {
                     machine,
+                    expected,
                     job,
                     command: words,
                 },
@@ -269,6 +278,7 @@ fn update_place<R: Files<File: OutputFile> + Clock + Input + Print + Eprint + Al
     match update(rt, words) {
         Ok(Ended::AllDone) => Ok(Ending::Done),
         Ok(Ended::NotAll) => Ok(Ending::NotAll),
+        Ok(Ended::Unmet) => Ok(Ending::Unmet),
         Err(failure) => Err(failure),
     }
 }

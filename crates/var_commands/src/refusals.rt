@@ -4,10 +4,10 @@ use boot_journal::Journal;
 use boot_texts::{Refusal, refusal_json};
 use boot_updates::{NotMade, next_number};
 use machine_changes::{StoredJournal, journal_path, set_value, stored_with_notes};
+use messages::{Failure, print};
 use std::alloc::{AllocError, Global};
 use std::rt::Files;
 use uefi_vars::{KEEP_STATE, Vars};
-use var_places::{Failure, print};
 use wanted_changes::{MachineWords, digits_of};
 
 /// Prints why an update of the machine wasn't made, as JSON, unless it is that the words are wrong or that nobody reads. If

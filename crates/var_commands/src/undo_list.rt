@@ -3,9 +3,10 @@
 use boot_history::{KeptRecord, kept_numbers, kept_record, time_text};
 use boot_texts::json::{JsonObject, JsonWriter, Leaf, append_leaves, json_line};
 use machine_changes::{lock_folder, name_of_machine};
+use messages::{Failure, print, shown};
 use std::alloc::{AllocError, Global};
 use std::rt::Files;
-use var_places::{Failure, is_folder, print, shown};
+use var_places::is_folder;
 use wanted_changes::MachineWords;
 use whole_files::OutputFile;
 

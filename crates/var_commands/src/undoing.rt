@@ -1,9 +1,9 @@
 //! The command `undo`, which brings back what was there before the last change of a machine.
 
 use machine_changes::{ChangeOptions, PlaceKind, StateUse, change_machine, kind_of_place};
+use messages::Failure;
 use place_edits::{Takeable, UndoWords, WantedUndo};
 use std::rt::{Clock, Files};
-use var_places::Failure;
 use whole_files::OutputFile;
 
 /// Brings back what was there before the last change of a machine that is kept in the state folder, and prints the changes

@@ -8,8 +8,11 @@ use boot_updates::{
 use machine_changes::{
     ChangeOptions, PlaceKind, StateUse, ToldAnswer, change_machine, settle_machine,
 };
+use messages::{Failure, Quoted};
+use request_preconditions::{Precondition, PreconditionFault, read_precondition};
+use std::alloc::Global;
 use std::rt::{Clock, Files};
-use var_places::{Failure, is_folder};
+use var_places::is_folder;
 use wanted_changes::MachineWords;
 use whole_files::OutputFile;
 
@@ -18,6 +21,8 @@ use whole_files::OutputFile;
 pub(crate) struct UpdateWords<'a> {
     /// The machine.
     pub(crate) machine: MachineWords<'a>,
+    /// What is expected of it.
+    pub(crate) expected: &'a [&'a str],
     /// What is to be done.
     pub(crate) job: Job<'a>,
     /// The words of the command, by which a change is told later.
@@ -150,10 +155,32 @@ fn run_script<R: Files<File: OutputFile> + Clock + Input + Print + Eprint + Allo
     } else {
         PlaceKind::VariableFile
     };
+    let preconditions = preconditions_of(rt.alloc(), words.expected)?;
     let wanted = WantedRequests {
         place,
         script,
+        preconditions: &preconditions,
         printing,
     };
     change_machine(rt, &options, kind, &wanted)
+}
+
+/// What these words expect.
+///
+/// # Errors
+///
+/// [`Failure::Words`] if one of them is no precondition, and [`Failure::Memory`] if memory was refused.
+fn preconditions_of(alloc: Global, words: &[&str]) -> Result<Vec<Precondition>, Failure> {
+    let mut preconditions = Vec::with_capacity(alloc, words.len())?;
+    for word in words {
+        match read_precondition(alloc, word) {
+            Ok(precondition) => preconditions.push(precondition)?,
+            Err(PreconditionFault::OutOfMemory) => return Err(Failure::Memory),
+            Err(fault) => {
+                let word = Quoted(word);
+                return Err(Failure::from_word(alloc, format_args!("{word} is {fault}")));
+            }
+        }
+    }
+    Ok(preconditions)
 }

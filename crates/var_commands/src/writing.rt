@@ -2,12 +2,11 @@
 
 use crate::action::{Form, SetWords};
 use machine_changes::{ChangeOptions, PlaceKind, StateUse, change_machine, kind_of_place};
+use messages::{Failure, Reason};
 use place_edits::{Takeable, WantedSet};
 use std::rt::{Clock, Files};
 use uefi_vars::{Vars, entry_number};
-use var_places::{
-    Failure, FileKind, Reason, file_kind, is_folder, name_of, no_place, read_variables, set_vars,
-};
+use var_places::{FileKind, file_kind, is_folder, name_of, no_place, read_variables, set_vars};
 use whole_files::OutputFile;
 
 /// Makes the boot variables of a place those of a set, and prints each change, or how the two differ, for a dry run. Gives what

@@ -1,4 +1,3 @@
-pub mod Failure
 pub mod FileKind
 pub mod Folder
 pub mod Input

@@ -1,12 +1,11 @@
 //! Variables of files: of a set file, and of an emulator's variable file.
 
-use crate::failure::Failure;
 use crate::file_kinds::{FileKind, file_kind, other_kind};
 use crate::folder::LeftOut;
 use crate::input::STANDARD;
-use crate::notes::{DamageWords, Shortened, note};
 use crate::place_vars::PlaceVars;
-use crate::reason::Reason;
+use crate::reasons::{damage_words, set_reason, store_reason};
+use messages::{Failure, Reason, Shortened, note};
 use std::alloc::{AllocError, Global};
 use std::fs;
 use std::io::{self, ErrorKind};
@@ -50,7 +49,7 @@ pub fn no_place(alloc: Global, name: &str, bytes: &[u8]) -> Failure {
 ///
 /// [`Failure::Refused`] if it is damaged, and [`Failure::Memory`] if memory was refused.
 pub fn set_vars(alloc: Global, name: &str, bytes: &[u8]) -> Result<Vars, Failure> {
-    read_set(alloc, bytes).map_err(|fault| match Reason::from_set(bytes, fault) {
+    read_set(alloc, bytes).map_err(|fault| match set_reason(bytes, fault) {
         Some(reason) => Failure::refused(alloc, name, reason),
         None => Failure::Memory,
     })
@@ -103,7 +102,7 @@ pub fn variable_file<R: Eprint + AllocGlobal>(
     let alloc = rt.alloc();
     let store = store_of(alloc, name, bytes)?;
     if let Some(damage) = store.damage() {
-        note(rt, name, DamageWords(&damage));
+        note(rt, name, damage_words(damage));
     }
     let mut found = PlaceVars {
         vars: store_vars(alloc, &store)?,
@@ -157,7 +156,7 @@ pub fn check_damage(alloc: Global, name: &str, bytes: &[u8]) -> Result<(), Failu
         return Ok(());
     }
     match store_of(alloc, name, bytes)?.damage() {
-        Some(damage) => Err(Failure::refused(alloc, name, Reason::Damage(damage))),
+        Some(damage) => Err(Failure::refused(alloc, name, Reason::Damage(damage_words(damage)))),
         None => Ok(()),
     }
 }
@@ -169,7 +168,7 @@ fn store_of<'a>(alloc: Global, name: &str, bytes: &'a [u8]) -> Result<VariableSt
 
 /// What it is to the program that the variable file of this name, which has these bytes, has this fault.
 pub fn from_store(alloc: Global, name: &str, bytes: &[u8], fault: StoreFault) -> Failure {
-    match Reason::from_store(bytes, fault) {
+    match store_reason(bytes, fault) {
         Some(reason) => Failure::refused(alloc, name, reason),
         None => Failure::Memory,
     }

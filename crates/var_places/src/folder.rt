@@ -5,11 +5,9 @@ ghost use Rattle.std.specs.Prelude.{◌≡◌, None, IfSome, IfOk, take, drop};
 ghost use Rattle.std.specs.FinMap as map;
 ghost use Rattle.var_places.specs.Folder.{IsFileName};
 
-use crate::failure::Failure;
 use crate::mounts::is_on_efivarfs;
-use crate::notes::{Quoted, Shortened, note};
 use crate::place_vars::PlaceVars;
-use crate::reason::Reason;
+use messages::{Failure, Quoted, Reason, Shortened, note};
 use std::alloc::{AllocError, Global};
 use std::collections::BTreeMap;
 use std::fs;

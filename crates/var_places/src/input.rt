@@ -4,8 +4,7 @@ ghost use Rattle.std.specs.Prelude.{◌↔◌, IsTrue};
 ghost use Rattle.std.specs.Io.{StartsWith};
 ghost use Rattle.var_places.specs.Input.{IsGivenOpen};
 
-use crate::failure::Failure;
-use crate::reason::Reason;
+use messages::{Failure, Reason};
 use std::rt::Files;
 use whole_files::{LIMIT, RegularFile, read_file, read_input, read_regular};
 

@@ -6,11 +6,10 @@
 //! A folder is changed one variable at a time, by [`change_variable`] and [`set_variable`]. A file is replaced as a whole:
 //! [`changed_variable_file`] gives its bytes, [`check_damage`] refuses one that is damaged,
 //! [`lock()`] and [`lock_place`] lock it and [`write()`] replaces it; [`lock_place_folder`] locks a folder.
-//! [`machine_identity`] tells the machine of a place from others, and [`resolved()`] gives a path without links. What goes
-//! wrong is a [`Failure`], which has a message and the status of a program that ends with it.
+//! [`machine_identity`] tells the machine of a place from others. What goes wrong is a [`Failure`](messages::Failure), which
+//! has a message and the status of a program that ends with it.
 #![tactic(auto)]
 
-mod failure;
 mod file_kinds;
 mod file_place;
 mod folder;
@@ -18,14 +17,12 @@ mod folder_change;
 mod input;
 mod machine;
 mod mounts;
-mod notes;
 mod output;
 mod place;
 mod place_vars;
-mod reason;
+mod reasons;
 
-pub use failure::Failure;
-pub use file_kinds::{FileKind, NoOption, OtherKind, file_kind, no_option, other_kind};
+pub use file_kinds::{FileKind, file_kind, no_option, other_kind};
 pub use file_place::{
     changed_variable_file, check_damage, file_vars, from_store, has_keep_state, no_place, set_vars,
     variable_file,
@@ -34,12 +31,8 @@ pub use folder::{Folder, LeftOut, read_folder};
 pub use folder_change::{ChangeFault, KeptChange, change_variable, has_value, set_variable};
 pub use input::{STANDARD, name_of, read, read_variables};
 pub use machine::{MachineIdentity, PRODUCT_UUID, machine_identity, machine_name};
-pub use mounts::resolved;
-pub use notes::{Quoted, SHOWN_MAX, Shortened, note, shown};
 pub use output::{
-    Output, check_output, is_same_file, lock, lock_place, lock_place_file, lock_place_folder,
-    print, write,
+    Output, check_output, is_same_file, lock, lock_place, lock_place_file, lock_place_folder, write,
 };
 pub use place::{is_folder, read_place};
 pub use place_vars::PlaceVars;
-pub use reason::Reason;

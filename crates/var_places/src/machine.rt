@@ -5,15 +5,14 @@ ghost use Rattle.std.specs.Option.{option_map};
 ghost use Rattle.std.specs.String.{string_bytes};
 ghost use Rattle.var_places.specs.Machine.{IsBlankGuid, IsLowerDigit, IsShared, machine_text, shared};
 
-use crate::failure::Failure;
-use crate::mounts::{is_on_efivarfs, resolved};
-use crate::reason::Reason;
+use crate::mounts::is_on_efivarfs;
+use messages::{Failure, Reason};
 use std::alloc::{AllocError, Global};
 use std::io::{self, ErrorKind};
 use std::rt::Files;
 use uefi_path::Guid;
 use uefi_text::{GuidText, guid_text, read_guid};
-use whole_files::read_file;
+use whole_files::{read_file, resolved};
 
 /// The file in which Linux tells the UUID that the maker gave to the machine.
 pub const PRODUCT_UUID: &str = "/sys/class/dmi/id/product_uuid";

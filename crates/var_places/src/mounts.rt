@@ -4,9 +4,8 @@ use partitions::{Mount, MountFault, leading_mount, read_mount};
 use std::alloc::{AllocError, Global};
 use std::fs;
 use std::io::{self, ErrorKind};
-use std::path::PathBuf;
 use std::rt::Files;
-use whole_files::{LIMIT, read_file};
+use whole_files::{LIMIT, read_file, resolved};
 
 /// The file in which Linux tells what is mounted.
 const MOUNTS: &str = "/proc/self/mountinfo";
@@ -54,18 +53,4 @@ fn mounts_of(alloc: Global, text: &[u8]) -> Result<Vec<Mount>, AllocError> {
         }
     }
     Ok(mounts)
-}
-
-/// The path from the root on, without links: as it is given, if the system resolves none.
-///
-/// # Errors
-///
-/// The system's, if nothing is there, or a folder on the way may not be passed, and that memory was refused.
-pub fn resolved<R: Files + AllocGlobal>(rt: &R, path: &str) -> io::Result<PathBuf> {
-    match fs::canonicalize(rt, path) {
-        Err(error) if error.kind() == ErrorKind::Unsupported => {
-            Ok(PathBuf::from_str(rt.alloc(), path)?)
-        }
-        resolved => resolved,
-    }
 }

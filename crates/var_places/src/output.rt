@@ -1,7 +1,7 @@
 //! Files that are made.
 
-use crate::failure::Failure;
 use crate::input::STANDARD;
+use messages::{Failure, print};
 use std::fs::{self, File};
 use std::io;
 use std::os::unix::fs::MetadataExt;
@@ -139,15 +139,4 @@ pub fn write<R: Files<File: OutputFile> + Print + AllocGlobal>(
             error,
         )),
     }
-}
-
-/// Writes the bytes to standard output.
-///
-/// # Errors
-///
-/// [`Failure::Closed`] if nobody reads it any more, [`Failure::Write`] if it doesn't take them for another reason, and
-/// [`Failure::Memory`] if memory was refused.
-pub fn print<R: Print + AllocGlobal>(rt: &R, bytes: &[u8]) -> Result<(), Failure> {
-    rt.write_all(bytes)
-        .map_err(|error| Failure::from_print(rt.alloc(), error))
 }

@@ -1,9 +1,9 @@
 //! Places, which is where the variables of a machine are.
 
-use crate::failure::Failure;
 use crate::file_place::file_vars;
 use crate::folder::read_folder;
 use crate::input::{STANDARD, name_of, read_variables};
+use messages::Failure;
 use std::fs;
 use std::rt::Files;
 use uefi_vars::Vars;

@@ -59,6 +59,10 @@ found_after key found (r ∷ records) = found_after key (found_with key found r)
 abbrev pub found : List ℕ → List RecordParts → Option RecordParts
 found key records = found_after key None records
 
+-- the value of the variable of this vendor and this name that is there, if it is
+abbrev pub value_there : List ℕ → List ℕ → List RecordParts → Option (List ℕ)
+value_there vendor name records = option_map (λ r. r.value) (found (vendor ++ stored_name name) records)
+
 -- ---- the variables of the standard's names as a set
 
 -- whether a set can hold this value

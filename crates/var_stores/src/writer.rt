@@ -304,7 +304,7 @@ fn append_padding(bytes: &mut Vec<u8>, len: usize) -> Result<(), AllocError>
 }
 
 /// Appends the name as it is stored.
-fn append_name(bytes: &mut Vec<u8>, name: &str) -> Result<(), AllocError>
+pub(crate) fn append_name(bytes: &mut Vec<u8>, name: &str) -> Result<(), AllocError>
     ensures { OnOk result (bytes.new.items ≡ bytes.old.items ++ stored_name name.now) }
 {
     for byte in name.as_bytes() {

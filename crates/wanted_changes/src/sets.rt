@@ -1,9 +1,9 @@
 //! Sets, and what a machine keeps: the same with attributes.
 
 use boot_journal::{AttributesFault, without_attributes};
+use messages::Failure;
 use std::alloc::Global;
 use uefi_vars::Vars;
-use var_places::Failure;
 
 /// A change of a machine's variables, as sets, which have no attributes.
 #[derive(Clone, Copy)]

@@ -1,8 +1,8 @@
 //! What is told of a change, which is made before the change is: afterwards a refusal of memory would tell of a change that
 //! was made as if it weren't.
 
+use messages::{Failure, note, print};
 use std::alloc::{AllocError, Global};
-use var_places::{Failure, note, print};
 
 /// What is told of a change of a place.
 #[derive(Drop)]

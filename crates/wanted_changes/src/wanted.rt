@@ -9,9 +9,9 @@ use crate::kept_notes::KeptNotes;
 use crate::sets::SetChange;
 use crate::told::Told;
 use boot_journal::{CallError, MachineName};
+use messages::Failure;
 use std::alloc::Global;
 use uefi_vars::Vars;
-use var_places::Failure;
 
 /// What a run may know of a machine beside its variables.
 #[derive(Clone, Copy)]

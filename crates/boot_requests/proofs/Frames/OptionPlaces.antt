@@ -4,8 +4,9 @@ use Rattle.uefi_option.specs.declared.fault.OptionFault.{OptionFault}
 use Rattle.uefi_option.specs.Fault.{IsFirstFault as IsFirstOptionFault}
 use Rattle.boot_requests.specs.declared.fault.FrameFault.TheVariants as fault
 use Rattle.boot_requests.specs.declared.frame.Kind.{Kind}
-use Rattle.boot_requests.specs.Kind.{byte_of, layout_of, option_place, IsKind, Layout, EntryAndOption, Entry, Numbers, OptionAlone}
+use Rattle.boot_requests.specs.Kind.{version_of, byte_of, layout_of, option_place, IsKind, Layout, EntryAndOption, Entry, Numbers, OptionAlone}
 use Rattle.boot_requests.specs.FrameFault.{Raw, IsRaw, IsBadOption, HasBadOption, IsFirstFault}
+use Rattle.boot_requests.specs.FaultOffset.{IsFaultOffset}
 use Rattle.boot_requests.proofs.Frames.KindBytes.{one_kind}
 use Rattle.boot_requests.proofs.Frames.Raws.{same_raw, regroup, behind_magic}
 
@@ -47,3 +48,11 @@ module _ (bytes : List ℕ) (c : Raw) (is : IsRaw bytes c) (bad : OptionFault) w
 
   pub option_of_a_kind : ¬ IsKind c.version c.kind → IsFirstFault bytes (fault.Option bad) → ⊥
   option_of_a_kind none h = let of_kind = its_own h in none (of_kind.kind, of_kind.version_is, of_kind.is)
+
+  -- so that is its offset
+  pub offset_behind : (k : Kind) (offset : ℕ) → version_of k ≡ c.version → byte_of k ≡ c.kind → offset ≡ 12 + option_place (layout_of k) →
+      IsFirstFault bytes (fault.Option bad) → IsFaultOffset bytes (fault.Option bad) offset
+  offset_behind k offset of_version of_byte at h = (
+    record { raw = c; is = is; here = record { kind = k; version_is = of_version; is = of_byte; here = at } },
+    subst (λ (n : ℕ). IsFirstOptionFault (drop n bytes) bad) (sym at) (option_behind k of_byte h),
+  )

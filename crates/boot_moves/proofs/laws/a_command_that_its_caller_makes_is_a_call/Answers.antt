@@ -1,7 +1,7 @@
 -- What the exchanges left is what a cut leaves in the command, and what the last one says is so of where they began.
 use Rattle.std.proofs.Common.{refl, sym, subst, List}
-use Rattle.boot_journal.specs.declared.requests.Requests.{Requests}
-use Rattle.boot_journal.specs.Calls.{CallLeads, Runs}
+use Rattle.journaled_requests.specs.declared.requests.Requests.{Requests}
+use Rattle.journaled_requests.specs.Calls.{CallLeads, Runs}
 use Rattle.boot_journal.specs.Events.{world}
 use Rattle.boot_moves.specs.Deeds.{Deed, after_all}
 use Rattle.boot_moves.specs.Ending.{Ends}

@@ -10,7 +10,7 @@ loop-event-preserved c =
     let loop = c.loop-event in
     lines_more c.args.keeper loop.now c.next_reply.new.keeper c.args.events.now c.event-item.result loop.event-index (string_bytes loop.lines)
     (string_bytes c.append_reply_line.new.lines)
-    c.in_ok-reply.reply loop.invariant c.loop-event-test.true c.event-item.is c.in_ok-reply.ensures.turn c.in_ok-append_reply_line.ensures
+    c.in_ok-reply.reply loop.invariant c.loop-event-test.true c.event-item.is c.in_ok-reply.ensures.turn c.in_ok-append_reply_line.ensures.line
 
 pub returns-clause-answered : goal.returns-clause-answered
 returns-clause-answered c =

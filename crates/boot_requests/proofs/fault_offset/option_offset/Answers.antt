@@ -1,7 +1,6 @@
-use Rattle.std.proofs.Common.{ℕ, ◌+◌, drop, sym, subst}
-use Rattle.uefi_option.specs.Fault.{IsFirstFault as IsFirstOptionFault}
+use Rattle.std.proofs.Common.{ℕ, ◌+◌, ap}
 use Rattle.boot_requests.specs.Reader.{raw_of}
-use Rattle.boot_requests.proofs.Frames.OptionPlaces.{option_behind, option_of_a_kind}
+use Rattle.boot_requests.proofs.Frames.OptionPlaces.{offset_behind, option_of_a_kind}
 use Rattle.boot_requests.proofs.fault_offset.option_offset.Goals as goal
 
 pub returns-in_default-from_bytes : goal.returns-in_default-from_bytes
@@ -13,6 +12,6 @@ returns-in_default-from_bytes c = λ fault first.
 pub returns : goal.returns
 returns c = λ fault first.
     let raw = c.in-Some.raw in
-    subst (λ (n : ℕ). IsFirstOptionFault (drop (12 + n) c.args.bytes.now) fault) (sym c.option_place.ensures)
-    (option_behind c.args.bytes.now (raw_of raw.magic raw.version raw.kind raw.number raw.len raw.payload.now) c.in-Some.ensures.found fault
-    c.in-Some-from_bytes.kind c.in-Some-from_bytes.ensures.found.1 first)
+    let found = c.in-Some-from_bytes.ensures.found in
+    offset_behind c.args.bytes.now (raw_of raw.magic raw.version raw.kind raw.number raw.len raw.payload.now) c.in-Some.ensures.found fault
+    c.in-Some-from_bytes.kind (12 + c.option_place.result) found.0 found.1 (ap (λ (n : ℕ). 12 + n) c.option_place.ensures) first

@@ -1,9 +1,17 @@
-use Rattle.uefi_vars.specs.Vars.{entry_of}
-use Rattle.uefi_vars.specs.NormalEntry.{IsNormalIfAny}
-use Rattle.uefi_vars.proofs.Chosen.{still_tell}
+use Rattle.std.proofs.Common.{◌+◌, Ok, Err, OnOk, sym, ap}
+use Rattle.std.specs.Prelude.{is_some}
+use Rattle.uefi_vars.specs.ByNumber.{HasMet}
+use Rattle.uefi_vars.proofs.Repeats.{met_again, comes_first}
 use Rattle.uefi_vars.proofs.normal_entry.read_once.Goals as goal
 
-pub returns-clause-known : goal.returns-clause-known
-returns-clause-known c =
-    still_tell (IsNormalIfAny (entry_of c.args.vars.now)) c.args.known.now c.keep.new.self c.args.number c.in_ok-choice.choice
-    c.requires c.in_ok-choice.ensures c.keep.ensures
+pub returns-in-Some-clause-met : goal.returns-in-Some-clause-met
+returns-in-Some-clause-met c =
+    let value = rw c.in-Some.is at c.get.ensures in
+    let met =
+    met_again c.args.order.now c.args.place c.args.known.now c.requires.within c.requires.met (sym (ap is_some value)) in
+    elim c.copy_if_any.result as (λ r. OnOk r (HasMet c.args.order.now (c.args.place + 1) c.args.known.now)) [ Ok copy ↦ met | Err e ↦ tt ]
+
+pub read_first-requires-clause-first : goal.read_first-requires-clause-first
+read_first-requires-clause-first c =
+    let none = rw c.in_default.is at c.get.ensures in
+    comes_first c.args.order.now c.args.place c.args.known.now c.requires.within c.requires.met (sym none)

@@ -1,12 +1,13 @@
 use Rattle.std.proofs.Common.{take}
 use Rattle.uefi_vars.specs.Vars.{entry_of}
 use Rattle.uefi_vars.specs.Plan.{AreNormalChoices}
-use Rattle.uefi_vars.specs.ByNumber.{EachTells}
+use Rattle.uefi_vars.specs.ByNumber.{EachTells, HasMet}
 use Rattle.uefi_vars.specs.NormalEntry.{IsNormalIfAny}
 use Rattle.uefi_vars.proofs.planner.read_normal_choices.Given as goal
 
-abbrev pub invariant-loop-number : goal.invariant-loop-number
-invariant-loop-number l = record {
-  known : EachTells (IsNormalIfAny (entry_of l.vars)) l.known;
-  chosen : AreNormalChoices (entry_of l.vars) (take l.number-index l.order) l.choices.items;
+abbrev pub invariant-loop-place : goal.invariant-loop-place
+invariant-loop-place l = record {
+  tells : EachTells (IsNormalIfAny (entry_of l.vars)) l.known;
+  met : HasMet l.order l.place l.known;
+  chosen : AreNormalChoices (entry_of l.vars) (take l.place l.order) l.choices.items;
 }

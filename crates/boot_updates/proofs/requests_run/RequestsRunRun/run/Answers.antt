@@ -1,9 +1,9 @@
 use Rattle.std.proofs.Common.{sym, subst}
 use Rattle.boot_journal.specs.declared.machine.CallError.{CallError}
-use Rattle.boot_journal.specs.declared.requests.RunFault.{RunFault}
+use Rattle.journaled_requests.specs.declared.requests.RunFault.{RunFault}
 use Rattle.boot_journal.specs.Cause.{IfRefused}
-use Rattle.boot_journal.specs.RunFault.{IsRunFault}
-use Rattle.boot_journal.proofs.Running.{err_then}
+use Rattle.journaled_requests.specs.RunFault.{IsRunFault}
+use Rattle.journaled_requests.proofs.Running.{err_then}
 use Rattle.boot_updates.proofs.OpenRefusals.{refused_so}
 use Rattle.boot_updates.proofs.requests_run.RequestsRunRun.run.Goals as goal
 

@@ -2,7 +2,7 @@
 use Rattle.std.proofs.Common.{List, subst}
 use Rattle.std.specs.Prelude.{IfOk}
 use Rattle.boot_requests.specs.declared.event.Event.{Event}
-use Rattle.boot_journal.specs.Requests.{IsAnswered}
+use Rattle.journaled_requests.specs.Requests.{IsAnswered}
 use Rattle.boot_updates.specs.NextNumber.{IsNextOf}
 use Rattle.boot_updates.specs.Told.{AreToldBy}
 use Rattle.boot_updates.proofs.wanted.WantedRequestsWanted.run.Goals as goal

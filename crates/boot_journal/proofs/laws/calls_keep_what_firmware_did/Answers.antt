@@ -1,6 +1,0 @@
--- By induction over the calls, for a name that no change is of.
-use Rattle.boot_journal.proofs.OwnCalls.{owned_calls}
-use Rattle.boot_journal.proofs.laws.calls_keep_what_firmware_did.Goals as goal
-
-pub returns : goal.returns
-returns c = owned_calls

@@ -1,0 +1,11 @@
+pub mod AppliedTurns
+pub mod KeptAttributes
+pub mod Restarts
+pub mod Once
+pub mod Running
+pub mod Calls
+pub mod OwnCalls
+pub mod Counted
+pub mod Follow
+pub mod Lists
+pub mod Noted
