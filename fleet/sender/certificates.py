@@ -241,9 +241,16 @@ def revoke(folder: Path, name: str) -> None:
     """Takes the rights of a machine or a sender away: no broker that reads `crl.pem` and `acl` anew lets it in."""
     if name == BROKER or not (folder / name / "own.pem").is_file():
         raise CertificateError(f"{name}: no machine and no sender has a certificate by this name")
+    make_authority(folder)  # Of an earlier version it has no list of what is revoked.
     if is_sender(folder, name):
         _take_from_acl(folder / "acl", name)
     _revoke(folder, name)
+
+
+def reads_revoked(folder: Path) -> bool:
+    """Whether the broker's configuration names the list of revoked certificates."""
+    lines = (folder / "mosquitto.conf").read_text(encoding="utf-8").splitlines()
+    return any(line.split()[:1] == ["crlfile"] for line in lines)
 
 
 def _take_from_acl(acl: Path, name: str) -> None:

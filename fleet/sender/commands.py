@@ -240,6 +240,8 @@ def do_revoke(options: argparse.Namespace) -> int:
         certificates.check_name(name)
         certificates.revoke(_certs(ledger), name)
         print(f"{name}: it has no rights any more")
+    if not certificates.reads_revoked(_certs(ledger)):
+        print(f"name {_certs(ledger) / 'crl.pem'} in the broker's configuration: crlfile")
     print(
         "let the broker read its files anew (SIGHUP), or start it anew: who is connected stays so"
     )

@@ -108,6 +108,18 @@ def test_what_one_user_may_do_is_taken_out_alone(fleet: Path) -> None:
     assert acl.read_text().count("topic write bootkeep/+/request") == 2
 
 
+def test_what_an_earlier_version_made_is_revoked_too(fleet: Path) -> None:
+    certs = fleet / "certs"
+    configuration = (certs / "mosquitto.conf").read_text()
+    (certs / "mosquitto.conf").write_text(re.sub("crlfile.*\n", "", configuration))
+    (certs / "crl.pem").unlink()
+    (certs / ".old/revoked").unlink()
+    (certs / ".old").rmdir()
+    certificate = saved(fleet, "m1")
+    assert f"name {certs}/crl.pem in the broker's configuration" in call(fleet, "revoke", "m1")
+    assert is_revoked(fleet, certificate)
+
+
 @pytest.mark.parametrize("name", ["m9", "broker", "ca.pem", "../certs/m1", ".old"])
 def test_who_has_no_rights_is_not_revoked(fleet: Path, name: str) -> None:
     told = call(fleet, "revoke", name, code=3)
