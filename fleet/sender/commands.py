@@ -21,8 +21,9 @@ from .certificates import CertificateError
 from .courier import MqttCourier, split_broker
 from .entries import Wanted
 from .goals import Goal
-from .ledger import Doubt, Ledger, LedgerError
+from .ledger import Doubt, Ledger
 from .run import Sender
+from .store import LedgerError
 
 LEDGER = "/var/lib/bootfleet/ledger"
 

@@ -37,74 +37,13 @@ Each write is in a transaction of SQLite, which is on the disk (`synchronous=FUL
 from __future__ import annotations
 
 import json
-import os
 import secrets
-import sqlite3
-import tempfile
 import time
-from contextlib import contextmanager
-from pathlib import Path
-from typing import Any, Dict, Iterable, Iterator, List, NamedTuple, Optional, Sequence, Tuple
+from typing import Any, Dict, Iterable, List, NamedTuple, Optional
 
 from .goals import Asked, Goal, Past
-from .messages import Stored
+from .requests import IS_OPEN, Machine, Requests
 from .waves import Waves, draw
-
-SCHEMA = """
-CREATE TABLE setting(name TEXT PRIMARY KEY, value TEXT NOT NULL) WITHOUT ROWID;
-CREATE TABLE machine(
-    name TEXT PRIMARY KEY,
-    era INTEGER NOT NULL DEFAULT 0,
-    next INTEGER NOT NULL DEFAULT 0,    -- the next number: what became of those below it is known
-    journal TEXT,                       -- the identity of its journal, once it told one
-    entries INTEGER NOT NULL DEFAULT 0, -- how many entries it had when it was looked at last
-    unmet INTEGER NOT NULL DEFAULT 0,   -- how often in a row it wasn't as a message expects, and had applied nothing
-    seen REAL,                          -- when it was heard of last
-    note TEXT,                          -- why it refused what is sent again, if it did last
-    trouble TEXT,
-    told TEXT,                          -- what it said of itself when the trouble began
-    holder TEXT,
-    until REAL NOT NULL DEFAULT 0,      -- when the lease ends
-    due REAL NOT NULL DEFAULT 0,        -- it is silent: no sender takes it up before
-    wave INTEGER                        -- in which wave it is, if there are any
-) WITHOUT ROWID;
-CREATE TABLE job(id INTEGER PRIMARY KEY, goal TEXT NOT NULL, made REAL NOT NULL);
-CREATE TABLE goal(
-    machine TEXT NOT NULL REFERENCES machine ON DELETE CASCADE,
-    job INTEGER NOT NULL REFERENCES job,
-    state TEXT NOT NULL DEFAULT 'open' CHECK (state IN ('open', 'reached', 'failed', 'cancelled')),
-    since INTEGER NOT NULL DEFAULT 0,   -- requests before this number aren't of this attempt
-    entry INTEGER,                      -- where its entry is
-    note TEXT,                          -- why it has failed
-    ended REAL,
-    PRIMARY KEY(machine, job)
-) WITHOUT ROWID;
-CREATE TABLE request(
-    machine TEXT NOT NULL REFERENCES machine ON DELETE CASCADE,
-    era INTEGER NOT NULL,
-    number INTEGER NOT NULL,
-    attempt INTEGER NOT NULL,
-    job INTEGER NOT NULL REFERENCES job,
-    part INTEGER NOT NULL,              -- which one of a `send` it is
-    kind INTEGER NOT NULL,
-    entry INTEGER,                      -- what it is about
-    frame BLOB NOT NULL,
-    state TEXT NOT NULL DEFAULT 'sent'
-        CHECK (state IN ('sent', 'late', 'done', 'refused', 'passed', 'dropped')),
-    outcome TEXT,
-    stored INTEGER,                     -- the entry under which it stored an option
-    PRIMARY KEY(machine, era, number, attempt)
-) WITHOUT ROWID;
-CREATE INDEX goal_open ON goal(machine) WHERE state = 'open';
-CREATE INDEX goal_job ON goal(job, state);
-CREATE INDEX request_sent ON request(machine) WHERE state = 'sent';
-CREATE INDEX request_job ON request(machine, job);
-CREATE INDEX machine_holder ON machine(holder) WHERE holder IS NOT NULL;
-CREATE INDEX machine_wave ON machine(wave) WHERE wave IS NOT NULL;
-CREATE INDEX machine_trouble ON machine(name) WHERE trouble IS NOT NULL;
-"""
-
-VERSION = 2
 
 HAS_WORK = """trouble IS NULL AND name IN
     (SELECT machine FROM goal WHERE state = 'open' UNION SELECT machine FROM request WHERE state = 'sent')"""
@@ -112,28 +51,8 @@ HAS_WORK = """trouble IS NULL AND name IN
 HAS_BEGUN = "(wave IS NULL OR wave <= ?)"
 """Which machines are in no wave that comes later than this one."""
 
-IS_OPEN = "state IN ('sent', 'late')"
-"""Of which requests nobody knows what became of them."""
-
 LONGEST_LEFT = 60.0
 """For how many seconds at most a silent machine is left."""
-
-MOST_FRAMES = 64
-"""How many requests a machine keeps the outcomes of, and so how many may be under way at once."""
-
-
-class LedgerError(Exception):
-    """Why nothing can be done with the ledger."""
-
-
-class Machine(NamedTuple):
-    """What the ledger has of a machine that matters for the next step."""
-
-    name: str
-    era: int
-    next: int
-    journal: Optional[str]
-    entries: int
 
 
 class OpenGoal(NamedTuple):
@@ -155,70 +74,8 @@ class Doubt(NamedTuple):
     unanswered: int
 
 
-class Ledger:
+class Ledger(Requests):
     """An open ledger. Its calls that write are to be made in a `transaction`."""
-
-    def __init__(self, path: Path) -> None:
-        if not path.is_file():
-            raise LedgerError(f"{path}: there is no ledger; `bootfleet init` makes one")
-        self.path = path
-        self.db = sqlite3.connect(str(path), isolation_level=None, timeout=60)
-        try:
-            self.db.execute("PRAGMA journal_mode=WAL")
-            self.db.execute("PRAGMA synchronous=FULL")
-            self.db.execute("PRAGMA foreign_keys=ON")
-            version = self.setting("version")
-        except sqlite3.DatabaseError as error:
-            raise LedgerError(f"{path}: it is no ledger: {error}") from error
-        if version != str(VERSION):
-            raise LedgerError(f"{path}: its version is {version}, and {VERSION} is known")
-
-    @classmethod
-    def make(cls, path: Path, settings: Dict[str, str]) -> Ledger:
-        """A new ledger with these settings."""
-        try:
-            path.touch(0o600, exist_ok=False)
-        except FileExistsError:
-            raise LedgerError(f"{path}: it is there already") from None
-        db = sqlite3.connect(str(path))
-        with db:
-            db.executescript(SCHEMA)
-            held = {"version": str(VERSION), **settings}
-            db.executemany("INSERT INTO setting VALUES(?, ?)", held.items())
-        db.close()
-        return cls(path)
-
-    @contextmanager
-    def transaction(self) -> Iterator[None]:
-        """What is done in it is done as a whole, and on the disk afterwards, or not at all."""
-        self.db.execute("BEGIN IMMEDIATE")
-        try:
-            yield
-        except BaseException:
-            self.db.execute("ROLLBACK")
-            raise
-        self.db.execute("COMMIT")
-
-    @contextmanager
-    def savepoint(self) -> Iterator[None]:
-        """A part of a transaction, of which nothing is done if it fails."""
-        self.db.execute("SAVEPOINT part")
-        try:
-            yield
-        except BaseException:
-            self.db.execute("ROLLBACK TO part")
-            raise
-        finally:
-            self.db.execute("RELEASE part")
-
-    def one(self, query: str, *values: object) -> Any:
-        """The first row that a query finds, or none."""
-        return self.db.execute(query, values).fetchone()
-
-    def setting(self, name: str) -> Optional[str]:
-        """A setting of the ledger."""
-        found = self.one("SELECT value FROM setting WHERE name = ?", name)
-        return None if found is None else str(found[0])
 
     # Machines and jobs
 
@@ -249,37 +106,7 @@ class Ledger:
             )
         return job
 
-    # What is under way
-
-    def unanswered(self, machine: Machine, number: int) -> List[Stored]:
-        """The requests of the attempt that was stored last of those that have this number, and of which nobody knows what
-        became of them."""
-        found = self.one(
-            f"SELECT MAX(attempt) FROM request WHERE machine = ? AND era = ? AND number = ? AND {IS_OPEN}",
-            machine.name,
-            machine.era,
-            number,
-        )
-        rows = self.db.execute(
-            "SELECT number, attempt, frame FROM request"
-            f" WHERE machine = ? AND era = ? AND number >= ? AND attempt = ? AND {IS_OPEN} ORDER BY number",
-            (machine.name, machine.era, machine.next, found[0]),
-        )
-        return [Stored(*row) for row in rows]
-
-    def count_unanswered(self, name: str) -> int:
-        """Of how many requests of a machine nobody knows what became of them."""
-        count = self.one(f"SELECT COUNT(*) FROM request WHERE machine = ? AND {IS_OPEN}", name)[0]
-        return int(count)
-
-    def is_asked(self, name: str) -> bool:
-        """Whether a machine has been sent a request that isn't answered."""
-        return (
-            self.one("SELECT 1 FROM request WHERE machine = ? AND state = 'sent'", name) is not None
-        )
-
-    def has_open_goal(self, name: str) -> bool:
-        return self.one("SELECT 1 FROM goal WHERE machine = ? AND state = 'open'", name) is not None
+    # Goals
 
     def open_goal(self, machine: Machine) -> Optional[OpenGoal]:
         """The goal that a machine's next request is for."""
@@ -291,149 +118,7 @@ class Ledger:
         if found is None:
             return None
         job, goal, since = found[0], Goal.from_json(found[1]), found[2]
-        return OpenGoal(job, goal, self._past(machine, job, goal, since))
-
-    def _past(self, machine: Machine, job: int, goal: Goal, since: int) -> Past:
-        """The answered requests of this attempt at a goal, and those before it that count for good."""
-        past = []
-        for era, number, *row in self.db.execute(
-            "SELECT era, number, kind, entry, outcome, stored, part FROM request"
-            " WHERE machine = ? AND job = ? AND outcome IS NOT NULL ORDER BY era, number",
-            (machine.name, job),
-        ):
-            asked = Asked(*row)
-            if goal.is_for_good(asked) or (era == machine.era and number >= since):
-                past.append(asked)
-        return Past(tuple(past))
-
-    def add_requests(
-        self, machine: Machine, job: int, requests: Sequence[Tuple[Asked, bytes]]
-    ) -> List[Stored]:
-        """Stores requests from the machine's next number on, which their frames have: one attempt, and the one that is
-        asked of the machine now. If they have been stored before, and nobody knows what became of them, it is that one.
-        """
-        attempts = self._attempts(machine)
-        held = [(job, frame) for _, frame in requests]
-        attempt = next((number for number in attempts if attempts[number] == held), None)
-        self.withdraw(machine)
-        if attempt is None:
-            attempt = max(attempts, default=-1) + 1
-            self._insert_requests(machine, job, attempt, requests)
-        else:
-            self.db.execute(
-                "UPDATE request SET state = 'sent' WHERE machine = ? AND era = ? AND number >= ? AND attempt = ?",
-                (machine.name, machine.era, machine.next, attempt),
-            )
-        numbers = range(machine.next, machine.next + len(requests))
-        return [Stored(number, attempt, frame) for number, (_, frame) in zip(numbers, requests)]
-
-    def _insert_requests(
-        self, machine: Machine, job: int, attempt: int, requests: Sequence[Tuple[Asked, bytes]]
-    ) -> None:
-        self.db.executemany(
-            "INSERT INTO request(machine, era, number, attempt, job, part, kind, entry, frame)"
-            " VALUES(?, ?, ?, ?, ?, ?, ?, ?, ?)",
-            [
-                (
-                    machine.name,
-                    machine.era,
-                    machine.next + at,
-                    attempt,
-                    job,
-                    asked.part,
-                    asked.kind,
-                    asked.entry,
-                    frame,
-                )
-                for at, (asked, frame) in enumerate(requests)
-            ],
-        )
-
-    def _attempts(self, machine: Machine) -> Dict[int, List[Tuple[int, bytes]]]:
-        """What was stored from the machine's next number on: the job and the frame of each, by its attempt."""
-        attempts: Dict[int, List[Tuple[int, bytes]]] = {}
-        for attempt, job, frame in self.db.execute(
-            "SELECT attempt, job, frame FROM request WHERE machine = ? AND era = ? AND number >= ?"
-            " ORDER BY attempt, number",
-            (machine.name, machine.era, machine.next),
-        ):
-            attempts.setdefault(attempt, []).append((job, frame))
-        return attempts
-
-    def count_unmet(self, machine: Machine) -> int:
-        """Counts that a machine wasn't as a message expects. How often that was so since its next number moved on."""
-        self.db.execute("UPDATE machine SET unmet = unmet + 1 WHERE name = ?", (machine.name,))
-        return int(self.one("SELECT unmet FROM machine WHERE name = ?", machine.name)[0])
-
-    def withdraw(self, machine: Machine) -> None:
-        """A machine isn't asked any more what it was asked last, though a message may still be under way."""
-        self.db.execute(
-            "UPDATE request SET state = 'late' WHERE machine = ? AND state = 'sent'",
-            (machine.name,),
-        )
-
-    def is_known(self, machine: Machine, number: int) -> bool:
-        """Whether it is known what became of the request that the machine applied under a number."""
-        return (
-            self.one(
-                "SELECT 1 FROM request WHERE machine = ? AND era = ? AND number = ? AND outcome IS NOT NULL",
-                machine.name,
-                machine.era,
-                number,
-            )
-            is not None
-        )
-
-    def has_request(self, machine: Machine, number: int) -> bool:
-        """Whether some request was stored under a number."""
-        return (
-            self.one(
-                "SELECT 1 FROM request WHERE machine = ? AND era = ? AND number = ?",
-                machine.name,
-                machine.era,
-                number,
-            )
-            is not None
-        )
-
-    def answer_request(
-        self, machine: Machine, request: Stored, outcome: str, stored: Optional[int]
-    ) -> None:
-        """A request was applied, with this outcome."""
-        self.db.execute(
-            "UPDATE request SET state = ?, outcome = ?, stored = ?"
-            " WHERE machine = ? AND era = ? AND number = ? AND attempt = ?",
-            (
-                "done" if outcome == "Done" else "refused",
-                outcome,
-                stored,
-                machine.name,
-                machine.era,
-                request.number,
-                request.attempt,
-            ),
-        )
-
-    def pass_request(self, machine: Machine, request: Stored) -> None:
-        """A request isn't the one that was applied under its number."""
-        self.db.execute(
-            "UPDATE request SET state = 'passed' WHERE machine = ? AND era = ? AND number = ? AND attempt = ?",
-            (machine.name, machine.era, request.number, request.attempt),
-        )
-
-    def move_on(self, machine: Machine, following: int) -> Machine:
-        """A machine has another next number, and it is known what became of those before: each attempt that wasn't
-        applied began with an earlier number, and never will be."""
-        if following == machine.next:
-            return machine
-        self.db.execute(
-            f"UPDATE request SET state = 'passed' WHERE machine = ? AND era = ? AND {IS_OPEN}",
-            (machine.name, machine.era),
-        )
-        self.db.execute(
-            "UPDATE machine SET next = ?, unmet = 0 WHERE name = ?", (following, machine.name)
-        )
-        return machine._replace(next=following)
+        return OpenGoal(job, goal, self.past(machine, job, goal, since))
 
     def end_goal(
         self, name: str, job: int, state: str, entry: Optional[int], note: Optional[str]
@@ -442,6 +127,8 @@ class Ledger:
             "UPDATE goal SET state = ?, entry = ?, note = ?, ended = ? WHERE machine = ? AND job = ?",
             (state, entry, note, time.time(), name, job),
         )
+
+    # How machines are
 
     def heard(self, name: str, now: float) -> None:
         """A machine was heard of, so it isn't silent."""
@@ -521,13 +208,10 @@ class Ledger:
         """Has machines gone after in these waves from now on, or all at once."""
         self.db.execute("DELETE FROM setting WHERE name = 'waves'")
         if waves is not None:
-            self._set("waves", waves.to_json())
+            self.set_setting("waves", waves.to_json())
             if self.setting("seed") is None:
-                self._set("seed", secrets.token_hex(8))
+                self.set_setting("seed", secrets.token_hex(8))
         self.draw_waves()
-
-    def _set(self, name: str, value: str) -> None:
-        self.db.execute("INSERT OR REPLACE INTO setting VALUES(?, ?)", (name, value))
 
     def waves(self) -> Optional[Waves]:
         held = self.setting("waves")
@@ -637,23 +321,6 @@ class Ledger:
     def say_done(self, name: str, job: int) -> None:
         """Somebody says that a goal was reached."""
         self.end_goal(name, job, "reached", None, "somebody said so")
-
-    def back_up(self, path: Path) -> None:
-        """Copies the ledger as it is at one moment to a file of its own, which replaces what is there as a whole."""
-        descriptor, made = tempfile.mkstemp(dir=path.parent, prefix=".bootfleet-")
-        try:
-            copy = sqlite3.connect(made)
-            self.db.backup(copy)
-            # Of one file: the ledger's own has a second one beside it, with what was stored last.
-            copy.execute("PRAGMA journal_mode=DELETE")
-            copy.close()
-            os.fsync(descriptor)
-            os.replace(made, path)
-        except BaseException:
-            os.unlink(made)
-            raise
-        finally:
-            os.close(descriptor)
 
     def cancel(self, job: int, names: Optional[List[str]]) -> int:
         """Gives up the goals of a job that aren't reached, of these machines or of all. How many there were."""

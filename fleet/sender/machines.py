@@ -17,8 +17,9 @@ import bootkeep
 from . import messages
 from .answers import Answer, Reply, plain
 from .goals import Ask, Asked, Failed, Goal, Reached, Send, request_words, step
-from .ledger import MOST_FRAMES, Ledger, Machine
+from .ledger import Ledger
 from .messages import Message, Stored, renumbered
+from .requests import MOST_FRAMES, Machine
 
 MOST_NUMBERS = (1 << 32) - 1
 """How many numbers requests can have."""

@@ -11,7 +11,9 @@ from bootkeep import Request
 from conftest import goal
 
 from sender.goals import Asked
-from sender.ledger import Ledger, LedgerError, Machine
+from sender.ledger import Ledger
+from sender.requests import Machine
+from sender.store import LedgerError
 
 TOLD = {"journal": "other", "next": 7, "entries": [["0000", "a"]], "order": [], "bootnext": None}
 
