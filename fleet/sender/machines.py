@@ -15,7 +15,7 @@ from typing import Any, Dict, List, NamedTuple, Optional, Tuple, Union
 import bootkeep
 
 from . import messages
-from .answers import Answer, Reply, plain
+from .answers import Answer, Reply, Unmet, plain
 from .goals import Ask, Asked, Failed, Goal, Reached, Send, request_words, step
 from .ledger import Ledger
 from .messages import Message, Stored, renumbered
@@ -59,15 +59,14 @@ def _next_message(
     if answer.unmet is None:
         _take_replies(ledger, machine, answer, asked)
     else:
-        _check_unmet(answer, asked)
+        _check_unmet(answer, answer.unmet, asked)
+        if ledger.count_unmet(machine) >= MOST_UNMET:
+            told = f"{answer.unmet.found}, and not {answer.unmet.expected}"
+            raise Trouble(f"it changes each time: {told}")
     unknown = _unknown(ledger, machine, answer)
     if unknown:
         return messages.question(answer, unknown)
     machine = ledger.move_on(machine, answer.next)
-    if answer.unmet is not None and ledger.count_unmet(machine) >= MOST_UNMET:
-        raise Trouble(
-            f"it changes each time: {answer.unmet.found}, and not {answer.unmet.expected}"
-        )
     _compare_entries(machine, answer)
     ledger.looked_at(machine, answer.journal, len(answer.shown.entries))
     return _go_on(ledger, machine, answer)
@@ -86,10 +85,9 @@ def _compare_entries(machine: Machine, answer: Answer) -> None:
         raise Trouble(f"it has no entry any more, and had {machine.entries}")
 
 
-def _check_unmet(answer: Answer, asked: Message) -> None:
+def _check_unmet(answer: Answer, unmet: Unmet, asked: Message) -> None:
     """Raises Trouble for a machine that contradicts itself: it would be asked the same for ever."""
-    unmet = answer.unmet
-    if unmet is None or unmet.expected not in asked.words:
+    if unmet.expected not in asked.words:
         raise Trouble("it says of something else than it was asked that it isn't so")
     if messages.found(unmet.expected, answer) == unmet.expected:
         raise Trouble(f"it says that {unmet.expected} isn't so, and shows that it is")

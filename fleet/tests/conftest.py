@@ -177,7 +177,7 @@ def add(ledger: Ledger, *goals: Goal, to: Sequence[str] = ("m1",)) -> None:
 
 
 def run(sender: Sender) -> bool:
-    return sender.run(True, 60, lambda: False)
+    return sender.run(True, 600, lambda: False)
 
 
 def frames(sender: Sender) -> List[bytes]:

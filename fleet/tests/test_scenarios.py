@@ -4,6 +4,7 @@ come late, and what is to be done once."""
 from __future__ import annotations
 
 import json
+import re
 from pathlib import Path
 from typing import Any, Callable, Dict, List, Optional, Tuple
 
@@ -238,6 +239,25 @@ def test_a_machine_that_says_unmet_of_what_is_so_is_told(pair: Sender) -> None:
     add(pair.ledger, goal("first", "new"), to=["m1", "m2"])
     assert run(pair)
     assert pair.ledger.trouble("m1") == "it says that next=0 isn't so, and shows that it is"
+
+
+def test_a_machine_whose_number_goes_up_and_down_is_told(pair: Sender) -> None:
+    """It would be asked for ever which of the requests it has applied."""
+
+    def make(held: Dict[str, Any]) -> bytes:
+        asked = re.search(rb" next=([0-9]+)", courier_of(pair).sent[-1][1])
+        if asked is not None:
+            expected = int(asked[1])
+            told = 2 if expected == 1 else 1
+            unmet = {"expected": f"next={expected}", "found": f"next={told}"}
+            held = {**held, "next": told, "replies": [], "unmet": unmet}
+        return json.dumps(held).encode()
+
+    hostile(pair, make)
+    add(pair.ledger, goal("first", "new"), to=["m1", "m2"])
+    assert run(pair)
+    assert (pair.ledger.trouble("m1") or "").startswith("it changes each time: next=")
+    assert len(courier_of(pair).sent) < 3 * MOST_UNMET
 
 
 def test_an_older_agent_is_told(pair: Sender) -> None:
