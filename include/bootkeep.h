@@ -378,7 +378,7 @@ struct bootkeep_refusal {
 #define BOOTKEEP_IMAGE_UNMAPPED_CODE_VIEW 0x0914
 /* The image is one for ARM64. */
 #define BOOTKEEP_IMAGE_ARM64 0x0915
-/* The image takes more memory than is taken for granted, 64 MiB. */
+/* The image takes more memory than is taken for granted, 512 MiB. */
 #define BOOTKEEP_IMAGE_MEMORY 0x0916
 /* The relocations are stripped, and the image's address is in the first page of memory. */
 #define BOOTKEEP_IMAGE_FIXED_BASE 0x0917
@@ -419,6 +419,37 @@ struct bootkeep_refusal {
 #define BOOTKEEP_LISTS_BAD_LIST_SIZE 0x0a02
 /* A signature has fewer than 16 bytes, or the signatures aren't whole. */
 #define BOOTKEEP_LISTS_BAD_SIGNATURE_SIZE 0x0a03
+
+/*
+ * Of what an image has in memory, which bootkeep_image_check tells. The place is an offset in the file.
+ */
+
+/* The debug entry of CodeView data isn't in the image. */
+#define BOOTKEEP_IMAGE_CODE_VIEW_ENTRY_BEYOND_IMAGE 0x0b01
+/* The debug entry of CodeView data isn't in one section, or the headers, once they are in memory. */
+#define BOOTKEEP_IMAGE_CODE_VIEW_ENTRY_NOT_LOADED 0x0b02
+/* CodeView data aren't in the image. */
+#define BOOTKEEP_IMAGE_CODE_VIEW_BEYOND_IMAGE 0x0b03
+/* CodeView data aren't in one section, or the headers, once they are in memory. */
+#define BOOTKEEP_IMAGE_CODE_VIEW_NOT_LOADED 0x0b04
+/* CodeView data have fewer bytes than data with their signature. */
+#define BOOTKEEP_IMAGE_CODE_VIEW_SIZE 0x0b05
+/* What the loader reads of the resources isn't in one section, or the headers. */
+#define BOOTKEEP_IMAGE_RESOURCES_NOT_LOADED 0x0b06
+/* A directory, a name or the data of a resource begin after the resources. */
+#define BOOTKEEP_IMAGE_RESOURCE_BEYOND_RESOURCES 0x0b07
+/* The entries of a directory of resources end after the resources. */
+#define BOOTKEEP_IMAGE_RESOURCE_DIRECTORY_SIZE 0x0b08
+/* A block of relocations isn't in one section, or the headers. */
+#define BOOTKEEP_IMAGE_RELOCATION_BLOCK_NOT_LOADED 0x0b09
+/* A block of relocations has no bytes, or more than are left of the relocations. */
+#define BOOTKEEP_IMAGE_RELOCATION_BLOCK_SIZE 0x0b0a
+/* A block of relocations is of a page that isn't in the image. */
+#define BOOTKEEP_IMAGE_RELOCATION_BLOCK_ADDRESS 0x0b0b
+/* A relocation is of an address that isn't in the image. */
+#define BOOTKEEP_IMAGE_RELOCATION_BEYOND_IMAGE 0x0b0c
+/* A relocation is of a type that firmware doesn't know. */
+#define BOOTKEEP_IMAGE_RELOCATION_UNKNOWN_TYPE 0x0b0d
 
 /* ---- Words ------------------------------------------------------------------------------------------------------ */
 

@@ -7,7 +7,6 @@ from dataclasses import dataclass, field
 from enum import Enum
 from typing import Dict, List, Optional, Sequence
 
-import beyond
 from kinds import RSA
 from machine import Machine, Told, Verdict
 from ovmf_starts import (
@@ -185,10 +184,8 @@ class Trials:
 
 
 def exception(sample: Sample, seen: Seen) -> Optional[str]:
-    """Why a file in which `check` finds nothing wasn't started, if that is known."""
-    if seen.is_denied:
-        return RSA.get(sample.name.split()[0])
-    return beyond.reason(sample.data)
+    """Why a file in which `check` finds nothing was denied, if that is known."""
+    return RSA.get(sample.name.split()[0]) if seen.is_denied else None
 
 
 def file_name(index: int) -> str:

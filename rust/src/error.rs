@@ -182,6 +182,19 @@ faults! {
     ListsCutHeader = 0x0a01,
     ListsBadListSize = 0x0a02,
     ListsBadSignatureSize = 0x0a03,
+    ImageCodeViewEntryBeyondImage = 0x0b01,
+    ImageCodeViewEntryNotLoaded = 0x0b02,
+    ImageCodeViewBeyondImage = 0x0b03,
+    ImageCodeViewNotLoaded = 0x0b04,
+    ImageCodeViewSize = 0x0b05,
+    ImageResourcesNotLoaded = 0x0b06,
+    ImageResourceBeyondResources = 0x0b07,
+    ImageResourceDirectorySize = 0x0b08,
+    ImageRelocationBlockNotLoaded = 0x0b09,
+    ImageRelocationBlockSize = 0x0b0a,
+    ImageRelocationBlockAddress = 0x0b0b,
+    ImageRelocationBeyondImage = 0x0b0c,
+    ImageRelocationUnknownType = 0x0b0d,
 }
 
 impl PartialEq for Fault {

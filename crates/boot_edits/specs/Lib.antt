@@ -7,6 +7,7 @@ pub mod Addition
 pub mod Edit
 pub mod Restore
 pub mod Run
+pub mod Words
 -- for private functions
 pub mod Needs
 pub mod Steps

@@ -1,11 +1,14 @@
 //! What edits refuse.
 
-ghost use Rattle.std.specs.Prelude.{◌≡◌};
+ghost use Rattle.std.specs.Prelude.{◌≡◌, ◌++◌, IfOk};
+ghost use Rattle.std.specs.String.{string_bytes};
+ghost use Rattle.uefi_vars.specs.Name.{four_digits};
 ghost use Rattle.boot_edits.specs.declared.fault.EditFault.TheVariants as edit;
 
-use std::alloc::AllocError;
+use std::alloc::{AllocError, Global};
 use thiserror::Error;
 use uefi_option::OptionFault;
+use uefi_vars::entry_name;
 
 /// Why an edit isn't made. Nothing is changed then. A number is that of an entry, which its words spell as its name has it:
 /// four hexadecimal digits in upper case.
@@ -47,6 +50,47 @@ pub enum EditFault {
     /// Memory was refused.
     #[error("OutOfMemory")]
     OutOfMemory,
+}
+
+impl EditFault {
+    ghost use Rattle.boot_edits.specs.Words.{edit_fault_words};
+
+    /// The fault's name and, after a blank, the number of the entry, or the words of the fault of the option. This fails
+    /// only when out of memory.
+    pub fn words(&self, alloc: Global) -> Result<String, AllocError>
+        ensures { IfOk result (λ text. string_bytes text ≡ edit_fault_words self.now) }
+    {
+        match self {
+            EditFault::BadOption(fault) => {
+                let words = fault.words(alloc)?;
+                format!(in alloc; "BadOption {words}")
+            }
+            EditFault::OptionTooLong => String::from_str(alloc, "OptionTooLong"),
+            EditFault::Taken(number) => numbered(alloc, "Taken ", *number),
+            EditFault::NoFree => String::from_str(alloc, "NoFree"),
+            EditFault::Twice(number) => numbered(alloc, "Twice ", *number),
+            EditFault::Missing(number) => numbered(alloc, "Missing ", *number),
+            EditFault::Stale(number) => numbered(alloc, "Stale ", *number),
+            EditFault::NoOption(number) => numbered(alloc, "NoOption ", *number),
+            EditFault::BadOrder => String::from_str(alloc, "BadOrder"),
+            EditFault::BadNext => String::from_str(alloc, "BadNext"),
+            EditFault::OrderTooLong => String::from_str(alloc, "OrderTooLong"),
+            EditFault::OutOfMemory => String::from_str(alloc, "OutOfMemory"),
+        }
+    }
+}
+
+/// The text, and behind it the four hexadecimal digits that the name of the entry of this number has.
+fn numbered(alloc: Global, text: &str, number: u16) -> Result<String, AllocError>
+    ensures { IfOk result (λ words. string_bytes words ≡ text.now ++ four_digits number) }
+{
+    let [_, _, _, _, a, b, c, d] = entry_name(number);
+    let mut words = String::from_str(alloc, text)?;
+    words.push(char::from(a))?;
+    words.push(char::from(b))?;
+    words.push(char::from(c))?;
+    words.push(char::from(d))?;
+    Ok(words)
 }
 
 impl From<AllocError> for EditFault {

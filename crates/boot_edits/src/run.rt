@@ -11,7 +11,7 @@ use crate::answer::EditAnswer;
 use crate::edit::{Edit, make_edit};
 use crate::fault::EditFault;
 use boot_journal::{AttributesFault, CallError, Run, with_attributes, without_attributes};
-use std::alloc::Global;
+use std::alloc::{AllocError, Global};
 use thiserror::Error;
 use uefi_vars::Vars;
 
@@ -35,6 +35,25 @@ pub enum EditRunFault {
     /// [`DATA_MAX`](uefi_vars::DATA_MAX) bytes.
     #[error("TooLong")]
     TooLong,
+}
+
+impl EditRunFault {
+    ghost use Rattle.std.specs.String.{string_bytes};
+    ghost use Rattle.boot_edits.specs.Words.{edit_run_fault_words};
+
+    /// The fault's name and, after a blank, the words of the edit's fault. This fails only when out of memory.
+    pub fn words(&self, alloc: Global) -> Result<String, AllocError>
+        ensures { IfOk result (λ text. string_bytes text ≡ edit_run_fault_words self.now) }
+    {
+        match self {
+            EditRunFault::Edit(fault) => {
+                let words = fault.words(alloc)?;
+                format!(in alloc; "Edit {words}")
+            }
+            EditRunFault::NoData => String::from_str(alloc, "NoData"),
+            EditRunFault::TooLong => String::from_str(alloc, "TooLong"),
+        }
+    }
 }
 
 impl Run for EditRun<'_> {

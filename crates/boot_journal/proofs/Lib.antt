@@ -15,6 +15,7 @@ pub mod WithAttributes
 pub mod Records
 pub mod Commands
 pub mod Errors
+pub mod Failures
 pub mod Between
 pub mod Next
 pub mod KeptChanges

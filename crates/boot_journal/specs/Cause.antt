@@ -1,5 +1,5 @@
 -- Why a call fails.
-use Rattle.std.specs.Prelude.{◌≡◌, ℕ, ◌+◌, ◌<◌, ◌≤◌, Result, Err, Option, Some, None}
+use Rattle.std.specs.Prelude.{◌≡◌, ◌⊎◌, ℕ, ◌+◌, ◌<◌, ◌≤◌, Result, Ok, Err, Option, Some, None, List, [], ◌∷◌, ◌++◌}
 use Rattle.boot_journal.specs.declared.machine.CallError.{CallError}
 use Rattle.boot_journal.specs.declared.machine.CallError.TheVariants.{OutOfMemory, Refused}
 use Rattle.boot_journal.specs.declared.machine.UpdateError.{UpdateError}
@@ -54,3 +54,42 @@ IsCausedBy cause (update.Unsettled told (Some second)) = told ≡ cause
 abbrev pub IfRefused : {E : Type 0} → CallError E → (E → Type 0) → Type 0
 IfRefused OutOfMemory Is = Unit {0}
 IfRefused (Refused reason) Is = Is reason
+
+-- ---- what failed
+
+-- what failed, the first one first, if that is told, and then these
+abbrev pub and_failed : {E : Type 0} → Option (List (CallError E)) → List (CallError E) → Option (List (CallError E))
+and_failed None more = None
+and_failed (Some failures) more = Some (failures ++ more)
+
+-- these failed since, and nothing else did, if it is still told what did
+pub record HaveFailed {E : Type 0} (before now : Option (List (CallError E))) (since : List (CallError E)) : Type 0 where
+  pub is : (now ≡ None) ⊎ (now ≡ and_failed before since)
+
+-- that of a call
+abbrev pub failures_of : {T E : Type 0} → Result T (CallError E) → List (CallError E)
+failures_of (Ok _) = []
+failures_of (Err error) = error ∷ []
+
+-- the failures that an error tells: the move that was refused, and then the one by which it was to be taken back
+abbrev pub failures_in : {E : Type 0} → UpdateError E → List (CallError E)
+failures_in update.OutOfMemory = []
+failures_in (update.TakenBack cause) = cause ∷ []
+failures_in (update.Unsettled cause None) = cause ∷ []
+failures_in (update.Unsettled cause (Some second)) = cause ∷ second ∷ []
+
+-- those that an update or a settling tells: none, if it was done
+abbrev pub update_failures : {T E : Type 0} → Result T (UpdateError E) → List (CallError E)
+update_failures (Ok _) = []
+update_failures (Err error) = failures_in error
+
+-- the failure of taking something back
+abbrev pub second_in : {E : Type 0} → UpdateError E → List (CallError E)
+second_in update.OutOfMemory = []
+second_in (update.TakenBack _) = []
+second_in (update.Unsettled _ None) = []
+second_in (update.Unsettled _ (Some second)) = second ∷ []
+
+-- a call fails for memory alone, and storage had no failure since, or for what storage failed since
+abbrev pub IsFailureOf : {E : Type 0} → Option (List (CallError E)) → Option (List (CallError E)) → CallError E → Type 0
+IsFailureOf before now error = ((error ≡ OutOfMemory) × (now ≡ before)) ⊎ (now ≡ and_failed before (error ∷ []))

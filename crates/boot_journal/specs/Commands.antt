@@ -1,5 +1,5 @@
 -- Commands: a settling, a run, and an update.
-use Rattle.std.specs.Prelude.{◌≡◌, ◌⊎◌, Option, Some, ℕ, ◌+◌, ◌<◌, ◌≤◌, List, Result, Err}
+use Rattle.std.specs.Prelude.{◌≡◌, ◌⊎◌, Option, Some, ℕ, ◌+◌, ◌<◌, ◌≤◌, List, [], Result, Ok, Err}
 use Rattle.uefi_vars.specs.Vars.{Variables}
 use Rattle.boot_journal.specs.declared.machine.CallError.{CallError}
 use Rattle.boot_journal.specs.declared.machine.CallError.TheVariants.{Refused}
@@ -7,6 +7,7 @@ use Rattle.boot_journal.specs.declared.machine.UpdateError.{UpdateError}
 use Rattle.boot_journal.specs.declared.machine.UpdateError.TheVariants.{OutOfMemory, TakenBack, Unsettled}
 use Rattle.boot_journal.specs.declared.machine.CommandError.{CommandError}
 use Rattle.boot_journal.specs.declared.machine.CommandError.TheVariants as command
+use Rattle.boot_journal.specs.Cause.{failures_in}
 use Rattle.boot_journal.specs.Store.{Store, stands_for, brought, IsSettledOrTakenBack}
 use Rattle.boot_journal.specs.Moves.{IsSettling, IsUpdating, settled}
 
@@ -61,3 +62,11 @@ pub record HasCommandCause {T E F : Type 0} (before now : ℕ) (result : Result 
   pub updating_taken_back : (refusal : E) → result ≡ Err (command.Updating (TakenBack (Refused refusal))) → before < now
   pub updating_unsettled : (refusal : E) (second : Option (CallError E)) → result ≡ Err (command.Updating (Unsettled (Refused refusal) second)) → before < now
   pub updating_both : (refusal second : E) → result ≡ Err (command.Updating (Unsettled (Refused refusal) (Some (Refused second)))) → 1 + before < now
+
+-- the failures that a command tells: none, if it was done, or if what failed was no move
+abbrev pub command_failures : {T E F : Type 0} → Result T (CommandError E F) → List (CallError E)
+command_failures (Ok _) = []
+command_failures (Err (command.Settling error)) = failures_in error
+command_failures (Err command.OutOfMemory) = []
+command_failures (Err (command.Run _)) = []
+command_failures (Err (command.Updating error)) = failures_in error

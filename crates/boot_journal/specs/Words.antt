@@ -3,6 +3,8 @@ use Rattle.std.specs.Prelude.{ℕ, List, ◌++◌, codes, Option, Some, None}
 use Rattle.std.specs.Fmt.{decimal}
 use Rattle.boot_journal.specs.declared.fault.JournalFault.{JournalFault}
 use Rattle.boot_journal.specs.declared.fault.JournalFault.TheVariants as fault
+use Rattle.boot_journal.specs.declared.attributes.AttributesFault.{AttributesFault}
+use Rattle.boot_journal.specs.declared.attributes.AttributesFault.TheVariants as attributes
 
 abbrev pub journal_fault_words : JournalFault → List ℕ
 journal_fault_words fault.BadMagic = codes "BadMagic"
@@ -23,3 +25,8 @@ journal_fault_place (fault.BadCourse place) = Some place
 journal_fault_place (fault.BadIdentity place) = Some place
 journal_fault_place (fault.BadName place) = Some place
 journal_fault_place fault.OutOfMemory = None
+
+abbrev pub attributes_fault_words : AttributesFault → List ℕ
+attributes_fault_words attributes.NoData = codes "NoData"
+attributes_fault_words attributes.TooLong = codes "TooLong"
+attributes_fault_words attributes.OutOfMemory = codes "OutOfMemory"

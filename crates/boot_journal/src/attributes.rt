@@ -27,6 +27,22 @@ pub enum AttributesFault {
     OutOfMemory,
 }
 
+impl AttributesFault {
+    ghost use Rattle.std.specs.String.{string_bytes};
+    ghost use Rattle.boot_journal.specs.Words.{attributes_fault_words};
+
+    /// The fault's name. This fails only when out of memory.
+    pub fn words(&self, alloc: Global) -> Result<String, AllocError>
+        ensures { IfOk result (λ text. string_bytes text ≡ attributes_fault_words self.now) }
+    {
+        match self {
+            AttributesFault::NoData => String::from_str(alloc, "NoData"),
+            AttributesFault::TooLong => String::from_str(alloc, "TooLong"),
+            AttributesFault::OutOfMemory => String::from_str(alloc, "OutOfMemory"),
+        }
+    }
+}
+
 impl From<AllocError> for AttributesFault {
     ghost from_gives = { λ _ made. made ≡ fault.OutOfMemory };
 

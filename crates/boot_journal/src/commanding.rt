@@ -2,8 +2,8 @@
 
 ghost use Rattle.std.specs.Prelude.{◌≡◌, ◌⊎◌, true, false, IfOk, IfErr};
 ghost use Rattle.uefi_vars.specs.Vars.{Variables};
-ghost use Rattle.boot_journal.specs.Commands.{IsCommanding, IsCommandMoment, IfUnchanged, IfSettlingFailed, IfUpdatingFailed, IfRunRefused, HasCommandCause};
-ghost use Rattle.boot_journal.specs.Cause.{IfRefused, IfTakenBack, IfUntried, IfTried};
+ghost use Rattle.boot_journal.specs.Commands.{IsCommanding, IsCommandMoment, IfUnchanged, IfSettlingFailed, IfUpdatingFailed, IfRunRefused, HasCommandCause, command_failures};
+ghost use Rattle.boot_journal.specs.Cause.{IfRefused, IfTakenBack, IfUntried, IfTried, HaveFailed};
 ghost use Rattle.boot_journal.specs.Journal.{is_making};
 ghost use Rattle.boot_journal.specs.Moments.{Leaves};
 ghost use Rattle.boot_journal.specs.Moves.{IsSettling, IsUpdating};
@@ -16,9 +16,9 @@ use crate::updating::{settle, update};
 use std::alloc::Global;
 use uefi_vars::{Vars, laws as vars_laws};
 
-/// What is run over a machine's variables. It sees them, and gives them, as a machine keeps them: those of the boot
+/// What is run once over a machine's variables. It sees them, and gives them, as a machine keeps them: those of the boot
 /// manager with their attributes.
-pub trait Run {
+pub trait Run: Drop {
     /// What it answers.
     type Answer: Drop;
 
@@ -31,14 +31,11 @@ pub trait Run {
     /// It refuses the variables for this fault.
     ghost refuses: { Self → Variables → Self.Fault → Type 0 };
 
-    /// Runs over these variables, and gives those after it, with the answer.
-    fn run(
-        &self,
-        alloc: Global,
-        vars: &Vars,
-    ) -> Result<(Vars, Self::Answer), CallError<Self::Fault>>
-        ensures done { IfOk result (λ done. leads self.now vars.now done.0 done.1) }
-        ensures refused { IfErr result (λ error. IfRefused error (refuses self.now vars.now)) };
+    /// Runs over these variables, and gives those after it, with the answer. It takes the run, which may have effects, so
+    /// that there is no second one.
+    fn run(self, alloc: Global, vars: &Vars) -> Result<(Vars, Self::Answer), CallError<Self::Fault>>
+        ensures done { IfOk result (λ done. leads self vars.now done.0 done.1) }
+        ensures refused { IfErr result (λ error. IfRefused error (refuses self vars.now)) };
 }
 
 /// Settles a machine, runs something over its variables and BootKeepState, and brings the boot manager's variables and
@@ -54,11 +51,12 @@ pub trait Run {
 pub fn command<M: Machine, R: Run>(
     alloc: Global,
     machine: &mut M,
-    run: &R,
+    run: R,
     boot: &BootId,
 ) -> Result<R::Answer, CommandError<M::Refusal, R::Fault>>
     ensures cause { HasCommandCause (M.refusals machine.old) (M.refusals machine.new) result }
-    ensures done { IfOk result (λ answer. (to : Variables) × R.leads run.now (stands_for boot.now (M.store machine.old)) to answer
+    ensures failed_moves { HaveFailed (M.failures machine.old) (M.failures machine.new) (command_failures result) }
+    ensures done { IfOk result (λ answer. (to : Variables) × R.leads run (stands_for boot.now (M.store machine.old)) to answer
         × IsIdle (M.store machine.new)
         × (stands_for boot.now (M.store machine.new) ≡ brought (stands_for boot.now (M.store machine.old)) to)) }
     ensures unchanged { IfErr result (λ error. IfUnchanged error
@@ -74,15 +72,15 @@ pub fn command<M: Machine, R: Run>(
     ensures updating { IfErr result (λ error. IfUpdatingFailed error (λ why. IfTakenBack why (IsIdle (M.store machine.new)
         × (stands_for boot.now (M.store machine.new) ≡ stands_for boot.now (M.store machine.old))))) }
     ensures updating_tried { IfErr result (λ error. IfUpdatingFailed error (λ why. IfUntried why ⊥)) }
-    ensures refused { IfErr result (λ error. IfRunRefused error (R.refuses run.now (stands_for boot.now (M.store machine.old)))) }
+    ensures refused { IfErr result (λ error. IfRunRefused error (R.refuses run (stands_for boot.now (M.store machine.old)))) }
     // Whatever is cut off when, the machine stands for what it stood for, or for what that falls back to, or for what the
     // run leads to.
-    ensures any_moment { Leaves (IsCommandMoment (λ from to. (answer : R.Answer) × R.leads run.now from to answer) boot.now (M.store machine.old))
+    ensures any_moment { Leaves (IsCommandMoment (λ from to. (answer : R.Answer) × R.leads run from to answer) boot.now (M.store machine.old))
         (M.history machine.old) (M.history machine.new) }
     // What is there then, and after each move.
-    ensures left { IsCommanding (λ from to. (answer : R.Answer) × R.leads run.now from to answer) boot.now
+    ensures left { IsCommanding (λ from to. (answer : R.Answer) × R.leads run from to answer) boot.now
         (M.store machine.old) (M.store machine.new) }
-    ensures moves { Leaves (IsCommanding (λ from to. (answer : R.Answer) × R.leads run.now from to answer) boot.now (M.store machine.old))
+    ensures moves { Leaves (IsCommanding (λ from to. (answer : R.Answer) × R.leads run from to answer) boot.now (M.store machine.old))
         (M.history machine.old) (M.history machine.new) }
 {
     vars_laws::each_change_is_needed();
@@ -94,24 +92,26 @@ pub fn command<M: Machine, R: Run>(
 }
 
 /// Runs over a settled machine.
+#[tactic(auto, using(crate::proofs::Failures::none_failed))]
 fn run_settled<M: Machine, R: Run>(
     alloc: Global,
     machine: &mut M,
-    run: &R,
+    run: R,
     boot: &BootId,
 ) -> Result<R::Answer, CommandError<M::Refusal, R::Fault>>
     requires { IsIdle (M.store machine.old) }
     ensures cause { HasCommandCause (M.refusals machine.old) (M.refusals machine.new) result }
-    ensures done { IfOk result (λ answer. (to : Variables) × R.leads run.now (seen (M.store machine.old)) to answer
+    ensures failed_moves { HaveFailed (M.failures machine.old) (M.failures machine.new) (command_failures result) }
+    ensures done { IfOk result (λ answer. (to : Variables) × R.leads run (seen (M.store machine.old)) to answer
         × (M.store machine.new ≡ updated (M.store machine.old) to)) }
     ensures unchanged { IfErr result (λ error. IfUnchanged error (M.store machine.new ≡ M.store machine.old)) }
     ensures settling { IfErr result (λ error. IfSettlingFailed error (λ _. ⊥)) }
     ensures updating { IfErr result (λ error. IfUpdatingFailed error (λ why. IfTakenBack why (M.store machine.new ≡ M.store machine.old))) }
     ensures updating_tried { IfErr result (λ error. IfUpdatingFailed error (λ why. IfUntried why ⊥)) }
-    ensures refused { IfErr result (λ error. IfRunRefused error (R.refuses run.now (seen (M.store machine.old)))) }
+    ensures refused { IfErr result (λ error. IfRunRefused error (R.refuses run (seen (M.store machine.old)))) }
     ensures left { (M.store machine.new ≡ M.store machine.old) ⊎ ((to : Variables) × (answer : R.Answer)
-        × R.leads run.now (seen (M.store machine.old)) to answer × IsUpdating boot.now to (M.store machine.old) (M.store machine.new)) }
-    ensures moves { Leaves (λ c. (to : Variables) × (answer : R.Answer) × R.leads run.now (seen (M.store machine.old)) to answer
+        × R.leads run (seen (M.store machine.old)) to answer × IsUpdating boot.now to (M.store machine.old) (M.store machine.new)) }
+    ensures moves { Leaves (λ c. (to : Variables) × (answer : R.Answer) × R.leads run (seen (M.store machine.old)) to answer
         × IsUpdating boot.now to (M.store machine.old) c) (M.history machine.old) (M.history machine.new) }
 {
     let vars = machine.read_vars(alloc)?;

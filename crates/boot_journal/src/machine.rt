@@ -1,7 +1,8 @@
 //! Machines, as updates see them.
 
-ghost use Rattle.std.specs.Prelude.{◌≡◌, ◌↔◌, IsTrue, None, [], ◌∷◌, ℕ, List, IfOk, OnOk};
-ghost use Rattle.boot_journal.specs.Cause.{HasCause};
+ghost use Rattle.std.specs.Prelude.{◌≡◌, ◌↔◌, IsTrue, Option, None, [], ◌∷◌, ℕ, List, IfOk, OnOk};
+ghost use Rattle.boot_journal.specs.Cause.{HasCause, HaveFailed, failures_of};
+ghost use Rattle.boot_journal.specs.declared.machine.CallError.{CallError};
 ghost use Rattle.boot_journal.specs.Moments.{Leaves, IsRecorded};
 ghost use Rattle.boot_journal.specs.Store.{Store, with_made, with_journal, seen, IsEither};
 
@@ -27,8 +28,9 @@ pub enum UpdateError<E> {
     /// A move was refused, of the journal or of a variable, and the update is taken back: it hasn't happened.
     TakenBack(CallError<E>),
     /// A move was refused, for the first reason, and then a move of taking the update back, for the second. Without a second
-    /// reason it was a settling that was taking an update back already. The journal keeps what is to be done, and the next
-    /// settling goes on with it: the update may still happen, so don't take it for one that failed.
+    /// reason it was a settling that was taking an update back already. The journal keeps what is to be done, unless the move
+    /// that was refused last was made nevertheless, and the next settling goes on with it: the update may still happen, so
+    /// don't take it for one that failed.
     Unsettled(CallError<E>, Option<CallError<E>>),
 }
 
@@ -96,6 +98,9 @@ pub trait Machine {
     /// How often the machine refused a move.
     ghost refusals: { Self → ℕ };
 
+    /// The errors with which moves failed, the first one first, if it tells that.
+    ghost failures: { Self → Option (List (CallError Self.Refusal)) } = { λ _. None };
+
     /// The variables of the firmware, those of the boot manager with their attributes, and BootKeepState, which the
     /// journal keeps. This fails only if memory is refused.
     fn read_vars(&self, alloc: Global) -> Result<Vars, AllocError>
@@ -112,6 +117,7 @@ pub trait Machine {
     /// Makes the change of one variable, with its attributes.
     fn make(&mut self, change: &Change) -> Result<(), CallError<Self::Refusal>>
         ensures cause { HasCause (refusals self.old) (refusals self.new) result }
+        ensures failed { HaveFailed (failures self.old) (failures self.new) (failures_of result) }
         ensures made { OnOk result (store self.new ≡ with_made (change.now ∷ []) (store self.old)) }
         ensures recorded { IsRecorded (store self.old) (store self.new) (history self.old) (history self.new) }
         ensures whole { IsEither (store self.old) (with_made (change.now ∷ []) (store self.old)) (store self.new) }
@@ -120,6 +126,7 @@ pub trait Machine {
     /// Replaces the journal.
     fn replace_journal(&mut self, journal: &Journal) -> Result<(), CallError<Self::Refusal>>
         ensures cause { HasCause (refusals self.old) (refusals self.new) result }
+        ensures failed { HaveFailed (failures self.old) (failures self.new) (failures_of result) }
         ensures replaced { OnOk result (store self.new ≡ with_journal journal.now (store self.old)) }
         ensures recorded { IsRecorded (store self.old) (store self.new) (history self.old) (history self.new) }
         ensures whole { IsEither (store self.old) (with_journal journal.now (store self.old)) (store self.new) }

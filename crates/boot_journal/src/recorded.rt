@@ -1,16 +1,18 @@
 //! Machines over storage, with a record of what was done.
 
-ghost use Rattle.std.specs.Prelude.{◌≡◌, ◌⊎◌, Bool, List, [], Option, None, IfOk, OnOk, OnErr, is_ok, ◌∷◌, ◌++◌, ◌+◌, ◌<◌, ◌≤◌};
+ghost use Rattle.std.specs.Prelude.{◌≡◌, ◌⊎◌, Bool, List, [], Option, None, IfOk, IfErr, OnOk, OnErr, is_ok, ◌∷◌, ◌++◌, ◌+◌, ◌<◌, ◌≤◌};
 ghost use Rattle.std.specs.Coded.{codes};
 ghost use Rattle.std.specs.FinMap.{code as map_code};
 ghost use Rattle.std.specs.Option.{option_map};
 ghost use Rattle.std.specs.Vec.{vec_len, vec_capacity};
 ghost use Rattle.uefi_vars.specs.NameChanges.{with_data};
 ghost use Rattle.boot_journal.specs.Asked.{Ask, ToMake, HasMade, ToReplace, HasReplaced, and_then};
+ghost use Rattle.boot_journal.specs.Cause.{and_failed, failures_of};
 ghost use Rattle.boot_journal.specs.Changes.{made};
 ghost use Rattle.boot_journal.specs.Recorded.{done_to, past, refusals_in};
 ghost use Rattle.boot_journal.specs.Store.{with_made, with_journal, seen};
 ghost use Rattle.boot_journal.specs.RecordedValue.{store_of};
+ghost use Rattle.boot_journal.specs.declared.machine.CallError.{CallError};
 ghost use Rattle.boot_journal.specs.declared.recorded.Move.TheVariants as Move;
 
 use crate::change::Change;
@@ -29,22 +31,29 @@ pub trait Storage: Drop {
     /// What it was asked, each with whether it answered that it did or has that, the first call first, if it tells that.
     ghost asked: { Self → Option (List Ask) } = { λ _. None };
 
+    /// The errors with which it failed, the first one first, if it tells that.
+    ghost failures: { Self → Option (List (CallError Self.Refusal)) } = { λ _. None };
+
     /// Sets the variable to its attributes and its data after the change, or takes it out.
     fn make(&mut self, change: &Change) -> Result<(), CallError<Self::Refusal>>
-        ensures { asked self.new ≡ and_then (asked self.old) (ToMake change.now (is_ok result) ∷ []) };
+        ensures failed { failures self.new ≡ and_failed (failures self.old) (failures_of result) }
+        ensures asks { asked self.new ≡ and_then (asked self.old) (ToMake change.now (is_ok result) ∷ []) };
 
     /// Whether the variable has its attributes and its data after the change, or is out if it is taken out, although
     /// `make` failed.
     fn has_made(&mut self, change: &Change) -> bool
-        ensures { asked self.new ≡ and_then (asked self.old) (HasMade change.now result ∷ []) };
+        ensures failed { failures self.new ≡ failures self.old }
+        ensures asks { asked self.new ≡ and_then (asked self.old) (HasMade change.now result ∷ []) };
 
     /// Replaces the journal.
     fn replace_journal(&mut self, journal: &Journal) -> Result<(), CallError<Self::Refusal>>
-        ensures { asked self.new ≡ and_then (asked self.old) (ToReplace journal.now (is_ok result) ∷ []) };
+        ensures failed { failures self.new ≡ and_failed (failures self.old) (failures_of result) }
+        ensures asks { asked self.new ≡ and_then (asked self.old) (ToReplace journal.now (is_ok result) ∷ []) };
 
     /// Whether the journal is this one, although `replace_journal` failed.
     fn has_replaced(&mut self, journal: &Journal) -> bool
-        ensures { asked self.new ≡ and_then (asked self.old) (HasReplaced journal.now result ∷ []) };
+        ensures failed { failures self.new ≡ failures self.old }
+        ensures asks { asked self.new ≡ and_then (asked self.old) (HasReplaced journal.now result ∷ []) };
 }
 
 /// What was done to a machine.
@@ -170,7 +179,7 @@ impl<D: Storage> Recorded<D> {
 }
 
 impl<D: Storage> Machine for Recorded<D> {
-    ghost use Rattle.boot_journal.specs.Cause.{HasCause};
+    ghost use Rattle.boot_journal.specs.Cause.{HasCause, HaveFailed, IsFailureOf};
     ghost use Rattle.boot_journal.specs.Moments.{Leaves, IsRecorded};
     ghost use Rattle.boot_journal.specs.Recorded.{past, refusals_in, Makes, RefusesToMake, Replaces, RefusesToReplace, Tells, TellsNothing};
     ghost use Rattle.boot_journal.specs.RecordedValue.{store_of};
@@ -196,8 +205,10 @@ impl<D: Storage> Machine for Recorded<D> {
         self.now.journal.is_idle()
     }
 
+    #[tactic(auto, using(crate::proofs::Failures::untold))]
     fn make(&mut self, change: &Change) -> Result<(), CallError<D::Refusal>>
         ensures cause { HasCause (refusals_in self.old.moves.items) (refusals_in self.new.moves.items) result }
+        ensures failed { HaveFailed {E = D.Refusal} None None (failures_of result) }
         ensures made { OnOk result (store_of self.new.now ≡ with_made (change.now ∷ []) (store_of self.old.now)) }
         ensures recorded { IsRecorded (store_of self.old.now) (store_of self.new.now)
             (past (store_of self.old.first) self.old.moves.items) (past (store_of self.new.first) self.new.moves.items) }
@@ -210,6 +221,8 @@ impl<D: Storage> Machine for Recorded<D> {
         ensures refused { OnErr result (TellsNothing (D.asked self.old.storage) (D.asked self.new.storage) self.old.moves.items self.new.moves.items
             ⊎ ((has : Bool) × Tells (RefusesToMake change.now has)
             (D.asked self.old.storage) (D.asked self.new.storage) self.old.moves.items self.new.moves.items)) }
+        // The reason is that of its storage, unless memory was refused before that was asked.
+        ensures told { IfErr result (IsFailureOf (D.failures self.old.storage) (D.failures self.new.storage)) }
     {
         let vars = changed(self.alloc, &self.now.vars, change)?;
         let copy = change.copy(self.alloc)?;
@@ -232,8 +245,10 @@ impl<D: Storage> Machine for Recorded<D> {
         }
     }
 
+    #[tactic(auto, using(crate::proofs::Failures::untold))]
     fn replace_journal(&mut self, journal: &Journal) -> Result<(), CallError<D::Refusal>>
         ensures cause { HasCause (refusals_in self.old.moves.items) (refusals_in self.new.moves.items) result }
+        ensures failed { HaveFailed {E = D.Refusal} None None (failures_of result) }
         ensures replaced { OnOk result (store_of self.new.now ≡ with_journal journal.now (store_of self.old.now)) }
         ensures recorded { IsRecorded (store_of self.old.now) (store_of self.new.now)
             (past (store_of self.old.first) self.old.moves.items) (past (store_of self.new.first) self.new.moves.items) }
@@ -246,6 +261,8 @@ impl<D: Storage> Machine for Recorded<D> {
         ensures refused { OnErr result (TellsNothing (D.asked self.old.storage) (D.asked self.new.storage) self.old.moves.items self.new.moves.items
             ⊎ ((has : Bool) × Tells (RefusesToReplace journal.now has)
             (D.asked self.old.storage) (D.asked self.new.storage) self.old.moves.items self.new.moves.items)) }
+        // The reason is that of its storage, unless memory was refused before that was asked.
+        ensures told { IfErr result (IsFailureOf (D.failures self.old.storage) (D.failures self.new.storage)) }
     {
         let kept = journal.copy(self.alloc)?;
         let copy = journal.copy(self.alloc)?;

@@ -3,6 +3,7 @@
 ghost use Rattle.std.specs.Prelude.{◌≡◌, ◌⊎◌, ◌<◌, ◌≤◌, true, false, Some, IfErr, OnOk, OnErr};
 ghost use Rattle.boot_journal.specs.Working.{IsGoingOn, IsTakenBack, IsUndertaking, IsGivenUp};
 ghost use Rattle.boot_journal.specs.Cause.{HasCause, HasUpdateCause, IsCausedBy, IfNothingDone, IfTakenBack, IfUntried, IfTried};
+ghost use Rattle.boot_journal.specs.Cause.{HaveFailed, failures_of, update_failures, second_in};
 ghost use Rattle.boot_journal.specs.declared.machine.CallError.TheVariants as CallError;
 ghost use Rattle.boot_journal.specs.declared.machine.UpdateError.TheVariants as UpdateError;
 ghost use Rattle.boot_journal.specs.Journal.{is_making};
@@ -22,6 +23,7 @@ use uefi_vars::{Vars, laws as vars_laws};
 /// Makes the changes, one after the other.
 fn make_all<M: Machine>(machine: &mut M, changes: &[Change]) -> Result<(), CallError<M::Refusal>>
     ensures cause { HasCause (M.refusals machine.old) (M.refusals machine.new) result }
+    ensures failed_moves { HaveFailed (M.failures machine.old) (M.failures machine.new) (failures_of result) }
     ensures done { OnOk result (M.store machine.new ≡ with_made changes.now (M.store machine.old)) }
     ensures failed { OnErr result (IsFrontStore changes.now (M.store machine.old) (M.store machine.new)) }
     ensures moments { Leaves (IsFrontStore changes.now (M.store machine.old)) (M.history machine.old) (M.history machine.new) }
@@ -39,6 +41,7 @@ fn finish<M: Machine>(
     last: &Journal,
 ) -> Result<(), CallError<M::Refusal>>
     ensures cause { HasCause (M.refusals machine.old) (M.refusals machine.new) result }
+    ensures failed_moves { HaveFailed (M.failures machine.old) (M.failures machine.new) (failures_of result) }
     ensures done { OnOk result (M.store machine.new ≡ with_journal last.now (with_made changes.now (M.store machine.old))) }
     ensures amid { IsMaking changes.now last.now (M.store machine.old) (M.store machine.new) }
     ensures moments { Leaves (IsMaking changes.now last.now (M.store machine.old)) (M.history machine.old) (M.history machine.new) }
@@ -50,6 +53,7 @@ fn finish<M: Machine>(
 /// Replaces the journal, makes the changes that it has due, and replaces it by the last one.
 fn carry_out<M: Machine>(machine: &mut M, work: &Work) -> Result<(), CallError<M::Refusal>>
     ensures cause { HasCause (M.refusals machine.old) (M.refusals machine.new) result }
+    ensures failed_moves { HaveFailed (M.failures machine.old) (M.failures machine.new) (failures_of result) }
     ensures done { OnOk result (M.store machine.new
         ≡ with_journal work.now.last (with_made work.now.due.items (M.store machine.old))) }
     ensures amid { IsCarrying work.now.journal work.now.due.items work.now.last (M.store machine.old) (M.store machine.new) }
@@ -68,6 +72,7 @@ fn take_back<M: Machine>(
 ) -> UpdateError<M::Refusal>
     ensures later { M.refusals machine.old ≤ M.refusals machine.new }
     ensures cause { IsCausedBy cause result }
+    ensures failed_moves { HaveFailed (M.failures machine.old) (M.failures machine.new) (second_in result) }
     ensures second { (refusal : M.Refusal) → result ≡ UpdateError.Unsettled cause (Some (CallError.Refused refusal)) →
         M.refusals machine.old < M.refusals machine.new }
     ensures done { IfTakenBack result (M.store machine.new
@@ -89,6 +94,7 @@ fn go_on<M: Machine>(
     back: &Work,
 ) -> Result<(), UpdateError<M::Refusal>>
     ensures cause { HasUpdateCause (M.refusals machine.old) (M.refusals machine.new) result }
+    ensures failed_moves { HaveFailed (M.failures machine.old) (M.failures machine.new) (update_failures result) }
     ensures done { OnOk result (M.store machine.new
         ≡ with_journal work.now.last (with_made work.now.due.items (M.store machine.old))) }
     ensures something { IfErr result (λ error. IfNothingDone error ⊥) }
@@ -121,19 +127,22 @@ fn go_on<M: Machine>(
 /// refused a move: the earlier update that the journal is of is then taken back, and hasn't happened, also if a start in
 /// between used its BootNext. [`UpdateError::Unsettled`] if it refused to take changes back: the next settling goes on with
 /// that.
-#[tactic(auto, using(crate::proofs::Settling::still_settling))]
+#[tactic(auto, using(crate::proofs::Settling::still_settling, crate::proofs::Failures::untouched, crate::proofs::Failures::none_failed))]
 pub fn settle<M: Machine>(
     alloc: Global,
     machine: &mut M,
     boot: &BootId,
 ) -> Result<(), UpdateError<M::Refusal>>
     ensures cause { HasUpdateCause (M.refusals machine.old) (M.refusals machine.new) result }
+    ensures failed_moves { HaveFailed (M.failures machine.old) (M.failures machine.new) (update_failures result) }
     ensures done { OnOk result (M.store machine.new ≡ settled boot.now (M.store machine.old)) }
     ensures nothing { IfErr result (λ error. IfNothingDone error (M.store machine.new ≡ M.store machine.old)) }
     ensures taken_back { IfErr result (λ error. IfTakenBack error
         (IsIdle (M.store machine.new) × (stands_for boot.now (M.store machine.new) ≡ falls_back_to boot.now (M.store machine.old)))) }
     ensures tried { IfErr result (λ error. IfUntried error (is_making (M.store machine.old).journal.pending ≡ false)) }
     ensures only_tried { IfErr result (λ error. IfTried error (is_making (M.store machine.old).journal.pending ≡ true)) }
+    // With nothing to be done, there is no move.
+    ensures unmoved { IsIdle (M.store machine.old) → M.history machine.new ≡ M.history machine.old }
     // Whatever is cut off when, the machine stands for what it stood for, or for what that falls back to.
     ensures any_moment { Leaves (IsSettledOrTakenBack boot.now (M.store machine.old)) (M.history machine.old) (M.history machine.new) }
     // What is there then, and after each move.
@@ -158,6 +167,7 @@ fn undertake<M: Machine>(
 ) -> Result<(), UpdateError<M::Refusal>>
     requires { is_making work.now.journal.pending ≡ true }
     ensures cause { HasUpdateCause (M.refusals machine.old) (M.refusals machine.new) result }
+    ensures failed_moves { HaveFailed (M.failures machine.old) (M.failures machine.new) (update_failures result) }
     ensures done { OnOk result (M.store machine.new
         ≡ with_journal work.now.last (with_made work.now.due.items (M.store machine.old))) }
     ensures something { IfErr result (λ error. IfNothingDone error ⊥) }
@@ -189,6 +199,7 @@ fn undertake<M: Machine>(
 /// [`UpdateError::OutOfMemory`] if memory was refused before the first move. [`UpdateError::TakenBack`] if the machine
 /// refused a move: it is as it was before. [`UpdateError::Unsettled`] if it refused to take the update back too: the
 /// journal keeps what is to be done, and the next settling begins with it.
+#[tactic(auto, using(crate::proofs::Failures::untouched, crate::proofs::Failures::none_failed))]
 pub fn update<M: Machine>(
     alloc: Global,
     machine: &mut M,
@@ -197,6 +208,7 @@ pub fn update<M: Machine>(
 ) -> Result<(), UpdateError<M::Refusal>>
     requires { IsIdle (M.store machine.old) }
     ensures cause { HasUpdateCause (M.refusals machine.old) (M.refusals machine.new) result }
+    ensures failed_moves { HaveFailed (M.failures machine.old) (M.failures machine.new) (update_failures result) }
     ensures done { OnOk result (M.store machine.new ≡ updated (M.store machine.old) to.now) }
     ensures nothing { IfErr result (λ error. IfNothingDone error (M.store machine.new ≡ M.store machine.old)) }
     ensures taken_back { IfErr result (λ error. IfTakenBack error (M.store machine.new ≡ M.store machine.old)) }

@@ -2,3 +2,4 @@ pub mod Digest
 pub mod Notes
 pub mod Bytes
 pub mod Fault
+pub mod Words

@@ -10,7 +10,7 @@ use crate::noted::{Noted, note_run};
 use crate::numbers::next_number;
 use boot_journal::{CallError, Run};
 use boot_requests::Answer;
-use journaled_requests::{Requests, RunFault, keeper_vars};
+use journaled_requests::{Requests, RunFault, run_set};
 use request_preconditions::{IDENTITY_LEN, MachineState, Precondition};
 use std::alloc::{AllocError, Global};
 use uefi_vars::Vars;
@@ -64,7 +64,7 @@ impl Run for RequestsRun<'_> {
 
     fn run(&self, alloc: Global, vars: &Vars) -> Result<(Vars, Answered), CallError<RunFault>> {
         let (to, answers) = self.requests.run(alloc, vars)?;
-        let set = keeper_vars(alloc, vars)?;
+        let set = run_set(alloc, vars)?;
         let first = first_number(alloc, &set)?;
         let journal = identity_of(self.notes);
         let state = MachineState {

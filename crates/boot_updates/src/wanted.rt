@@ -108,8 +108,12 @@ impl Wanted for WantedRequests<'_, '_, '_> {
         };
         let text = match self.printing {
             Printing::Replies(ReplyForm::Look) => look_text(alloc, seen, change.to, &replies)?,
-            Printing::Replies(form) => replies.text(alloc, form != ReplyForm::Lines)?,
-            Printing::Plan(form) => plan_text(alloc, change, &replies, form != ReplyForm::Lines)?,
+            Printing::Plan(form) if answered.unmet.is_none() => {
+                plan_text(alloc, change, &replies, form != ReplyForm::Lines)?
+            }
+            Printing::Replies(form) | Printing::Plan(form) => {
+                replies.text(alloc, form != ReplyForm::Lines)?
+            }
             Printing::Next => format!(in alloc; "{}\n", next_in(answered))?,
         };
         Ok(Told {
@@ -137,7 +141,8 @@ impl WantedRequests<'_, '_, '_> {
         let mut remarks = Remarks::new(alloc);
         if let Some(Unmet { expected, found }) = &answered.unmet {
             let text = format!(in alloc;
-                "{expected} was expected, and it is {found}: nothing was changed")?;
+                "{expected} was expected, and it is {found}: nothing was changed"
+            )?;
             remarks.push(self.place, text)?;
         }
         if matches!(self.printing, Printing::Replies(ReplyForm::Lines)) {

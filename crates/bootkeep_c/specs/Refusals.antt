@@ -24,6 +24,12 @@ use Rattle.boot_requests.specs.declared.script_fault.ScriptFault.{ScriptFault}
 use Rattle.boot_requests.specs.declared.script_fault.ScriptFault.TheVariants as script
 use Rattle.efi_images.specs.declared.fault.ImageFault.{ImageFault}
 use Rattle.efi_images.specs.declared.fault.ImageFault.TheVariants as image
+use Rattle.efi_images.specs.declared.code_view_fault.CodeViewFault.{CodeViewFault}
+use Rattle.efi_images.specs.declared.code_view_fault.CodeViewFault.TheVariants as code_view
+use Rattle.efi_images.specs.declared.resource_fault.ResourceFault.{ResourceFault}
+use Rattle.efi_images.specs.declared.resource_fault.ResourceFault.TheVariants as resource
+use Rattle.efi_images.specs.declared.relocation_fault.RelocationFault.{RelocationFault}
+use Rattle.efi_images.specs.declared.relocation_fault.RelocationFault.TheVariants as relocation
 use Rattle.efi_images.specs.declared.digest_fault.DigestFault.{DigestFault}
 use Rattle.efi_images.specs.declared.digest_fault.DigestFault.TheVariants as undigested
 use Rattle.efi_images.specs.declared.signatures.ListFault.{ListFault}
@@ -151,6 +157,25 @@ frame_failure frame.BadPayload = bare 0x0808
 frame_failure (frame.Option fault) = option_failure fault
 frame_failure frame.OutOfMemory = failure.Memory
 
+abbrev pub code_view_number : CodeViewFault → ℕ
+code_view_number (code_view.EntryBeyondImage place found image_size) = 0x0B01
+code_view_number (code_view.EntryNotLoaded place) = 0x0B02
+code_view_number (code_view.BeyondImage place found image_size) = 0x0B03
+code_view_number (code_view.NotLoaded place found) = 0x0B04
+code_view_number (code_view.Size place found wanted) = 0x0B05
+
+abbrev pub resource_number : ResourceFault → ℕ
+resource_number (resource.NotLoaded place) = 0x0B06
+resource_number (resource.BeyondResources place found size) = 0x0B07
+resource_number (resource.DirectorySize place found size) = 0x0B08
+
+abbrev pub relocation_number : RelocationFault → ℕ
+relocation_number (relocation.BlockNotLoaded place) = 0x0B09
+relocation_number (relocation.BlockSize place found left) = 0x0B0A
+relocation_number (relocation.BlockAddress place found image_size) = 0x0B0B
+relocation_number (relocation.BeyondImage place found image_size) = 0x0B0C
+relocation_number (relocation.UnknownType place found) = 0x0B0D
+
 abbrev pub image_number : ImageFault → ℕ
 image_number image.Empty = 0x0901
 image_number (image.ShortDosHeader len) = 0x0902
@@ -183,6 +208,9 @@ image_number (image.SectionOverTable section table_end) = 0x091C
 image_number (image.RelocationsNotLoaded place) = 0x091D
 image_number (image.RelocationsOverflow place start size) = 0x091E
 image_number (image.RelocationsBeyondImage place start size image_size) = 0x091F
+image_number (image.CodeView f) = code_view_number f
+image_number (image.Resources f) = resource_number f
+image_number (image.Relocations f) = relocation_number f
 image_number (image.Ia32 place) = 0x0920
 image_number (image.ByteCode place) = 0x0921
 image_number (image.EntryPoint place found image_size) = 0x0922

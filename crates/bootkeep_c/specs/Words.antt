@@ -146,12 +146,31 @@ lists_word kind =
     else (if kind == 0x0A03 then Some (codes "ListsBadSignatureSize")
     else None))
 
+-- of what an image has in memory
+abbrev pub loaded_word : ℕ → Option (List ℕ)
+loaded_word kind =
+    if kind == 0x0B01 then Some (codes "ImageCodeViewEntryBeyondImage")
+    else (if kind == 0x0B02 then Some (codes "ImageCodeViewEntryNotLoaded")
+    else (if kind == 0x0B03 then Some (codes "ImageCodeViewBeyondImage")
+    else (if kind == 0x0B04 then Some (codes "ImageCodeViewNotLoaded")
+    else (if kind == 0x0B05 then Some (codes "ImageCodeViewSize")
+    else (if kind == 0x0B06 then Some (codes "ImageResourcesNotLoaded")
+    else (if kind == 0x0B07 then Some (codes "ImageResourceBeyondResources")
+    else (if kind == 0x0B08 then Some (codes "ImageResourceDirectorySize")
+    else (if kind == 0x0B09 then Some (codes "ImageRelocationBlockNotLoaded")
+    else (if kind == 0x0B0A then Some (codes "ImageRelocationBlockSize")
+    else (if kind == 0x0B0B then Some (codes "ImageRelocationBlockAddress")
+    else (if kind == 0x0B0C then Some (codes "ImageRelocationBeyondImage")
+    else (if kind == 0x0B0D then Some (codes "ImageRelocationUnknownType")
+    else None))))))))))))
+
 -- of what a file has
 unfoldable pub file_word : ℕ → Option (List ℕ)
 file_word kind =
     if kind / 0x100 == 9 then image_word kind
     else (if kind / 0x100 == 10 then lists_word kind
-    else None)
+    else (if kind / 0x100 == 11 then loaded_word kind
+    else None))
 
 -- the upper byte of its number tells of what a refusal is
 abbrev pub refusal_word : ℕ → Option (List ℕ)

@@ -6,29 +6,114 @@ ghost use Rattle.bootkeep_c.specs.Refusals.{no_place};
 ghost use Rattle.bootkeep_c.specs.Words.{word_max};
 
 use crate::limits::WORD_MAX;
-use crate::refusal::{
-    FRAME_BAD_KIND, FRAME_BAD_MAGIC, FRAME_BAD_NUMBER, FRAME_BAD_PAYLOAD, FRAME_BAD_SIZE,
-    FRAME_BAD_VERSION, FRAME_OPTION, FRAME_SHORT, FRAME_TOO_LONG, IMAGE_ARM64, IMAGE_BYTE_CODE,
-    IMAGE_CERTIFICATES_BEYOND_FILE, IMAGE_CERTIFICATES_OVERLAP, IMAGE_DEBUG_BEYOND_FILE,
-    IMAGE_DEBUG_PLACE, IMAGE_DIRECTORY_COUNT, IMAGE_DOS_SIGNATURE, IMAGE_EMPTY, IMAGE_ENTRY_POINT,
-    IMAGE_FIXED_BASE, IMAGE_HEADERS_BEYOND_FILE, IMAGE_HEADERS_BEYOND_IMAGE, IMAGE_HEADERS_SIZE,
-    IMAGE_IA32, IMAGE_IMAGE_SIZE, IMAGE_MACHINE, IMAGE_MAGIC, IMAGE_MEMORY,
-    IMAGE_OPTIONAL_HEADER_SIZE, IMAGE_OVERLAP, IMAGE_PE_PLACE, IMAGE_PE_SIGNATURE,
-    IMAGE_RELOCATIONS_BEYOND_IMAGE, IMAGE_RELOCATIONS_NOT_LOADED, IMAGE_RELOCATIONS_OVERFLOW,
-    IMAGE_RELOCATIONS_STRIPPED, IMAGE_SECTION_ALIGNMENT, IMAGE_SECTION_BEYOND_FILE,
-    IMAGE_SECTION_BEYOND_IMAGE, IMAGE_SECTION_BEYOND_MEMORY, IMAGE_SECTION_IN_HEADERS,
-    IMAGE_SECTION_OVER_TABLE, IMAGE_SHORT_DOS_HEADER, IMAGE_SUBSYSTEM, IMAGE_UNMAPPED_CODE_VIEW,
-    LISTS_BAD_LIST_SIZE, LISTS_BAD_SIGNATURE_SIZE, LISTS_CUT_HEADER, NO_KIND, NO_PLACE,
-    OPTION_EMPTY_LIST, OPTION_LIST_PAST_END, OPTION_LIST_TOO_LONG, OPTION_NO_TERMINATOR,
-    OPTION_NOT_UTF8, OPTION_NOT_UTF16, OPTION_PATH, OPTION_SHORT, OPTION_ZERO_UNIT, PATH_BAD_END,
-    PATH_BAD_LENGTH, PATH_NO_END, PATH_PAST_END, PATH_SHORT_HEADER, PUT_BAD_NAME,
-    PUT_DATA_TOO_LONG, PUT_EMPTY_DATA, SET_BAD_DATA, SET_BAD_MAGIC, SET_BAD_NAME, SET_NOT_RISING,
-    SET_TRUNCATED, STREAM_BAD_MAGIC, STREAM_BAD_VERSION, STREAM_REST, STREAM_TOO_LONG,
-    TEXT_BAD_ARGUMENT, TEXT_BAD_COUNT, TEXT_BAD_DATA, TEXT_BAD_END, TEXT_BAD_NUMBER,
-    TEXT_BAD_SEGMENT, TEXT_NOT_UTF8, TEXT_OUT_OF_RANGE, TEXT_UNKNOWN_NAME, VARS_BAD_NEXT,
-    VARS_BAD_ORDER, VARS_BAD_STATE,
-};
-use crate::status::{ABSENT, BAD_SIZE, CLOSED, DONE, NO_MEMORY, NO_ROOM, REFUSED};
+use crate::refusal::FRAME_BAD_KIND;
+use crate::refusal::FRAME_BAD_MAGIC;
+use crate::refusal::FRAME_BAD_NUMBER;
+use crate::refusal::FRAME_BAD_PAYLOAD;
+use crate::refusal::FRAME_BAD_SIZE;
+use crate::refusal::FRAME_BAD_VERSION;
+use crate::refusal::FRAME_OPTION;
+use crate::refusal::FRAME_SHORT;
+use crate::refusal::FRAME_TOO_LONG;
+use crate::refusal::IMAGE_ARM64;
+use crate::refusal::IMAGE_BYTE_CODE;
+use crate::refusal::IMAGE_CERTIFICATES_BEYOND_FILE;
+use crate::refusal::IMAGE_CERTIFICATES_OVERLAP;
+use crate::refusal::IMAGE_CODE_VIEW_BEYOND_IMAGE;
+use crate::refusal::IMAGE_CODE_VIEW_ENTRY_BEYOND_IMAGE;
+use crate::refusal::IMAGE_CODE_VIEW_ENTRY_NOT_LOADED;
+use crate::refusal::IMAGE_CODE_VIEW_NOT_LOADED;
+use crate::refusal::IMAGE_CODE_VIEW_SIZE;
+use crate::refusal::IMAGE_DEBUG_BEYOND_FILE;
+use crate::refusal::IMAGE_DEBUG_PLACE;
+use crate::refusal::IMAGE_DIRECTORY_COUNT;
+use crate::refusal::IMAGE_DOS_SIGNATURE;
+use crate::refusal::IMAGE_EMPTY;
+use crate::refusal::IMAGE_ENTRY_POINT;
+use crate::refusal::IMAGE_FIXED_BASE;
+use crate::refusal::IMAGE_HEADERS_BEYOND_FILE;
+use crate::refusal::IMAGE_HEADERS_BEYOND_IMAGE;
+use crate::refusal::IMAGE_HEADERS_SIZE;
+use crate::refusal::IMAGE_IA32;
+use crate::refusal::IMAGE_IMAGE_SIZE;
+use crate::refusal::IMAGE_MACHINE;
+use crate::refusal::IMAGE_MAGIC;
+use crate::refusal::IMAGE_MEMORY;
+use crate::refusal::IMAGE_OPTIONAL_HEADER_SIZE;
+use crate::refusal::IMAGE_OVERLAP;
+use crate::refusal::IMAGE_PE_PLACE;
+use crate::refusal::IMAGE_PE_SIGNATURE;
+use crate::refusal::IMAGE_RELOCATION_BEYOND_IMAGE;
+use crate::refusal::IMAGE_RELOCATION_BLOCK_ADDRESS;
+use crate::refusal::IMAGE_RELOCATION_BLOCK_NOT_LOADED;
+use crate::refusal::IMAGE_RELOCATION_BLOCK_SIZE;
+use crate::refusal::IMAGE_RELOCATION_UNKNOWN_TYPE;
+use crate::refusal::IMAGE_RELOCATIONS_BEYOND_IMAGE;
+use crate::refusal::IMAGE_RELOCATIONS_NOT_LOADED;
+use crate::refusal::IMAGE_RELOCATIONS_OVERFLOW;
+use crate::refusal::IMAGE_RELOCATIONS_STRIPPED;
+use crate::refusal::IMAGE_RESOURCE_BEYOND_RESOURCES;
+use crate::refusal::IMAGE_RESOURCE_DIRECTORY_SIZE;
+use crate::refusal::IMAGE_RESOURCES_NOT_LOADED;
+use crate::refusal::IMAGE_SECTION_ALIGNMENT;
+use crate::refusal::IMAGE_SECTION_BEYOND_FILE;
+use crate::refusal::IMAGE_SECTION_BEYOND_IMAGE;
+use crate::refusal::IMAGE_SECTION_BEYOND_MEMORY;
+use crate::refusal::IMAGE_SECTION_IN_HEADERS;
+use crate::refusal::IMAGE_SECTION_OVER_TABLE;
+use crate::refusal::IMAGE_SHORT_DOS_HEADER;
+use crate::refusal::IMAGE_SUBSYSTEM;
+use crate::refusal::IMAGE_UNMAPPED_CODE_VIEW;
+use crate::refusal::LISTS_BAD_LIST_SIZE;
+use crate::refusal::LISTS_BAD_SIGNATURE_SIZE;
+use crate::refusal::LISTS_CUT_HEADER;
+use crate::refusal::NO_KIND;
+use crate::refusal::NO_PLACE;
+use crate::refusal::OPTION_EMPTY_LIST;
+use crate::refusal::OPTION_LIST_PAST_END;
+use crate::refusal::OPTION_LIST_TOO_LONG;
+use crate::refusal::OPTION_NO_TERMINATOR;
+use crate::refusal::OPTION_NOT_UTF8;
+use crate::refusal::OPTION_NOT_UTF16;
+use crate::refusal::OPTION_PATH;
+use crate::refusal::OPTION_SHORT;
+use crate::refusal::OPTION_ZERO_UNIT;
+use crate::refusal::PATH_BAD_END;
+use crate::refusal::PATH_BAD_LENGTH;
+use crate::refusal::PATH_NO_END;
+use crate::refusal::PATH_PAST_END;
+use crate::refusal::PATH_SHORT_HEADER;
+use crate::refusal::PUT_BAD_NAME;
+use crate::refusal::PUT_DATA_TOO_LONG;
+use crate::refusal::PUT_EMPTY_DATA;
+use crate::refusal::SET_BAD_DATA;
+use crate::refusal::SET_BAD_MAGIC;
+use crate::refusal::SET_BAD_NAME;
+use crate::refusal::SET_NOT_RISING;
+use crate::refusal::SET_TRUNCATED;
+use crate::refusal::STREAM_BAD_MAGIC;
+use crate::refusal::STREAM_BAD_VERSION;
+use crate::refusal::STREAM_REST;
+use crate::refusal::STREAM_TOO_LONG;
+use crate::refusal::TEXT_BAD_ARGUMENT;
+use crate::refusal::TEXT_BAD_COUNT;
+use crate::refusal::TEXT_BAD_DATA;
+use crate::refusal::TEXT_BAD_END;
+use crate::refusal::TEXT_BAD_NUMBER;
+use crate::refusal::TEXT_BAD_SEGMENT;
+use crate::refusal::TEXT_NOT_UTF8;
+use crate::refusal::TEXT_OUT_OF_RANGE;
+use crate::refusal::TEXT_UNKNOWN_NAME;
+use crate::refusal::VARS_BAD_NEXT;
+use crate::refusal::VARS_BAD_ORDER;
+use crate::refusal::VARS_BAD_STATE;
+use crate::status::ABSENT;
+use crate::status::BAD_SIZE;
+use crate::status::CLOSED;
+use crate::status::DONE;
+use crate::status::NO_MEMORY;
+use crate::status::NO_ROOM;
+use crate::status::REFUSED;
 
 /// The statuses are those of the definitions.
 pub fn statuses_are_those_of_the_definitions()
@@ -135,5 +220,18 @@ pub fn numbers_of_refusals_stay()
     ensures lists_cut_header { LISTS_CUT_HEADER ≡ 0x0A01 }
     ensures lists_bad_list_size { LISTS_BAD_LIST_SIZE ≡ 0x0A02 }
     ensures lists_bad_signature_size { LISTS_BAD_SIGNATURE_SIZE ≡ 0x0A03 }
+    ensures image_code_view_entry_beyond_image { IMAGE_CODE_VIEW_ENTRY_BEYOND_IMAGE ≡ 0x0B01 }
+    ensures image_code_view_entry_not_loaded { IMAGE_CODE_VIEW_ENTRY_NOT_LOADED ≡ 0x0B02 }
+    ensures image_code_view_beyond_image { IMAGE_CODE_VIEW_BEYOND_IMAGE ≡ 0x0B03 }
+    ensures image_code_view_not_loaded { IMAGE_CODE_VIEW_NOT_LOADED ≡ 0x0B04 }
+    ensures image_code_view_size { IMAGE_CODE_VIEW_SIZE ≡ 0x0B05 }
+    ensures image_resources_not_loaded { IMAGE_RESOURCES_NOT_LOADED ≡ 0x0B06 }
+    ensures image_resource_beyond_resources { IMAGE_RESOURCE_BEYOND_RESOURCES ≡ 0x0B07 }
+    ensures image_resource_directory_size { IMAGE_RESOURCE_DIRECTORY_SIZE ≡ 0x0B08 }
+    ensures image_relocation_block_not_loaded { IMAGE_RELOCATION_BLOCK_NOT_LOADED ≡ 0x0B09 }
+    ensures image_relocation_block_size { IMAGE_RELOCATION_BLOCK_SIZE ≡ 0x0B0A }
+    ensures image_relocation_block_address { IMAGE_RELOCATION_BLOCK_ADDRESS ≡ 0x0B0B }
+    ensures image_relocation_beyond_image { IMAGE_RELOCATION_BEYOND_IMAGE ≡ 0x0B0C }
+    ensures image_relocation_unknown_type { IMAGE_RELOCATION_UNKNOWN_TYPE ≡ 0x0B0D }
     ensures no_place { NO_PLACE ≡ no_place }
 {}

@@ -20,6 +20,7 @@ mod keeper_reply;
 pub mod laws;
 mod limits;
 mod lists;
+mod loaded_word;
 mod making;
 mod named;
 mod named_path;

@@ -264,6 +264,45 @@ pub const LISTS_BAD_LIST_SIZE: u32 = 0x0A02;
 /// [`ListFault::BadSignatureSize`](efi_images::ListFault::BadSignatureSize).
 pub const LISTS_BAD_SIGNATURE_SIZE: u32 = 0x0A03;
 
+/// [`CodeViewFault::EntryBeyondImage`](efi_images::CodeViewFault::EntryBeyondImage).
+pub const IMAGE_CODE_VIEW_ENTRY_BEYOND_IMAGE: u32 = 0x0B01;
+
+/// [`CodeViewFault::EntryNotLoaded`](efi_images::CodeViewFault::EntryNotLoaded).
+pub const IMAGE_CODE_VIEW_ENTRY_NOT_LOADED: u32 = 0x0B02;
+
+/// [`CodeViewFault::BeyondImage`](efi_images::CodeViewFault::BeyondImage).
+pub const IMAGE_CODE_VIEW_BEYOND_IMAGE: u32 = 0x0B03;
+
+/// [`CodeViewFault::NotLoaded`](efi_images::CodeViewFault::NotLoaded).
+pub const IMAGE_CODE_VIEW_NOT_LOADED: u32 = 0x0B04;
+
+/// [`CodeViewFault::Size`](efi_images::CodeViewFault::Size).
+pub const IMAGE_CODE_VIEW_SIZE: u32 = 0x0B05;
+
+/// [`ResourceFault::NotLoaded`](efi_images::ResourceFault::NotLoaded).
+pub const IMAGE_RESOURCES_NOT_LOADED: u32 = 0x0B06;
+
+/// [`ResourceFault::BeyondResources`](efi_images::ResourceFault::BeyondResources).
+pub const IMAGE_RESOURCE_BEYOND_RESOURCES: u32 = 0x0B07;
+
+/// [`ResourceFault::DirectorySize`](efi_images::ResourceFault::DirectorySize).
+pub const IMAGE_RESOURCE_DIRECTORY_SIZE: u32 = 0x0B08;
+
+/// [`RelocationFault::BlockNotLoaded`](efi_images::RelocationFault::BlockNotLoaded).
+pub const IMAGE_RELOCATION_BLOCK_NOT_LOADED: u32 = 0x0B09;
+
+/// [`RelocationFault::BlockSize`](efi_images::RelocationFault::BlockSize).
+pub const IMAGE_RELOCATION_BLOCK_SIZE: u32 = 0x0B0A;
+
+/// [`RelocationFault::BlockAddress`](efi_images::RelocationFault::BlockAddress).
+pub const IMAGE_RELOCATION_BLOCK_ADDRESS: u32 = 0x0B0B;
+
+/// [`RelocationFault::BeyondImage`](efi_images::RelocationFault::BeyondImage).
+pub const IMAGE_RELOCATION_BEYOND_IMAGE: u32 = 0x0B0C;
+
+/// [`RelocationFault::UnknownType`](efi_images::RelocationFault::UnknownType).
+pub const IMAGE_RELOCATION_UNKNOWN_TYPE: u32 = 0x0B0D;
+
 /// Why a call refuses: `struct bootkeep_refusal`.
 #[repr(C)]
 #[derive(Clone, Copy, Debug, PartialEq, Eq)]

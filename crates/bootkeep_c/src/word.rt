@@ -3,9 +3,10 @@
 ghost use Rattle.std.specs.Prelude.{◌≡◌, ◌≤◌, ◌<◌, length, IfSome};
 ghost use Rattle.std.specs.Option.{option_map};
 ghost use Rattle.bootkeep_c.specs.Status.{no_room};
-ghost use Rattle.bootkeep_c.specs.Words.{word_max, status_word, refusal_word, path_word, text_word, option_word, set_word, vars_word, put_word, stream_word, frame_word, image_word, lists_word, file_word, outcome_word, GivesWord};
+ghost use Rattle.bootkeep_c.specs.Words.{word_max, status_word, refusal_word, path_word, text_word, option_word, set_word, vars_word, put_word, stream_word, frame_word, image_word, lists_word, loaded_word, file_word, outcome_word, GivesWord};
 
 use crate::buffer::give;
+use crate::loaded_word::word_of_loaded;
 use crate::refusal::FRAME_BAD_KIND;
 use crate::refusal::FRAME_BAD_MAGIC;
 use crate::refusal::FRAME_BAD_NUMBER;
@@ -208,6 +209,7 @@ fn word_of_file(kind: u32) -> Option<&'static str>
     match kind / 0x100 {
         9 => word_of_image(kind),
         10 => word_of_lists(kind),
+        11 => word_of_loaded(kind),
         _ => None,
     }
 }

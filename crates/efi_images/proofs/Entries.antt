@@ -2,7 +2,7 @@
 use Rattle.std.proofs.Common.{◌≡◌, refl, ℕ, suc, ◌+◌, ◌-◌, ◌<◌, ◌≤◌, Bool, true, false, not, nat_le, List, ◌∷◌, [], length, Option, Some, None, if◌then◌else◌, sym, ◌∙◌, ap, arith}
 use Rattle.efi_images.specs.Headers.{section_count}
 use Rattle.efi_images.specs.Check.{check, first_fault}
-use Rattle.efi_images.specs.Debug.{has_address, file_place, is_code_view, is_unmapped, debug_entry_checks}
+use Rattle.efi_images.specs.Debug.{has_address, file_place, is_code_view, is_unmapped, debug_entry_checks, first_code_view}
 use Rattle.efi_images.specs.declared.section.Section.{Section}
 use Rattle.efi_images.specs.declared.fault.ImageFault.{ImageFault}
 use Rattle.efi_images.specs.declared.fault.ImageFault.TheVariants as fault
@@ -16,9 +16,9 @@ place_here file index address s e below has =
     ∙ ap (λ b. if b then ((address - s.virtual_address) + s.raw_place) else file_place (from file (index + 1)) address) has
 
 -- it hasn't, so the address is in one after it
-pub place_behind : (file : List ℕ) (index address : ℕ) (s : Section) → s ≡ section_of file index → index < section_count file
+pub place_after : (file : List ℕ) (index address : ℕ) (s : Section) → s ≡ section_of file index → index < section_count file
     → has_address s address ≡ false → file_place (from file index) address ≡ file_place (from file (index + 1)) address
-place_behind file index address s e below has =
+place_after file index address s e below has =
     ap (λ all. file_place all address) (from_this file index s e below)
     ∙ ap (λ b. if b then ((address - s.virtual_address) + s.raw_place) else file_place (from file (index + 1)) address) has
 
@@ -76,3 +76,10 @@ entry_code_view file place more e = rw e refl
 pub entry_other : (file : List ℕ) (place more : ℕ) → is_code_view file place ≡ false
     → told_of_entry file place more ≡ first_fault (debug_entry_checks file (place + 28) more)
 entry_other file place more e = rw e refl
+
+-- the entry at this offset is of other data, so the first of CodeView data is after it
+pub code_view_after : (file : List ℕ) (place count counter : ℕ) → counter < count → is_code_view file place ≡ false
+    → first_code_view file place (count - counter) ≡ first_code_view file (place + 28) (count - (counter + 1))
+code_view_after file place count counter below other =
+    let e : count - counter ≡ suc (count - (counter + 1)) = omega arith in
+    rw e (rw other refl)

@@ -1,6 +1,9 @@
 pub mod Firsts
 pub mod Rows
 pub mod Entries
+pub mod Written
+pub mod Blocks
+pub mod Names
 pub mod Told
 pub mod Passing
 pub mod Sums
@@ -10,3 +13,6 @@ pub mod Whole
 pub mod Among
 pub mod Answered
 pub mod Allowing
+pub mod Alike
+pub mod Bundles
+pub mod Leading

@@ -3,10 +3,13 @@ use Rattle.std.proofs.Common.{◌≡◌, refl, ℕ, ◌+◌, ◌<◌, ◌≤◌,
 use Rattle.std.specs.Option.{option_or}
 use Rattle.std.specs.List.{AllByRecursion, flat_map}
 use Rattle.efi_images.specs.Headers.{HasHeaders, machine, table_end, headers_size, image_size, entry_point, directory_count, directory_start, directory_size}
-use Rattle.efi_images.specs.Sections.{sections}
+use Rattle.efi_images.specs.Sections.{sections, written_size}
 use Rattle.efi_images.specs.Check.{Check, first_fault}
 use Rattle.efi_images.specs.Debug.{debug_checks}
-use Rattle.efi_images.specs.Checks.{memory_size, written_size, signature_checks, kind_checks, directory_checks, size_checks, table_checks, section_checks, memory_checks, loading_checks, relocation_checks, start_checks, boot_manager_checks, form_checks, file_checks, loader_checks, image_checks}
+use Rattle.efi_images.specs.CodeView.{code_view_checks}
+use Rattle.efi_images.specs.Resources.{resource_checks}
+use Rattle.efi_images.specs.Relocations.{block_checks}
+use Rattle.efi_images.specs.Checks.{memory_size, signature_checks, kind_checks, directory_checks, size_checks, table_checks, section_checks, memory_checks, loading_checks, relocation_checks, start_checks, boot_manager_checks, form_checks, file_checks, loader_checks, image_checks}
 use Rattle.efi_images.specs.InPlace.{IsInFile, IsInMemory, IsInPlace}
 use Rattle.efi_images.specs.declared.section.Section.{Section}
 use Rattle.efi_images.specs.declared.fault.ImageFault.{ImageFault}
@@ -30,7 +33,7 @@ within_of : (written end most : ℕ) → (written == 0 || nat_le end most) ≡ t
 within_of written end most e some = grind arith
 
 pub in_file : (file : List ℕ) (s : Section) → first_fault (section_checks file s) ≡ None → IsInFile file s
-in_file file s e = record { behind = λ some. grind arith; within = λ some. grind arith }
+in_file file s e = record { after = λ some. grind arith; within = λ some. grind arith }
 
 pub in_memory : (file : List ℕ) (s : Section) → first_fault (loading_checks file s) ≡ None → IsInMemory file s
 in_memory file s e =
@@ -93,8 +96,14 @@ passes file none =
     let rows = parts (directory_checks file ++ size_checks file ++ table_checks file) in_file debug.0 in
     let table = parts (directory_checks file ++ size_checks file) (table_checks file) rows.0 in
     let size = parts (directory_checks file) (size_checks file) table.0 in
-    let moved = parts (memory_checks file ++ in_memory) (relocation_checks file) loader.1 in
-    let loading = parts (memory_checks file) in_memory moved.0 in
+    let blocks =
+    parts (memory_checks file ++ in_memory ++ code_view_checks file ++ resource_checks file ++ relocation_checks file)
+    (block_checks file) loader.1 in
+    let moved =
+    parts (memory_checks file ++ in_memory ++ code_view_checks file ++ resource_checks file) (relocation_checks file) blocks.0 in
+    let resources = parts (memory_checks file ++ in_memory ++ code_view_checks file) (resource_checks file) moved.0 in
+    let code_view = parts (memory_checks file ++ in_memory) (code_view_checks file) resources.0 in
+    let loading = parts (memory_checks file) in_memory code_view.0 in
     record {
       signatures = boot.0;
       size = size.1;

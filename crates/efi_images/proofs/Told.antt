@@ -12,13 +12,13 @@ AllHold checks = AllByRecursion (λ (c : Check). IsTrue c.holds) checks
 
 -- ---- from what is told
 
-behind : (c : Check) (others : List Check) (fault : ImageFault) → IsTrue c.holds → Told others fault → Told (c ∷ others) fault
-behind c others fault holds t =
+after : (c : Check) (others : List Check) (fault : ImageFault) → IsTrue c.holds → Told others fault → Told (c ∷ others) fault
+after c others fault holds t =
     (t.0, record { front = c ∷ t.1.front; back = t.1.back; is = ap (λ all. c ∷ all) t.1.is; held = (holds, t.1.held); fails = t.1.fails }, t.2)
 
 told_here : (c : Check) (others : List Check) (fault : ImageFault) → (first_fault others ≡ Some fault → Told others fault)
     → (h : Bool) → c.holds ≡ h → (if h then first_fault others else Some c.otherwise) ≡ Some fault → Told (c ∷ others) fault
-told_here c others fault more true e told = behind c others fault e (more told)
+told_here c others fault more true e told = after c others fault e (more told)
 told_here c others fault more false e told =
     (c, record { front = []; back = others; is = refl; held = tt; fails = e }, grind arith)
 
@@ -28,13 +28,13 @@ told_of (c ∷ others) fault told = told_here c others fault (told_of others fau
 
 -- ---- to what is told
 
-pub first_behind : (front back : List Check) (c : Check) → AllHold front → IsFalse c.holds → first_fault (front ++ c ∷ back) ≡ Some c.otherwise
-first_behind [] back c held fails = rw fails refl
-first_behind (d ∷ front) back c held fails = let h : d.holds ≡ true = held.0 in rw h (first_behind front back c held.1 fails)
+pub first_after : (front back : List Check) (c : Check) → AllHold front → IsFalse c.holds → first_fault (front ++ c ∷ back) ≡ Some c.otherwise
+first_after [] back c held fails = rw fails refl
+first_after (d ∷ front) back c held fails = let h : d.holds ≡ true = held.0 in rw h (first_after front back c held.1 fails)
 
 pub told_from : (checks : List Check) (fault : ImageFault) → Told checks fault → first_fault checks ≡ Some fault
 told_from checks fault t =
-    let e = t.1.is in let f = t.2 in rw e (rw (first_behind t.1.front t.1.back t.0 t.1.held t.1.fails) (ap (λ x. Some x) f))
+    let e = t.1.is in let f = t.2 in rw e (rw (first_after t.1.front t.1.back t.0 t.1.held t.1.fails) (ap (λ x. Some x) f))
 
 -- ---- none
 

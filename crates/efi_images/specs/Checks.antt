@@ -3,7 +3,10 @@ use Rattle.std.specs.Prelude.{ℕ, ◌+◌, ◌*◌, ◌/◌, ◌%◌, ◌==◌,
 use Rattle.std.specs.List.{flat_map}
 use Rattle.efi_images.specs.Bytes.{u16_at, u32_at}
 use Rattle.efi_images.specs.Headers.{pe_place, machine, section_count, optional_size, is_stripped, magic, entry_point, base_offset, image_base, alignment, image_size, headers_size, subsystem, fixed_size, count_place, directory_count, directory_place, directory_start, directory_size, table_place, table_end}
-use Rattle.efi_images.specs.Sections.{sections}
+use Rattle.efi_images.specs.Sections.{sections, copied_size, written_size}
+use Rattle.efi_images.specs.CodeView.{code_view_checks}
+use Rattle.efi_images.specs.Resources.{resource_checks}
+use Rattle.efi_images.specs.Relocations.{has_relocations, block_checks}
 use Rattle.efi_images.specs.Debug.{debug_checks}
 use Rattle.efi_images.specs.Check.{Check, check}
 use Rattle.efi_images.specs.declared.section.Section.{Section}
@@ -100,7 +103,7 @@ memory_size file = in_pages (image_size file + (if nat_lt 4096 (alignment file) 
 
 -- the most memory that is taken for granted
 abbrev pub memory_max : ℕ
-memory_max = 67108864
+memory_max = 536870912
 
 unfoldable pub memory_checks : List ℕ → List Check
 memory_checks file =
@@ -112,14 +115,6 @@ memory_checks file =
     ∷ []
 
 -- ---- the loader: where sections are in memory
-
--- how many bytes of a section are copied: no more than it has in memory, but all of them if VirtualSize is 0
-abbrev pub copied_size : Section → ℕ
-copied_size s = if s.virtual_size == 0 || nat_lt s.raw_size s.virtual_size then s.raw_size else s.virtual_size
-
--- how many bytes of memory are written for a section: those that are copied, and zeros after them
-abbrev pub written_size : Section → ℕ
-written_size s = max (copied_size s) s.virtual_size
 
 -- the last address of a section, a number of four bytes
 abbrev pub last_address : Section → ℕ
@@ -136,10 +131,6 @@ loading_checks file s =
     ∷ []
 
 -- ---- the loader: relocations
-
--- firmware looks at directory 5 if there are five, which are directories 0 to 4
-abbrev pub has_relocations : List ℕ → Bool
-has_relocations file = nat_le 5 (directory_count file) && not (directory_size file 5 == 0)
 
 unfoldable pub relocation_checks : List ℕ → List Check
 relocation_checks file =
@@ -182,7 +173,10 @@ unfoldable pub loader_checks : List ℕ → List Check
 loader_checks file =
     memory_checks file
     ++ flat_map (loading_checks file) (sections file)
+    ++ code_view_checks file
+    ++ resource_checks file
     ++ relocation_checks file
+    ++ block_checks file
 
 unfoldable pub image_checks : List ℕ → List Check
 image_checks file = boot_manager_checks file ++ file_checks file ++ loader_checks file ++ start_checks file

@@ -1,5 +1,5 @@
 -- The debug directory (PE/COFF, 6.1.1), as a loader looks for it in the file.
-use Rattle.std.specs.Prelude.{ℕ, zero, suc, ◌+◌, ◌-◌, ◌/◌, ◌%◌, ◌==◌, ◌&&◌, Bool, not, nat_le, nat_lt, List, [], ◌∷◌, length, if◌then◌else◌}
+use Rattle.std.specs.Prelude.{ℕ, zero, suc, ◌+◌, ◌-◌, ◌/◌, ◌%◌, ◌==◌, ◌&&◌, Bool, not, nat_le, nat_lt, List, [], ◌∷◌, length, Option, Some, None, if◌then◌else◌}
 use Rattle.efi_images.specs.Bytes.{u32_at}
 use Rattle.efi_images.specs.Headers.{directory_start, directory_size, directory_count, directory_place}
 use Rattle.efi_images.specs.Sections.{sections}
@@ -48,3 +48,14 @@ debug_checks file =
     if debug_place file == 0 then []
     else check (nat_lt (debug_place file) 4294967296) (fault.DebugPlace (directory_place file 6) (debug_place file))
     ∷ debug_entry_checks file (debug_place file) (debug_count file)
+
+-- ---- the entry of CodeView data
+
+-- of so many entries from this offset on, where the first of CodeView data is
+abbrev pub first_code_view : List ℕ → ℕ → ℕ → Option ℕ
+first_code_view file place zero = None
+first_code_view file place (suc count) = if is_code_view file place then Some place else first_code_view file (place + 28) count
+
+-- where that of the debug directory is
+unfoldable pub code_view_place : List ℕ → Option ℕ
+code_view_place file = if debug_place file == 0 then None else first_code_view file (debug_place file) (debug_count file)

@@ -2,13 +2,13 @@
 use Rattle.std.specs.Prelude.{◌≡◌, ℕ, ◌+◌, ◌<◌, ◌≤◌, List, length}
 use Rattle.std.specs.List.{AllByRecursion}
 use Rattle.efi_images.specs.Headers.{HasHeaders, machine, image_size, headers_size, entry_point, directory_count, directory_start, directory_size, table_end}
-use Rattle.efi_images.specs.Sections.{sections}
-use Rattle.efi_images.specs.Checks.{memory_size, written_size}
+use Rattle.efi_images.specs.Sections.{sections, written_size}
+use Rattle.efi_images.specs.Checks.{memory_size}
 use Rattle.efi_images.specs.declared.section.Section.{Section}
 
 -- the bytes that a section has in the file, if it has some, are there, and after the headers
 pub record IsInFile (file : List ℕ) (s : Section) : Type 0 where
-  pub behind : 0 < s.raw_size → headers_size file ≤ s.raw_place
+  pub after : 0 < s.raw_size → headers_size file ≤ s.raw_place
   pub within : 0 < s.raw_size → s.raw_place + s.raw_size ≤ length file
 
 -- what is written for a section, if it is anything, is in the memory that is taken for the image

@@ -10,5 +10,14 @@ pub mod SecureBoot
 pub mod Bytes
 pub mod Headers
 pub mod Sections
+pub mod Loaded
 pub mod Debug
+pub mod CodeView
+pub mod Resources
+pub mod Relocations
 pub mod Check
+pub mod Der
+pub mod Names
+pub mod X509
+pub mod Signers
+pub mod Leads

@@ -23,8 +23,8 @@ pub enum Verdict {
 pub enum SecureBootAnswer {
     /// Secure Boot is off, so it isn't asked.
     NotAsked,
-    /// The image has no digest, by which Secure Boot tells of it. Of one whose headers and sections overlap firmware makes a
-    /// digest with some bytes twice, which is not told.
+    /// The image has no digest, by which Secure Boot tells of it. Of one whose headers and sections overlap firmware
+    /// makes a digest with some bytes twice, which is not told.
     NoDigest(DigestFault),
     /// A certificate of the image isn't whole.
     BadCertificates {
@@ -43,10 +43,29 @@ pub enum SecureBootAnswer {
     InDb,
     /// The image isn't signed, and db doesn't have its digest.
     NotSigned,
-    /// The image is signed, and db has no certificate and not its digest.
+    /// The image is signed, but by none whom db has: by its names none of the certificates that its signatures have
+    /// with them is one of db's, or is issued by one of db's. db doesn't have its digest either.
     NotInDb,
-    /// The image is signed, and only the check of its signatures tells whether db allows it and dbx doesn't deny it. They
-    /// are not looked at: `sbverify` checks them.
+    /// The image is signed, and of the certificates of db its signatures may lead to none but such as dbx has too. db
+    /// doesn't have its digest. Lists of db, and certificates in a list, are counted from 0.
+    SignerInDbx {
+        /// The list of db with the first of these certificates.
+        list: usize,
+        /// Which of the list's it is.
+        entry: usize,
+    },
+    /// The image is signed, and by their names its certificates lead to one of db. Only the check of the signatures
+    /// tells whether db allows it and dbx doesn't deny it, and their values are not looked at: `sbverify --cert` checks
+    /// them by that certificate. Lists of db, and certificates in a list, are counted from 0.
+    SignedBy {
+        /// The list of db with the first certificate to which they may lead, and that dbx doesn't have.
+        list: usize,
+        /// Which of the list's it is.
+        entry: usize,
+    },
+    /// The image is signed, and it isn't told to which certificate of db, since its certificates or one of db's aren't
+    /// read, or since db has its digest, or digests by another hash. Only the check of its signatures tells whether db
+    /// allows it and dbx doesn't deny it: `sbverify` makes it.
     Signed,
 }
 
@@ -61,6 +80,7 @@ impl SecureBootAnswer {
                 Verdict::Undecided,
             SecureBootAnswer::NoDigest(DigestFault::Overlap { .. }) => Verdict::Undecided,
             SecureBootAnswer::Signed => Verdict::Undecided,
+            SecureBootAnswer::SignedBy { .. } => Verdict::Undecided,
             _ => Verdict::Denied,
         }
     }
@@ -85,7 +105,15 @@ impl fmt::Display for SecureBootAnswer {
             ),
             SecureBootAnswer::NotInDb => write!(
                 f,
-                "it is signed, and db has no certificate and not its digest"
+                "it is signed, but by none whom db has, and db doesn't have its digest"
+            ),
+            SecureBootAnswer::SignerInDbx { list, entry } => write!(
+                f,
+                "it is signed, at best by certificate {entry} of list {list} of db, which dbx has too"
+            ),
+            SecureBootAnswer::SignedBy { list, entry } => write!(
+                f,
+                "it is signed, perhaps by certificate {entry} of list {list} of db, and its signatures are not looked at"
             ),
             SecureBootAnswer::Signed => write!(
                 f,

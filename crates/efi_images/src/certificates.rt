@@ -84,7 +84,7 @@ pub(crate) fn certificate_table<'a>(headers: &Headers<'a>) -> &'a [u8]
 
 /// Whether the certificate at this offset has bytes after its headers, and it and those up to the next one are in the table.
 #[tactic(auto, unfolding(crate::specs::Certificates::is_whole))]
-fn is_whole(table: &[u8], place: usize) -> bool
+pub(crate) fn is_whole(table: &[u8], place: usize) -> bool
     requires { place ≤ length table.now }
     ensures { result ≡ is_whole table.now place }
 {
@@ -100,7 +100,7 @@ fn is_whole(table: &[u8], place: usize) -> bool
 }
 
 /// How many bytes the certificate at this offset has up to the next one, which begins at a multiple of 8.
-fn padded_len(table: &[u8], place: usize) -> usize
+pub(crate) fn padded_len(table: &[u8], place: usize) -> usize
     requires { place + 8 ≤ length table.now }
     ensures len { result ≡ padded_len table.now place }
     ensures bound { result < 2 ^ 33 }
@@ -110,7 +110,7 @@ fn padded_len(table: &[u8], place: usize) -> usize
 
 /// The signature in the certificate at this offset; none if it is of another form.
 #[tactic(auto, using(crate::proofs::Whole::within, crate::proofs::Whole::plain_len, crate::proofs::Whole::guid_len), unfolding(crate::specs::Certificates::signature_bytes))]
-fn signature_bytes(table: &[u8], place: usize) -> &[u8]
+pub(crate) fn signature_bytes(table: &[u8], place: usize) -> &[u8]
     requires { IsTrue (is_whole table.now place) }
     ensures { result.now ≡ signature_bytes table.now place }
 {
@@ -128,7 +128,7 @@ fn signature_bytes(table: &[u8], place: usize) -> &[u8]
 
 /// How an image with this signature is signed.
 #[tactic(auto, unfolding(crate::specs::Certificates::signing_of))]
-fn signing_of(signature: &[u8]) -> Signing
+pub(crate) fn signing_of(signature: &[u8]) -> Signing
     ensures { result ≡ signing_of signature.now }
 {
     if is_of_hash(signature, SHA256.as_slice()) {

@@ -5,14 +5,18 @@ ghost use Rattle.std.specs.Result.{result_err};
 ghost use Rattle.efi_images.specs.Headers.{HasHeaders};
 ghost use Rattle.efi_images.specs.Sections.{HasTable, sections};
 ghost use Rattle.efi_images.specs.Check.{first_fault};
+ghost use Rattle.efi_images.specs.Debug.{code_view_place};
 ghost use Rattle.efi_images.specs.Checks.{signature_checks, kind_checks, boot_manager_checks, form_checks, file_checks, loader_checks, image_checks};
 
 use crate::bytes::{u16_at, u32_at};
+use crate::code_view::check_code_view;
 use crate::debug::check_debug;
 use crate::fault::ImageFault;
 use crate::headers::{DOS_LEN, Headers, PE_LEN, PE_PLACE, PE32, PE32_PLUS};
 use crate::loader::{check_directories, check_sections, check_sizes, check_table};
-use crate::loading::{check_loading, check_memory, check_relocations};
+use crate::loading::{check_loading, check_memory};
+use crate::relocations::{check_blocks, check_relocations};
+use crate::resources::check_resources;
 use crate::start::check_start;
 use crate::wanted::wanted;
 
@@ -27,8 +31,10 @@ const APPLICATION: u16 = 10;
 
 /// Makes the checks that EDK2's firmware for x86-64 makes of a file's headers before it starts it, in firmware's order:
 /// the boot manager's, LoadImage's (UEFI 2.10, 7.4.1) and StartImage's (UEFI 2.10, 7.4.2). `Ok` says that each of them
-/// holds. They are all but those of names in CodeView data, of the resource directory, of blocks of relocations and of
-/// signatures.
+/// holds. They are all but those of signatures.
+///
+/// What the loader reads in memory - CodeView data, the resource directory, the blocks of relocations - is told from the
+/// file: it is undecided where that is in no section, or in several. What a relocation changes isn't followed.
 ///
 /// # Errors
 ///
@@ -39,8 +45,8 @@ pub fn check_image(file: &[u8]) -> Result<(), ImageFault>
     ensures { result_err result ≡ first_fault (image_checks file.now) }
 {
     let headers = check_boot_manager(file)?;
-    check_file(&headers)?;
-    check_loader(&headers)?;
+    let code_view = check_file(&headers)?;
+    check_loader(&headers, code_view)?;
     check_start(&headers)
 }
 
@@ -55,11 +61,13 @@ pub(crate) fn check_boot_manager(file: &[u8]) -> Result<Headers<'_>, ImageFault>
     Ok(headers)
 }
 
-/// What the loader asks before it takes memory: where things are in the file.
+/// What the loader asks before it takes memory: where things are in the file. Gives where the debug entry of CodeView data
+/// is.
 #[tactic(auto, using(crate::proofs::Firsts::first_fault_append), unfolding(crate::specs::Checks::file_checks))]
-fn check_file(headers: &Headers<'_>) -> Result<(), ImageFault>
+fn check_file(headers: &Headers<'_>) -> Result<Option<usize>, ImageFault>
     ensures fault { result_err result ≡ first_fault (file_checks headers.now) }
     ensures table { IfOk result (λ _. HasTable headers.now) }
+    ensures entry { IfOk result (λ entry. entry ≡ code_view_place headers.now) }
 {
     check_form(headers)?;
     check_debug(headers)
@@ -80,13 +88,17 @@ pub(crate) fn check_form(headers: &Headers<'_>) -> Result<(), ImageFault>
 
 /// What the loader asks then: where things are in memory.
 #[tactic(auto, using(crate::proofs::Firsts::first_fault_append), unfolding(crate::specs::Checks::loader_checks))]
-fn check_loader(headers: &Headers<'_>) -> Result<(), ImageFault>
-    requires { HasTable headers.now }
+fn check_loader(headers: &Headers<'_>, code_view: Option<usize>) -> Result<(), ImageFault>
+    requires table { HasTable headers.now }
+    requires entry { code_view ≡ code_view_place headers.now }
     ensures { result_err result ≡ first_fault (loader_checks headers.now) }
 {
     check_memory(headers)?;
     check_loading(headers)?;
-    check_relocations(headers)
+    check_code_view(headers, code_view)?;
+    check_resources(headers)?;
+    check_relocations(headers)?;
+    check_blocks(headers)
 }
 
 /// The headers, if the file has the signatures that the boot manager looks for, and bytes for the headers.

@@ -1,10 +1,10 @@
 //! The debug directory (PE/COFF, 6.1.1), as the loader looks for it in the file.
 
-ghost use Rattle.std.specs.Prelude.{◌≡◌, ◌+◌, ◌<◌, ◌≤◌, ◌^◌, length};
+ghost use Rattle.std.specs.Prelude.{◌≡◌, ◌+◌, ◌<◌, ◌≤◌, ◌^◌, IfOk, length};
 ghost use Rattle.std.specs.Result.{result_err};
 ghost use Rattle.efi_images.specs.Sections.{HasTable, sections};
 ghost use Rattle.efi_images.specs.Check.{first_fault};
-ghost use Rattle.efi_images.specs.Debug.{debug_checks, debug_entry_checks, debug_place, debug_count, file_place, has_address, is_code_view, is_unmapped};
+ghost use Rattle.efi_images.specs.Debug.{debug_checks, debug_entry_checks, debug_place, debug_count, file_place, has_address, is_code_view, is_unmapped, first_code_view, code_view_place};
 
 use crate::bytes::u32_at;
 use crate::fault::ImageFault;
@@ -13,10 +13,10 @@ use crate::section::Section;
 use crate::wanted::wanted;
 
 /// The index of the debug directory.
-const DEBUG: usize = 6;
+pub(crate) const DEBUG: usize = 6;
 
 /// How many bytes one of its entries has.
-const ENTRY_LEN: usize = 28;
+pub(crate) const ENTRY_LEN: usize = 28;
 
 /// The type of an entry of CodeView data.
 const CODE_VIEW: u32 = 2;
@@ -25,15 +25,16 @@ const CODE_VIEW: u32 = 2;
 const PLACES: usize = 0x1_0000_0000;
 
 /// That the entries of the debug directory are in the file, up to the first of CodeView data, and that these are in a
-/// section.
-#[tactic(auto, unfolding(crate::specs::Debug::debug_checks))]
-pub(crate) fn check_debug(headers: &Headers<'_>) -> Result<(), ImageFault>
+/// section. Gives where that entry is in the file.
+#[tactic(auto, unfolding(crate::specs::Debug::debug_checks, crate::specs::Debug::code_view_place))]
+pub(crate) fn check_debug(headers: &Headers<'_>) -> Result<Option<usize>, ImageFault>
     requires { HasTable headers.now }
-    ensures { result_err result ≡ first_fault (debug_checks headers.now) }
+    ensures fault { result_err result ≡ first_fault (debug_checks headers.now) }
+    ensures entry { IfOk result (λ entry. entry ≡ code_view_place headers.now) }
 {
     let found = debug_place(headers);
     if found == 0 {
-        return Ok(());
+        return Ok(None);
     }
     wanted(
         found < PLACES,
@@ -47,9 +48,10 @@ pub(crate) fn check_debug(headers: &Headers<'_>) -> Result<(), ImageFault>
 }
 
 /// The same of so many entries from this offset on.
-fn check_entries(file: &[u8], start: usize, count: usize) -> Result<(), ImageFault>
+fn check_entries(file: &[u8], start: usize, count: usize) -> Result<Option<usize>, ImageFault>
     requires { start < 2 ^ 32 }
-    ensures { result_err result ≡ first_fault (debug_entry_checks file.now start count) }
+    ensures fault { result_err result ≡ first_fault (debug_entry_checks file.now start count) }
+    ensures entry { IfOk result (λ entry. entry ≡ first_code_view file.now start count) }
 {
     let len = file.len();
     let mut place = start;
@@ -59,14 +61,15 @@ fn check_entries(file: &[u8], start: usize, count: usize) -> Result<(), ImageFau
             ImageFault::DebugBeyondFile { place, len },
         )?;
         if is_code_view(file, place) {
-            return wanted(
+            wanted(
                 !is_unmapped(file, place),
                 ImageFault::UnmappedCodeView { place },
-            );
+            )?;
+            return Ok(Some(place));
         }
         place += ENTRY_LEN;
     }
-    Ok(())
+    Ok(None)
 }
 
 /// Whether the entry at this offset is of CodeView data.
@@ -87,7 +90,7 @@ fn is_unmapped(file: &[u8], place: usize) -> bool
 
 /// Where the entries begin in the file, or 0 if they are in no section, or there is no debug directory.
 #[tactic(auto, unfolding(crate::specs::Debug::debug_place))]
-fn debug_place(headers: &Headers<'_>) -> usize
+pub(crate) fn debug_place(headers: &Headers<'_>) -> usize
     requires { HasTable headers.now }
     ensures place { result ≡ debug_place headers.now }
     ensures bound { result < 2 ^ 33 }

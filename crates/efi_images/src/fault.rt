@@ -1,9 +1,8 @@
 //! What isn't in an image as firmware wants it.
 
-ghost use Rattle.std.specs.Prelude.{◌≡◌};
-ghost use Rattle.efi_images.specs.Words.{stage_of, effect_of, place_of};
-
-use crate::headers::PE_PLACE;
+use crate::code_view_fault::CodeViewFault;
+use crate::relocation_fault::RelocationFault;
+use crate::resource_fault::ResourceFault;
 use crate::section::Section;
 use thiserror::Error;
 
@@ -203,8 +202,8 @@ pub enum ImageFault {
         /// The place of Machine.
         place: usize,
     },
-    /// The image takes more memory than is taken for granted, 64 MiB.
-    #[error("SizeOfImage at offset {place:#x} takes {found:#x} bytes in one piece, wanted 0x4000000 at most")]
+    /// The image takes more memory than is taken for granted, 512 MiB.
+    #[error("SizeOfImage at offset {place:#x} takes {found:#x} bytes in one piece, wanted 0x20000000 at most")]
     Memory {
         /// The place of SizeOfImage.
         place: usize,
@@ -255,6 +254,12 @@ pub enum ImageFault {
         /// Where the section table ends.
         table_end: usize,
     },
+    /// The CodeView data aren't in memory, or are cut.
+    #[error("{0}")]
+    CodeView(CodeViewFault),
+    /// The resources aren't in memory, or what leads from one to another leads out of them.
+    #[error("{0}")]
+    Resources(ResourceFault),
     /// The directory of relocations is the first after those that there are, and isn't in the headers.
     #[error("directory 5 at offset {place:#x} is after the headers, wanted in them")]
     RelocationsNotLoaded {
@@ -283,6 +288,9 @@ pub enum ImageFault {
         /// What SizeOfImage is.
         image_size: u32,
     },
+    /// A block of relocations isn't in memory, or isn't one that firmware goes through.
+    #[error("{0}")]
+    Relocations(RelocationFault),
     /// The image is one for IA32, which is loaded and not started.
     #[error("Machine at offset {place:#x} is 0x14c, IA32, wanted 0x8664, x86-64")]
     Ia32 {
@@ -305,86 +313,4 @@ pub enum ImageFault {
         /// What SizeOfImage is.
         image_size: u32,
     },
-}
-
-impl ImageFault {
-    /// Which part of firmware finds the fault.
-    pub fn stage(&self) -> Stage
-        ensures { result ≡ stage_of self.now }
-    {
-        match self {
-            ImageFault::Empty
-            | ImageFault::ShortDosHeader { .. }
-            | ImageFault::DosSignature { .. }
-            | ImageFault::PePlace { .. }
-            | ImageFault::PeSignature { .. }
-            | ImageFault::Magic { .. }
-            | ImageFault::Subsystem { .. } => Stage::BootManager,
-            ImageFault::Ia32 { .. } | ImageFault::ByteCode { .. } | ImageFault::EntryPoint { .. } =>
-                Stage::Start,
-            _ => Stage::Loader,
-        }
-    }
-
-    /// What comes of the fault.
-    pub fn effect(&self) -> Effect
-        ensures { result ≡ effect_of self.now }
-    {
-        match self {
-            ImageFault::DebugPlace { .. }
-            | ImageFault::UnmappedCodeView { .. }
-            | ImageFault::Memory { .. }
-            | ImageFault::RelocationsStripped { .. }
-            | ImageFault::RelocationsNotLoaded { .. }
-            | ImageFault::ByteCode { .. } => Effect::Undecided,
-            ImageFault::SectionBeyondMemory { .. }
-            | ImageFault::SectionOverTable { .. }
-            | ImageFault::RelocationsOverflow { .. }
-            | ImageFault::EntryPoint { .. } => Effect::Unsafe,
-            _ => Effect::Refused,
-        }
-    }
-
-    /// Where the fault is: the offset in bytes, from the file's first byte, of the field that has it, or of a section's
-    /// header.
-    pub fn place(&self) -> usize
-        ensures { result ≡ place_of self.now }
-    {
-        match self {
-            ImageFault::Empty
-            | ImageFault::ShortDosHeader { .. }
-            | ImageFault::DosSignature { .. } => 0,
-            ImageFault::PePlace { .. } => PE_PLACE,
-            ImageFault::PeSignature { place, .. }
-            | ImageFault::Magic { place, .. }
-            | ImageFault::Subsystem { place, .. }
-            | ImageFault::DirectoryCount { place, .. }
-            | ImageFault::OptionalHeaderSize { place, .. }
-            | ImageFault::ImageSize { place, .. }
-            | ImageFault::HeadersSize { place, .. }
-            | ImageFault::HeadersBeyondImage { place, .. }
-            | ImageFault::HeadersBeyondFile { place, .. }
-            | ImageFault::CertificatesBeyondFile { place, .. }
-            | ImageFault::Machine { place, .. }
-            | ImageFault::DebugPlace { place, .. }
-            | ImageFault::DebugBeyondFile { place, .. }
-            | ImageFault::UnmappedCodeView { place }
-            | ImageFault::Arm64 { place }
-            | ImageFault::Memory { place, .. }
-            | ImageFault::FixedBase { place, .. }
-            | ImageFault::RelocationsStripped { place }
-            | ImageFault::SectionAlignment { place }
-            | ImageFault::RelocationsNotLoaded { place }
-            | ImageFault::RelocationsOverflow { place, .. }
-            | ImageFault::RelocationsBeyondImage { place, .. }
-            | ImageFault::Ia32 { place }
-            | ImageFault::ByteCode { place }
-            | ImageFault::EntryPoint { place, .. } => *place,
-            ImageFault::SectionInHeaders { section, .. }
-            | ImageFault::SectionBeyondFile { section, .. }
-            | ImageFault::SectionBeyondImage { section, .. }
-            | ImageFault::SectionBeyondMemory { section, .. }
-            | ImageFault::SectionOverTable { section, .. } => section.place,
-        }
-    }
 }

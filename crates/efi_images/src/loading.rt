@@ -3,9 +3,9 @@
 ghost use Rattle.std.specs.Prelude.{◌≡◌, ◌+◌, ◌*◌, ◌<◌, ◌≤◌, ◌^◌, length};
 ghost use Rattle.std.specs.Result.{result_err};
 ghost use Rattle.std.specs.List.{flat_map};
-ghost use Rattle.efi_images.specs.Sections.{HasTable, sections};
+ghost use Rattle.efi_images.specs.Sections.{HasTable, sections, copied_size, written_size};
 ghost use Rattle.efi_images.specs.Check.{first_fault};
-ghost use Rattle.efi_images.specs.Checks.{memory_checks, memory_size, loading_checks, copied_size, written_size, last_address, has_relocations, relocation_checks};
+ghost use Rattle.efi_images.specs.Checks.{memory_checks, memory_size, loading_checks, last_address};
 
 use crate::fault::ImageFault;
 use crate::headers::Headers;
@@ -16,14 +16,9 @@ use crate::wanted::wanted;
 /// How many bytes a page has.
 const PAGE: u64 = 4096;
 
-/// The most memory that is taken for granted: 64 MiB.
-const MEMORY_MAX: u64 = 0x400_0000;
-
-/// The index of the directory of relocations.
-const RELOCATIONS: usize = 5;
-
-/// Addresses of four bytes are below this one.
-const ADDRESSES: u64 = 0x1_0000_0000;
+/// The most memory that is taken for granted: 512 MiB. Firmware takes an image's pages wherever they are free, and a machine
+/// that starts an operating system has more memory than that. So an image of which a kernel is a part is no larger.
+const MEMORY_MAX: u64 = 0x2000_0000;
 
 /// That the image is one that x86-64 loads, that it takes no more memory than is taken for granted, and that it may be
 /// loaded at any address.
@@ -81,7 +76,7 @@ fn check_loaded(headers: &Headers<'_>, section: Section) -> Result<(), ImageFaul
     ensures { result_err result ≡ first_fault (loading_checks headers.now section) }
 {
     let address = section.virtual_address;
-    let copied = copied_size(&section);
+    let copied = section.copied_size();
     let image_size = headers.image_size();
     wanted(
         copied == 0 || address < image_size && last_address(&section) < image_size,
@@ -90,7 +85,7 @@ fn check_loaded(headers: &Headers<'_>, section: Section) -> Result<(), ImageFaul
             image_size,
         },
     )?;
-    let written = copied.max(section.virtual_size);
+    let written = section.written_size();
     let memory_size = memory_size(headers);
     wanted(
         written == 0 || u64::from(address) + u64::from(written) <= memory_size,
@@ -106,16 +101,6 @@ fn check_loaded(headers: &Headers<'_>, section: Section) -> Result<(), ImageFaul
     )
 }
 
-/// How many bytes of the section are copied.
-fn copied_size(section: &Section) -> u32
-    ensures { result ≡ copied_size section.now }
-{
-    if section.virtual_size == 0 || section.raw_size < section.virtual_size {
-        return section.raw_size;
-    }
-    section.virtual_size
-}
-
 /// The section's last address, a number of four bytes.
 fn last_address(section: &Section) -> u32
     ensures { result ≡ last_address section.now }
@@ -124,41 +109,4 @@ fn last_address(section: &Section) -> u32
         .virtual_address
         .wrapping_add(section.virtual_size)
         .wrapping_sub(1)
-}
-
-/// That the relocations end in the image.
-#[tactic(auto, unfolding(crate::specs::Checks::relocation_checks))]
-pub(crate) fn check_relocations(headers: &Headers<'_>) -> Result<(), ImageFault>
-    ensures { result_err result ≡ first_fault (relocation_checks headers.now) }
-{
-    let place = headers.directory_place(RELOCATIONS);
-    wanted(
-        headers.directory_count() < RELOCATIONS as u32
-            || headers.directory_place(RELOCATIONS + 1) <= headers.headers_size() as usize,
-        ImageFault::RelocationsNotLoaded { place },
-    )?;
-    let start = headers.directory_start(RELOCATIONS);
-    let size = headers.directory_size(RELOCATIONS);
-    let end = u64::from(start) + u64::from(size);
-    wanted(
-        !has_relocations(headers) || end < ADDRESSES,
-        ImageFault::RelocationsOverflow { place, start, size },
-    )?;
-    let image_size = headers.image_size();
-    wanted(
-        !has_relocations(headers) || end <= u64::from(image_size),
-        ImageFault::RelocationsBeyondImage {
-            place,
-            start,
-            size,
-            image_size,
-        },
-    )
-}
-
-/// Whether there are relocations.
-fn has_relocations(headers: &Headers<'_>) -> bool
-    ensures { result ≡ has_relocations headers.now }
-{
-    headers.directory_count() >= RELOCATIONS as u32 && headers.directory_size(RELOCATIONS) != 0
 }

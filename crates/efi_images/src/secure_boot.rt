@@ -1,18 +1,23 @@
 //! Whether Secure Boot lets firmware load an image.
 
 ghost use Rattle.std.specs.Prelude.{◌≡◌, ◌≢◌, ◌+◌, ◌*◌, ◌/◌, ◌≤◌, ◌||◌, IfOk, map, length};
+ghost use Rattle.std.specs.Option.{option_map};
 ghost use Rattle.std.specs.List.{list_any};
 ghost use Rattle.efi_images.specs.declared.signatures.SignatureList.{SignatureList};
 ghost use Rattle.efi_images.specs.Signatures.{list_parts};
-ghost use Rattle.efi_images.specs.SecureBoot.{is_of_digests, is_among, has_digest, has_others, is_in_dbx, db_answer, IsDbAnswer, IsListsAnswer, IsSecureBootAnswer};
+ghost use Rattle.efi_images.specs.X509.{certificate_parts};
+ghost use Rattle.efi_images.specs.SecureBoot.{is_of_digests, is_among, has_digest, has_others, has_certificates, is_in_dbx, lead_answer, signers_answer, db_answer, IsDbAnswer, IsListsAnswer, IsSecureBootAnswer};
 
 use crate::answer::SecureBootAnswer;
 use crate::certificates::{Signing, certificate_table, read_certificates};
 use crate::check::check_boot_manager;
 use crate::digest::{DIGEST_LEN, image_digest, part};
 use crate::digest_fault::DigestFault;
+use crate::leads::{Lead, find_lead, is_of_certificates};
 use crate::loader::CERTIFICATES;
 use crate::signatures::{GUID_LEN, ListFault, SignatureList, read_lists};
+use crate::signers::read_signers;
+use crate::x509::Certificate;
 use std::alloc::{AllocError, Global};
 
 /// EFI_CERT_SHA256_GUID, as it is stored.
@@ -36,12 +41,13 @@ pub struct SecureBoot<'a> {
 
 /// What Secure Boot answers to an image, as EDK2's firmware decides it, and as far as it is told without the check of a
 /// signature. An image that isn't signed is denied if its digest is in dbx, and else allowed if it is in db. One with a
-/// signature over that digest is denied if it is in dbx, or if db has neither it nor a certificate; else
-/// [`SecureBootAnswer::Signed`] says that only the check of its signatures tells. Digests by SHA-1, SHA-384 and SHA-512 are
-/// not compared.
+/// signature over that digest is denied if it is in dbx, and one with any signature that firmware knows if db has
+/// neither its digest nor a certificate to which the signatures may lead by names, or none but such as dbx has too;
+/// else [`SecureBootAnswer::SignedBy`] tells which certificate of db that is, or [`SecureBootAnswer::Signed`] that it
+/// isn't told, and only the check of its signatures decides. Digests by SHA-1, SHA-384 and SHA-512 are not compared.
 ///
-/// The boot manager's checks come before, and with Secure Boot the loader's up to [`ImageFault::DebugBeyondFile`], which
-/// [`check_image`](crate::check_image) makes. The fault of an image that has no digest is told here too.
+/// The boot manager's checks come before, and with Secure Boot the loader's up to [`ImageFault::DebugBeyondFile`],
+/// which [`check_image`](crate::check_image) makes. The fault of an image that has no digest is told here too.
 ///
 /// [`ImageFault::DebugBeyondFile`]: crate::ImageFault::DebugBeyondFile
 ///
@@ -71,7 +77,8 @@ pub fn secure_boot_answer(
             };
         }
     };
-    let signed = match read_certificates(certificate_table(&headers)) {
+    let table = certificate_table(&headers);
+    let signed = match read_certificates(table) {
         Ok(signed) => signed,
         Err(place) => {
             let place = headers.directory_start(CERTIFICATES) as usize + place;
@@ -80,18 +87,22 @@ pub fn secure_boot_answer(
     };
     match signed {
         Signing::Unknown => Ok(SecureBootAnswer::NoSignature),
-        _ => lists_answer(alloc, digest.as_slice(), signed, secure_boot),
+        _ => {
+            let signers = read_signers(alloc, table)?;
+            lists_answer(alloc, digest.as_slice(), signed, &signers, secure_boot)
+        }
     }
 }
 
-/// What dbx and then db say of an image of this digest.
+/// What dbx and then db say of an image of this digest, whose signatures have these certificates with them.
 fn lists_answer(
     alloc: Global,
     digest: &[u8],
     signed: Signing,
+    signers: &Option<Vec<Certificate<'_>>>,
     secure_boot: &SecureBoot<'_>,
 ) -> Result<SecureBootAnswer, AllocError>
-    ensures { IfOk result (λ answer. IsListsAnswer digest.now signed secure_boot.now.db.now secure_boot.now.dbx.now answer) }
+    ensures { IfOk result (λ answer. IsListsAnswer digest.now signed (option_map (λ all. map certificate_parts all.items) signers.now) secure_boot.now.db.now secure_boot.now.dbx.now answer) }
 {
     let denied = match read_lists(alloc, secure_boot.dbx) {
         Ok(denied) => denied,
@@ -102,23 +113,26 @@ fn lists_answer(
             };
         }
     };
-    if is_in_dbx(digest, signed, &denied) {
+    let dbx = denied.as_slice();
+    if is_in_dbx(digest, signed, dbx) {
         return Ok(SecureBootAnswer::InDbx);
     }
-    allowed_answer(alloc, digest, signed, secure_boot.db)
+    allowed_answer(alloc, digest, signed, signers, dbx, secure_boot.db)
 }
 
-/// What db says of an image of this digest that isn't in dbx.
+/// What db says of an image of this digest that isn't in dbx, which has these lists.
 fn allowed_answer(
     alloc: Global,
     digest: &[u8],
     signed: Signing,
+    signers: &Option<Vec<Certificate<'_>>>,
+    dbx: &[SignatureList<'_>],
     db: &[u8],
 ) -> Result<SecureBootAnswer, AllocError>
-    ensures { IfOk result (λ answer. IsDbAnswer digest.now signed db.now answer) }
+    ensures { IfOk result (λ answer. IsDbAnswer digest.now signed (option_map (λ all. map certificate_parts all.items) signers.now) (map list_parts dbx.now) db.now answer) }
 {
     match read_lists(alloc, db) {
-        Ok(allowed) => Ok(db_answer(digest, signed, &allowed)),
+        Ok(allowed) => Ok(db_answer(digest, signed, signers, dbx, &allowed)),
         Err(fault) => match fault {
             ListFault::OutOfMemory => Err(AllocError),
             _ => Ok(SecureBootAnswer::BadDb(fault)),
@@ -139,15 +153,64 @@ fn is_in_dbx(digest: &[u8], signed: Signing, dbx: &[SignatureList<'_>]) -> bool
 
 /// What db says of an image that isn't in dbx. A signed one may be allowed by what isn't compared.
 #[tactic(auto, unfolding(crate::specs::SecureBoot::db_answer))]
-fn db_answer(digest: &[u8], signed: Signing, db: &[SignatureList<'_>]) -> SecureBootAnswer
-    ensures { result ≡ db_answer digest.now signed (map list_parts db.now) }
+fn db_answer(
+    digest: &[u8],
+    signed: Signing,
+    signers: &Option<Vec<Certificate<'_>>>,
+    dbx: &[SignatureList<'_>],
+    db: &[SignatureList<'_>],
+) -> SecureBootAnswer
+    ensures { result ≡ db_answer digest.now signed (option_map (λ all. map certificate_parts all.items) signers.now) (map list_parts dbx.now) (map list_parts db.now) }
 {
     match signed {
         Signing::Unsigned if has_digest(digest, db) => SecureBootAnswer::InDb,
         Signing::Unsigned => SecureBootAnswer::NotSigned,
         _ if may_allow(digest, db) => SecureBootAnswer::Signed,
-        _ => SecureBootAnswer::NotInDb,
+        _ => signers_answer(signers, dbx, db),
     }
+}
+
+/// What these lists of dbx and db say of an image whose signatures have these certificates with them, if they are read.
+#[tactic(auto, using(crate::proofs::Answered::untold), unfolding(crate::specs::SecureBoot::signers_answer))]
+fn signers_answer(
+    signers: &Option<Vec<Certificate<'_>>>,
+    dbx: &[SignatureList<'_>],
+    db: &[SignatureList<'_>],
+) -> SecureBootAnswer
+    ensures { result ≡ signers_answer (option_map (λ all. map certificate_parts all.items) signers.now) (map list_parts dbx.now) (map list_parts db.now) }
+{
+    match signers {
+        Some(signers) => lead_answer(find_lead(signers, dbx, db)),
+        None if have_certificates(db) => SecureBootAnswer::Signed,
+        None => SecureBootAnswer::NotInDb,
+    }
+}
+
+/// What is said of an image whose signatures may lead there.
+fn lead_answer(lead: Lead) -> SecureBootAnswer
+    ensures { result ≡ lead_answer lead }
+{
+    match lead {
+        Lead::Nowhere => SecureBootAnswer::NotInDb,
+        Lead::Denied { list, entry } => SecureBootAnswer::SignerInDbx { list, entry },
+        Lead::Unread => SecureBootAnswer::Signed,
+        Lead::Certificate { list, entry } => SecureBootAnswer::SignedBy { list, entry },
+    }
+}
+
+/// Whether one of the lists has certificates.
+fn have_certificates(lists: &[SignatureList<'_>]) -> bool
+    ensures { result ≡ list_any (λ (list : SignatureList). has_certificates (list_parts list)) lists.now }
+{
+    lists.iter().any(has_certificates)
+}
+
+/// Whether the list has certificates.
+#[tactic(auto, unfolding(crate::specs::SecureBoot::has_certificates))]
+fn has_certificates(list: &SignatureList<'_>) -> bool
+    ensures { result ≡ has_certificates (list_parts list.now) }
+{
+    is_of_certificates(list) && !list.signatures.is_empty()
 }
 
 /// Whether one of the lists has this digest, or signatures that aren't compared.
@@ -165,7 +228,7 @@ fn has_digest(digest: &[u8], lists: &[SignatureList<'_>]) -> bool
     lists.iter().any(|list| list_has_digest(digest, list))
 }
 
-/// Whether one of the lists has signatures that are no digests by SHA-256.
+/// Whether one of the lists has signatures that are neither digests by SHA-256 nor certificates.
 fn has_others(lists: &[SignatureList<'_>]) -> bool
     ensures { result ≡ list_any (λ (list : SignatureList). has_others (list_parts list)) lists.now }
 {
@@ -180,12 +243,12 @@ fn list_has_digest(digest: &[u8], list: &SignatureList<'_>) -> bool
     is_of_digests(list) && list.signature_len == SIGNATURE_LEN && is_among(digest, list.signatures)
 }
 
-/// Whether the list has signatures that are no digests by SHA-256: certificates, or digests by another hash.
+/// Whether the list has signatures that are neither digests by SHA-256 nor certificates: digests by another hash, say.
 #[tactic(auto, unfolding(crate::specs::SecureBoot::has_others))]
 fn list_has_others(list: &SignatureList<'_>) -> bool
     ensures { result ≡ has_others (list_parts list.now) }
 {
-    !is_of_digests(list) && !list.signatures.is_empty()
+    !is_of_digests(list) && !is_of_certificates(list) && !list.signatures.is_empty()
 }
 
 /// Whether the list is one of digests by SHA-256.

@@ -19,7 +19,7 @@ use Rattle.boot_journal.specs.declared.machine.CallError.{CallError}
 use Rattle.boot_journal.specs.declared.machine.CallError.TheVariants.{OutOfMemory, Refused}
 use Rattle.journaled_requests.specs.declared.requests.RunFault.{RunFault}
 use Rattle.journaled_requests.specs.declared.requests.RunFault.TheVariants as refusal
-use Rattle.boot_journal.specs.Attributes.{data_of, with_attributes, KeepAttributes, HasNoData, HasLongData}
+use Rattle.boot_journal.specs.Attributes.{data_of, with_attributes, KeepAttributes, HasLongData}
 use Rattle.boot_journal.specs.Cause.{IfRefused}
 use Rattle.journaled_requests.specs.Requests.{KeepsState, IsAnswered}
 use Rattle.journaled_requests.specs.RunFault.{LeadsTooFar, IsRunFault, IsOpenRefusal}
@@ -38,11 +38,6 @@ pub refused_then : (error : CallError RunFault) (fault : OpenFault) (vars set : 
 refused_then OutOfMemory fault vars set same is then = tt
 refused_then (Refused reason) fault vars set same is then =
     subst (IsOpenRefusal vars) (sym is.0) (subst (λ (v : Variables). IsOpenFault v fault) same (then is.1))
-
-pub refused_without : (error : CallError RunFault) (vars : Variables) →
-    IfRefused error (λ reason. (reason ≡ refusal.NoData) × HasNoData vars) → IfRefused error (IsOpenRefusal vars)
-refused_without OutOfMemory vars is = tt
-refused_without (Refused reason) vars is = subst (IsOpenRefusal vars) (sym is.0) is.1
 
 pub refused_with : (error : CallError RunFault) (events : List Event) (vars set : Variables) →
     IfRefused error (λ reason. (reason ≡ refusal.TooLong) × HasLongData set) →

@@ -1,11 +1,12 @@
 -- Why a run of requests refuses what a machine keeps.
-use Rattle.std.specs.Prelude.{List, []}
+use Rattle.std.specs.Prelude.{ℕ, List, [], ◌++◌, codes}
 use Rattle.uefi_vars.specs.Vars.{Variables}
 use Rattle.boot_requests.specs.declared.event.Event.{Event}
 use Rattle.boot_requests.specs.Run.{run_followed_by, state_at}
 use Rattle.boot_requests.specs.Seen.{Seen, AreSeen}
 use Rattle.boot_requests.specs.State.{State, IsImage}
 use Rattle.boot_requests.specs.StoredState.{IsOpenFault}
+use Rattle.boot_requests.specs.Words.{open_fault_words}
 use Rattle.journaled_requests.specs.declared.requests.RunFault.{RunFault}
 use Rattle.journaled_requests.specs.declared.requests.RunFault.TheVariants.{Open, NoData, TooLong}
 use Rattle.boot_journal.specs.Attributes.{data_of, HasNoData, HasLongData}
@@ -32,3 +33,9 @@ abbrev pub IsOpenRefusal : Variables → RunFault → Type 0
 IsOpenRefusal from (Open fault) = IsOpenFault (data_of from) fault
 IsOpenRefusal from NoData = HasNoData from
 IsOpenRefusal from TooLong = ⊥
+
+-- the words of a fault: its name and, after a blank, the words of the fault that it holds
+abbrev pub run_fault_words : RunFault → List ℕ
+run_fault_words (Open fault) = codes "Open " ++ open_fault_words fault
+run_fault_words NoData = codes "NoData"
+run_fault_words TooLong = codes "TooLong"

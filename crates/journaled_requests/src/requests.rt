@@ -3,14 +3,14 @@
 ghost use Rattle.std.specs.Prelude.{◌≡◌, ◌≢◌, IfOk, IfErr};
 ghost use Rattle.boot_requests.specs.declared.fault.OpenFault.{OpenFault};
 ghost use Rattle.boot_requests.specs.Turn.{plain_start};
-ghost use Rattle.boot_journal.specs.Attributes.{data_of, with_attributes, HasNoData, HasLongData};
+ghost use Rattle.boot_journal.specs.Attributes.{data_of, with_attributes, HasLongData};
 ghost use Rattle.boot_journal.specs.Cause.{IfRefused};
 ghost use Rattle.journaled_requests.specs.Requests.{KeepsState};
 ghost use Rattle.journaled_requests.specs.RunFault.{IsOpenRefusal};
 
 use boot_journal::{AttributesFault, CallError, Run, with_attributes, without_attributes};
 use boot_requests::{Answer, Event, Keeper, OpenFault, answer_events, laws};
-use std::alloc::Global;
+use std::alloc::{AllocError, Global};
 use thiserror::Error;
 use uefi_vars::Vars;
 
@@ -36,6 +36,25 @@ pub enum RunFault {
     TooLong,
 }
 
+impl RunFault {
+    ghost use Rattle.std.specs.String.{string_bytes};
+    ghost use Rattle.journaled_requests.specs.RunFault.{run_fault_words};
+
+    /// The fault's name and, after a blank, the words of the fault of opening. This fails only when out of memory.
+    pub fn words(&self, alloc: Global) -> Result<String, AllocError>
+        ensures { IfOk result (λ text. string_bytes text ≡ run_fault_words self.now) }
+    {
+        match self {
+            RunFault::Open(fault) => {
+                let words = fault.words(alloc)?;
+                format!(in alloc; "Open {words}")
+            }
+            RunFault::NoData => String::from_str(alloc, "NoData"),
+            RunFault::TooLong => String::from_str(alloc, "TooLong"),
+        }
+    }
+}
+
 impl Run for Requests<'_> {
     ghost use Rattle.journaled_requests.specs.Requests.{IsAnswered};
     ghost use Rattle.journaled_requests.specs.RunFault.{IsRunFault};
@@ -51,7 +70,7 @@ impl Run for Requests<'_> {
     /// Takes the attributes off the variables of the boot manager, opens what is left, runs the events over it, and
     /// puts the attributes on again: a variable that is replaced has those that it had, and a new one has
     /// [`BOOT_ATTRIBUTES`](uefi_vars::BOOT_ATTRIBUTES).
-    fn run(&self, alloc: Global, vars: &Vars) -> Result<(Vars, Vec<Answer>), CallError<RunFault>> {
+    fn run(self, alloc: Global, vars: &Vars) -> Result<(Vars, Vec<Answer>), CallError<RunFault>> {
         laws::a_start_stands_for_no_events();
         laws::variables_open_as_one_state();
         let keeper = open(alloc, vars)?;
@@ -66,21 +85,22 @@ fn open(alloc: Global, vars: &Vars) -> Result<Keeper, CallError<RunFault>>
     ensures opened { IfOk result (λ keeper. (keeper ≡ plain_start keeper.state) × KeepsState vars.now keeper.state) }
     ensures refused { IfErr result (λ error. IfRefused error (IsOpenRefusal vars.now)) }
 {
-    let set = keeper_vars(alloc, vars)?;
+    let set = run_set(alloc, vars)?;
     match Keeper::open(alloc, set) {
         Ok(keeper) => Ok(keeper),
         Err(refused) => Err(open_error(refused.fault)),
     }
 }
 
-/// What a keeper opens of what a machine keeps: its variables without attributes.
+/// The set that requests are run over: the variables that a machine keeps, without their attributes.
 ///
 /// # Errors
 ///
-/// [`RunFault::NoData`] if there is no byte after the attributes of a variable of the boot manager, and that memory was refused.
-pub fn keeper_vars(alloc: Global, vars: &Vars) -> Result<Vars, CallError<RunFault>>
+/// [`CallError::Refused`] with [`RunFault::NoData`] if a variable of the boot manager has no byte after its attributes, and
+/// [`CallError::OutOfMemory`] if memory was refused.
+pub fn run_set(alloc: Global, vars: &Vars) -> Result<Vars, CallError<RunFault>>
     ensures set { IfOk result (λ set. set ≡ data_of vars.now) }
-    ensures refused { IfErr result (λ error. IfRefused error (λ reason. (reason ≡ RunFault.NoData) × HasNoData vars.now)) }
+    ensures refused { IfErr result (λ error. IfRefused error (IsOpenRefusal vars.now)) }
 {
     match without_attributes(alloc, vars) {
         Ok(set) => Ok(set),

@@ -19,9 +19,9 @@ pub struct LoaderNote {
 }
 
 /// What is to be told of the loader that is at this path of a system, if an entry of the place leads to it: whether
-/// firmware starts it, and its Secure Boot allows it. That Secure Boot is undecided isn't told: of signed loaders it
-/// always is. `root` is nothing, or the path of a folder that stands for the root of the system, of which the path of
-/// the file has that in front.
+/// firmware starts it, and its Secure Boot allows it. That Secure Boot is undecided isn't told: of good signed loaders
+/// it always is. `root` is nothing, or the path of a folder that stands for the root of the system, of which the path
+/// of the file has that in front.
 ///
 /// # Errors
 ///

@@ -179,6 +179,7 @@ fn told_of(alloc: Global, answer: &SecureBootAnswer) -> Result<Told, AllocError>
 {
     let more = match answer {
         SecureBootAnswer::Signed => ": `sbverify` checks them",
+        SecureBootAnswer::SignedBy { .. } => ": `sbverify --cert` checks them by it",
         _ => "",
     };
     Ok(Told {

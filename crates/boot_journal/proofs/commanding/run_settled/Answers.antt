@@ -7,8 +7,8 @@ use Rattle.boot_journal.proofs.commanding.run_settled.Given.{Over}
 use Rattle.boot_journal.proofs.commanding.run_settled.Goals.{In-Ok}
 use Rattle.boot_journal.proofs.commanding.run_settled.Goals as goal
 
-leads : (g : Over) (c : In-Ok g) → g.R.Run.leads c.args.run.now (seen (g.M.Machine.store c.args.machine.now)) c.in-Ok.to c.in-Ok.answer
-leads g c = subst (λ (v : Variables). g.R.Run.leads c.args.run.now v c.in-Ok.to c.in-Ok.answer) c.in_ok-vars.ensures c.in-Ok.ensures.done
+leads : (g : Over) (c : In-Ok g) → g.R.Run.leads c.args.run (seen (g.M.Machine.store c.args.machine.now)) c.in-Ok.to c.in-Ok.answer
+leads g c = subst (λ (v : Variables). g.R.Run.leads c.args.run v c.in-Ok.to c.in-Ok.answer) c.in_ok-vars.ensures c.in-Ok.ensures.done
 
 pub returns-in-Ok-update-clause-done : goal.returns-in-Ok-update-clause-done
 returns-in-Ok-update-clause-done g c = (c.in-Ok.to, leads g (goal.at.returns-in-Ok-update-clause-done g c).In-Ok, c.in-Ok-update.ensures.done)

@@ -1,6 +1,7 @@
 -- Where a cut comes in `finish`, and then in `take_back`, is where one comes in going on.
 use Rattle.std.proofs.Common.{sym, ◌∙◌}
 use Rattle.boot_journal.specs.Working.{IsGoingOn}
+use Rattle.boot_journal.proofs.Failures.{then_taken_back}
 use Rattle.boot_journal.proofs.Moments.{then, weaker}
 use Rattle.boot_journal.proofs.Settling.{making_going, carrying_going}
 use Rattle.boot_journal.proofs.updating.go_on.Goals as goal
@@ -40,3 +41,11 @@ pub returns-else-is_making-clause-left : goal.returns-else-is_making-clause-left
 returns-else-is_making-clause-left g c =
     making_going c.args.work.now c.args.back.now (g.M.Machine.store c.args.machine.now) (g.M.Machine.store c.finish.new.machine)
     c.deref.ensures.value c.finish.ensures.amid
+
+pub returns-then-is_making-clause-failed_moves : goal.returns-then-is_making-clause-failed_moves
+returns-then-is_making-clause-failed_moves g c =
+    then_taken_back (g.M.Machine.failures c.args.machine.now) (g.M.Machine.failures c.finish.new.machine) (g.M.Machine.failures c.take_back.new.machine)
+    c.in-Err.cause c.take_back.result c.in-Err.ensures.failed_moves c.take_back.ensures.failed_moves c.take_back.ensures.cause
+
+pub returns-else-is_making-clause-failed_moves : goal.returns-else-is_making-clause-failed_moves
+returns-else-is_making-clause-failed_moves g c = c.in-Err.ensures.failed_moves

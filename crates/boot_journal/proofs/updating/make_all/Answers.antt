@@ -1,7 +1,8 @@
 -- Each change that is made leads one further, and one that fails has left the store as it was or has led one further.
-use Rattle.std.proofs.Common.{◌≡◌, ◌⊎◌, ◌<◌, ◌∷◌, [], length, arith, rules}
+use Rattle.std.proofs.Common.{◌≡◌, ◌⊎◌, ◌<◌, ◌∷◌, [], length, refl, arith, rules}
 use Rattle.boot_journal.specs.Store.{Store, with_made, IsFrontStore}
-use Rattle.boot_journal.proofs.Moments.{reached, reached_or_not, then, weaker}
+use Rattle.boot_journal.proofs.Failures.{none_failed, failed_then, failed_by}
+use Rattle.boot_journal.proofs.Moments.{reached, reached_or_not, stays, then, weaker}
 use Rattle.boot_journal.proofs.updating.make_all.Given.{Over}
 use Rattle.boot_journal.proofs.updating.make_all.Goals.{After-make}
 use Rattle.boot_journal.proofs.updating.make_all.Goals as goal
@@ -31,7 +32,29 @@ loop-change-preserved g c =
     let make = (goal.at.loop-change-preserved g c).After-make in
     record {
       rising = omega (arith, c.loop-change.invariant.rising, c.make.ensures.cause.later);
+      none = failed_then (g.M.Machine.failures c.args.machine.now) (g.M.Machine.failures c.loop-change.machine) (g.M.Machine.failures c.make.new.self)
+          [] [] c.loop-change.invariant.none c.in_ok-make.ensures.failed;
       so_far = reached c.args.changes.now c.loop-change.change-index c.change-item.result _ _ _ c.loop-change.invariant.so_far (within g make)
           c.change-item.is c.in_ok-make.ensures.made;
       moments = then _ _ _ _ c.loop-change.invariant.moments (weaker _ _ _ _ (front g make) c.make.ensures.moments);
+    }
+
+pub returns-in_err-make-clause-failed_moves : goal.returns-in_err-make-clause-failed_moves
+returns-in_err-make-clause-failed_moves g c =
+    let old = g.M.Machine.failures c.args.machine.now in
+    let mid = g.M.Machine.failures c.loop-change.machine in
+    let new = g.M.Machine.failures c.make.new.self in
+    let error = c.in_err-make.field-0.0 in
+    failed_by old new error c.from_residual.result (search rules) (failed_then old mid new [] (error ∷ []) c.loop-change.invariant.none c.in_err-make.ensures.failed)
+
+pub returns-clause-failed_moves : goal.returns-clause-failed_moves
+returns-clause-failed_moves g c = c.loop-change.invariant.none
+
+pub loop-change-init : goal.loop-change-init
+loop-change-init g c =
+    record {
+      rising = omega arith;
+      none = none_failed (g.M.Machine.failures c.args.machine.now);
+      so_far = refl;
+      moments = stays _ _;
     }

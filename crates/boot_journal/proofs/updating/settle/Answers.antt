@@ -6,6 +6,7 @@ use Rattle.boot_journal.specs.Moves.{IsSettling}
 use Rattle.boot_journal.specs.Store.{Store}
 use Rattle.boot_journal.specs.Working.{IsWork, IsGoingOn}
 use Rattle.boot_journal.proofs.Errors.{something_done, taken_back_then, untried_then, tried_then}
+use Rattle.boot_journal.proofs.Failures.{untouched}
 use Rattle.boot_journal.proofs.Moments.{weaker}
 use Rattle.boot_journal.proofs.Settling.{AreWork, going_is_settling, settling_either, taken_back_stands}
 use Rattle.boot_journal.proofs.updating.settle.Given.{Over}
@@ -58,3 +59,6 @@ returns-clause-any_moment g c =
 pub returns-clause-left : goal.returns-clause-left
 returns-clause-left g c =
     settling g (goal.at.returns-clause-left g c).In_ok-work (g.M.Machine.store c.go_on.new.machine) c.go_on.ensures.left
+
+pub returns-in_err-work-clause-failed_moves : goal.returns-in_err-work-clause-failed_moves
+returns-in_err-work-clause-failed_moves g c = untouched (g.M.Machine.failures c.args.machine.now) c.from_residual-in_err-work.result (search rules)

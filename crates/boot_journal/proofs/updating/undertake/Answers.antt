@@ -1,6 +1,9 @@
 -- Where a cut comes as the journal is replaced, and then in `go_on` or in `take_back`, is where one comes in undertaking the work.
+use Rattle.std.proofs.Common.{[]}
+use Rattle.boot_journal.specs.Cause.{update_failures}
 use Rattle.boot_journal.specs.Working.{IsUndertaking}
 use Rattle.boot_journal.proofs.Errors.{taken_back_then}
+use Rattle.boot_journal.proofs.Failures.{failed_then, then_taken_back}
 use Rattle.boot_journal.proofs.Moments.{then, weaker}
 use Rattle.boot_journal.proofs.Updates.{begun_undertakes, taking_undertakes, going_undertakes, taken_gives_up}
 use Rattle.boot_journal.proofs.updating.undertake.Goals as goal
@@ -49,3 +52,16 @@ returns-else-is_idle-clause-moments g c =
     then P _ _ _ (weaker _ P _ _ (λ t. begun_undertakes work back s t) c.replace_journal.ensures.moments)
     (weaker _ P _ _ (λ t. taking_undertakes work back s (g.M.Machine.store c.replace_journal.new.self) t c.replace_journal.ensures.whole)
     c.take_back.ensures.moments)
+
+pub returns-in-Ok-clause-failed_moves : goal.returns-in-Ok-clause-failed_moves
+returns-in-Ok-clause-failed_moves g c =
+    failed_then (g.M.Machine.failures c.args.machine.now) (g.M.Machine.failures c.replace_journal.new.self) (g.M.Machine.failures c.go_on.new.machine)
+    [] (update_failures c.go_on.result) c.in-Ok.ensures.failed c.go_on.ensures.failed_moves
+
+pub returns-then-is_idle-clause-failed_moves : goal.returns-then-is_idle-clause-failed_moves
+returns-then-is_idle-clause-failed_moves g c = c.in-Err.ensures.failed
+
+pub returns-else-is_idle-clause-failed_moves : goal.returns-else-is_idle-clause-failed_moves
+returns-else-is_idle-clause-failed_moves g c =
+    then_taken_back (g.M.Machine.failures c.args.machine.now) (g.M.Machine.failures c.replace_journal.new.self) (g.M.Machine.failures c.take_back.new.machine)
+    c.in-Err.cause c.take_back.result c.in-Err.ensures.failed c.take_back.ensures.failed_moves c.take_back.ensures.cause

@@ -7,6 +7,7 @@ use Rattle.boot_journal.specs.Journal.{JournalParts, turned}
 use Rattle.boot_journal.specs.Store.{journal_to}
 use Rattle.boot_journal.specs.Working.{IsWork, IsGivenUp}
 use Rattle.boot_journal.proofs.Errors.{something_done, taken_back_then}
+use Rattle.boot_journal.proofs.Failures.{untouched}
 use Rattle.boot_journal.proofs.Moments.{weaker}
 use Rattle.boot_journal.proofs.Unchanged.{unchanged, nothing_changes}
 use Rattle.boot_journal.proofs.Updates.{AreWorkTo, journal_is, undertaking_is_updating, updating_either, given_up_same, undertaken_is}
@@ -90,3 +91,6 @@ returns-in_err-work-clause-left g c = (0, 0, refl)
 
 pub returns-in_err-back-clause-left : goal.returns-in_err-back-clause-left
 returns-in_err-back-clause-left g c = (0, 0, refl)
+
+pub returns-in_err-work-clause-failed_moves : goal.returns-in_err-work-clause-failed_moves
+returns-in_err-work-clause-failed_moves g c = untouched (g.M.Machine.failures c.args.machine.now) c.from_residual-in_err-work.result (search rules)

@@ -9,14 +9,14 @@ returns-in_default c = damaged_dbx (of_other c.in-Err.ensures.fault c.in_default
 
 pub returns-then-is_in_dbx : goal.returns-then-is_in_dbx
 returns-then-is_in_dbx c =
-    in_dbx {denied = map list_parts c.deref.result.now}
-    (subst (λ all. HasLists c.args.secure_boot.now.dbx.now 0 (map list_parts all)) (sym c.deref.ensures.value) c.in-Ok.ensures.lists)
+    in_dbx {denied = map list_parts c.as_slice-dbx.result.now}
+    (subst (λ all. HasLists c.args.secure_boot.now.dbx.now 0 (map list_parts all)) (sym c.as_slice-dbx.ensures.value) c.in-Ok.ensures.lists)
     (sym c.is_in_dbx.ensures ∙ c.if-is_in_dbx.true)
 
 pub returns : goal.returns
 returns c =
     ok_as c.allowed_answer.result
-    (λ told is. by_db {denied = map list_parts c.deref.result.now}
-    (subst (λ all. HasLists c.args.secure_boot.now.dbx.now 0 (map list_parts all)) (sym c.deref.ensures.value) c.in-Ok.ensures.lists)
+    (λ told is. by_db {denied = map list_parts c.as_slice-dbx.result.now}
+    (subst (λ all. HasLists c.args.secure_boot.now.dbx.now 0 (map list_parts all)) (sym c.as_slice-dbx.ensures.value) c.in-Ok.ensures.lists)
     (sym c.is_in_dbx.ensures ∙ c.if-is_in_dbx.false) is)
     c.allowed_answer.ensures

@@ -2,7 +2,8 @@ use Rattle.std.proofs.Common.{◌∙◌, ◌+◌, sym, ap, subst, arith, Ok, Err
 use Rattle.efi_images.specs.Headers.{directory_start}
 use Rattle.efi_images.specs.Digest.{IsDigest}
 use Rattle.efi_images.specs.Certificates.{certificate_table, IsSigned}
-use Rattle.efi_images.specs.SecureBoot.{IsSecureBootAnswer, IsSigning, not_asked, no_digest, bad_certificates, no_signature, by_lists}
+use Rattle.efi_images.specs.Signers.{all_signers}
+use Rattle.efi_images.specs.SecureBoot.{IsListsAnswer, IsSecureBootAnswer, IsSigning, not_asked, no_digest, bad_certificates, no_signature, by_lists}
 use Rattle.efi_images.specs.declared.certificates.Signing.TheVariants as signing
 use Rattle.efi_images.specs.declared.answer.SecureBootAnswer.TheVariants as answer
 use Rattle.efi_images.proofs.Undigested.{by_boot_manager}
@@ -19,7 +20,7 @@ pub returns-in_default : goal.returns-in_default
 returns-in_default c = no_digest c.if-not-secure_boot.false (of_other c.in-Err-image_digest.ensures.fault c.in_default.not-OutOfMemory)
 
 pub overflow_add-place : goal.overflow_add-place
-overflow_add-place c = omega (arith, c.directory_start.type_inv, c.in-Err-read_certificates.ensures.place, c.certificate_table.type_inv.1)
+overflow_add-place c = omega (arith, c.directory_start.type_inv, c.in-Err-read_certificates.ensures.place, c.certificate_table-table.type_inv.1)
 
 pub returns-in-Err-read_certificates : goal.returns-in-Err-read_certificates
 returns-in-Err-read_certificates c =
@@ -30,7 +31,7 @@ returns-in-Err-read_certificates c =
     (ap (λ start. start + c.in-Err-read_certificates.place) (sym (c.directory_start.ensures ∙ ap (λ headers. directory_start headers 4) same)))
     (bad_certificates c.if-not-secure_boot.false c.in-Ok-image_digest.ensures.digest.0
     (subst (λ table. IsSigned table signing.Unsigned 0 (Err c.in-Err-read_certificates.place))
-    (c.certificate_table.ensures ∙ ap certificate_table same) c.in-Err-read_certificates.ensures.certificates))
+    (c.certificate_table-table.ensures ∙ ap certificate_table same) c.in-Err-read_certificates.ensures.certificates))
 
 pub returns-in-Unknown : goal.returns-in-Unknown
 returns-in-Unknown c =
@@ -38,15 +39,18 @@ returns-in-Unknown c =
     no_signature c.if-not-secure_boot.false c.in-Ok-image_digest.ensures.digest.0
     (subst (λ says. IsSigning c.args.file.now (Ok says)) c.in-Unknown.is
     (subst (λ table. IsSigned table signing.Unsigned 0 (Ok c.in-Ok-read_certificates.signed))
-    (c.certificate_table.ensures ∙ ap certificate_table same) c.in-Ok-read_certificates.ensures.certificates))
+    (c.certificate_table-table.ensures ∙ ap certificate_table same) c.in-Ok-read_certificates.ensures.certificates))
 
-pub returns-in_default-signed : goal.returns-in_default-signed
-returns-in_default-signed c =
+pub returns-in_ok-signers-in_default-signed : goal.returns-in_default-signed
+returns-in_ok-signers-in_default-signed c =
     let same = c.in-Ok.ensures.headers in
+    let table = c.certificate_table-table.ensures ∙ ap certificate_table same in
+    let on = c.args.secure_boot.now in
     ok_as c.lists_answer.result
     (λ told is. by_lists c.if-not-secure_boot.false c.in-Ok-image_digest.ensures.digest.0
     (subst (λ digest. IsDigest c.args.file.now digest) (sym c.as_slice.ensures) c.in-Ok-image_digest.ensures.digest.1)
-    (subst (λ table. IsSigned table signing.Unsigned 0 (Ok c.in-Ok-read_certificates.signed))
-    (c.certificate_table.ensures ∙ ap certificate_table same) c.in-Ok-read_certificates.ensures.certificates)
-    c.in_default-signed.not-Unknown is)
+    (subst (λ table. IsSigned table signing.Unsigned 0 (Ok c.in-Ok-read_certificates.signed)) table c.in-Ok-read_certificates.ensures.certificates)
+    c.in_default-signed.not-Unknown
+    (subst (λ signers. IsListsAnswer c.as_slice.result.now c.in-Ok-read_certificates.signed signers on.db.now on.dbx.now told)
+    (c.in_ok-signers.ensures ∙ ap (λ it. all_signers 32 it 0) table) is))
     c.lists_answer.ensures

@@ -4,14 +4,14 @@ use Rattle.boot_journal.specs.declared.machine.CallError.{CallError}
 use Rattle.boot_journal.specs.Cause.{IfRefused}
 use Rattle.journaled_requests.specs.declared.requests.RunFault.{RunFault}
 use Rattle.journaled_requests.specs.RunFault.{IsOpenRefusal}
-use Rattle.journaled_requests.proofs.Running.{err_then, refused_then, refused_without}
+use Rattle.journaled_requests.proofs.Running.{err_then, refused_then}
 use Rattle.journaled_requests.proofs.requests.open.Goals as goal
 
 pub returns-in_err-set-clause-refused : goal.returns-in_err-set-clause-refused
 returns-in_err-set-clause-refused c =
     err_then c.from_residual.result _ (λ error. IfRefused error (IsOpenRefusal c.args.vars.now)) c.from_residual.ensures.1
     (λ error is. subst (λ (e : CallError RunFault). IfRefused e (IsOpenRefusal c.args.vars.now)) (sym is)
-    (refused_without c.in_err-set.field-0.0 c.args.vars.now c.in_err-set.ensures.refused))
+    c.in_err-set.ensures.refused)
 
 pub returns-in-Err-clause-refused : goal.returns-in-Err-clause-refused
 returns-in-Err-clause-refused c =

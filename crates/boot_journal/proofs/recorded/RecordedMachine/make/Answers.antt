@@ -3,8 +3,10 @@
 use Rattle.std.proofs.Common.{inl, inr, true, false, is_ok, [], ◌∷◌, refl, ap, ◌∙◌}
 use Rattle.boot_journal.specs.declared.recorded.Move.TheVariants.{Made, Refused}
 use Rattle.boot_journal.specs.Asked.{ToMake, HasMade, and_then}
+use Rattle.boot_journal.specs.Cause.{and_failed, failures_of}
 use Rattle.boot_journal.specs.RecordedValue.{store_of}
 use Rattle.boot_journal.specs.Store.{with_made, IsEither}
+use Rattle.boot_journal.proofs.Failures.{untold}
 use Rattle.boot_journal.proofs.Records.{Goes, moments, ends, no_refusal, one_refusal, asked_twice, told_once, told_twice}
 use Rattle.boot_journal.proofs.recorded.RecordedMachine.make.Goals as goal
 
@@ -21,16 +23,18 @@ returns-in-Ok g c =
     } in
     record {
       cause = no_refusal goes;
+      failed = untold [];
       made = goes.leads;
       recorded = inl (ends goes);
       whole = inr goes.leads;
       moments = moments (IsEither (store_of s.now) (with_made (c.args.change.now ∷ []) (store_of s.now))) goes (inr refl, tt);
       asked = record {
-        asks = ap g.D.Storage.asked c.keep_change.ensures.storage ∙ c.make.ensures
+        asks = ap g.D.Storage.asked c.keep_change.ensures.storage ∙ c.make.ensures.asks
             ∙ (λ i. and_then (g.D.Storage.asked (c.reserve.ensures.storage i)) (ToMake c.args.change.now (is_ok (c.in-Ok.is i)) ∷ []));
         told = goes.told;
       };
       refused = tt;
+      told = tt;
     }
 
 pub returns-then-has_made : goal.returns-then-has_made
@@ -48,6 +52,7 @@ returns-then-has_made g c =
     } in
     record {
       cause = one_refusal c.in-Err.error goes refl;
+      failed = untold (c.in-Err.error ∷ []);
       made = tt;
       recorded = inl (ends goes);
       whole = inr goes.leads;
@@ -57,13 +62,16 @@ returns-then-has_made g c =
         true,
         record {
           asks = ap g.D.Storage.asked (r.ensures.storage ∙ k.ensures.storage) ∙ asked_twice _ _ _ _ _
-              (c.make.ensures
+              (c.make.ensures.asks
               ∙ ap (λ r. and_then (g.D.Storage.asked c.reserve.new.self.storage) (ToMake c.args.change.now (is_ok r) ∷ [])) c.in-Err.is
               ∙ ap (λ d. and_then (g.D.Storage.asked d) (ToMake c.args.change.now false ∷ [])) c.reserve.ensures.storage)
-              (c.has_made.ensures ∙ ap (λ b. and_then (g.D.Storage.asked c.make.new.self) (HasMade c.args.change.now b ∷ [])) c.if-has_made.true);
+              (c.has_made.ensures.asks ∙ ap (λ b. and_then (g.D.Storage.asked c.make.new.self) (HasMade c.args.change.now b ∷ [])) c.if-has_made.true);
           told = goes.told;
         },
       );
+      told = inr (ap g.D.Storage.failures (r.ensures.storage ∙ k.ensures.storage) ∙ c.has_made.ensures.failed ∙ c.make.ensures.failed
+          ∙ ap (λ r. and_failed (g.D.Storage.failures c.reserve.new.self.storage) (failures_of r)) c.in-Err.is
+          ∙ ap (λ d. and_failed (g.D.Storage.failures d) (c.in-Err.error ∷ [])) c.reserve.ensures.storage);
     }
 
 pub returns-else-has_made : goal.returns-else-has_made
@@ -80,6 +88,7 @@ returns-else-has_made g c =
     } in
     record {
       cause = one_refusal c.in-Err.error goes refl;
+      failed = untold (c.in-Err.error ∷ []);
       made = tt;
       recorded = inl (ends goes);
       whole = inl goes.leads;
@@ -89,11 +98,14 @@ returns-else-has_made g c =
         false,
         record {
           asks = ap g.D.Storage.asked r.ensures.storage ∙ asked_twice _ _ _ _ _
-              (c.make.ensures
+              (c.make.ensures.asks
               ∙ ap (λ r. and_then (g.D.Storage.asked c.reserve.new.self.storage) (ToMake c.args.change.now (is_ok r) ∷ [])) c.in-Err.is
               ∙ ap (λ d. and_then (g.D.Storage.asked d) (ToMake c.args.change.now false ∷ [])) c.reserve.ensures.storage)
-              (c.has_made.ensures ∙ ap (λ b. and_then (g.D.Storage.asked c.make.new.self) (HasMade c.args.change.now b ∷ [])) c.if-has_made.false);
+              (c.has_made.ensures.asks ∙ ap (λ b. and_then (g.D.Storage.asked c.make.new.self) (HasMade c.args.change.now b ∷ [])) c.if-has_made.false);
           told = goes.told;
         },
       );
+      told = inr (ap g.D.Storage.failures (r.ensures.storage) ∙ c.has_made.ensures.failed ∙ c.make.ensures.failed
+          ∙ ap (λ r. and_failed (g.D.Storage.failures c.reserve.new.self.storage) (failures_of r)) c.in-Err.is
+          ∙ ap (λ d. and_failed (g.D.Storage.failures d) (c.in-Err.error ∷ [])) c.reserve.ensures.storage);
     }

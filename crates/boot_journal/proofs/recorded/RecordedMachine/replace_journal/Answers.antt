@@ -3,8 +3,10 @@
 use Rattle.std.proofs.Common.{inl, inr, true, false, is_ok, [], ◌∷◌, refl, ap, ◌∙◌}
 use Rattle.boot_journal.specs.declared.recorded.Move.TheVariants.{Replaced, Refused}
 use Rattle.boot_journal.specs.Asked.{ToReplace, HasReplaced, and_then}
+use Rattle.boot_journal.specs.Cause.{and_failed, failures_of}
 use Rattle.boot_journal.specs.RecordedValue.{store_of}
 use Rattle.boot_journal.specs.Store.{with_journal, IsEither}
+use Rattle.boot_journal.proofs.Failures.{untold}
 use Rattle.boot_journal.proofs.Records.{Goes, moments, ends, no_refusal, one_refusal, asked_twice, told_once, told_twice}
 use Rattle.boot_journal.proofs.recorded.RecordedMachine.replace_journal.Goals as goal
 
@@ -21,16 +23,18 @@ returns-in-Ok g c =
     } in
     record {
       cause = no_refusal goes;
+      failed = untold [];
       replaced = goes.leads;
       recorded = inl (ends goes);
       whole = inr goes.leads;
       moments = moments (IsEither (store_of s.now) (with_journal c.args.journal.now (store_of s.now))) goes (inr refl, tt);
       asked = record {
-        asks = ap g.D.Storage.asked c.keep_journal.ensures.storage ∙ c.replace_journal.ensures
+        asks = ap g.D.Storage.asked c.keep_journal.ensures.storage ∙ c.replace_journal.ensures.asks
             ∙ (λ i. and_then (g.D.Storage.asked (c.reserve.ensures.storage i)) (ToReplace c.args.journal.now (is_ok (c.in-Ok.is i)) ∷ []));
         told = goes.told;
       };
       refused = tt;
+      told = tt;
     }
 
 pub returns-then-has_replaced : goal.returns-then-has_replaced
@@ -48,6 +52,7 @@ returns-then-has_replaced g c =
     } in
     record {
       cause = one_refusal c.in-Err.error goes refl;
+      failed = untold (c.in-Err.error ∷ []);
       replaced = tt;
       recorded = inl (ends goes);
       whole = inr goes.leads;
@@ -57,14 +62,17 @@ returns-then-has_replaced g c =
         true,
         record {
           asks = ap g.D.Storage.asked (r.ensures.storage ∙ k.ensures.storage) ∙ asked_twice _ _ _ _ _
-              (c.replace_journal.ensures
+              (c.replace_journal.ensures.asks
               ∙ ap (λ r. and_then (g.D.Storage.asked c.reserve.new.self.storage) (ToReplace c.args.journal.now (is_ok r) ∷ [])) c.in-Err.is
               ∙ ap (λ d. and_then (g.D.Storage.asked d) (ToReplace c.args.journal.now false ∷ [])) c.reserve.ensures.storage)
-              (c.has_replaced.ensures
+              (c.has_replaced.ensures.asks
               ∙ ap (λ b. and_then (g.D.Storage.asked c.replace_journal.new.self) (HasReplaced c.args.journal.now b ∷ [])) c.if-has_replaced.true);
           told = goes.told;
         },
       );
+      told = inr (ap g.D.Storage.failures (r.ensures.storage ∙ k.ensures.storage) ∙ c.has_replaced.ensures.failed ∙ c.replace_journal.ensures.failed
+          ∙ ap (λ r. and_failed (g.D.Storage.failures c.reserve.new.self.storage) (failures_of r)) c.in-Err.is
+          ∙ ap (λ d. and_failed (g.D.Storage.failures d) (c.in-Err.error ∷ [])) c.reserve.ensures.storage);
     }
 
 pub returns-else-has_replaced : goal.returns-else-has_replaced
@@ -81,6 +89,7 @@ returns-else-has_replaced g c =
     } in
     record {
       cause = one_refusal c.in-Err.error goes refl;
+      failed = untold (c.in-Err.error ∷ []);
       replaced = tt;
       recorded = inl (ends goes);
       whole = inl goes.leads;
@@ -90,12 +99,15 @@ returns-else-has_replaced g c =
         false,
         record {
           asks = ap g.D.Storage.asked r.ensures.storage ∙ asked_twice _ _ _ _ _
-              (c.replace_journal.ensures
+              (c.replace_journal.ensures.asks
               ∙ ap (λ r. and_then (g.D.Storage.asked c.reserve.new.self.storage) (ToReplace c.args.journal.now (is_ok r) ∷ [])) c.in-Err.is
               ∙ ap (λ d. and_then (g.D.Storage.asked d) (ToReplace c.args.journal.now false ∷ [])) c.reserve.ensures.storage)
-              (c.has_replaced.ensures
+              (c.has_replaced.ensures.asks
               ∙ ap (λ b. and_then (g.D.Storage.asked c.replace_journal.new.self) (HasReplaced c.args.journal.now b ∷ [])) c.if-has_replaced.false);
           told = goes.told;
         },
       );
+      told = inr (ap g.D.Storage.failures (r.ensures.storage) ∙ c.has_replaced.ensures.failed ∙ c.replace_journal.ensures.failed
+          ∙ ap (λ r. and_failed (g.D.Storage.failures c.reserve.new.self.storage) (failures_of r)) c.in-Err.is
+          ∙ ap (λ d. and_failed (g.D.Storage.failures d) (c.in-Err.error ∷ [])) c.reserve.ensures.storage);
     }

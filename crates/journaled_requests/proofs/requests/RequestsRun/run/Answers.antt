@@ -11,7 +11,7 @@ returns-clause-done c =
     let first = c.in_ok-keeper in
     let last = c.in_ok-keeper-2 in
     let opened = first.ensures.opened in
-    answered c.a_start_stands_for_no_events.ensures first.keeper last.keeper c.args.self.now.events.now last.answers.items opened.0 last.ensures.answered
+    answered c.a_start_stands_for_no_events.ensures first.keeper last.keeper c.args.self.events.now last.answers.items opened.0 last.ensures.answered
     c.variables_open_as_one_state.ensures c.args.vars.now c.into_vars.result c.in_ok-to.to opened.1 c.into_vars.ensures.image c.in_ok-to.ensures.kept
 
 pub returns-in_err-to-clause-refused : goal.returns-in_err-to-clause-refused
@@ -19,7 +19,7 @@ returns-in_err-to-clause-refused c =
     let first = c.in_ok-keeper in
     let last = c.in_ok-keeper-2 in
     let opened = first.ensures.opened in
-    let events = c.args.self.now.events.now in
+    let events = c.args.self.events.now in
     err_then c.from_residual-in_err-to.result _ (λ error. IfRefused error (IsRunFault events c.args.vars.now)) c.from_residual-in_err-to.ensures.1
     (λ error is. subst (λ (e : CallError RunFault). IfRefused e (IsRunFault events c.args.vars.now)) (sym is)
     (refused_with c.in_err-to.field-0.0 events c.args.vars.now c.into_vars.result c.in_err-to.ensures.refused
