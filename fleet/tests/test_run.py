@@ -381,7 +381,7 @@ def test_a_clock_that_is_set_back_stops_nothing(
     day = time.time()
     monkeypatch.setattr(time, "time", lambda: day - 3600)
     add(sender.ledger, goal("first", "b"))
-    assert sender.run(True, 10, lambda: False)
+    assert sender.run(True, 600, lambda: False)
     assert machine.order() == [1, 0]
 
 
