@@ -3,10 +3,13 @@
 from __future__ import annotations
 
 import time
-from typing import List
+from typing import Any, Dict, List
 
 import relay as relays
 from fleet import Fleet, TooLong, say
+
+NO_ENTRY = 0xFFFE
+"""An entry that no machine has."""
 
 
 class Figures:
@@ -32,14 +35,16 @@ class Figures:
 
     def rate(self, name: str, count: int) -> None:
         """How many updates a second a machine makes, so many to a message."""
-        number = self.next_number(name)
+        machine = self.machine(name)
+        number, journal = int(machine["next"]), machine["journal"]
         topic, done, messages = f"bootkeep/{name}/reply", 0, 100 if count == 1 else 8
         before, began = self.fleet.processes.spent(name), time.monotonic()
         for _ in range(messages):
+            line = f"bootfleet 2 journal={journal} next={number} {NO_ENTRY:04X}=none\n".encode()
             frames = b"".join(next_frame(number + it) for it in range(count))
             number += count
             seen = len(self.fleet.relay.tapped)
-            self.fleet.relay.to_machines.publish(f"bootkeep/{name}/request", frames)
+            self.fleet.relay.to_machines.publish(f"bootkeep/{name}/request", line + frames)
             self.await_reply(topic, seen)
             done += count
         spent, after = time.monotonic() - began, self.fleet.processes.spent(name)
@@ -51,9 +56,10 @@ class Figures:
         if count == 1:
             self.fleet.check(own <= 3, f"an agent takes {own:.1f} ms of a processor for a message")
 
-    def next_number(self, name: str) -> int:
+    def machine(self, name: str) -> Dict[str, Any]:
+        """How a machine stands."""
         machines = self.fleet.status(self.fleet.ledger)["machines"]
-        return int(next(it["next"] for it in machines if it["name"] == name))
+        return next(dict(it) for it in machines if it["name"] == name)
 
     def await_reply(self, topic: str, seen: int) -> None:
         until = time.monotonic() + 10
@@ -91,4 +97,5 @@ class Figures:
 
 def next_frame(number: int) -> bytes:
     """A request that sets BootNext to an entry that isn't there: it changes the journal alone."""
-    return b"BQ\1\5" + number.to_bytes(4, "little") + b"\2\0\0\0" + b"\xfe\xff"
+    entry = NO_ENTRY.to_bytes(2, "little")
+    return b"BQ\1\5" + number.to_bytes(4, "little") + b"\2\0\0\0" + entry

@@ -3,6 +3,7 @@
 from __future__ import annotations
 
 import shutil
+import signal
 import time
 from pathlib import Path
 from typing import Any, List
@@ -51,6 +52,19 @@ class Refused:
             not [it for it in heard if it[1].startswith(b"forged")], "x1 sent x2 a request"
         )
         relays.end(owner)
+        self.revoked()
+
+    def revoked(self) -> None:
+        """A machine whose certificate is revoked, beside one that stands: the broker reads its files anew."""
+        own = self.fleet.work / "revoked"
+        shutil.copytree(self.fleet.certs / "x1", own)
+        self.fleet.bootfleet("revoke", "x1")
+        self.fleet.processes.running["far"].send_signal(signal.SIGHUP)
+        time.sleep(1)
+        self.shut_out(own, "whose certificate is revoked", "x1")
+        other = relays.client(self.fleet.certs / "x2", self.fleet.ports[1], "x2", lambda _: None)
+        self.fleet.check(not relays.is_refused(other, 5), "x2 was shut out beside x1")
+        relays.end(other)
 
     def intrude(self, own: str, name: str) -> List[relays.Message]:
         """Reads and writes by a machine's certificate what is another one's. What it was delivered."""
@@ -100,9 +114,9 @@ class Refused:
         made.loop_start()
         self.judge(made, came, "without a certificate")
 
-    def shut_out(self, own: Path, what: str) -> None:
+    def shut_out(self, own: Path, what: str, name: str = "x2") -> None:
         came: List[Any] = []
-        made = relays.client(own, self.fleet.ports[1], "x2", came.append, "bootkeep/#")
+        made = relays.client(own, self.fleet.ports[1], name, came.append, "bootkeep/#")
         self.judge(made, came, what)
 
     def judge(self, made: Any, came: List[Any], what: str) -> None:

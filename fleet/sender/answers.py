@@ -23,6 +23,10 @@ ANSWERED = re.compile(rb'\{"to": ?"([0-9a-f]{16})"')
 """How a reply begins: which message it is to is known before all of it is read."""
 
 
+JOURNAL = re.compile("[0-9a-f]{32}")
+"""The identity of a journal."""
+
+
 class BadAnswer(Exception):
     """Why something isn't a reply."""
 
@@ -45,16 +49,25 @@ class Reply(NamedTuple):
     reason: Optional[str]
 
 
+class Unmet(NamedTuple):
+    """What isn't so of what a message expects, and what is so instead."""
+
+    expected: str
+    found: str
+
+
 class Answer(NamedTuple):
-    """What came of one message to a machine: a refusal, or replies and what is there after them."""
+    """What came of one message to a machine: a refusal, or replies and what is there after them. If something that the
+    message expects isn't so, nothing was done, and there is no reply."""
 
     to: str
     refusal: Optional[Refusal]
-    next: Optional[int] = None
+    next: int = 0
     journal: Optional[str] = None
     replies: Tuple[Reply, ...] = ()
     shown: Shown = Shown((), (), None)
     summary: Dict[str, Any] = {}
+    unmet: Optional[Unmet] = None
 
     def told(self) -> Dict[str, Any]:
         """What the machine says of itself, for a person who has to decide."""
@@ -101,11 +114,16 @@ def _answer(held: Dict[str, Any]) -> Answer:
         to,
         None,
         _number(held["next"]),
-        None if held["journal"] is None else _text(held["journal"]),
+        None if held["journal"] is None else _journal(held["journal"]),
         tuple(_reply(reply) for reply in held["replies"]),
         shown,
         _summary(show, shown),
+        _unmet(held.get("unmet")),
     )
+
+
+def _unmet(held: Optional[Dict[str, Any]]) -> Optional[Unmet]:
+    return None if held is None else Unmet(_text(held["expected"]), _text(held["found"]))
 
 
 def _reply(held: Dict[str, Any]) -> Reply:
@@ -154,6 +172,12 @@ def _text(value: object) -> str:
 def _number(value: object, least: int = 0) -> int:
     if not isinstance(value, int) or isinstance(value, bool) or not least <= value < 1 << 32:
         raise TypeError("a number isn't one that may stand there")
+    return value
+
+
+def _journal(value: object) -> str:
+    if not isinstance(value, str) or not JOURNAL.fullmatch(value):
+        raise TypeError(f"{value!r:.40} isn't the identity of a journal")
     return value
 
 

@@ -1,8 +1,13 @@
 """What TLS needs: an authority of the fleet's own, and certificates of the broker, of senders and of machines.
 
 Each has a folder of its own below the folder of certificates, to be copied to where it is used: `ca.pem`, `own.pem` and
-`own.key`. The authority's key, `ca.key`, stays where `bootfleet enroll` is called. The name in a certificate is what
-the broker takes for the user and for the identity of the client, so it decides which topics its owner can use.
+`own.key`, unless the key was made elsewhere. The authority's key, `ca.key`, stays where `bootfleet enroll` is called.
+The name in a certificate is what the broker takes for the user and for the identity of the client, so it decides which
+topics its owner can use. So a name has one key at a time: another role, or a machine that was forgotten and comes again,
+doesn't get the key that is there.
+
+What was taken out of use is kept in `.old`, with the list of the certificates that are revoked, of which the broker's
+`crl.pem` is made.
 """
 
 from __future__ import annotations
@@ -10,11 +15,15 @@ from __future__ import annotations
 import ipaddress
 import os
 import re
+import secrets
 import shutil
 import subprocess
 import tempfile
+import time
 from pathlib import Path
 from typing import List
+
+from .endings import SOON, days_left, read_certificate
 
 BROKER = "broker"
 SENDER = "sender"
@@ -31,6 +40,7 @@ CONFIGURATION = """\
 # The broker of a fleet, for mosquitto 2.0: TLS alone, and nobody without a certificate of the fleet's own authority.
 listener {port}{bind}
 cafile {folder}/broker/ca.pem
+crlfile {folder}/crl.pem
 certfile {folder}/broker/own.pem
 keyfile {folder}/broker/own.key
 require_certificate true
@@ -59,6 +69,27 @@ topic read bootkeep/+/reply
 """
 
 
+OLD = ".old"
+"""The folder of what was taken out of use: no name begins with a dot."""
+
+FORGOTTEN = "forgotten"
+"""The file in a machine's folder that says that it was forgotten."""
+
+FOR_CLIENT = ["extendedKeyUsage=clientAuth", "basicConstraints=critical,CA:FALSE"]
+
+REVOKING = """\
+[ca]
+default_ca = fleet
+[fleet]
+database = {folder}/.old/revoked
+default_md = sha256
+default_crl_days = {days}
+certificate = {folder}/ca.pem
+private_key = {folder}/ca.key
+"""
+"""What openssl reads to make the list of revoked certificates."""
+
+
 class CertificateError(Exception):
     """Why there is no certificate."""
 
@@ -72,9 +103,16 @@ def check_name(name: str) -> None:
 
 
 def make_authority(folder: Path) -> None:
-    """Makes the authority, unless the folder has one."""
-    if (folder / "ca.key").exists():
-        return
+    """Makes the authority and its list of revoked certificates, unless the folder has them."""
+    if not (folder / "ca.key").exists():
+        _make_ca(folder)
+    (folder / OLD).mkdir(mode=0o700, exist_ok=True)
+    (folder / OLD / "revoked").touch()
+    if not (folder / "crl.pem").exists():
+        _write_revoked(folder)
+
+
+def _make_ca(folder: Path) -> None:
     with tempfile.TemporaryDirectory(dir=folder) as made:
         _openssl(
             ["req", "-x509", *CURVE, "-subj", "/CN=bootfleet", "-days", str(2 * DAYS)]
@@ -87,13 +125,13 @@ def make_authority(folder: Path) -> None:
 
 
 def make_certificate(folder: Path, name: str, addresses: str = "") -> Path:
-    """Makes the folder of somebody with this name, unless it is there, and gives its path. A broker has its addresses
-    in its certificate."""
+    """Makes the folder of somebody with this name, unless there is a good one, and gives its path. A broker has its
+    addresses in its certificate."""
     made = folder / name
-    if made.exists():
+    if _is_good(made):
         return made
-    use = "serverAuth" if addresses else "clientAuth"
-    more = ["-addext", f"extendedKeyUsage={use}", "-addext", "basicConstraints=critical,CA:FALSE"]
+    more = ["-addext", FOR_CLIENT[1]]
+    more += ["-addext", "extendedKeyUsage=serverAuth" if addresses else FOR_CLIENT[0]]
     if addresses:
         more += ["-addext", f"subjectAltName={addresses}"]
     with tempfile.TemporaryDirectory(dir=folder) as new:
@@ -125,23 +163,146 @@ def make_broker(folder: Path, host: str, port: int) -> None:
 def make_sender(folder: Path, name: str) -> None:
     """Lets a sender send, and makes its certificate. One that is there before is somebody else's, as that of a machine
     that was forgotten: whoever has its key could send to all."""
-    acl, made = folder / "acl", folder / name
-    part = ACL_OF_SENDER.format(name=name)
-    if part not in acl.read_text(encoding="utf-8"):
+    made = folder / name
+    if not is_sender(folder, name):
         if made.exists():
             raise CertificateError(
-                f"{made}: it is no sender's, and a machine may have its key: take another name, or remove it"
+                f"{made}: it is no sender's, and a machine may have its key: take another name, or `revoke {name}`"
             )
-        with acl.open("a", encoding="utf-8") as out:
-            out.write(part)
+        with (folder / "acl").open("a", encoding="utf-8") as out:
+            out.write(ACL_OF_SENDER.format(name=name))
     make_certificate(folder, name)
 
 
 def make_machine(folder: Path, name: str, broker: str) -> Path:
     """Makes the folder for a machine, which is to be its /etc/bootfleet."""
     made = make_certificate(folder, name)
-    (made / "agent.env").write_text(f"MACHINE={name}\nBROKER={broker}\n", encoding="utf-8")
+    _write_agent(made, name, broker)
     return made
+
+
+def sign_machine(folder: Path, name: str, broker: str, asked: Path) -> Path:
+    """Makes the folder for a machine that has made its key itself, by its request for a certificate. All that is taken of
+    the request is the key."""
+    made = folder / name
+    if _is_good(made):
+        raise CertificateError(f"{made}: it has a certificate: `revoke {name}` takes that away")
+    with tempfile.TemporaryDirectory(dir=folder) as new:
+        Path(new, "extensions").write_text("\n".join(FOR_CLIENT), encoding="ascii")
+        _openssl(
+            ["x509", "-req", "-in", str(asked), "-subj", f"/CN={name}", "-days", str(DAYS)]
+            + ["-CA", str(folder / "ca.pem"), "-CAkey", str(folder / "ca.key")]
+            + ["-set_serial", f"0x4{secrets.token_hex(15)}", "-extfile", f"{new}/extensions"]
+            + ["-out", f"{new}/own.pem"]
+        )
+        Path(new, "extensions").unlink()
+        shutil.copy(folder / "ca.pem", f"{new}/ca.pem")
+        os.chmod(new, 0o755)
+        os.rename(new, made)
+        Path(new).mkdir()  # For the end of the block, which removes it.
+    _write_agent(made, name, broker)
+    return made
+
+
+def _write_agent(made: Path, name: str, broker: str) -> None:
+    (made / "agent.env").write_text(f"MACHINE={name}\nBROKER={broker}\n", encoding="utf-8")
+
+
+# What is taken out of use
+
+
+def _is_good(made: Path) -> bool:
+    """Whether there is a certificate in a folder that may be used on. One that ends soon, or whose machine was forgotten,
+    is put away, the latter as a revoked one."""
+    if not made.exists():
+        return False
+    if not made.is_dir():
+        raise CertificateError(f"{made}: a file of the fleet has this name")
+    if (made / FORGOTTEN).exists():
+        _revoke(made.parent, made.name)
+    elif days_left(made / "own.pem", time.time()) < SOON:
+        _put_away(made.parent, made.name)
+    return made.exists()
+
+
+def forget_machine(folder: Path, name: str) -> None:
+    """Notes that the machine with this name is no machine any more, so that the next one gets another key."""
+    if (folder / name).is_dir():
+        (folder / name / FORGOTTEN).touch()
+
+
+def is_sender(folder: Path, name: str) -> bool:
+    """Whether a sender has this name."""
+    lines = (folder / "acl").read_text(encoding="utf-8").splitlines()
+    return ["user", name] in (line.split() for line in lines)
+
+
+def revoke(folder: Path, name: str) -> None:
+    """Takes the rights of a machine or a sender away: no broker that reads `crl.pem` and `acl` anew lets it in."""
+    if name == BROKER or not (folder / name / "own.pem").is_file():
+        raise CertificateError(f"{name}: no machine and no sender has a certificate by this name")
+    make_authority(folder)  # Of an earlier version it has no list of what is revoked.
+    if is_sender(folder, name):
+        _take_from_acl(folder / "acl", name)
+    _revoke(folder, name)
+
+
+def reads_revoked(folder: Path) -> bool:
+    """Whether the broker's configuration names the list of revoked certificates."""
+    lines = (folder / "mosquitto.conf").read_text(encoding="utf-8").splitlines()
+    return any(line.split()[:1] == ["crlfile"] for line in lines)
+
+
+def _take_from_acl(acl: Path, name: str) -> None:
+    """Takes out what one user may do: the lines up to those of another one, or of all."""
+    kept, is_theirs = [], False
+    for line in acl.read_text(encoding="utf-8").splitlines(keepends=True):
+        words = line.split()
+        if words[:1] in (["user"], ["pattern"]):
+            is_theirs = words[:2] == ["user", name]
+        if not is_theirs:
+            kept.append(line)
+    _replace(acl, "".join(kept))
+
+
+def _revoke(folder: Path, name: str) -> None:
+    read = read_certificate(folder / name / "own.pem")
+    digits = f"{read.serial:X}"
+    fields = [
+        "R",
+        f"{read.ends:%y%m%d%H%M%SZ}",
+        time.strftime("%y%m%d%H%M%SZ", time.gmtime()),
+        "0" * (len(digits) % 2) + digits,
+        "unknown",
+        f"/CN={name}",
+    ]
+    revoked = folder / OLD / "revoked"
+    _replace(revoked, revoked.read_text(encoding="ascii") + "\t".join(fields) + "\n")
+    _write_revoked(folder)
+    _put_away(folder, name)
+
+
+def _put_away(folder: Path, name: str) -> None:
+    """Moves what somebody has out of use."""
+    os.rename(folder / name, folder / OLD / f"{name}-{secrets.token_hex(4)}")
+
+
+def _write_revoked(folder: Path) -> None:
+    """Makes the list of revoked certificates that a broker reads."""
+    with tempfile.TemporaryDirectory(dir=folder) as new:
+        configuration = REVOKING.format(folder=folder.resolve(), days=2 * DAYS)
+        Path(new, "configuration").write_text(configuration, encoding="utf-8")
+        words = ["ca", "-gencrl", "-config", f"{new}/configuration", "-out", f"{new}/crl.pem"]
+        _openssl(words)
+        os.replace(f"{new}/crl.pem", folder / "crl.pem")
+
+
+def _replace(path: Path, text: str) -> None:
+    """Writes a file as a whole, with the access that it has."""
+    new = path.with_name(f".{path.name}.new")
+    new.write_text(text, encoding="utf-8")
+    shutil.copymode(path, new)
+    os.replace(new, path)
 
 
 def _addresses(host: str) -> str:

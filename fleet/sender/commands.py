@@ -16,13 +16,14 @@ from typing import IO, Callable, Dict, List
 
 import bootkeep
 
-from . import certificates, machines, status
+from . import certificates, machines, status, waves
 from .certificates import CertificateError
 from .courier import MqttCourier, split_broker
 from .entries import Wanted
 from .goals import Goal
-from .ledger import Ledger, LedgerError
+from .ledger import Doubt, Ledger
 from .run import Sender
+from .store import LedgerError
 
 LEDGER = "/var/lib/bootfleet/ledger"
 
@@ -84,8 +85,13 @@ def _add_set_up(commands: "argparse._SubParsersAction[argparse.ArgumentParser]")
     init.add_argument("--certs", metavar="FOLDER", type=Path, required=True)
     enroll = _add(commands, "enroll", do_enroll, "takes machines in, with a certificate for each")
     enroll.add_argument("machines", metavar="MACHINE", nargs="+")
+    enroll.add_argument(
+        "--request", metavar="FILE", type=Path, help="of one machine that has made its key itself"
+    )
     sender = _add(commands, "enroll-sender", do_enroll_sender, "makes certificates of more senders")
     sender.add_argument("names", metavar="NAME", nargs="+")
+    revoke = _add(commands, "revoke", do_revoke, "takes rights away from machines or senders")
+    revoke.add_argument("names", metavar="NAME", nargs="+")
 
 
 def _add_goals(commands: "argparse._SubParsersAction[argparse.ArgumentParser]") -> None:
@@ -129,13 +135,27 @@ def _add_running(commands: "argparse._SubParsersAction[argparse.ArgumentParser]"
     run.add_argument(
         "--as", dest="name", metavar="NAME", default=certificates.SENDER, help="by this certificate"
     )
+    run.add_argument(
+        "--waves",
+        metavar="SIZES",
+        help="so many machines first, then so many, as 1,5%%,100%%; 100%% is all at once",
+    )
+    run.add_argument(
+        "--stop-at", metavar="N", type=int, help="once so many of them are in trouble, none goes on"
+    )
     shown = _add(commands, "status", do_status, "shows how it stands")
     how = shown.add_mutually_exclusive_group()
     how.add_argument("--json", action="store_true")
     how.add_argument("--page", metavar="FILE", type=Path, help="writes a page of HTML")
+    how.add_argument(
+        "--metrics", metavar="FILE", type=Path, help="writes a text that Prometheus collects"
+    )
     shown.add_argument(
         "--watch", nargs="?", metavar="SECONDS", type=float, const=2.0, help="and so on"
     )
+
+    backup = _add(commands, "backup", do_backup, "copies the ledger as it is at one moment")
+    backup.add_argument("file", metavar="FILE", type=Path)
 
 
 def _add_decisions(commands: "argparse._SubParsersAction[argparse.ArgumentParser]") -> None:
@@ -152,9 +172,19 @@ def _add_decisions(commands: "argparse._SubParsersAction[argparse.ArgumentParser
         made.add_argument("machines", metavar="MACHINE", nargs="+")
         if name != "resend":
             made.add_argument("--yes", action="store_true", help="without asking")
+        if name == "adopt":
+            _add_doubts(made)
     cancel = _add(commands, "cancel", do_cancel, "gives up what isn't reached yet of a job")
     cancel.add_argument("job", metavar="JOB", type=int)
     cancel.add_argument("machines", metavar="MACHINE", nargs="*")
+
+
+def _add_doubts(made: argparse.ArgumentParser) -> None:
+    for word, about in (
+        ("--done", "this `next` or `send` was done: it isn't sent again"),
+        ("--again", "this one wasn't: what isn't known to be done of it is sent again"),
+    ):
+        made.add_argument(word, metavar="JOB", type=int, action="append", default=[], help=about)
 
 
 # What is done
@@ -179,10 +209,15 @@ def do_enroll(options: argparse.Namespace) -> int:
     ledger = Ledger(options.ledger)
     for name in options.machines:
         certificates.check_name(name)
-        if name == certificates.BROKER or _is_sender(ledger, name):
+        if name == certificates.BROKER or certificates.is_sender(_certs(ledger), name):
             raise Problem(f"{name}: this name isn't a machine's")
+    if options.request is not None and len(options.machines) != 1:
+        raise Problem(f"{options.request}: a request is of one machine")
     for name in options.machines:
-        made = certificates.make_machine(_certs(ledger), name, _broker(ledger))
+        if options.request is None:
+            made = certificates.make_machine(_certs(ledger), name, _broker(ledger))
+        else:
+            made = certificates.sign_machine(_certs(ledger), name, _broker(ledger), options.request)
         with ledger.transaction():
             ledger.add_machine(name)
         print(f"{made}: copy it to the machine, as /etc/bootfleet")
@@ -197,6 +232,20 @@ def do_enroll_sender(options: argparse.Namespace) -> int:
             raise Problem(f"{name}: this name isn't a sender's")
         certificates.make_sender(_certs(ledger), name)
     print("let the broker read its acl anew (SIGHUP), and then `run --as NAME`")
+    return 0
+
+
+def do_revoke(options: argparse.Namespace) -> int:
+    ledger = Ledger(options.ledger)
+    for name in options.names:
+        certificates.check_name(name)
+        certificates.revoke(_certs(ledger), name)
+        print(f"{name}: it has no rights any more")
+    if not certificates.reads_revoked(_certs(ledger)):
+        print(f"name {_certs(ledger) / 'crl.pem'} in the broker's configuration: crlfile")
+    print(
+        "let the broker read its files anew (SIGHUP), or start it anew: who is connected stays so"
+    )
     return 0
 
 
@@ -218,6 +267,12 @@ def do_send(options: argparse.Namespace) -> int:
 
 def do_run(options: argparse.Namespace) -> int:
     ledger = Ledger(options.ledger)
+    if options.waves is not None:
+        made = waves.read_waves(options.waves, options.stop_at)
+        with ledger.transaction():
+            ledger.set_waves(made if made.is_any() else None)
+    elif options.stop_at is not None:
+        raise Problem("--stop-at goes with --waves")
     lock = _lock(ledger, options.name)
     stopped: List[int] = []
     for number in (signal.SIGTERM, signal.SIGINT):
@@ -256,15 +311,26 @@ def _show_status(options: argparse.Namespace, found: status.Status) -> None:
     if options.json:
         print(status.as_json(found), flush=True)
         return
+    if options.metrics is not None:
+        status.write_whole(options.metrics, status.as_metrics(found))
+        return
     if options.page is not None:
         again = None if options.watch is None else max(1, round(options.watch))
-        status.write_page(options.page, status.as_page(found, again))
+        status.write_whole(options.page, status.as_page(found, again))
         return
     columns, lines = shutil.get_terminal_size()
     if options.watch is None:
         print("\n".join(status.as_table(found, columns)))
     else:
         print("\033[H\033[2J" + "\n".join(status.as_table(found, columns, lines - 1)), flush=True)
+
+
+def do_backup(options: argparse.Namespace) -> int:
+    ledger = Ledger(options.ledger)
+    if options.file.exists() and os.path.samefile(options.file, options.ledger):
+        raise Problem(f"{options.file}: it is the ledger itself")
+    ledger.back_up(options.file)
+    return 0
 
 
 def do_resend(options: argparse.Namespace) -> int:
@@ -281,15 +347,42 @@ def do_adopt(options: argparse.Namespace) -> int:
         told = ledger.told(name)
         if told is None:
             raise Problem(f"{name}: it has told nothing of itself: mend it, and then `resend`")
-        machine, sent = ledger.machine(name), len(ledger.sent_frames(name))
+        machine, unanswered = ledger.machine(name), ledger.count_unanswered(name)
         print(f"{name}: {ledger.trouble(name)}")
         print(f" the ledger has:\n  journal {machine.journal or '-'}, next {machine.next}")
-        print(f"  {sent} requests without an answer, which are not sent again")
+        print(f"  {unanswered} requests without an answer, which are not sent again")
         print(f" the machine says:\n{machines.describe(told)}")
+        doubts = ledger.doubts(name)
+        for doubt in doubts:
+            print(f" it may have been done: {_words_of_doubt(doubt)}")
+        done = [doubt.job for doubt in doubts if _is_done(doubt, options)]
         if options.yes or _agrees("Go on from what the machine says?"):
             with ledger.transaction():
+                for job in done:
+                    ledger.say_done(name, job)
                 ledger.adopt(name, told)
     return 0
+
+
+def _words_of_doubt(doubt: Doubt) -> str:
+    return (
+        f"job {doubt.job}: {doubt.goal}: {doubt.done} of {doubt.of} known to be done,"
+        f" {doubt.unanswered} sent without an answer"
+    )
+
+
+def _is_done(doubt: Doubt, options: argparse.Namespace) -> bool:
+    """Whether what may have been done was done, as the words say, or whoever is asked."""
+    is_done, is_again = doubt.job in options.done, doubt.job in options.again
+    if is_done != is_again:
+        return is_done
+    if is_done:
+        raise Problem(f"job {doubt.job}: --done and --again say both")
+    if options.yes or not sys.stdin.isatty():
+        raise Problem(
+            f"{_words_of_doubt(doubt)}: --done {doubt.job} or --again {doubt.job} says which it is"
+        )
+    return not _agrees(f"Send what isn't known to be done of job {doubt.job} (again)?")
 
 
 def do_forget(options: argparse.Namespace) -> int:
@@ -298,6 +391,8 @@ def do_forget(options: argparse.Namespace) -> int:
         if not ledger.has_machine(name):
             raise Problem(f"{name}: there is no such machine in the ledger")
     if options.yes or _agrees(f"Forget what was asked of {' '.join(options.machines)}?"):
+        for name in options.machines:
+            certificates.forget_machine(_certs(ledger), name)
         with ledger.transaction():
             for name in options.machines:
                 ledger.forget(name)
@@ -436,11 +531,6 @@ def _broker(ledger: Ledger) -> str:
 
 def _certs(ledger: Ledger) -> Path:
     return Path(ledger.setting("certs") or "")
-
-
-def _is_sender(ledger: Ledger, name: str) -> bool:
-    acl = (_certs(ledger) / "acl").read_text(encoding="utf-8")
-    return f"user {name}\n" in acl
 
 
 def _open_private(path: str, flags: int) -> int:

@@ -3,6 +3,7 @@
 from __future__ import annotations
 
 import re
+import struct
 from typing import Any, Dict, NamedTuple, Optional, Tuple
 
 import bootkeep
@@ -20,12 +21,23 @@ class Parts(NamedTuple):
     paths: Tuple[bytes, ...]
     optional: bytes
 
+    def option(self) -> bytes:
+        """The load option of the parts."""
+        paths = b"".join(self.paths)
+        header = struct.pack("<IH", self.attributes, len(paths))
+        return header + self.description + b"\0\0" + paths + self.optional
+
 
 class Entry(NamedTuple):
-    """An entry as a machine shows it: its number, and its parts unless its data are no load option."""
+    """An entry as a machine shows it: its number, and its parts, or its bytes if they are no load option."""
 
     number: int
     parts: Optional[Parts]
+    undecodable: bytes = b""
+
+    def data(self) -> bytes:
+        """All of its bytes."""
+        return self.undecodable if self.parts is None else self.parts.option()
 
 
 def entry_number(text: object) -> int:
@@ -54,7 +66,7 @@ def entry_of_shown(shown: Dict[str, Any]) -> Entry:
     """An entry of what `bootvars show --json` prints. Raises what is wrong with it otherwise."""
     number = entry_number(shown["entry"])
     if shown["kind"] != "option":
-        return Entry(number, None)
+        return Entry(number, None, bytes.fromhex(shown["data"]))
     as_hex = shown["description_hex"]
     parts = Parts(
         int(shown["attributes"]),

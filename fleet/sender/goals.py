@@ -10,6 +10,8 @@
 - `remove`: no such entry is there. `remove` of one after the other.
 - `send`: requests that somebody made, each once.
 
+`next` and `send` are done once each: what is known to be done is never asked for again, whatever becomes of the goal.
+
 An entry that is there under several numbers, to the byte, is the one that comes first in BootOrder, or otherwise the
 lowest; of those that are meant by a description or by paths alone there has to be one. The same request is made three
 times at most: if the machine isn't as it is to be then, something else changes it, and the goal has failed.
@@ -37,6 +39,8 @@ class Asked(NamedTuple):
     entry: Optional[int] = None
     outcome: Optional[str] = None
     stored: Optional[int] = None
+    part: int = 0
+    """Which one of a `send` it is, from 0 on."""
 
 
 class Past(NamedTuple):
@@ -69,6 +73,15 @@ class Goal(NamedTuple):
     kind: str
     wanted: Tuple[Wanted, ...] = ()
     frames: Tuple[bytes, ...] = ()
+
+    def is_once(self) -> bool:
+        """Whether it isn't told by what a machine is like whether the goal was reached."""
+        return self.kind in ("next", "send")
+
+    def is_for_good(self, asked: Asked) -> bool:
+        """Whether a request that was done for it counts in each later attempt."""
+        is_it = self.kind == "send" or (self.kind == "next" and asked.kind == Request.NEXT)
+        return is_it and asked.outcome == "Done"
 
     def __str__(self) -> str:
         if self.kind == "send":
@@ -111,9 +124,9 @@ class Ask(NamedTuple):
 
 
 class Send(NamedTuple):
-    """These frames are to be sent as they are, but for their numbers."""
+    """These of the goal's frames are to be sent as they are, but for their numbers."""
 
-    frames: Tuple[bytes, ...]
+    parts: Tuple[int, ...]
 
 
 Step = Union[Reached, Failed, Ask, Send]
@@ -134,7 +147,7 @@ def _taken(goal: Goal, shown: Shown, past: Past) -> Step:
         left = sorted(it.number for it in shown.entries if goal.wanted[0].is_meant(it))
         return Ask(Asked(Request.REMOVE, left[0])) if left else Reached()
     if goal.kind == "next" and past.is_done(Request.NEXT):
-        return Reached(next(it.entry for it in past.asked if it.kind == Request.NEXT))
+        return Reached(next(it.entry for it in past.asked if goal.is_for_good(it)))
     found: List[int] = []
     for wanted in goal.wanted:
         entry = _find(wanted, goal.kind, shown, past)
@@ -183,10 +196,11 @@ def _in_front(wanted: List[int], order: Tuple[int, ...]) -> Step:
 
 
 def _next_frames(goal: Goal, past: Past) -> Step:
-    left = goal.frames[len(past.asked) :]
+    asked = {it.part: it for it in past.asked}
+    left = tuple(part for part in range(len(goal.frames)) if part not in asked)
     if left:
         return Send(left)
-    bad = [f"{request_words(it)}: {it.outcome}" for it in past.asked if it.outcome != "Done"]
+    bad = [f"{request_words(it)}: {it.outcome}" for it in asked.values() if it.outcome != "Done"]
     return Failed(", ".join(bad)) if bad else Reached()
 
 

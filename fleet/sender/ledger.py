@@ -1,8 +1,12 @@
 """The ledger: what was asked of each machine, and what came of it, in a file of SQLite.
 
 A **job** is what somebody asked for; a **goal** is a job for one machine. A machine's goals are gone after one by one,
-in the order of their jobs. A **request** is one number of a machine: its frame is stored with it before it is sent.
-Each time that a machine's numbers are taken up anew, by `adopt`, its `era` is one higher.
+in the order of their jobs. A **request** has a number of a machine: its frame is stored with it before it is sent. Each
+time that a machine's numbers are taken up anew, by `adopt`, its `era` is one higher.
+
+The requests of one message are an **attempt**. A message does nothing once the machine isn't as it was when the message
+was made, and then another attempt is made of the same numbers. One of the attempts is applied at most, as each begins
+with the machine's next number; which one it was the machine tells.
 
 A goal, and in it the requests:
 
@@ -11,13 +15,19 @@ A goal, and in it the requests:
       \\------> cancelled      somebody gave it up
 
     a look  ->  the goal is reached, or has failed, or asks for one request: number and frame are stored, state `sent`
-    sent    ->  done           the machine says that it was applied, and Done
-            ->  refused        it says that it was applied, with another outcome
-            ->  dropped        `adopt`: nobody knows, and it is never sent again
+    sent    ->  late           another attempt is made, or nothing is asked any more; a message may still be under way
+    sent, late ->  done        the machine says that it was applied, and Done
+               ->  refused     it says that it was applied, with another outcome
+               ->  passed      it isn't the one that was applied, and never will be
+               ->  dropped     `adopt`: nobody knows, and it is never sent again
     done, refused -> a look, which the same reply has
+
+What is done once, `next` and `send`, is remembered: which of its requests were done counts over attempts and eras.
 
 A machine with **trouble** is sent nothing. Only `resend`, `adopt`, `forget`, and `cancel` of the goal that failed end
 it.
+
+Where there are **waves**, no machine is held before the wave that it is in has begun.
 
 A machine has a **holder** up to a time, its lease: the sender which alone goes after its goals.
 
@@ -27,85 +37,22 @@ Each write is in a transaction of SQLite, which is on the disk (`synchronous=FUL
 from __future__ import annotations
 
 import json
-import sqlite3
+import secrets
 import time
-from contextlib import contextmanager
-from pathlib import Path
-from typing import Any, Dict, Iterable, Iterator, List, NamedTuple, Optional
+from typing import Any, Dict, Iterable, List, NamedTuple, Optional
 
 from .goals import Asked, Goal, Past
-
-SCHEMA = """
-CREATE TABLE setting(name TEXT PRIMARY KEY, value TEXT NOT NULL) WITHOUT ROWID;
-CREATE TABLE machine(
-    name TEXT PRIMARY KEY,
-    era INTEGER NOT NULL DEFAULT 0,
-    next INTEGER NOT NULL DEFAULT 0,    -- the number of the next request
-    journal TEXT,                       -- the identity of its journal, once it told one
-    entries INTEGER NOT NULL DEFAULT 0, -- how many entries it had when it was looked at last
-    seen REAL,                          -- when it was heard of last
-    note TEXT,                          -- why it refused what is sent again, if it did last
-    trouble TEXT,
-    told TEXT,                          -- what it said of itself when the trouble began
-    holder TEXT,
-    until REAL NOT NULL DEFAULT 0,      -- when the lease ends
-    due REAL NOT NULL DEFAULT 0         -- it is silent: no sender takes it up before
-) WITHOUT ROWID;
-CREATE TABLE job(id INTEGER PRIMARY KEY, goal TEXT NOT NULL, made REAL NOT NULL);
-CREATE TABLE goal(
-    machine TEXT NOT NULL REFERENCES machine ON DELETE CASCADE,
-    job INTEGER NOT NULL REFERENCES job,
-    state TEXT NOT NULL DEFAULT 'open' CHECK (state IN ('open', 'reached', 'failed', 'cancelled')),
-    since INTEGER NOT NULL DEFAULT 0,   -- requests before this number aren't of this attempt
-    entry INTEGER,                      -- where its entry is
-    note TEXT,                          -- why it has failed
-    ended REAL,
-    PRIMARY KEY(machine, job)
-) WITHOUT ROWID;
-CREATE TABLE request(
-    machine TEXT NOT NULL REFERENCES machine ON DELETE CASCADE,
-    era INTEGER NOT NULL,
-    number INTEGER NOT NULL,
-    job INTEGER NOT NULL REFERENCES job,
-    kind INTEGER NOT NULL,
-    entry INTEGER,                      -- what it is about
-    frame BLOB NOT NULL,
-    state TEXT NOT NULL DEFAULT 'sent' CHECK (state IN ('sent', 'done', 'refused', 'dropped')),
-    outcome TEXT,
-    stored INTEGER,                     -- the entry under which it stored an option
-    PRIMARY KEY(machine, era, number)
-) WITHOUT ROWID;
-CREATE INDEX goal_open ON goal(machine) WHERE state = 'open';
-CREATE INDEX goal_job ON goal(job, state);
-CREATE INDEX request_sent ON request(machine) WHERE state = 'sent';
-CREATE INDEX machine_holder ON machine(holder) WHERE holder IS NOT NULL;
-CREATE INDEX machine_trouble ON machine(name) WHERE trouble IS NOT NULL;
-"""
-
-VERSION = 1
+from .requests import IS_OPEN, Machine, Requests
+from .waves import Waves, draw
 
 HAS_WORK = """trouble IS NULL AND name IN
     (SELECT machine FROM goal WHERE state = 'open' UNION SELECT machine FROM request WHERE state = 'sent')"""
 
+HAS_BEGUN = "(wave IS NULL OR wave <= ?)"
+"""Which machines are in no wave that comes later than this one."""
+
 LONGEST_LEFT = 60.0
 """For how many seconds at most a silent machine is left."""
-
-MOST_FRAMES = 64
-"""How many requests a machine keeps the outcomes of, and so how many may be under way at once."""
-
-
-class LedgerError(Exception):
-    """Why nothing can be done with the ledger."""
-
-
-class Machine(NamedTuple):
-    """What the ledger has of a machine that matters for the next step."""
-
-    name: str
-    era: int
-    next: int
-    journal: Optional[str]
-    entries: int
 
 
 class OpenGoal(NamedTuple):
@@ -116,70 +63,19 @@ class OpenGoal(NamedTuple):
     past: Past
 
 
-class Ledger:
+class Doubt(NamedTuple):
+    """A goal of what is done once, of which it isn't known that all of it is done: how many requests are known to be, of
+    how many, and how many were sent without an answer."""
+
+    job: int
+    goal: Goal
+    done: int
+    of: int
+    unanswered: int
+
+
+class Ledger(Requests):
     """An open ledger. Its calls that write are to be made in a `transaction`."""
-
-    def __init__(self, path: Path) -> None:
-        if not path.is_file():
-            raise LedgerError(f"{path}: there is no ledger; `bootfleet init` makes one")
-        self.path = path
-        self.db = sqlite3.connect(str(path), isolation_level=None, timeout=60)
-        try:
-            self.db.execute("PRAGMA journal_mode=WAL")
-            self.db.execute("PRAGMA synchronous=FULL")
-            self.db.execute("PRAGMA foreign_keys=ON")
-            version = self.setting("version")
-        except sqlite3.DatabaseError as error:
-            raise LedgerError(f"{path}: it is no ledger: {error}") from error
-        if version != str(VERSION):
-            raise LedgerError(f"{path}: its version is {version}, and {VERSION} is known")
-
-    @classmethod
-    def make(cls, path: Path, settings: Dict[str, str]) -> Ledger:
-        """A new ledger with these settings."""
-        try:
-            path.touch(0o600, exist_ok=False)
-        except FileExistsError:
-            raise LedgerError(f"{path}: it is there already") from None
-        db = sqlite3.connect(str(path))
-        with db:
-            db.executescript(SCHEMA)
-            held = {"version": str(VERSION), **settings}
-            db.executemany("INSERT INTO setting VALUES(?, ?)", held.items())
-        db.close()
-        return cls(path)
-
-    @contextmanager
-    def transaction(self) -> Iterator[None]:
-        """What is done in it is done as a whole, and on the disk afterwards, or not at all."""
-        self.db.execute("BEGIN IMMEDIATE")
-        try:
-            yield
-        except BaseException:
-            self.db.execute("ROLLBACK")
-            raise
-        self.db.execute("COMMIT")
-
-    @contextmanager
-    def savepoint(self) -> Iterator[None]:
-        """A part of a transaction, of which nothing is done if it fails."""
-        self.db.execute("SAVEPOINT part")
-        try:
-            yield
-        except BaseException:
-            self.db.execute("ROLLBACK TO part")
-            raise
-        finally:
-            self.db.execute("RELEASE part")
-
-    def one(self, query: str, *values: object) -> Any:
-        """The first row that a query finds, or none."""
-        return self.db.execute(query, values).fetchone()
-
-    def setting(self, name: str) -> Optional[str]:
-        """A setting of the ledger."""
-        found = self.one("SELECT value FROM setting WHERE name = ?", name)
-        return None if found is None else str(found[0])
 
     # Machines and jobs
 
@@ -210,20 +106,7 @@ class Ledger:
             )
         return job
 
-    # What is under way
-
-    def sent_frames(self, name: str) -> List[bytes]:
-        """The frames of a machine that aren't answered yet, in the order of their numbers."""
-        return [
-            frame
-            for (frame,) in self.db.execute(
-                "SELECT frame FROM request WHERE machine = ? AND state = 'sent' ORDER BY era, number LIMIT ?",
-                (name, MOST_FRAMES),
-            )
-        ]
-
-    def has_open_goal(self, name: str) -> bool:
-        return self.one("SELECT 1 FROM goal WHERE machine = ? AND state = 'open'", name) is not None
+    # Goals
 
     def open_goal(self, machine: Machine) -> Optional[OpenGoal]:
         """The goal that a machine's next request is for."""
@@ -234,47 +117,8 @@ class Ledger:
         )
         if found is None:
             return None
-        job, goal, since = found
-        rows = self.db.execute(
-            "SELECT kind, entry, outcome, stored FROM request"
-            " WHERE machine = ? AND era = ? AND number >= ? AND job = ? AND outcome IS NOT NULL",
-            (machine.name, machine.era, since, job),
-        )
-        return OpenGoal(job, Goal.from_json(goal), Past(tuple(Asked(*row) for row in rows)))
-
-    def add_request(self, machine: Machine, job: int, asked: Asked, frame: bytes) -> Machine:
-        """Stores a request under the machine's next number, which its frame has."""
-        self.db.execute(
-            "INSERT INTO request(machine, era, number, job, kind, entry, frame) VALUES(?, ?, ?, ?, ?, ?, ?)",
-            (machine.name, machine.era, machine.next, job, asked.kind, asked.entry, frame),
-        )
-        self.db.execute("UPDATE machine SET next = next + 1 WHERE name = ?", (machine.name,))
-        return machine._replace(next=machine.next + 1)
-
-    def request_state(self, machine: Machine, number: int) -> Optional[str]:
-        found = self.one(
-            "SELECT state FROM request WHERE machine = ? AND era = ? AND number = ?",
-            machine.name,
-            machine.era,
-            number,
-        )
-        return None if found is None else str(found[0])
-
-    def answer_request(
-        self, machine: Machine, number: int, outcome: str, stored: Optional[int]
-    ) -> None:
-        """A request was applied, with this outcome."""
-        self.db.execute(
-            "UPDATE request SET state = ?, outcome = ?, stored = ? WHERE machine = ? AND era = ? AND number = ?",
-            (
-                "done" if outcome == "Done" else "refused",
-                outcome,
-                stored,
-                machine.name,
-                machine.era,
-                number,
-            ),
-        )
+        job, goal, since = found[0], Goal.from_json(found[1]), found[2]
+        return OpenGoal(job, goal, self.past(machine, job, goal, since))
 
     def end_goal(
         self, name: str, job: int, state: str, entry: Optional[int], note: Optional[str]
@@ -283,6 +127,8 @@ class Ledger:
             "UPDATE goal SET state = ?, entry = ?, note = ?, ended = ? WHERE machine = ? AND job = ?",
             (state, entry, note, time.time(), name, job),
         )
+
+    # How machines are
 
     def heard(self, name: str, now: float) -> None:
         """A machine was heard of, so it isn't silent."""
@@ -314,19 +160,21 @@ class Ledger:
         self.db.execute(
             "UPDATE machine SET until = ? WHERE holder IS NOT NULL AND until > ?", (until, until)
         )
+        begun = self.begun_wave()
         self.db.execute(
             f"UPDATE machine SET until = ? WHERE holder = ? AND {HAS_WORK}", (until, holder)
         )
         held = [
             name
             for (name,) in self.db.execute(
-                f"SELECT name FROM machine WHERE holder = ? AND {HAS_WORK}", (holder,)
+                f"SELECT name FROM machine WHERE holder = ? AND {HAS_WORK} AND {HAS_BEGUN}",
+                (holder, begun),
             )
         ]
         free = self.db.execute(
             "SELECT name FROM machine WHERE (holder IS NULL OR until < ?) AND (due <= ? OR due > ?)"
-            f" AND {HAS_WORK} LIMIT ?",
-            (now, now, now + LONGEST_LEFT, most - len(held)),
+            f" AND {HAS_WORK} AND {HAS_BEGUN} LIMIT ?",
+            (now, now, now + LONGEST_LEFT, begun, most - len(held)),
         ).fetchall()
         self.db.executemany(
             "UPDATE machine SET holder = ?, until = ? WHERE name = ?",
@@ -354,6 +202,57 @@ class Ledger:
             and self.one("SELECT 1 FROM machine WHERE trouble IS NOT NULL LIMIT 1") is None
         )
 
+    # Waves
+
+    def set_waves(self, waves: Optional[Waves]) -> None:
+        """Has machines gone after in these waves from now on, or all at once."""
+        self.db.execute("DELETE FROM setting WHERE name = 'waves'")
+        if waves is not None:
+            self.set_setting("waves", waves.to_json())
+            if self.setting("seed") is None:
+                self.set_setting("seed", secrets.token_hex(8))
+        self.draw_waves()
+
+    def waves(self) -> Optional[Waves]:
+        held = self.setting("waves")
+        return None if held is None else Waves.from_json(held)
+
+    def draw_waves(self) -> None:
+        """Notes in which wave each machine is: of those of the jobs that aren't done."""
+        waves = self.waves()
+        if waves is None:
+            self.db.execute("UPDATE machine SET wave = NULL WHERE wave IS NOT NULL")
+            return
+        rows = self.db.execute(
+            "SELECT DISTINCT machine FROM goal WHERE job IN"
+            " (SELECT job FROM goal WHERE state IN ('open', 'failed'))"
+        )
+        drawn = draw((name for (name,) in rows), waves, self.setting("seed") or "")
+        rows = self.db.execute("SELECT name, wave FROM machine")
+        changed = [(drawn.get(name), name) for name, wave in rows if wave != drawn.get(name)]
+        self.db.executemany("UPDATE machine SET wave = ? WHERE name = ?", changed)
+
+    def begun_wave(self) -> int:
+        """The last wave that has begun; -1 if so many machines are in trouble that nothing goes on."""
+        if self.is_stopped():
+            return -1
+        (wave,) = self.one(f"SELECT MIN(wave) FROM machine WHERE {HAS_WORK}")
+        return 0 if wave is None else int(wave)
+
+    def is_stopped(self) -> bool:
+        """Whether so many machines of waves are in trouble that nothing goes on."""
+        waves = self.waves()
+        if waves is None or waves.stop_at is None:
+            return False
+        return self.count_wave_troubles() >= waves.stop_at
+
+    def count_wave_troubles(self) -> int:
+        """How many machines that are in a wave are in trouble."""
+        count = self.one(
+            "SELECT COUNT(*) FROM machine WHERE trouble IS NOT NULL AND wave IS NOT NULL"
+        )[0]
+        return int(count)
+
     # What somebody decides
 
     def told(self, name: str) -> Optional[Dict[str, Any]]:
@@ -368,7 +267,7 @@ class Ledger:
     def _reopen(self, name: str) -> None:
         """Ends a machine's trouble, and opens the goals that have failed for new attempts."""
         self.db.execute(
-            "UPDATE machine SET trouble = NULL, told = NULL, note = NULL, due = 0 WHERE name = ?",
+            "UPDATE machine SET trouble = NULL, told = NULL, note = NULL, unmet = 0, due = 0 WHERE name = ?",
             (name,),
         )
         self.db.execute(
@@ -386,7 +285,7 @@ class Ledger:
         """Goes on with a machine as it says itself: from its journal and its next number on, with none of the requests
         that nobody knows the end of."""
         self.db.execute(
-            "UPDATE request SET state = 'dropped' WHERE machine = ? AND state = 'sent'", (name,)
+            f"UPDATE request SET state = 'dropped' WHERE machine = ? AND {IS_OPEN}", (name,)
         )
         self.db.execute(
             "UPDATE machine SET era = era + 1, journal = ?, next = ?, entries = ? WHERE name = ?",
@@ -397,6 +296,32 @@ class Ledger:
             "UPDATE goal SET since = ? WHERE machine = ? AND state = 'open'", (told["next"], name)
         )
 
+    def doubts(self, name: str) -> List[Doubt]:
+        """The goals of a machine that are done once, and that perhaps have been."""
+        rows = self.db.execute(
+            "SELECT job, job.goal FROM goal JOIN job ON job = id"
+            " WHERE machine = ? AND state IN ('open', 'failed') ORDER BY job",
+            (name,),
+        ).fetchall()
+        goals = [(job, Goal.from_json(goal)) for job, goal in rows]
+        return [self._doubt(name, job, goal) for job, goal in goals if goal.is_once()]
+
+    def _doubt(self, name: str, job: int, goal: Goal) -> Doubt:
+        done, unanswered = set(), set()
+        for kind, part, state in self.db.execute(
+            "SELECT kind, part, state FROM request WHERE machine = ? AND job = ?", (name, job)
+        ):
+            if state == "done" and goal.is_for_good(Asked(kind, outcome="Done")):
+                done.add(part)
+            elif state in ("sent", "late", "dropped"):
+                unanswered.add(part)
+        of = len(goal.frames) or 1
+        return Doubt(job, goal, len(done), of, len(unanswered - done))
+
+    def say_done(self, name: str, job: int) -> None:
+        """Somebody says that a goal was reached."""
+        self.end_goal(name, job, "reached", None, "somebody said so")
+
     def cancel(self, job: int, names: Optional[List[str]]) -> int:
         """Gives up the goals of a job that aren't reached, of these machines or of all. How many there were."""
         where = "job = ? AND state IN ('open', 'failed')"
@@ -404,6 +329,10 @@ class Ledger:
         chosen = [(name, state) for name, state in rows if names is None or name in names]
         for name, state in chosen:
             self.end_goal(name, job, "cancelled", None, None)
+            self.db.execute(
+                "UPDATE request SET state = 'late' WHERE machine = ? AND job = ? AND state = 'sent'",
+                (name, job),
+            )
             if state == "failed":
                 self._end_trouble_of_goal(name, job)
         return len(chosen)

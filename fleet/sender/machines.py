@@ -1,22 +1,25 @@
 """What is done about a machine: by what it says, and by what the ledger has of it.
 
-`take` takes a reply to what the machine was asked last. It writes to the ledger which requests were applied, whether
-the goal is reached, and the next request, if there is one; or that the machine is in trouble.
+`take` takes an answer to what the machine was asked last, and gives what it is asked next. It writes to the ledger which
+requests were applied, whether the goal is reached, and the next request, if there is one; or that the machine is in
+trouble.
+
+A machine whose next number has moved on has applied a request whose reply was lost. Which one it was is asked before
+anything else: the requests that were stored under these numbers are sent once more, where they change nothing.
 """
 
 from __future__ import annotations
 
-import struct
-from typing import Any, Dict, Optional
+from typing import Any, Dict, List, NamedTuple, Optional, Tuple, Union
 
 import bootkeep
 
-from .answers import Answer, Reply, plain
-from .goals import Ask, Asked, Failed, Reached, Send, request_words, step
-from .ledger import MOST_FRAMES, Ledger, Machine
-
-NUMBER_AT = 4
-"""Where the number is in a frame."""
+from . import messages
+from .answers import Answer, Reply, Unmet, plain
+from .goals import Ask, Asked, Failed, Goal, Reached, Send, request_words, step
+from .ledger import Ledger
+from .messages import Message, Stored, renumbered
+from .requests import MOST_FRAMES, Machine
 
 MOST_NUMBERS = (1 << 32) - 1
 """How many numbers requests can have."""
@@ -24,26 +27,49 @@ MOST_NUMBERS = (1 << 32) - 1
 MOST_BYTES = 1 << 19
 """How many bytes of frames are sent at once, if they are more than one: a broker takes no message without end."""
 
+MOST_UNMET = 16
+"""How often in a row a machine may be another one than a message expects: something changes it each time."""
+
 
 class Trouble(Exception):
     """Why nothing more is sent to a machine."""
 
 
-def take(ledger: Ledger, name: str, answer: Answer) -> Optional[str]:
-    """Takes a reply without a refusal. Gives why the machine is in trouble now, if it is."""
+class Taken(NamedTuple):
+    """What a machine is asked next, if there is anything; or why it is in trouble."""
+
+    message: Optional[Message] = None
+    trouble: Optional[str] = None
+
+
+def take(ledger: Ledger, name: str, answer: Answer, asked: Message) -> Taken:
+    """Takes what a machine answers to a message, without a refusal."""
     machine = ledger.machine(name)
     try:
-        _compare_journal(machine, answer)
-        for reply in answer.replies:
-            _take_reply(ledger, machine, reply)
-        _compare_next(machine, answer)
-        _compare_entries(machine, answer)
-        ledger.looked_at(machine, answer.journal, len(answer.shown.entries))
-        _go_on(ledger, machine, answer)
+        return Taken(_next_message(ledger, machine, answer, asked))
     except Trouble as trouble:
         ledger.stop(name, str(trouble), answer.told())
-        return str(trouble)
-    return None
+        return Taken(trouble=str(trouble))
+
+
+def _next_message(
+    ledger: Ledger, machine: Machine, answer: Answer, asked: Message
+) -> Optional[Message]:
+    _compare_journal(machine, answer)
+    if answer.unmet is None:
+        _take_replies(ledger, machine, answer, asked)
+    else:
+        _check_unmet(answer, answer.unmet, asked)
+        if ledger.count_unmet(machine) >= MOST_UNMET:
+            told = f"{answer.unmet.found}, and not {answer.unmet.expected}"
+            raise Trouble(f"it changes each time: {told}")
+    unknown = _unknown(ledger, machine, answer)
+    if unknown:
+        return messages.question(answer, unknown)
+    machine = ledger.move_on(machine, answer.next)
+    _compare_entries(machine, answer)
+    ledger.looked_at(machine, answer.journal, len(answer.shown.entries))
+    return _go_on(ledger, machine, answer)
 
 
 def _compare_journal(machine: Machine, answer: Answer) -> None:
@@ -54,52 +80,110 @@ def _compare_journal(machine: Machine, answer: Answer) -> None:
         )
 
 
-def _compare_next(machine: Machine, answer: Answer) -> None:
-    if answer.next != machine.next:
-        raise Trouble(f"its next number is {answer.next}, and the ledger's is {machine.next}")
-
-
 def _compare_entries(machine: Machine, answer: Answer) -> None:
     if machine.entries and not answer.shown.entries:
         raise Trouble(f"it has no entry any more, and had {machine.entries}")
 
 
-def _take_reply(ledger: Ledger, machine: Machine, reply: Reply) -> None:
+def _check_unmet(answer: Answer, unmet: Unmet, asked: Message) -> None:
+    """Raises Trouble for a machine that contradicts itself: it would be asked the same for ever."""
+    if unmet.expected not in asked.words:
+        raise Trouble("it says of something else than it was asked that it isn't so")
+    if messages.found(unmet.expected, answer) == unmet.expected:
+        raise Trouble(f"it says that {unmet.expected} isn't so, and shows that it is")
+
+
+def _take_replies(ledger: Ledger, machine: Machine, answer: Answer, asked: Message) -> None:
+    if len(answer.replies) != len(asked.requests):
+        told = f"it has {len(answer.replies)} replies to {len(asked.requests)} requests"
+        raise Trouble(f"{told}: its agent may be an older one")
+    for request, reply in zip(asked.requests, answer.replies):
+        _take_reply(ledger, machine, request, reply)
+
+
+def _take_reply(ledger: Ledger, machine: Machine, request: Stored, reply: Reply) -> None:
     """Notes what became of a request."""
     if reply.reply == "malformed" or reply.request is None:
         raise Trouble(f"a frame is malformed: {reply.reason}")
-    state = ledger.request_state(machine, reply.request)
-    if state is None:
-        raise Trouble(f"it tells of request {reply.request}, which isn't in the ledger")
-    if state != "sent":
-        return
-    if reply.reply == "repeat" and not reply.same:
-        raise Trouble(f"request {reply.request} was applied, and isn't known to be the one sent")
+    if reply.request != request.number:
+        raise Trouble(f"it tells of request {reply.request}, and was sent {request.number}")
     if reply.reply not in ("applied", "repeat") or reply.outcome is None:
-        raise Trouble(f"its reply to request {reply.request} is {reply.reply}")
-    ledger.answer_request(machine, reply.request, reply.outcome, reply.entry)
+        raise Trouble(f"its reply to request {request.number} is {reply.reply}")
+    if reply.reply == "repeat" and not reply.same:
+        ledger.pass_request(machine, request)
+    else:
+        ledger.answer_request(machine, request, reply.outcome, reply.entry)
 
 
-def _go_on(ledger: Ledger, machine: Machine, answer: Answer) -> None:
+def _unknown(ledger: Ledger, machine: Machine, answer: Answer) -> List[Stored]:
+    """The requests of which the machine is asked what became of them, before it is gone on with: none if it is known which
+    request was applied under each of the numbers that it has used since."""
+    theirs, ours = answer.next, machine.next
+    numbers = f"its next number is {theirs}, and the ledger's is {ours}"
+    if theirs < ours:
+        raise Trouble(f"{numbers}: an older copy of its journal's folder came back")
+    for number in range(ours, theirs):
+        if ledger.is_known(machine, number):
+            continue
+        requests = ledger.unanswered(machine, number)
+        if requests:
+            return [it for it in requests if number <= it.number < theirs]
+        if ledger.has_request(machine, number):
+            raise Trouble(f"request {number} was applied, and isn't known to be the one sent")
+        raise Trouble(
+            f"{numbers}: an older copy of the ledger came back, or another one sends to it"
+        )
+    return []
+
+
+def _go_on(ledger: Ledger, machine: Machine, answer: Answer) -> Optional[Message]:
     """Ends the goals that are reached, and stores the request for the first that isn't."""
     while True:
         held = ledger.open_goal(machine)
         if held is None:
-            return
+            ledger.withdraw(machine)
+            return None
         taken = step(held.goal, answer.shown, held.past)
         if isinstance(taken, Reached):
             ledger.end_goal(machine.name, held.job, "reached", taken.entry, None)
         elif isinstance(taken, Failed):
+            ledger.withdraw(machine)
             ledger.end_goal(machine.name, held.job, "failed", None, taken.why)
             raise Trouble(f"goal {held.job}: {taken.why}")
-        elif isinstance(taken, Ask):
-            _check_number(machine.next)
-            frame = _frame(machine.next, taken)
-            ledger.add_request(machine, held.job, taken.asked, frame)
-            return
         else:
-            _store_frames(ledger, machine, held.job, taken)
-            return
+            return _ask(ledger, machine, answer, held.job, _requests(machine, held.goal, taken))
+
+
+def _ask(
+    ledger: Ledger,
+    machine: Machine,
+    answer: Answer,
+    job: int,
+    requests: List[Tuple[Asked, bytes]],
+) -> Message:
+    """Stores requests, and gives the message that they are sent by."""
+    stored = ledger.add_requests(machine, job, requests)
+    message = messages.request(answer, stored)
+    if message.is_too_long():
+        raise Trouble(f"request {machine.next} names too many entries, or BootOrder does")
+    return message
+
+
+def _requests(machine: Machine, goal: Goal, taken: Union[Ask, Send]) -> List[Tuple[Asked, bytes]]:
+    """What is to be sent, with the machine's next numbers."""
+    _check_number(machine.next)
+    if isinstance(taken, Ask):
+        return [(taken.asked, _frame(machine.next, taken))]
+    requests: List[Tuple[Asked, bytes]] = []
+    left = MOST_BYTES
+    for at, part in enumerate(taken.parts[:MOST_FRAMES]):
+        frame, number = goal.frames[part], machine.next + at
+        left -= len(frame)
+        if at and left < 0:
+            break
+        _check_number(number)
+        requests.append((asked_by(frame, part), renumbered(frame, number)))
+    return requests
 
 
 def _check_number(number: int) -> None:
@@ -115,28 +199,12 @@ def _frame(number: int, ask: Ask) -> bytes:
         raise Trouble(f"request {number}, {request_words(ask.asked)}, has no frame: {why}") from why
 
 
-def _store_frames(ledger: Ledger, machine: Machine, job: int, send: Send) -> None:
-    left = MOST_BYTES
-    for at, frame in enumerate(send.frames[:MOST_FRAMES]):
-        left -= len(frame)
-        if at and left < 0:
-            return
-        _check_number(machine.next)
-        numbered = renumbered(frame, machine.next)
-        machine = ledger.add_request(machine, job, asked_by(frame), numbered)
-
-
-def renumbered(frame: bytes, number: int) -> bytes:
-    """A frame with another number."""
-    return frame[:NUMBER_AT] + struct.pack("<I", number) + frame[NUMBER_AT + 4 :]
-
-
-def asked_by(frame: bytes) -> Asked:
+def asked_by(frame: bytes, part: int) -> Asked:
     """What a frame asks for, by its kind, and the entry that stands first in the payload of some kinds."""
-    kind, payload = frame[3], frame[12:]
-    request = bootkeep.Request
-    named = (request.ADD, request.REPLACE, request.REMOVE, request.NEXT, request.FIRST)
-    return Asked(kind, int.from_bytes(payload[:2], "little") if kind in named else None)
+    payload = frame[messages.PAYLOAD_AT :]
+    is_named = frame[3] in messages.NAMES_ENTRY
+    entry = int.from_bytes(payload[:2], "little") if is_named else None
+    return Asked(frame[3], entry, part=part)
 
 
 def describe(told: Dict[str, Any]) -> str:

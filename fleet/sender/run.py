@@ -21,12 +21,12 @@ from .answers import (
     BadAnswer,
     Refusal,
     answered,
-    digest,
     plain,
     read_answer,
 )
 from .courier import Came, Courier
 from .ledger import Ledger
+from .messages import Message, look
 
 LEASE = 15.0
 """For how many seconds a sender holds a machine, unless it prolongs that."""
@@ -55,14 +55,10 @@ MOST_REFUSALS = 5
 class Held:
     """What a sender has of a machine that it holds."""
 
-    payload: bytes
+    message: Message
     due: float
     sent: int = 0
     refusals: int = 0
-    asked: str = ""
-
-    def __post_init__(self) -> None:
-        self.asked = digest(self.payload)
 
 
 class Said(NamedTuple):
@@ -96,6 +92,7 @@ class Sender:
     queue: List[Tuple[float, str]] = field(default_factory=list)
     counts: Counts = field(default_factory=Counts)
     leased: float = -math.inf
+    is_stopped: bool = False
 
     def __post_init__(self) -> None:
         self.holder = f"{self.name}:{os.getpid()}:{secrets.token_hex(4)}"
@@ -106,8 +103,12 @@ class Sender:
         try:
             while not is_stopped() and (ends is None or time.monotonic() < ends):
                 self.turn(self.courier.receive(BATCH))
-                if until_done and not self.held and self.ledger.is_done():
-                    return True
+                if until_done and not self.held:
+                    if self.ledger.is_done():
+                        return True
+                    self._tell_if_stopped()
+                    if self.is_stopped:
+                        return False
             return self.ledger.is_done()
         finally:
             with self.ledger.transaction():
@@ -137,19 +138,31 @@ class Sender:
     def _renew(self, now: float) -> None:
         """Takes the leases of machines that have something to be done, and loses those that others took meanwhile."""
         self.leased = now
+        self.ledger.draw_waves()
+        self._tell_if_stopped()
         day = time.time()
         names = self.ledger.hold(self.holder, MOST_HELD, day, day + LEASE)
         held = self.held
         self.held = {name: held[name] for name in names if name in held}
         for name in names:
             if name not in self.held:
-                self._begin(name, now + random.random() * self.first_pause)
+                self._begin(name, look(), now + random.random() * self.first_pause)
 
-    def _begin(self, name: str, due: float) -> None:
-        """A machine is asked something new: what isn't answered yet, or for a look."""
-        frames = b"".join(self.ledger.sent_frames(name))
-        held = Held(frames or secrets.token_hex(8).encode(), due)
-        self.held[name] = held
+    def _tell_if_stopped(self) -> None:
+        """Tells that nothing goes on, once until it does again."""
+        is_stopped = self.ledger.is_stopped()
+        if is_stopped and not self.is_stopped:
+            count = self.ledger.count_wave_troubles()
+            print(
+                f"bootfleet: {count} machines are in trouble: no other one is gone after",
+                file=sys.stderr,
+                flush=True,
+            )
+        self.is_stopped = is_stopped
+
+    def _begin(self, name: str, message: Message, due: float) -> None:
+        """A machine is asked something new."""
+        self.held[name] = Held(message, due)
         heapq.heappush(self.queue, (due, name))
 
     def _send_again(self, name: str, held: Held, now: float) -> bytes:
@@ -158,11 +171,14 @@ class Sender:
             self.held.pop(name)
             self.ledger.leave(name, time.time() + random.uniform(1, 2) * self.longest_pause)
             return b""
+        if held.sent and held.message.requests and not held.message.is_question:
+            if not self.ledger.is_asked(name):  # Somebody gave it up meanwhile.
+                held.message = look()
         self.counts.again += held.sent > 0
         held.due = now + self._pause(held.sent) * random.uniform(0.7, 1.3)
         held.sent += 1
         heapq.heappush(self.queue, (held.due, name))
-        return held.payload
+        return held.message.payload
 
     def _pause(self, sent: int) -> float:
         """How long to wait for an answer after so many messages before this one."""
@@ -177,7 +193,7 @@ class Sender:
         read = set()
         for name, payload in came:
             to, held = answered(payload), self.held.get(name)
-            if held is None or to not in (held.asked, None) or name in read:
+            if held is None or to not in (held.message.asked, None) or name in read:
                 said.append(Said(name, to))
             else:
                 read.add(name)
@@ -203,18 +219,18 @@ class Sender:
         held, answer = self.held.get(said.name), said.answer
         if isinstance(answer, BadAnswer) and held is not None:
             self._stop(said.name, str(answer), None)
-        elif not isinstance(answer, Answer) or held is None or said.to != held.asked:
+        elif not isinstance(answer, Answer) or held is None or said.to != held.message.asked:
             self._pass_over(said, held, now)
         elif answer.refusal is not None:
             self.counts.taken += 1
             self._refused(said.name, held, answer.refusal)
         else:
             self.counts.taken += 1
-            trouble = machines.take(self.ledger, said.name, answer)
-            if trouble is not None:
-                self._stopped(said.name, trouble)
+            taken = machines.take(self.ledger, said.name, answer, held.message)
+            if taken.trouble is not None:
+                self._stopped(said.name, taken.trouble)
             else:
-                self._next(said.name, now)
+                self._next(said.name, taken.message, now)
 
     def _pass_over(self, said: Said, held: Optional[Held], now: float) -> None:
         """Takes a reply to something else: one that is late, or doubled, or of a machine that has just come and is
@@ -225,10 +241,10 @@ class Sender:
             held.due = min(held.due, now + random.random() * self.first_pause)
             heapq.heappush(self.queue, (held.due, said.name))
 
-    def _next(self, name: str, now: float) -> None:
+    def _next(self, name: str, message: Optional[Message], now: float) -> None:
         """Goes on with a machine that has answered, or gives its lease back if there is nothing left to be done."""
-        if self.ledger.sent_frames(name) or self.ledger.has_open_goal(name):
-            self._begin(name, now)
+        if message is not None:
+            self._begin(name, message, now)
         else:
             self.held.pop(name)
             self.ledger.leave(name)
@@ -247,6 +263,8 @@ class Sender:
 
     def _stopped(self, name: str, why: str) -> None:
         self.held.pop(name, None)
+        if self.ledger.is_stopped():
+            self.leased = -math.inf  # Nothing goes on: all that is held is let go at once.
         print(f"bootfleet: {name}: {why}", file=sys.stderr, flush=True)
 
 

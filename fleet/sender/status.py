@@ -7,9 +7,11 @@ import json
 import os
 import tempfile
 import time
+from collections import Counter
 from pathlib import Path
 from typing import Any, Dict, List, NamedTuple, Optional, Tuple
 
+from .endings import Ending, ending_soon
 from .entries import entry_name
 from .goals import Goal
 from .ledger import Ledger
@@ -40,12 +42,25 @@ class MachineStatus(NamedTuple):
     why: Optional[str]
 
 
+class WaveStatus(NamedTuple):
+    """How many machines of a wave have nothing left to be done, have something, and are in trouble; and whether the wave
+    is `done`, `begun`, `waiting` or `stopped`."""
+
+    wave: int
+    state: str
+    done: int
+    open: int
+    trouble: int
+
+
 class Status(NamedTuple):
     """How it stands with all of a ledger."""
 
     jobs: List[JobStatus]
     machines: List[MachineStatus]
     now: float
+    endings: List[Ending]
+    waves: List[WaveStatus]
 
     def goals(self, state: str) -> int:
         return sum(job.counts[state] for job in self.jobs)
@@ -60,10 +75,29 @@ RANK = {"trouble": 0, "asked": 1, "open": 2, "quiet": 3}
 
 def read_status(ledger: Ledger) -> Status:
     """How it stands, at one moment."""
+    now = time.time()
+    endings = ending_soon(Path(ledger.setting("certs") or ""), now)
     with ledger.transaction():
-        now = time.time()
         machines = sorted(_machines(ledger, now), key=lambda it: (RANK[it.state], it.name))
-        return Status(_jobs(ledger), machines, now)
+        return Status(_jobs(ledger), machines, now, endings, _waves(ledger, machines))
+
+
+def _waves(ledger: Ledger, machines: List[MachineStatus]) -> List[WaveStatus]:
+    wave_of = dict(ledger.db.execute("SELECT name, wave FROM machine WHERE wave IS NOT NULL"))
+    counts: Dict[int, Counter[str]] = {wave: Counter() for wave in sorted(set(wave_of.values()))}
+    for machine in machines:
+        if machine.name in wave_of:
+            counts[wave_of[machine.name]][machine.state] += 1
+    is_stopped, begun = ledger.is_stopped(), ledger.begun_wave()
+    found = []
+    for wave, of in counts.items():
+        left = of["asked"] + of["open"]
+        if left and is_stopped:
+            state = "stopped"
+        else:
+            state = "done" if not left else "begun" if wave <= begun else "waiting"
+        found.append(WaveStatus(wave + 1, state, of["quiet"], left, of["trouble"]))
+    return found
 
 
 def _jobs(ledger: Ledger) -> List[JobStatus]:
@@ -128,6 +162,8 @@ def as_json(status: Status) -> str:
         "time": int(status.now),
         "jobs": [job._asdict() for job in status.jobs],
         "machines": [machine._asdict() for machine in status.machines],
+        "waves": [wave._asdict() for wave in status.waves],
+        "certificates": [ending._asdict() for ending in status.endings],
     }
     return json.dumps(held)
 
@@ -147,12 +183,24 @@ def counts_line(status: Status) -> str:
     return f"{len(status.machines)} machines, {status.troubled()} in trouble; goals: {goals}"
 
 
+def endings_line(status: Status) -> str:
+    """Which certificates end soon, or have ended."""
+    told = [
+        f"{it.name} {'has ended' if it.days < 0 else f'in {it.days} days'}" for it in status.endings
+    ]
+    return f"certificates end: {', '.join(told)}"
+
+
 def as_table(status: Status, columns: int, lines: Optional[int] = None) -> List[str]:
     """All of it in lines of so many columns, and only the first machines if there are more than so many lines."""
-    out = [counts_line(status), ""]
+    out = [counts_line(status), *([endings_line(status)] if status.endings else []), ""]
     for job in status.jobs:
         done, of = job.counts["reached"], sum(job.counts.values())
         out.append(f"{job.job:>4}  {_bar(done, of, 20)} {done}/{of}  {job.goal}")
+    for wave in status.waves:
+        of = wave.done + wave.open + wave.trouble
+        told = f"{wave.state}, {wave.trouble} in trouble" if wave.trouble else wave.state
+        out.append(f"wave  {_bar(wave.done, of, 20)} {wave.done}/{of}  {wave.wave}: {told}")
     width = max([7, *(len(it.name) for it in status.machines)])
     out += ["", f"{'MACHINE':<{width}}  STATE    GOALS  GOAL  SEEN   NEXT  WHY"]
     room = len(status.machines) if lines is None else max(0, lines - len(out) - 1)
@@ -169,6 +217,52 @@ def as_table(status: Status, columns: int, lines: Optional[int] = None) -> List[
 def _bar(done: int, of: int, width: int) -> str:
     filled = width * done // of if of else 0
     return "[" + "#" * filled + "." * (width - filled) + "]"
+
+
+class Metric(NamedTuple):
+    """A measure for Prometheus: its name, what it is, and its values by their labels."""
+
+    name: str
+    about: str
+    values: List[Tuple[Dict[str, str], float]]
+
+    def __str__(self) -> str:
+        lines = [f"# HELP {self.name} {self.about}", f"# TYPE {self.name} gauge"]
+        for labels, value in self.values:
+            inner = ",".join(f'{name}="{text}"' for name, text in labels.items())
+            lines.append(f"{self.name}{f'{{{inner}}}' if inner else ''} {value:.16g}")
+        return "\n".join(lines) + "\n"
+
+
+def as_metrics(status: Status) -> str:
+    """What can be measured of it, in the text format of Prometheus, as its node exporter takes it from a file."""
+    states = Counter(machine.state for machine in status.machines)
+    waves = [
+        ({"wave": str(wave.wave), "state": state}, float(count))
+        for wave in status.waves
+        for state, count in (("done", wave.done), ("open", wave.open), ("trouble", wave.trouble))
+    ]
+    goals = [
+        ({"job": str(job.job), "state": state}, float(job.counts[state]))
+        for job in status.jobs
+        for state in STATES
+    ]
+    metrics = [
+        Metric(
+            "bootfleet_machines",
+            "Machines by their state.",
+            [({"state": state}, float(states[state])) for state in RANK],
+        ),
+        Metric("bootfleet_goals", "Goals of each job by their state.", goals),
+        Metric("bootfleet_wave_machines", "Machines of each wave by what is left of them.", waves),
+        Metric(
+            "bootfleet_certificate_days",
+            "Days that are left of the certificates that end soon.",
+            [({"name": ending.name}, float(ending.days)) for ending in status.endings],
+        ),
+        Metric("bootfleet_seen_timestamp_seconds", "When this was so.", [({}, status.now)]),
+    ]
+    return "".join(str(metric) for metric in metrics if metric.values)
 
 
 STYLE = """
@@ -188,14 +282,16 @@ def as_page(status: Status, refresh: Optional[int] = None) -> str:
     """All of it as one page of HTML, which is read anew every so many seconds."""
     again = "" if refresh is None else f'<meta http-equiv="refresh" content="{refresh}">'
     when = time.strftime("%Y-%m-%d %H:%M:%S UTC", time.gmtime(status.now))
+    waves = "".join(_wave_row(wave) for wave in status.waves)
+    endings = f"<p>{html.escape(endings_line(status))}</p>" if status.endings else ""
     jobs = "".join(_job_row(job) for job in status.jobs)
     machines = "".join(_machine_row(machine) for machine in status.machines)
     return f"""<!DOCTYPE html>
 <html lang="en"><head><meta charset="utf-8">{again}<title>bootfleet</title>
 <meta name="viewport" content="width=device-width"><style>{STYLE}</style></head><body>
-<h1>Boot entries of the fleet</h1><p>{html.escape(counts_line(status))}. As of {when}.</p>
+<h1>Boot entries of the fleet</h1><p>{html.escape(counts_line(status))}. As of {when}.</p>{endings}
 <table><tr><th class="n">Job</th><th>Goal</th><th>Done</th><th class="n">Reached</th><th class="n">Open</th>
-<th class="n">Failed</th></tr>{jobs}</table>
+<th class="n">Failed</th></tr>{jobs}</table>{f"<table>{WAVE_HEADS}{waves}</table>" if waves else ""}
 <table><tr><th>Machine</th><th>State</th><th class="n">Goals</th><th class="n">Goal</th><th class="n">Seen</th>
 <th class="n">Next</th><th>Why</th></tr>{machines}</table></body></html>
 """
@@ -215,6 +311,15 @@ def _job_row(job: JobStatus) -> str:
     )
 
 
+WAVE_HEADS = """<tr><th class="n">Wave</th><th>State</th><th class="n">Done</th><th class="n">Open</th>
+<th class="n">In trouble</th></tr>"""
+
+
+def _wave_row(wave: WaveStatus) -> str:
+    cells = "".join(f'<td class="n">{it}</td>' for it in (wave.done, wave.open, wave.trouble))
+    return f'<tr><td class="n">{wave.wave}</td><td>{wave.state}</td>{cells}</tr>'
+
+
 def _machine_row(it: MachineStatus) -> str:
     reached = f"{it.goals['reached']} of {sum(it.goals.values())}"
     return (
@@ -224,11 +329,11 @@ def _machine_row(it: MachineStatus) -> str:
     )
 
 
-def write_page(path: Path, page: str) -> None:
-    """Writes the page, as a whole: who reads it meanwhile has the one before."""
+def write_whole(path: Path, text: str) -> None:
+    """Writes a file as a whole: who reads it meanwhile has the one before."""
     with tempfile.NamedTemporaryFile(
         "w", encoding="utf-8", dir=path.parent, prefix=".bootfleet-", delete=False
     ) as out:
-        out.write(page)
+        out.write(text)
     os.chmod(out.name, 0o644)
     os.replace(out.name, path)

@@ -2,14 +2,16 @@
 
 from __future__ import annotations
 
+import json
 import os
 import subprocess
 import sys
+from collections import deque
 from importlib.machinery import SourceFileLoader
 from importlib.util import module_from_spec, spec_from_loader
 from pathlib import Path
 from types import ModuleType
-from typing import Any, Dict, List, Optional
+from typing import Any, Callable, Deque, Dict, List, Optional, Sequence, Tuple
 
 import pytest
 
@@ -17,9 +19,11 @@ FLEET = Path(__file__).resolve().parents[1]
 sys.path[:0] = [str(FLEET), str(FLEET.parent / "python")]
 
 import bootkeep  # noqa: E402
+from sender.courier import Came  # noqa: E402
 from sender.entries import Wanted  # noqa: E402
 from sender.goals import Goal  # noqa: E402
 from sender.ledger import Ledger  # noqa: E402
+from sender.run import Sender  # noqa: E402
 
 PATH = "PciRoot(0x0)/Pci(0x1,0x0)"
 VENDOR = "8be4df61-93ca-11d2-aa0d-00e098032b8c"
@@ -99,6 +103,21 @@ def load_agent() -> ModuleType:
 agent: Any = load_agent()
 
 
+def frames_of(payload: bytes) -> bytes:
+    """The frames of a message."""
+    return payload.partition(b"\n")[2]
+
+
+def update(machine: Folder, frames: bytes) -> Dict[str, Any]:
+    """Has a machine apply frames, as it is now, and gives what it replies."""
+    look = json.loads(agent.answer(b"", str(machine.state), str(machine.place)))
+    line = f"bootfleet 2 journal={look['journal']} next={look['next']}\n".encode()
+    held: Dict[str, Any] = json.loads(
+        agent.answer(line + frames, str(machine.state), str(machine.place))
+    )
+    return held
+
+
 def bootfleet(*words: object, status: int = 0) -> str:
     """Calls bootfleet, and gives what it prints."""
     run = subprocess.run(
@@ -106,6 +125,82 @@ def bootfleet(*words: object, status: int = 0) -> str:
     )
     assert run.returncode == status, run.stderr
     return run.stdout + run.stderr
+
+
+Deliver = Callable[[int, bytes], List[bytes]]
+
+
+class Hand:
+    """A courier by hand: `requests` and `replies` say what comes of each message, by its number."""
+
+    def __init__(self, machines: Dict[str, Folder]) -> None:
+        self.machines = machines
+        self.count = [0, 0]
+        self.sent: List[Tuple[str, bytes]] = []
+        self.came: Deque[Came] = deque()
+        self.requests: Deliver = lambda _number, payload: [payload]
+        self.replies: Deliver = lambda _number, payload: [payload]
+
+    def send(self, name: str, payload: bytes) -> None:
+        self.sent.append((name, payload))
+        for copy in self.requests(self._next(0), payload):
+            folder = self.machines[name]
+            said = agent.answer(copy, str(folder.state), str(folder.place)).encode()
+            self.came += [Came(name, it) for it in self.replies(self._next(1), said)]
+
+    def _next(self, way: int) -> int:
+        self.count[way] += 1
+        return self.count[way] - 1
+
+    def receive(self, seconds: float) -> List[Came]:
+        came = list(self.came)
+        self.came.clear()
+        return came
+
+
+@pytest.fixture
+def sender(ledger: Ledger, machine: Folder) -> Sender:
+    return Sender(ledger, Hand({"m1": machine}), "sender", 0.01, 0.05)
+
+
+@pytest.fixture
+def pair(ledger: Ledger, machine: Folder, tmp_path: Path) -> Sender:
+    """A sender over two machines."""
+    other = Folder(tmp_path / "other", {0: option("a"), 1: option("b")}, [1, 0])
+    return Sender(ledger, Hand({"m1": machine, "m2": other}), "sender", 0.01, 0.05)
+
+
+def add(ledger: Ledger, *goals: Goal, to: Sequence[str] = ("m1",)) -> None:
+    with ledger.transaction():
+        for one in goals:
+            ledger.add_job(one, to)
+
+
+def run(sender: Sender) -> bool:
+    return sender.run(True, 600, lambda: False)
+
+
+def frames(sender: Sender) -> List[bytes]:
+    courier: Any = sender.courier
+    sent = dict.fromkeys(frames_of(it) for _, it in courier.sent)
+    return [it for it in sent if it]
+
+
+def troubled(sender: Sender) -> str:
+    """Runs until nothing is left but trouble, which it gives."""
+    assert run(sender)
+    assert not sender.ledger.all_reached()
+    return sender.ledger.trouble("m1") or ""
+
+
+def hostile(sender: Sender, make: Callable[[Dict[str, Any]], bytes]) -> None:
+    """Lets m1 reply by what is made of the true reply, and m2 truly, which has to come to its goal."""
+    courier: Any = sender.courier
+
+    def reply(number: int, payload: bytes) -> List[bytes]:
+        return [make(json.loads(payload)) if courier.sent[-1][0] == "m1" else payload]
+
+    courier.replies = reply
 
 
 def pytest_report_header() -> str:

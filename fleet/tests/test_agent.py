@@ -8,7 +8,7 @@ from typing import Any, Dict
 
 import bootkeep
 import pytest
-from conftest import Folder, agent, option
+from conftest import Folder, agent, option, update
 
 from sender.answers import digest, read_answer
 
@@ -25,28 +25,78 @@ def stand_in(folder: Path, monkeypatch: pytest.MonkeyPatch, busy: int, ending: s
     program = folder / "bootvars"
     program.write_text(STANDING_IN.format(folder, busy, ending))
     program.chmod(0o755)
-    monkeypatch.setattr(agent, "UPDATE", [str(program), *agent.UPDATE[1:]])
+    monkeypatch.setenv("BOOTVARS", str(program))
 
 
 def updated(payload: bytes, state: object = "S", place: object = "P") -> Dict[str, Any]:
-    held: Dict[str, Any] = json.loads(agent.update(payload, str(state), str(place)))
+    held: Dict[str, Any] = json.loads(agent.answer(payload, str(state), str(place)))
     return held
 
 
-def test_frames_are_handed_on_as_they_are(tmp_path: Path, monkeypatch: pytest.MonkeyPatch) -> None:
+JOURNAL = "0123456789abcdef0123456789abcdef"
+GUARD = f"bootfleet 2 journal={JOURNAL} next=7"
+
+
+def test_frames_are_handed_on_with_what_is_expected(
+    tmp_path: Path, monkeypatch: pytest.MonkeyPatch
+) -> None:
     stand_in(tmp_path, monkeypatch, 0, 'echo "{\\"next\\":1}"; exit 6')
-    assert updated(b"BQ\0\xff") == {"to": digest(b"BQ\0\xff"), "status": 6, "next": 1}
-    assert (tmp_path / "words").read_text() == "update --stream --look --state S P -\n"
-    assert (tmp_path / "stdin").read_bytes() == b"BQ\0\xff"
+    more = f"0003={'0a' * 32} 00FF=none order=0003,0001"
+    payload = f"{GUARD} {more}\n".encode() + b"BQ\n\xff"
+    assert updated(payload) == {"to": digest(payload), "status": 6, "next": 1}
+    words = f"{GUARD[12:]} {more}".replace(" ", " --expect ")
+    assert (tmp_path / "words").read_text() == (
+        f"update --stream --look --expect {words} --state S P -\n"
+    )
+    assert (tmp_path / "stdin").read_bytes() == b"BQ\n\xff"
 
 
-@pytest.mark.parametrize("token", [b"", b"3f", b"\xff\0"])
-def test_what_is_no_frame_asks_for_a_look(
-    tmp_path: Path, monkeypatch: pytest.MonkeyPatch, token: bytes
+@pytest.mark.parametrize("payload", [b"", b"bootfleet 2\n", b"bootfleet 2 look=0123456789abcdef\n"])
+def test_what_has_no_frame_asks_for_a_look(
+    tmp_path: Path, monkeypatch: pytest.MonkeyPatch, payload: bytes
 ) -> None:
     stand_in(tmp_path, monkeypatch, 0, 'echo "{}"')
-    assert updated(token) == {"to": digest(token), "status": 0}
+    assert updated(payload) == {"to": digest(payload), "status": 0}
+    assert (tmp_path / "words").read_text() == "update --stream --look --state S P -\n"
     assert (tmp_path / "stdin").read_bytes() == b""
+
+
+@pytest.mark.parametrize(
+    "payload",
+    [
+        b"BQ\1\3\0\0\0\0\2\0\0\0\3\0",
+        b"\n",
+        b"3f",
+        b"bootfleet 1\nBQ",
+        b"bootfleet 2",
+        b"bootfleet 2\nBQ",
+        b"bootfleet 2 look=0123456789abcdef\nBQ",
+        b"bootfleet 2 next=7\nBQ",
+        f"bootfleet 2 journal={JOURNAL}\nBQ".encode(),
+        f"{GUARD} \nBQ".encode(),
+        f"{GUARD}  next=7\nBQ".encode(),
+        f"{GUARD} --settle\nBQ".encode(),
+        f"{GUARD} next=-7\nBQ".encode(),
+        f"{GUARD} 0003={'0A' * 32}\nBQ".encode(),
+        f"{GUARD} 003=none\nBQ".encode(),
+        f"{GUARD} 00ff=none\nBQ".encode(),
+        f"{GUARD} order=\nBQ".encode(),
+        f"{GUARD} order=0001,\nBQ".encode(),
+        f"{GUARD}\0\nBQ".encode(),
+        f"{GUARD} {'0001=none ' * 14_000}0001=none\nBQ".encode(),
+    ],
+    ids=lambda it: str(it[:60], "latin-1"),
+)
+def test_no_frame_is_applied_unguarded(
+    tmp_path: Path, monkeypatch: pytest.MonkeyPatch, payload: bytes
+) -> None:
+    stand_in(tmp_path, monkeypatch, 0, 'echo "{}"')
+    held = updated(payload)
+    assert (held["to"], held["status"]) == (digest(payload), 2)
+    assert "a message begins with a line" in held["error"] or "are expected" in held["error"]
+    assert not (tmp_path / "words").exists()
+    refusal = read_answer(json.dumps(held).encode()).refusal
+    assert refusal is not None and refusal.words.startswith("status 2: ")
 
 
 def test_it_waits_while_another_update_is_at_work(
@@ -98,24 +148,25 @@ def test_a_reply_that_no_broker_takes_is_an_error(
     assert held["error"].startswith("the reply has 1048") and held["error"].endswith(" too many")
 
 
-def test_equal_messages_that_wait_are_one(monkeypatch: pytest.MonkeyPatch) -> None:
+def test_equal_messages_that_wait_are_one() -> None:
     for payload in (b"1", b"2", b"1"):
         agent.keep(payload)
-    came = [agent.PENDING.get() for _ in range(agent.PENDING.qsize())]
-    assert list(dict.fromkeys(came)) == [b"1", b"2"]
+    assert agent.waiting() == [b"1", b"2"]
     for number in range(100):
         agent.keep(str(number).encode())
-    assert agent.PENDING.qsize() == 64
-    while not agent.PENDING.empty():
-        agent.PENDING.get()
+    assert len(agent.waiting()) == 64
 
 
 def test_an_update_is_made_once(machine: Folder) -> None:
     frame = bootkeep.frame_make(0, bootkeep.Request.ADD_FIRST, option=option("new"))
-    first = updated(frame, machine.state, machine.place)
-    again = updated(frame, machine.state, machine.place)
+    journal = updated(b"", machine.state, machine.place)["journal"]
+    payload = f"bootfleet 2 journal={journal} next=0\n".encode() + frame
+    first = updated(payload, machine.state, machine.place)
+    again = updated(payload, machine.state, machine.place)
     assert (first["next"], again["next"]) == (1, 1)
-    assert [it["replies"][0]["reply"] for it in (first, again)] == ["applied", "repeat"]
-    assert again["replies"][0]["same"] is True
+    assert (first["replies"][0]["reply"], again["replies"]) == ("applied", [])
+    assert (again["status"], again["unmet"]) == (9, {"expected": "next=0", "found": "next=1"})
+    asked = update(machine, frame)
+    assert (asked["replies"][0]["reply"], asked["replies"][0]["same"]) == ("repeat", True)
     assert machine.order() == [2, 1, 0]
     assert list(machine.entries().values()).count(option("new")) == 1

@@ -9,8 +9,10 @@ import pytest
 from conftest import PATH, option
 
 from sender.answers import BadAnswer, answered, digest, plain, read_answer
-from sender.entries import entry_of_shown, parts_of_option, units
+from sender.entries import Entry, entry_of_shown, parts_of_option, units
 from sender.machines import describe
+
+JOURNAL = "0123456789abcdef0123456789abcdef"
 
 ENTRY: Dict[str, Any] = {
     "entry": "0003",
@@ -34,7 +36,7 @@ GOOD: Dict[str, Any] = {
     "to": digest(b"x"),
     "status": 0,
     "next": 5,
-    "journal": "j",
+    "journal": JOURNAL,
     "replies": [REPLY],
     "show": SHOW,
 }
@@ -46,7 +48,12 @@ def changed(**members: object) -> bytes:
 
 def test_a_reply_is_read() -> None:
     answer = read_answer(changed())
-    assert (answer.to, answer.refusal, answer.next, answer.journal) == (digest(b"x"), None, 5, "j")
+    assert (answer.to, answer.refusal, answer.next, answer.journal) == (
+        digest(b"x"),
+        None,
+        5,
+        JOURNAL,
+    )
     assert answer.shown.entries[0].parts == parts_of_option(option("a"))
     assert (answer.shown.order, answer.shown.next) == ((3,), None)
     assert answer.replies[0][:3] == (4, "applied", "Done")
@@ -69,6 +76,10 @@ def test_a_reply_is_read() -> None:
         changed(next=True),
         changed(next="5"),
         changed(journal=7),
+        changed(journal="j"),
+        changed(journal=JOURNAL + " "),
+        changed(unmet=[]),
+        changed(unmet={"expected": "next=7"}),
         changed(to=None),
         changed(replies=None),
         changed(replies=[{}]),
@@ -108,6 +119,12 @@ def test_refusals_are_read() -> None:
     assert refused.refusal == ("W", "mend machine")
     failed = read_answer(b'{"to":"x","status":-9,"error":"E\\n"}')
     assert failed.refusal == ("status -9: E", "send again")
+
+
+def test_what_is_not_so_is_read() -> None:
+    unmet = {"expected": "next=4", "found": "next=5"}
+    assert read_answer(changed(unmet=unmet, replies=[])).unmet == ("next=4", "next=5")
+    assert read_answer(changed()).unmet is None
 
 
 def test_a_terminal_is_not_told_what_to_do() -> None:
@@ -156,4 +173,11 @@ def test_descriptions_have_their_units() -> None:
     assert units("\\u005cu0041") == b"\\\0" + "u0041".encode("utf-16-le")
     as_hex = {**ENTRY, "description": "?", "description_hex": "6100"}
     assert entry_of_shown(as_hex).parts == parts_of_option(option("a"))
-    assert entry_of_shown({"entry": "000A", "kind": "undecodable"}) == (10, None)
+    bad = entry_of_shown({"entry": "000A", "kind": "undecodable", "data": "0102"})
+    assert (bad, bad.data()) == ((10, None, b"\1\2"), b"\1\2")
+
+
+@pytest.mark.parametrize("label", ["a", "a inactive", "a optional", "Bö"])
+def test_an_entry_has_all_its_bytes(label: str) -> None:
+    data = option(label)
+    assert Entry(3, parts_of_option(data)).data() == data

@@ -102,7 +102,7 @@ def test_a_broker_takes_no_large_messages_and_keeps_none(fleet: Path) -> None:
     assert held["retain_available"] == "false"
     assert int(held["max_packet_size"]) <= 1 << 20
     assert int(held["max_queued_bytes"]) <= 1 << 26
-    agent_most = load_agent().MOST_BYTES
+    agent_most = load_agent().MOST_REPLY
     topic = len("bootkeep//reply") + 63
     assert agent_most + topic + 16 < int(held["max_packet_size"])
 

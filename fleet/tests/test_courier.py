@@ -155,7 +155,7 @@ def test_the_agent_connects_by_paho_2(monkeypatch: pytest.MonkeyPatch) -> None:
     client.on_connect = agent.connected
     client.connect(0)
     assert client.topics == ["bootkeep/m1/request"]
-    assert agent.PENDING.get(timeout=5) == b""
+    assert agent.pending.get(timeout=5) == b""
 
 
 def test_they_connect_by_the_paho_that_is_there() -> None:

@@ -66,10 +66,22 @@ def test_frames_are_sent_one_after_the_other() -> None:
     frames = (b"one", b"two", b"three")
     sent = Goal("send", frames=frames)
     nothing = Shown((), (), None)
-    done = Asked(Request.REMOVE, 1, "Done")
-    assert step(sent, nothing, Past()) == Send(frames)
-    assert step(sent, nothing, Past((done,))) == Send(frames[1:])
-    assert step(sent, nothing, Past((done, done, done))) == Reached()
-    missing = Asked(Request.REMOVE, 9, "Missing")
-    assert step(sent, nothing, Past((done, missing, done))) == Failed("remove 0009: Missing")
+    done = [Asked(Request.REMOVE, 1, "Done", part=part) for part in range(3)]
+    assert step(sent, nothing, Past()) == Send((0, 1, 2))
+    assert step(sent, nothing, Past((done[0],))) == Send((1, 2))
+    assert step(sent, nothing, Past(tuple(done))) == Reached()
+    missing = Asked(Request.REMOVE, 9, "Missing", part=1)
+    assert step(sent, nothing, Past((done[0], missing, done[2]))) == Failed("remove 0009: Missing")
     assert Goal.from_json(sent.to_json()) == sent
+
+
+def test_what_is_known_to_be_done_is_not_sent_again() -> None:
+    sent = Goal("send", frames=(b"one", b"two", b"three"))
+    past = Past(tuple(Asked(Request.REMOVE, 1, "Done", part=part) for part in (0, 2)))
+    assert step(sent, Shown((), (), None), past) == Send((1,))
+    assert [sent.is_for_good(it) for it in past.asked] == [True, True]
+    assert not sent.is_for_good(Asked(Request.REMOVE, 9, "Missing", part=1))
+    following = goal("next", "a")
+    assert following.is_for_good(Asked(Request.NEXT, 1, "Done"))
+    assert not following.is_for_good(Asked(Request.ADD_FREE, None, "Done", 1))
+    assert not goal("first", "a").is_for_good(Asked(Request.FIRST, 1, "Done"))

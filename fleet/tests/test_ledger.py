@@ -4,14 +4,16 @@ from __future__ import annotations
 
 import sqlite3
 from pathlib import Path
-from typing import Optional
+from typing import List, Optional
 
 import pytest
 from bootkeep import Request
 from conftest import goal
 
 from sender.goals import Asked
-from sender.ledger import Ledger, LedgerError, Machine
+from sender.ledger import Ledger
+from sender.requests import Machine
+from sender.store import LedgerError
 
 TOLD = {"journal": "other", "next": 7, "entries": [["0000", "a"]], "order": [], "bootnext": None}
 
@@ -28,8 +30,22 @@ def add_job(ledger: Ledger, *names: str) -> int:
 def send(ledger: Ledger, job: int, frame: bytes = b"frame") -> int:
     with ledger.transaction():
         held = machine(ledger)
-        ledger.add_request(held, job, Asked(Request.FIRST, 1), frame)
+        ledger.add_requests(held, job, [(Asked(Request.FIRST, 1), frame)])
     return held.next
+
+
+def answer(ledger: Ledger, outcome: str = "Done") -> None:
+    """The machine says that it has applied what it was sent."""
+    with ledger.transaction():
+        held = machine(ledger)
+        for request in ledger.unanswered(held, held.next):
+            ledger.answer_request(held, request, outcome, None)
+        ledger.move_on(held, held.next + 1)
+
+
+def sent(ledger: Ledger) -> List[bytes]:
+    """The frames that the machine is asked now."""
+    return [it for (it,) in ledger.db.execute("SELECT frame FROM request WHERE state = 'sent'")]
 
 
 def state(ledger: Ledger, job: int) -> str:
@@ -67,20 +83,39 @@ def test_what_is_committed_is_on_the_disk(ledger: Ledger) -> None:
 def test_what_fails_is_undone(ledger: Ledger) -> None:
     job = add_job(ledger, "m1")
     with pytest.raises(KeyError), ledger.transaction():
-        ledger.add_request(machine(ledger), job, Asked(Request.FIRST, 1), b"")
+        ledger.add_requests(machine(ledger), job, [(Asked(Request.FIRST, 1), b"")])
         raise KeyError
     assert machine(ledger).next == 0
-    assert ledger.sent_frames("m1") == []
+    assert sent(ledger) == []
 
 
-def test_a_number_is_given_once(ledger: Ledger) -> None:
-    """Two senders that read the same next number can't both store a request under it."""
+def test_of_the_attempts_at_a_number_one_is_asked(ledger: Ledger) -> None:
+    """The others may still be under way, and which one was applied isn't known before the machine says it."""
     job = add_job(ledger, "m1")
-    stale = machine(ledger)
-    assert [send(ledger, job), send(ledger, job)] == [0, 1]
+    for frame in (b"one", b"two", b"three", b"two"):
+        assert send(ledger, job, frame) == 0
+    assert sent(ledger) == [b"two"]
+    assert ledger.count_unanswered("m1") == 3
+    with ledger.transaction():
+        held = machine(ledger)
+        (three,) = ledger.unanswered(held, 0)
+        assert three.frame == b"three"
+        ledger.pass_request(held, three)
+        (two,) = ledger.unanswered(held, 0)
+        ledger.answer_request(held, two, "Done", None)
+        assert ledger.is_known(held, 0)
+        ledger.move_on(held, 1)
+    states = ledger.db.execute("SELECT frame, state FROM request ORDER BY attempt").fetchall()
+    assert states == [(b"one", "passed"), (b"two", "done"), (b"three", "passed")]
+    assert machine(ledger).next == 1
+
+
+def test_an_attempt_is_stored_once(ledger: Ledger) -> None:
+    job = add_job(ledger, "m1")
+    send(ledger, job)
     with pytest.raises(sqlite3.IntegrityError), ledger.transaction():
-        ledger.add_request(stale, job, Asked(Request.FIRST, 1), b"")
-    assert machine(ledger).next == 2
+        ledger._insert_requests(machine(ledger), job, 0, [(Asked(Request.FIRST, 1), b"")])
+    assert machine(ledger).next == 0
 
 
 def test_a_lease_keeps_senders_apart(ledger: Ledger) -> None:
@@ -113,10 +148,19 @@ def test_a_request_under_way_is_something_to_be_done(ledger: Ledger) -> None:
     job = add_job(ledger, "m1")
     send(ledger, job)
     with ledger.transaction():
-        assert ledger.cancel(job, None) == 1
+        ledger.end_goal("m1", job, "reached", None, None)
         assert not ledger.is_done()
-        ledger.answer_request(machine(ledger), 0, "Done", None)
+        ledger.withdraw(machine(ledger))
         assert ledger.is_done()
+
+
+def test_what_is_cancelled_is_not_sent_any_more(ledger: Ledger) -> None:
+    job = add_job(ledger, "m1")
+    send(ledger, job)
+    with ledger.transaction():
+        assert ledger.cancel(job, None) == 1
+        assert ledger.is_done() and not ledger.is_asked("m1")
+        assert ledger.count_unanswered("m1") == 1
 
 
 def test_a_silent_machine_is_left_for_a_while(ledger: Ledger) -> None:
@@ -152,7 +196,7 @@ def test_a_part_of_a_transaction_is_undone_alone(ledger: Ledger) -> None:
     with ledger.transaction():
         ledger.note("m1", "stays")
         with pytest.raises(KeyError), ledger.savepoint():
-            ledger.add_request(machine(ledger), job, Asked(Request.FIRST, 1), b"")
+            ledger.add_requests(machine(ledger), job, [(Asked(Request.FIRST, 1), b"")])
             raise KeyError
         with ledger.savepoint():
             ledger.note("m2", "stays")
@@ -169,7 +213,7 @@ def test_trouble_ends_by_a_decision_alone(ledger: Ledger) -> None:
         assert ledger.is_done() and not ledger.all_reached()
         ledger.resend("m1")
         assert ledger.hold("one", 9, 0, 10) == ["m1"]
-    assert ledger.sent_frames("m1") == [b"frame"]
+    assert sent(ledger) == [b"frame"]
 
 
 def test_an_adopted_machine_gets_none_of_the_old_frames(ledger: Ledger) -> None:
@@ -179,12 +223,12 @@ def test_an_adopted_machine_gets_none_of_the_old_frames(ledger: Ledger) -> None:
     with ledger.transaction():
         ledger.adopt("m1", TOLD)
     assert machine(ledger) == ("m1", 1, 7, "other", 1)
-    assert ledger.sent_frames("m1") == []
+    assert sent(ledger) == []
     assert ledger.one("SELECT state FROM request") == ("dropped",)
     held = ledger.open_goal(machine(ledger))
     assert held is not None and held.past.asked == ()
     assert send(ledger, job, b"new") == 7
-    assert ledger.sent_frames("m1") == [b"new"]
+    assert sent(ledger) == [b"new"]
 
 
 def test_the_same_number_may_come_again_after_an_adoption(ledger: Ledger) -> None:
@@ -194,14 +238,14 @@ def test_the_same_number_may_come_again_after_an_adoption(ledger: Ledger) -> Non
         ledger.stop("m1", "why", None)
         ledger.adopt("m1", {**TOLD, "next": 0})
     assert send(ledger, job, b"new") == 0
-    assert ledger.sent_frames("m1") == [b"new"]
+    assert sent(ledger) == [b"new"]
 
 
 def test_a_failed_goal_is_tried_again_from_the_beginning(ledger: Ledger) -> None:
     job = add_job(ledger, "m1")
     send(ledger, job)
+    answer(ledger)
     with ledger.transaction():
-        ledger.answer_request(machine(ledger), 0, "Done", None)
         ledger.end_goal("m1", job, "failed", None, "why")
         ledger.stop("m1", f"goal {job}: why", None)
         ledger.resend("m1")

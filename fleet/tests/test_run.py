@@ -5,13 +5,27 @@ from __future__ import annotations
 import json
 import sqlite3
 import time
-from collections import deque
 from pathlib import Path
-from typing import Any, Callable, Deque, Dict, List, Optional, Sequence, Tuple
+from typing import Any, Dict, List
 
 import bootkeep
 import pytest
-from conftest import PATH, Folder, agent, goal, option
+from conftest import (
+    PATH,
+    Deliver,
+    Folder,
+    Hand,
+    add,
+    agent,
+    frames,
+    frames_of,
+    goal,
+    hostile,
+    option,
+    run,
+    troubled,
+    update,
+)
 
 from sender import machines
 from sender import run as run_module
@@ -19,6 +33,8 @@ from sender.answers import Answer, digest, read_answer
 from sender.courier import Came
 from sender.goals import Goal
 from sender.ledger import Ledger
+from sender.machines import Taken
+from sender.messages import Message
 from sender.run import (
     FIRST_PAUSE,
     LONGEST_PAUSE,
@@ -27,63 +43,6 @@ from sender.run import (
     SILENT_PAUSE,
     Sender,
 )
-
-Deliver = Callable[[int, bytes], List[bytes]]
-
-
-class Hand:
-    """A courier by hand: `requests` and `replies` say what comes of each message, by its number."""
-
-    def __init__(self, machines: Dict[str, Folder]) -> None:
-        self.machines = machines
-        self.count = [0, 0]
-        self.sent: List[Tuple[str, bytes]] = []
-        self.came: Deque[Came] = deque()
-        self.requests: Deliver = lambda _number, payload: [payload]
-        self.replies: Deliver = lambda _number, payload: [payload]
-
-    def send(self, name: str, payload: bytes) -> None:
-        self.sent.append((name, payload))
-        for copy in self.requests(self._next(0), payload):
-            folder = self.machines[name]
-            said = agent.update(copy, str(folder.state), str(folder.place)).encode()
-            self.came += [Came(name, it) for it in self.replies(self._next(1), said)]
-
-    def _next(self, way: int) -> int:
-        self.count[way] += 1
-        return self.count[way] - 1
-
-    def receive(self, seconds: float) -> List[Came]:
-        came = list(self.came)
-        self.came.clear()
-        return came
-
-
-@pytest.fixture
-def sender(ledger: Ledger, machine: Folder) -> Sender:
-    return Sender(ledger, Hand({"m1": machine}), "sender", 0.01, 0.05)
-
-
-@pytest.fixture
-def pair(ledger: Ledger, machine: Folder, tmp_path: Path) -> Sender:
-    """A sender over two machines."""
-    other = Folder(tmp_path / "other", {0: option("a"), 1: option("b")}, [1, 0])
-    return Sender(ledger, Hand({"m1": machine, "m2": other}), "sender", 0.01, 0.05)
-
-
-def add(ledger: Ledger, *goals: Goal, to: Sequence[str] = ("m1",)) -> None:
-    with ledger.transaction():
-        for one in goals:
-            ledger.add_job(one, to)
-
-
-def run(sender: Sender) -> bool:
-    return sender.run(True, 60, lambda: False)
-
-
-def frames(sender: Sender) -> List[bytes]:
-    courier: Any = sender.courier
-    return list(dict.fromkeys(it for _, it in courier.sent if it.startswith(b"BQ")))
 
 
 def test_goals_are_reached_one_after_the_other(sender: Sender, machine: Folder) -> None:
@@ -163,13 +122,6 @@ def test_frames_of_a_script_are_sent_64_at_once(sender: Sender, machine: Folder)
     assert machine.order() == [1, 0]
 
 
-def troubled(sender: Sender) -> str:
-    """Runs until nothing is left but trouble, which it gives."""
-    assert run(sender)
-    assert not sender.ledger.all_reached()
-    return sender.ledger.trouble("m1") or ""
-
-
 def test_another_journal_is_told(sender: Sender, machine: Folder) -> None:
     add(sender.ledger, goal("first", "a"))
     assert run(sender)
@@ -180,13 +132,9 @@ def test_another_journal_is_told(sender: Sender, machine: Folder) -> None:
 
 
 def test_another_ledger_is_told(sender: Sender, machine: Folder) -> None:
-    agent.update(
-        bootkeep.frame_make(0, bootkeep.Request.FIRST, entry=0),
-        str(machine.state),
-        str(machine.place),
-    )
+    update(machine, bootkeep.frame_make(0, bootkeep.Request.FIRST, entry=0))
     add(sender.ledger, goal("first", "b"))
-    assert troubled(sender) == "its next number is 1, and the ledger's is 0"
+    assert troubled(sender).startswith("its next number is 1, and the ledger's is 0: ")
 
 
 def test_another_request_of_the_number_is_told(sender: Sender, machine: Folder) -> None:
@@ -194,8 +142,8 @@ def test_another_request_of_the_number_is_told(sender: Sender, machine: Folder) 
     other = bootkeep.frame_make(0, bootkeep.Request.NEXT, entry=1)
 
     def come_before(number: int, payload: bytes) -> List[bytes]:
-        if payload.startswith(b"BQ"):
-            agent.update(other, str(machine.state), str(machine.place))
+        if frames_of(payload) and not number > 1:
+            update(machine, other)
         return [payload]
 
     courier: Any = sender.courier
@@ -207,7 +155,7 @@ def test_another_request_of_the_number_is_told(sender: Sender, machine: Folder) 
 
 def test_a_copied_folder_is_told(sender: Sender, machine: Folder, tmp_path: Path) -> None:
     other = Folder(tmp_path / "other", {0: option("a")}, [0])
-    agent.update(b"", str(other.state), str(other.place))
+    agent.answer(b"", str(other.state), str(other.place))
     (machine.state / "journal").write_bytes((other.state / "journal").read_bytes())
     add(sender.ledger, goal("first", "a"))
     assert "it is the journal of machine" in troubled(sender)
@@ -249,16 +197,6 @@ def test_what_is_no_reply_is_told(sender: Sender) -> None:
     courier.replies = lambda _number, _payload: [b"nonsense"]
     add(sender.ledger, goal("first", "a"))
     assert troubled(sender).startswith("what it said is no reply: ")
-
-
-def hostile(sender: Sender, make: Callable[[Dict[str, Any]], bytes]) -> None:
-    """Lets m1 reply by what is made of the true reply, and m2 truly, which has to come to its goal."""
-    courier: Any = sender.courier
-
-    def reply(number: int, payload: bytes) -> List[bytes]:
-        return [make(json.loads(payload)) if courier.sent[-1][0] == "m1" else payload]
-
-    courier.replies = reply
 
 
 @pytest.mark.parametrize(
@@ -337,11 +275,11 @@ def test_what_fails_for_one_machine_fails_for_it_alone(
     """Whatever it is, and with nothing of it kept."""
     take = machines.take
 
-    def fail(ledger: Ledger, name: str, answer: Answer) -> Optional[str]:
-        trouble = take(ledger, name, answer)
+    def fail(ledger: Ledger, name: str, answer: Answer, asked: Message) -> Taken:
+        taken = take(ledger, name, answer, asked)
         if name == "m1":
             raise OverflowError("\x1b too large")
-        return trouble
+        return taken
 
     monkeypatch.setattr(machines, "take", fail)
     add(pair.ledger, goal("first", "new"), to=["m1", "m2"])
@@ -381,7 +319,7 @@ def test_only_what_was_asked_for_is_read(sender: Sender, monkeypatch: pytest.Mon
     sender.turn([])
     large = json.dumps({"to": digest(b"other"), "error": "x" * 700_000}).encode()
     came = [Came("m1", large)] * 500 + [Came("m2", large)] * 500 + [Came("m9", large)] * 500
-    asked = sender.held["m1"].asked
+    asked = sender.held["m1"].message.asked
     good = json.dumps({"to": asked, "status": 0, "refused": {"words": "busy", "do": "wait"}})
     began = time.process_time()
     sender.turn(came + [Came("m1", good.encode())] * 500)
@@ -427,12 +365,12 @@ def test_a_machine_that_has_just_come_is_asked_at_once(sender: Sender) -> None:
         sender._renew(100)
     held = sender.held["m1"]
     held.due, held.sent = 900.0, 5
-    reply = agent.update(b"", *(str(it) for it in (_folder(sender).state, _folder(sender).place)))
+    reply = agent.answer(b"", *(str(it) for it in (_folder(sender).state, _folder(sender).place)))
     said = sender._read([Came("m1", reply.encode())])
     with ledger.transaction():
         sender._take(said[0], 101)
     assert held.due <= 101 + sender.first_pause
-    assert (held.sent, held.asked) == (0, digest(held.payload))
+    assert (held.sent, held.message.asked) == (0, digest(held.message.payload))
 
 
 def test_a_clock_that_is_set_back_stops_nothing(
@@ -443,7 +381,7 @@ def test_a_clock_that_is_set_back_stops_nothing(
     day = time.time()
     monkeypatch.setattr(time, "time", lambda: day - 3600)
     add(sender.ledger, goal("first", "b"))
-    assert sender.run(True, 10, lambda: False)
+    assert sender.run(True, 600, lambda: False)
     assert machine.order() == [1, 0]
 
 

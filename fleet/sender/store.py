@@ -1,0 +1,162 @@
+"""The file of a ledger: its tables, its settings, and what is done to it as a whole or not at all.
+
+Each write is in a transaction of SQLite, which is on the disk (`synchronous=FULL`) when it ends.
+"""
+
+from __future__ import annotations
+
+import os
+import sqlite3
+import tempfile
+from contextlib import contextmanager
+from pathlib import Path
+from typing import Any, Dict, Iterator, Optional, Type, TypeVar
+
+Self = TypeVar("Self", bound="Store")
+
+SCHEMA = """
+CREATE TABLE setting(name TEXT PRIMARY KEY, value TEXT NOT NULL) WITHOUT ROWID;
+CREATE TABLE machine(
+    name TEXT PRIMARY KEY,
+    era INTEGER NOT NULL DEFAULT 0,
+    next INTEGER NOT NULL DEFAULT 0,    -- the next number: what became of those below it is known
+    journal TEXT,                       -- the identity of its journal, once it told one
+    entries INTEGER NOT NULL DEFAULT 0, -- how many entries it had when it was looked at last
+    unmet INTEGER NOT NULL DEFAULT 0,   -- how often in a row it wasn't as a message expects, and had applied nothing
+    seen REAL,                          -- when it was heard of last
+    note TEXT,                          -- why it refused what is sent again, if it did last
+    trouble TEXT,
+    told TEXT,                          -- what it said of itself when the trouble began
+    holder TEXT,
+    until REAL NOT NULL DEFAULT 0,      -- when the lease ends
+    due REAL NOT NULL DEFAULT 0,        -- it is silent: no sender takes it up before
+    wave INTEGER                        -- in which wave it is, if there are any
+) WITHOUT ROWID;
+CREATE TABLE job(id INTEGER PRIMARY KEY, goal TEXT NOT NULL, made REAL NOT NULL);
+CREATE TABLE goal(
+    machine TEXT NOT NULL REFERENCES machine ON DELETE CASCADE,
+    job INTEGER NOT NULL REFERENCES job,
+    state TEXT NOT NULL DEFAULT 'open' CHECK (state IN ('open', 'reached', 'failed', 'cancelled')),
+    since INTEGER NOT NULL DEFAULT 0,   -- requests before this number aren't of this attempt
+    entry INTEGER,                      -- where its entry is
+    note TEXT,                          -- why it has failed
+    ended REAL,
+    PRIMARY KEY(machine, job)
+) WITHOUT ROWID;
+CREATE TABLE request(
+    machine TEXT NOT NULL REFERENCES machine ON DELETE CASCADE,
+    era INTEGER NOT NULL,
+    number INTEGER NOT NULL,
+    attempt INTEGER NOT NULL,
+    job INTEGER NOT NULL REFERENCES job,
+    part INTEGER NOT NULL,              -- which one of a `send` it is
+    kind INTEGER NOT NULL,
+    entry INTEGER,                      -- what it is about
+    frame BLOB NOT NULL,
+    state TEXT NOT NULL DEFAULT 'sent'
+        CHECK (state IN ('sent', 'late', 'done', 'refused', 'passed', 'dropped')),
+    outcome TEXT,
+    stored INTEGER,                     -- the entry under which it stored an option
+    PRIMARY KEY(machine, era, number, attempt)
+) WITHOUT ROWID;
+CREATE INDEX goal_open ON goal(machine) WHERE state = 'open';
+CREATE INDEX goal_job ON goal(job, state);
+CREATE INDEX request_sent ON request(machine) WHERE state = 'sent';
+CREATE INDEX request_job ON request(machine, job);
+CREATE INDEX machine_holder ON machine(holder) WHERE holder IS NOT NULL;
+CREATE INDEX machine_wave ON machine(wave) WHERE wave IS NOT NULL;
+CREATE INDEX machine_trouble ON machine(name) WHERE trouble IS NOT NULL;
+"""
+
+VERSION = 2
+
+
+class LedgerError(Exception):
+    """Why nothing can be done with the ledger."""
+
+
+class Store:
+    """An open file of a ledger. Calls that write are to be made in a `transaction`."""
+
+    def __init__(self, path: Path) -> None:
+        if not path.is_file():
+            raise LedgerError(f"{path}: there is no ledger; `bootfleet init` makes one")
+        self.path = path
+        self.db = sqlite3.connect(str(path), isolation_level=None, timeout=60)
+        try:
+            self.db.execute("PRAGMA journal_mode=WAL")
+            self.db.execute("PRAGMA synchronous=FULL")
+            self.db.execute("PRAGMA foreign_keys=ON")
+            version = self.setting("version")
+        except sqlite3.DatabaseError as error:
+            raise LedgerError(f"{path}: it is no ledger: {error}") from error
+        if version != str(VERSION):
+            raise LedgerError(f"{path}: its version is {version}, and {VERSION} is known")
+
+    @classmethod
+    def make(cls: Type[Self], path: Path, settings: Dict[str, str]) -> Self:
+        """A new ledger with these settings."""
+        try:
+            path.touch(0o600, exist_ok=False)
+        except FileExistsError:
+            raise LedgerError(f"{path}: it is there already") from None
+        db = sqlite3.connect(str(path))
+        with db:
+            db.executescript(SCHEMA)
+            held = {"version": str(VERSION), **settings}
+            db.executemany("INSERT INTO setting VALUES(?, ?)", held.items())
+        db.close()
+        return cls(path)
+
+    @contextmanager
+    def transaction(self) -> Iterator[None]:
+        """What is done in it is done as a whole, and on the disk afterwards, or not at all."""
+        self.db.execute("BEGIN IMMEDIATE")
+        try:
+            yield
+        except BaseException:
+            self.db.execute("ROLLBACK")
+            raise
+        self.db.execute("COMMIT")
+
+    @contextmanager
+    def savepoint(self) -> Iterator[None]:
+        """A part of a transaction, of which nothing is done if it fails."""
+        self.db.execute("SAVEPOINT part")
+        try:
+            yield
+        except BaseException:
+            self.db.execute("ROLLBACK TO part")
+            raise
+        finally:
+            self.db.execute("RELEASE part")
+
+    def one(self, query: str, *values: object) -> Any:
+        """The first row that a query finds, or none."""
+        return self.db.execute(query, values).fetchone()
+
+    def setting(self, name: str) -> Optional[str]:
+        """A setting of the ledger."""
+        found = self.one("SELECT value FROM setting WHERE name = ?", name)
+        return None if found is None else str(found[0])
+
+    def set_setting(self, name: str, value: str) -> None:
+        """Makes a setting of the ledger, or another one of it."""
+        self.db.execute("INSERT OR REPLACE INTO setting VALUES(?, ?)", (name, value))
+
+    def back_up(self, path: Path) -> None:
+        """Copies the ledger as it is at one moment to a file of its own, which replaces what is there as a whole."""
+        descriptor, made = tempfile.mkstemp(dir=path.parent, prefix=".bootfleet-")
+        try:
+            copy = sqlite3.connect(made)
+            self.db.backup(copy)
+            # Of one file: the ledger's own has a second one beside it, with what was stored last.
+            copy.execute("PRAGMA journal_mode=DELETE")
+            copy.close()
+            os.fsync(descriptor)
+            os.replace(made, path)
+        except BaseException:
+            os.unlink(made)
+            raise
+        finally:
+            os.close(descriptor)
