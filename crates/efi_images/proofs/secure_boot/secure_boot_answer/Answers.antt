@@ -52,5 +52,5 @@ returns-in_ok-signers-in_default-signed c =
     (subst (λ table. IsSigned table signing.Unsigned 0 (Ok c.in-Ok-read_certificates.signed)) table c.in-Ok-read_certificates.ensures.certificates)
     c.in_default-signed.not-Unknown
     (subst (λ signers. IsListsAnswer c.as_slice.result.now c.in-Ok-read_certificates.signed signers on.db.now on.dbx.now told)
-    (c.in_ok-signers.ensures ∙ ap (λ it. all_signers 32 it 0) table) is))
+    (c.in_ok-signers-in_default-signed.ensures ∙ ap (λ it. all_signers 32 it 0) table) is))
     c.lists_answer.ensures
