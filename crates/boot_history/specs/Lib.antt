@@ -4,3 +4,4 @@ pub mod Fields
 pub mod Owner
 pub mod Record
 pub mod Timeout
+pub mod Words

@@ -1,10 +1,11 @@
 //! Why a file isn't a record, and why a record can't be written.
 
-ghost use Rattle.std.specs.Prelude.{◌≡◌};
+ghost use Rattle.std.specs.Prelude.{◌≡◌, IfOk};
+ghost use Rattle.std.specs.String.{string_bytes};
 ghost use Rattle.boot_history.specs.declared.fault.RecordFault.TheVariants as fault;
 ghost use Rattle.boot_history.specs.declared.fault.WriteFault.TheVariants as write_fault;
 
-use std::alloc::{AllocError, AllocFailed};
+use std::alloc::{AllocError, AllocFailed, Global};
 use thiserror::Error;
 use uefi_vars::SetFault;
 
@@ -42,6 +43,40 @@ pub enum RecordFault {
     OutOfMemory,
 }
 
+impl RecordFault {
+    ghost use Rattle.boot_history.specs.Words.{record_fault_words};
+
+    /// What is wrong with the file, as `Display` says it. This fails only when out of memory.
+    pub fn words(&self, alloc: Global) -> Result<String, AllocError>
+        ensures { IfOk result (λ text. string_bytes text ≡ record_fault_words self.now) }
+    {
+        match self {
+            RecordFault::BadMagic => String::from_str(alloc, "it doesn't begin with BKH1"),
+            RecordFault::Truncated(place) => format!(in alloc;
+                "it ends in the field at byte {place}"
+            ),
+            RecordFault::TooFewFields => String::from_str(alloc, "it has fewer than four fields"),
+            RecordFault::BadMachine => String::from_str(
+                alloc,
+                "its machine's name has no byte, or more than 4096",
+            ),
+            RecordFault::BadTime => String::from_str(alloc, "its time doesn't have eight bytes"),
+            RecordFault::BadBefore(fault) => {
+                let words = fault.words(alloc)?;
+                format!(in alloc; "its set before the change is damaged: {words}")
+            }
+            RecordFault::BadAfter(fault) => {
+                let words = fault.words(alloc)?;
+                format!(in alloc; "its set after the change is damaged: {words}")
+            }
+            RecordFault::BadWord(number) => format!(in alloc;
+                "word {number} of its command isn't UTF-8"
+            ),
+            RecordFault::OutOfMemory => String::from_str(alloc, "out of memory"),
+        }
+    }
+}
+
 impl From<AllocError> for RecordFault {
     ghost from_gives = { λ _ made. made ≡ fault.OutOfMemory };
 
@@ -67,6 +102,20 @@ pub enum WriteFault {
     /// Memory was refused.
     #[error("out of memory")]
     OutOfMemory,
+}
+
+impl WriteFault {
+    ghost use Rattle.boot_history.specs.Words.{write_fault_words};
+
+    /// Why the record can't be written, as `Display` says it. This fails only when out of memory.
+    pub fn words(&self, alloc: Global) -> Result<String, AllocError>
+        ensures { IfOk result (λ text. string_bytes text ≡ write_fault_words self.now) }
+    {
+        match self {
+            WriteFault::TooLong => String::from_str(alloc, "a field of the record is too long"),
+            WriteFault::OutOfMemory => String::from_str(alloc, "out of memory"),
+        }
+    }
 }
 
 impl From<AllocError> for WriteFault {
