@@ -28,6 +28,24 @@ pub(crate) struct PartitionFolder {
     pub(crate) number: u32,
 }
 
+/// The partition that is known by this and has this number, with the start and the size that were read for it, in units of
+/// [`SECTOR_LEN`](partitions::SECTOR_LEN) bytes, and the size in bytes that was read for a block of its disk.
+fn partition_of(id: PartitionId, number: u32, start: u64, size: u64, block_size: u64) -> Partition
+    ensures id { result.id ≡ id }
+    ensures number { result.number ≡ number }
+    ensures start { result.start ≡ start }
+    ensures size { result.size ≡ size }
+    ensures block_size { result.block_size ≡ block_size }
+{
+    Partition {
+        id,
+        number,
+        start,
+        size,
+        block_size,
+    }
+}
+
 impl<R: Files + AllocGlobal> System<'_, R> {
     /// The folder at this path, if it is of a partition: with the number that it tells.
     pub(crate) fn partition_folder(&self, path: &str) -> Result<Option<PartitionFolder>, Failure> {
@@ -67,13 +85,10 @@ impl<R: Files + AllocGlobal> System<'_, R> {
     {
         let path = folder.path.as_str();
         let disk = Path::new(path).parent().unwrap_or(Path::new("/"));
-        Ok(Partition {
-            id,
-            number: folder.number,
-            start: self.number(path, "start")?,
-            size: self.number(path, "size")?,
-            block_size: self.number(disk.as_str(), BLOCK_SIZE)?,
-        })
+        let start = self.number(path, "start")?;
+        let size = self.number(path, "size")?;
+        let block_size = self.number(disk.as_str(), BLOCK_SIZE)?;
+        Ok(partition_of(id, folder.number, start, size, block_size))
     }
 
     /// The number of the device that a folder of /sys is of.
