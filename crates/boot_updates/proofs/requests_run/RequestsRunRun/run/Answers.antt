@@ -7,9 +7,9 @@ use Rattle.journaled_requests.proofs.Running.{err_then}
 use Rattle.boot_updates.proofs.OpenRefusals.{refused_so}
 use Rattle.boot_updates.proofs.requests_run.RequestsRunRun.run.Goals as goal
 
-pub returns-in_err-first-clause-refused : goal.returns-in_err-first-clause-refused
-returns-in_err-first-clause-refused c =
+pub returns-in_err-set-clause-refused : goal.returns-in_err-set-clause-refused
+returns-in_err-set-clause-refused c =
     let events = c.args.self.requests.events.now in
-    err_then c.from_residual-in_err-first.result _ (λ error. IfRefused error (IsRunFault events c.args.vars.now)) c.from_residual-in_err-first.ensures.1
+    err_then c.from_residual-in_err-set.result _ (λ error. IfRefused error (IsRunFault events c.args.vars.now)) c.from_residual-in_err-set.ensures.1
     (λ error is. subst (λ (e : CallError RunFault). IfRefused e (IsRunFault events c.args.vars.now)) (sym is)
-    (refused_so events c.args.vars.now c.in_err-first.field-0.0 c.in_err-first.ensures.refused))
+    (refused_so events c.args.vars.now c.in_err-set.field-0.0 c.in_err-set.ensures.refused))
