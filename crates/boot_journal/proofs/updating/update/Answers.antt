@@ -1,6 +1,6 @@
 -- The journal that `update` begins is that of an update to these variables (`begun_is`), and its work is that of this journal (`are`).
 -- So where a cut comes as `undertake` does it is where one comes in an update.
-use Rattle.std.proofs.Common.{refl, sym, ◌≡◌, ◌⊎◌, ⊎_elim, subst, ap, ◌∙◌}
+use Rattle.std.proofs.Common.{refl, sym, ◌≡◌, ◌⊎◌, ⊎_elim, subst, ap, ◌∙◌, rules}
 use Rattle.std.proofs.lemmas.Bool.{true≢false}
 use Rattle.std.proofs.lemmas.Result.{on_ok_weaker}
 use Rattle.boot_journal.specs.Journal.{JournalParts, turned}
