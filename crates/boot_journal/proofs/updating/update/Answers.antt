@@ -1,8 +1,8 @@
 -- The journal that `update` begins is that of an update to these variables (`begun_is`), and its work is that of this journal (`are`).
 -- So where a cut comes as `undertake` does it is where one comes in an update.
-use Rattle.std.proofs.Common.{refl, sym, ◌≡◌, ◌⊎◌, ⊎_elim, subst, ap, ◌∙◌, rules}
+use Rattle.std.proofs.Common.{refl, sym, ◌≡◌, ◌⊎◌, ⊎_elim, subst, ap, ◌∙◌, Err}
 use Rattle.std.proofs.lemmas.Bool.{true≢false}
-use Rattle.std.proofs.lemmas.Result.{on_ok_weaker}
+use Rattle.std.proofs.lemmas.Result.{on_ok_weaker, err_from_is_err_and}
 use Rattle.boot_journal.specs.Journal.{JournalParts, turned}
 use Rattle.boot_journal.specs.Store.{journal_to}
 use Rattle.boot_journal.specs.Working.{IsWork, IsGivenUp}
@@ -93,4 +93,6 @@ pub returns-in_err-back-clause-left : goal.returns-in_err-back-clause-left
 returns-in_err-back-clause-left g c = (0, 0, refl)
 
 pub returns-in_err-work-clause-failed_moves : goal.returns-in_err-work-clause-failed_moves
-returns-in_err-work-clause-failed_moves g c = untouched (g.M.Machine.failures c.args.machine.now) c.from_residual-in_err-work.result (search rules)
+returns-in_err-work-clause-failed_moves g c =
+    let p = err_from_is_err_and c.from_residual-in_err-work.result c.from_residual-in_err-work.ensures.1 in
+    untouched (g.M.Machine.failures c.args.machine.now) c.from_residual-in_err-work.result (p.1 ∙ ap Err p.2)
