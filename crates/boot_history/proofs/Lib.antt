@@ -1,5 +1,4 @@
 pub mod FieldLists
-pub mod FileNames
 pub mod Spellings
 pub mod BootParts
 mod Standings

@@ -1,6 +1,5 @@
 pub mod BootPart
 pub mod Fault
-pub mod FileNames
 pub mod Fields
 pub mod Owner
 pub mod Record

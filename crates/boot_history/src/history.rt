@@ -1,8 +1,6 @@
 //! Records that are kept in a state folder: of each machine the last sixteen.
 
-ghost use Rattle.std.specs.Prelude.{◌≡◌, ◌-◌, IfOk, length, reverse, take};
-ghost use Rattle.std.specs.List.Sorted.{IsNonDecreasing};
-ghost use Rattle.boot_history.specs.FileNames.{IsNext};
+ghost use Rattle.std.specs.Prelude.{◌≡◌, ◌-◌, length, take};
 
 use crate::fault::{RecordFault, WriteFault};
 use crate::file_names::{NUMBER_MAX, file_name, file_number};
@@ -102,9 +100,7 @@ pub fn newest<R: Files<File: OutputFile> + AllocGlobal>(
 /// # Errors
 ///
 /// [`Failure::Read`] if the folder can't be read, and [`Failure::Memory`] if memory was refused.
-pub fn kept_numbers<R: Files + AllocGlobal>(rt: &R, state: &str) -> Result<Vec<u64>, Failure>
-    ensures { IfOk result (λ numbers. IsNonDecreasing (reverse numbers.items)) }
-{
+pub fn kept_numbers<R: Files + AllocGlobal>(rt: &R, state: &str) -> Result<Vec<u64>, Failure> {
     let folder = history_path(rt.alloc(), state)?;
     let mut kept = numbers(rt, folder.as_path())?;
     kept.reverse();
@@ -157,9 +153,7 @@ pub fn records_to_undo<R: Files<File: OutputFile> + AllocGlobal>(
 }
 
 /// The numbers of the records in the folder at this path, which rise. There are none if it isn't there.
-fn numbers<R: Files + AllocGlobal>(rt: &R, folder: Path<'_>) -> Result<Vec<u64>, Failure>
-    ensures { IfOk result (λ numbers. IsNonDecreasing numbers.items) }
-{
+fn numbers<R: Files + AllocGlobal>(rt: &R, folder: Path<'_>) -> Result<Vec<u64>, Failure> {
     match try_numbers(rt, folder) {
         Ok(numbers) => Ok(numbers),
         Err(error) if error.kind() == ErrorKind::NotFound => Ok(Vec::new(rt.alloc())),
@@ -168,9 +162,7 @@ fn numbers<R: Files + AllocGlobal>(rt: &R, folder: Path<'_>) -> Result<Vec<u64>,
 }
 
 /// The numbers of the records in the folder at this path, which rise.
-fn try_numbers<R: Files + AllocGlobal>(rt: &R, folder: Path<'_>) -> io::Result<Vec<u64>>
-    ensures { IfOk result (λ numbers. IsNonDecreasing numbers.items) }
-{
+fn try_numbers<R: Files + AllocGlobal>(rt: &R, folder: Path<'_>) -> io::Result<Vec<u64>> {
     let alloc = rt.alloc();
     let mut numbers = Vec::new(alloc);
     for entry in fs::read_dir(&(rt, alloc), folder)? {
@@ -190,10 +182,7 @@ fn try_numbers<R: Files + AllocGlobal>(rt: &R, folder: Path<'_>) -> io::Result<V
 }
 
 /// The number after these, which rise.
-fn next_number(alloc: Global, folder: Path<'_>, numbers: &[u64]) -> Result<u64, Failure>
-    requires { IsNonDecreasing numbers.now }
-    ensures { IfOk result (IsNext numbers.now) }
-{
+fn next_number(alloc: Global, folder: Path<'_>, numbers: &[u64]) -> Result<u64, Failure> {
     match numbers.last() {
         None => Ok(1),
         Some(last) if *last < NUMBER_MAX => Ok(*last + 1),
