@@ -84,6 +84,7 @@ _bootvars() {
 "bootvars undo --machine" | \
 "bootvars write --boot-id" | \
 "bootvars write --machine" | \
+"bootvars update --expect" | \
 "bootvars update --boot-id" | \
 "bootvars update --machine" | \
 "bootvars option --description" | \
@@ -111,7 +112,7 @@ _bootvars() {
         "bootvars deactivate") words="--dry-run --json --state --boot-id --machine --adopt --force --help --version -h -V" ;;
         "bootvars undo") words="--list --dry-run --json --state --boot-id --machine --adopt --force --help --version -h -V" ;;
         "bootvars write") words="--dry-run --json --empty --state --boot-id --machine --force --help --version -h -V" ;;
-        "bootvars update") words="--state --stream --dry-run --json --look --next --settle --boot-id --machine --adopt --force --help --version -h -V" ;;
+        "bootvars update") words="--state --stream --dry-run --json --look --expect --next --settle --boot-id --machine --adopt --force --help --version -h -V" ;;
         "bootvars option") words="--description --loader --disk --part --root --path --inactive --hidden --app --reconnect --attributes --optional-hex --optional-file --optional-text --out --help --version -h -V" ;;
         "bootvars frame") words="add replace add-free add-first remove order next first --raw --help --version -h -V" ;;
         "bootvars frame add") words="--raw --help --version -h -V" ;;

@@ -1,3 +1,4 @@
 mod Below
 mod NextTold
 mod OpenRefusals
+mod Guards

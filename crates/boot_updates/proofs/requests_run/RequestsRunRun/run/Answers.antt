@@ -1,9 +1,16 @@
-use Rattle.std.proofs.Common.{sym, subst}
+use Rattle.std.proofs.Common.{ℕ, List, Option, sym, subst, ◌∙◌}
+use Rattle.uefi_vars.specs.Vars.{Variables}
+use Rattle.boot_requests.specs.declared.answer.Answer.{Answer}
+use Rattle.boot_requests.specs.StoredState.{OpensAs}
 use Rattle.boot_journal.specs.declared.machine.CallError.{CallError}
-use Rattle.journaled_requests.specs.declared.requests.RunFault.{RunFault}
+use Rattle.boot_journal.specs.Attributes.{data_of}
 use Rattle.boot_journal.specs.Cause.{IfRefused}
+use Rattle.journaled_requests.specs.declared.requests.RunFault.{RunFault}
 use Rattle.journaled_requests.specs.RunFault.{IsRunFault}
 use Rattle.journaled_requests.proofs.Running.{err_then}
+use Rattle.boot_updates.specs.Guarded.{AreMet}
+use Rattle.boot_updates.specs.Told.{AreToldBy}
+use Rattle.boot_updates.proofs.Guards.{none_is, some_is_not, guarded_so}
 use Rattle.boot_updates.proofs.OpenRefusals.{refused_so}
 use Rattle.boot_updates.proofs.requests_run.RequestsRunRun.run.Goals as goal
 
@@ -13,3 +20,30 @@ returns-in_err-set-clause-refused c =
     err_then c.from_residual-in_err-set.result _ (λ error. IfRefused error (IsRunFault events c.args.vars.now)) c.from_residual-in_err-set.ensures.1
     (λ error is. subst (λ (e : CallError RunFault). IfRefused e (IsRunFault events c.args.vars.now)) (sym is)
     (refused_so events c.args.vars.now c.in_err-set.field-0.0 c.in_err-set.ensures.refused))
+
+-- something isn't as it is expected
+
+pub returns-in-Some-clause-done : goal.returns-in-Some-clause-done
+returns-in-Some-clause-done c =
+    let vars = data_of c.args.vars.now in
+    let preconditions = c.args.self.preconditions.now in
+    let told = c.not_run.result in (
+      λ m keeps. c.not_run.ensures.first ∙ c.in_ok-first.ensures m (subst (λ (v : Variables). OpensAs v m) (sym c.in_ok-set.ensures.set) keeps),
+      guarded_so _ _ c.args.vars.now c.in_ok-copy.field-0 told.answers.items told.unmet c.in-Some.unmet c.not_run.ensures.unmet
+      (λ (all : AreMet told.journal told.first vars preconditions). some_is_not c.in_ok-unmet.field-0 c.in-Some.unmet c.in-Some.is (c.in_ok-unmet.ensures.1
+      (subst (λ (j : Option (List ℕ)). AreMet j c.in_ok-first.first c.in_ok-set.set preconditions) c.not_run.ensures.journal
+      (subst (λ (n : ℕ). AreMet told.journal n c.in_ok-set.set preconditions) c.not_run.ensures.first
+      (subst (λ (v : Variables). AreMet told.journal told.first v preconditions) (sym c.in_ok-set.ensures.set) all)))))
+      c.in_ok-copy.ensures.equal c.not_run.ensures.none,
+    )
+
+-- all is as it is expected
+
+pub returns-clause-done : goal.returns-clause-done
+returns-clause-done c =
+    let noted = c.in_ok-noted.noted in
+    let met = subst (λ (v : Variables). AreMet c.identity_of-journal.result c.in_ok-first.first v c.args.self.preconditions.now) c.in_ok-set.ensures.set
+    (c.in_ok-unmet.ensures.0 (none_is c.in_ok-unmet.field-0 c.in_default.not-Some)) in
+    let told = subst (λ (a : List Answer). AreToldBy noted.before c.in_ok-first.first c.args.self.requests.events.now a noted.same.items)
+    c.deref.ensures.value c.in_ok-noted.ensures in
+    (λ m keeps. c.in_ok-first.ensures m (subst (λ (v : Variables). OpensAs v m) (sym c.in_ok-set.ensures.set) keeps), (met, (c.in_ok-to.ensures.done, told)))
