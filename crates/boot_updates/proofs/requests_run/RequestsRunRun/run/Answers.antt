@@ -30,11 +30,11 @@ returns-in-Some-clause-done c =
     let told = c.not_run.result in (
       λ m keeps. c.not_run.ensures.first ∙ c.in_ok-first.ensures m (subst (λ (v : Variables). OpensAs v m) (sym c.in_ok-set.ensures.set) keeps),
       guarded_so _ _ c.args.vars.now c.in_ok-copy.field-0 told.answers.items told.unmet c.in-Some.unmet c.not_run.ensures.unmet
-      (λ (all : AreMet told.journal told.first vars preconditions). some_is_not c.in_ok-unmet.field-0 c.in-Some.unmet c.in-Some.is (c.in_ok-unmet.ensures.1
-      (subst (λ (j : Option (List ℕ)). AreMet j c.in_ok-first.first c.in_ok-set.set preconditions) c.not_run.ensures.journal
-      (subst (λ (n : ℕ). AreMet told.journal n c.in_ok-set.set preconditions) c.not_run.ensures.first
-      (subst (λ (v : Variables). AreMet told.journal told.first v preconditions) (sym c.in_ok-set.ensures.set) all)))))
-      c.in_ok-copy.ensures.equal c.not_run.ensures.none,
+          (λ (all : AreMet told.journal told.first vars preconditions). some_is_not c.in_ok-unmet.field-0 c.in-Some.unmet c.in-Some.is (c.in_ok-unmet.ensures.1
+          (subst (λ (j : Option (List ℕ)). AreMet j c.in_ok-first.first c.in_ok-set.set preconditions) c.not_run.ensures.journal
+          (subst (λ (n : ℕ). AreMet told.journal n c.in_ok-set.set preconditions) c.not_run.ensures.first
+          (subst (λ (v : Variables). AreMet told.journal told.first v preconditions) (sym c.in_ok-set.ensures.set) all)))))
+          c.in_ok-copy.ensures.equal c.not_run.ensures.none,
     )
 
 -- all is as it is expected
