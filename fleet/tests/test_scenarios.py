@@ -208,7 +208,7 @@ def test_a_broker_that_repeats_everything_changes_nothing(sender: Sender, machin
             (machine.state / "journal").unlink()
         for payload in [*sent, *reversed(sent)]:
             answered = deliver(machine, payload)
-            assert answered["replies"] == [] and ("unmet" in answered) == bool(frames_of(payload))
+            assert answered["replies"] == [] and bool(answered["unmet"]) == bool(frames_of(payload))
         assert (machine.entries(), machine.order(), machine.get("BootNext")) == (*before, None)
 
 
