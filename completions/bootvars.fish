@@ -196,7 +196,7 @@ complete -c bootvars -n '__bootvars_at bootvars update' -l stream -d 'SCRIPT is 
 complete -c bootvars -n '__bootvars_at bootvars update' -l dry-run -d 'Prints the replies and the changes, and makes none'
 complete -c bootvars -n '__bootvars_at bootvars update' -l json -d 'Prints JSON'
 complete -c bootvars -n '__bootvars_at bootvars update' -l look -d 'Prints the replies, the next number and what there is then, as one object of JSON'
-complete -c bootvars -n '__bootvars_at bootvars update' -l expect -x -d 'What is expected, as journal=ID, next=5, 0003=SHA256 or order=0003,0001; again for more: where something isn'\''t so, nothing is changed'
+complete -c bootvars -n '__bootvars_at bootvars update' -l expect -x -d 'What is expected, as journal=ID, next=5, 0003=SHA256 or order=0003,0001; again for more: if something isn'\''t so, nothing is changed'
 complete -c bootvars -n '__bootvars_at bootvars update' -l next -d 'Prints the number of the next request'
 complete -c bootvars -n '__bootvars_at bootvars update' -l settle -d 'Does what an update that was cut off has left to do'
 complete -c bootvars -n '__bootvars_at bootvars update' -l boot-id -x -d 'The identity of the machine'\''s start; needed for a variable file'

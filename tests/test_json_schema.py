@@ -41,6 +41,9 @@ Place = Tuple[Step, ...]
 NO_VALUE = 0.5
 """What no member may have."""
 
+OPTIONAL = {"show": ["version", "order"], "reply": ["version"]}
+"""The members that objects may be without: a line has its version, but not what it has in it of other lines."""
+
 
 class Document(unittest.TestCase):
     """What the schema speaks of."""
@@ -92,7 +95,7 @@ class Document(unittest.TestCase):
 
     def test_objects_have_no_other_members(self) -> None:
         for name, definition in self.objects.items():
-            optional = ["order"] if name == "show" else []
+            optional = OPTIONAL.get(name, [])
             with self.subTest(name):
                 self.assertIs(definition["additionalProperties"], False)
                 wanted = [it for it in definition["properties"] if it not in optional]

@@ -42,6 +42,16 @@ NO_MEMORY, REFUSED, UNSETTLED = 4, 3, 8
 MACHINE = ["--state", "state", "--boot-id", "1", "--machine", "m"]
 
 
+MET = {
+    "efivars": ["--expect", "next=0", "--expect", "order=0005,0001,0002,0003,0000"],
+    "vars.fd": ["--expect", "next=0", "--expect", "order=0001,0000"],
+}
+"""What an update expects of each machine, and is so."""
+
+UNMET = ["--expect", "next=0", "--expect", "0001=none"]
+"""What an update expects, and isn't so."""
+
+
 class Command(NamedTuple):
     """A command line, and what is there before."""
 
@@ -87,6 +97,9 @@ def commands() -> List[Command]:
             Command(["update", place, "script", "--look", *MACHINE], place),
             Command(["update", place, "--look", *MACHINE], place, is_left=True),
             Command(["update", place, "--next", *MACHINE], place, is_left=True),
+            Command(["update", place, "script", "--look", *MET[place], *MACHINE], place),
+            Command(["update", place, "script", "--json", *UNMET, *MACHINE], place),
+            Command(["update", place, "script", *UNMET, *MACHINE], place, is_left=True),
         ]
     some += [
         Command(["add", "set", *add], "set"),

@@ -50,7 +50,7 @@ class Reply(NamedTuple):
 
 
 class Unmet(NamedTuple):
-    """What isn't so of what a message expects, and what is so instead."""
+    """What isn't so of what a message expects, all of its word as it came, and what is so instead, for a person."""
 
     expected: str
     found: str
@@ -123,7 +123,12 @@ def _answer(held: Dict[str, Any]) -> Answer:
 
 
 def _unmet(held: Optional[Dict[str, Any]]) -> Optional[Unmet]:
-    return None if held is None else Unmet(_text(held["expected"]), _text(held["found"]))
+    if held is None:
+        return None
+    expected = held["expected"]
+    if not isinstance(expected, str):
+        raise TypeError(f"{expected!r:.40} isn't a text")
+    return Unmet(expected, _text(held["found"]))
 
 
 def _reply(held: Dict[str, Any]) -> Reply:

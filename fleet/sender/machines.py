@@ -15,7 +15,7 @@ from typing import Any, Dict, List, NamedTuple, Optional, Tuple, Union
 import bootkeep
 
 from . import messages
-from .answers import Answer, Reply, Unmet, plain
+from .answers import MOST_WORDS, Answer, Reply, Unmet, plain
 from .goals import Ask, Asked, Failed, Goal, Reached, Send, request_words, step
 from .ledger import Ledger
 from .messages import Message, Stored, renumbered
@@ -62,7 +62,7 @@ def _next_message(
         _check_unmet(answer, answer.unmet, asked)
         if ledger.count_unmet(machine) >= MOST_UNMET:
             told = f"{answer.unmet.found}, and not {answer.unmet.expected}"
-            raise Trouble(f"it changes each time: {told}")
+            raise Trouble(f"it changes each time: {told[:MOST_WORDS]}")
     unknown = _unknown(ledger, machine, answer)
     if unknown:
         return messages.question(answer, unknown)
@@ -90,7 +90,8 @@ def _check_unmet(answer: Answer, unmet: Unmet, asked: Message) -> None:
     if unmet.expected not in asked.words:
         raise Trouble("it says of something else than it was asked that it isn't so")
     if messages.found(unmet.expected, answer) == unmet.expected:
-        raise Trouble(f"it says that {unmet.expected} isn't so, and shows that it is")
+        told = unmet.expected[:MOST_WORDS]
+        raise Trouble(f"it says that {told} isn't so, and shows that it is")
 
 
 def _take_replies(ledger: Ledger, machine: Machine, answer: Answer, asked: Message) -> None:

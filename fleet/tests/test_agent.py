@@ -2,7 +2,9 @@
 
 from __future__ import annotations
 
+import fcntl
 import json
+import os
 from pathlib import Path
 from typing import Any, Dict
 
@@ -107,9 +109,41 @@ def test_it_waits_while_another_update_is_at_work(
     assert len((tmp_path / "words").read_text().splitlines()) == 4
 
 
+def test_a_lock_that_is_held_is_told(machine: Folder, monkeypatch: pytest.MonkeyPatch) -> None:
+    """Somebody holds it for long: the sender is told to wait, and nothing is done."""
+    monkeypatch.setattr(agent, "MOST_BUSY", 0.3)
+    journal = updated(b"", machine.state, machine.place)["journal"]
+    frame = bootkeep.frame_make(0, bootkeep.Request.FIRST, entry=0)
+    payload = f"bootfleet 2 journal={journal} next=0\n".encode() + frame
+    folder = os.open(machine.state, os.O_RDONLY)
+    try:
+        fcntl.flock(folder, fcntl.LOCK_EX)
+        held = updated(payload, machine.state, machine.place)
+    finally:
+        os.close(folder)
+    assert (held["status"], held["refused"]["do"]) == (7, "wait")
+    assert machine.order() == [1, 0]
+    assert updated(payload, machine.state, machine.place)["status"] == 0
+    assert machine.order() == [0, 1]
+
+
 def test_what_says_nothing_is_an_error(tmp_path: Path, monkeypatch: pytest.MonkeyPatch) -> None:
     stand_in(tmp_path, monkeypatch, 0, "echo why >&2; exit 4")
     assert updated(b"") == {"to": digest(b""), "status": 4, "error": "why\n"}
+
+
+def test_a_program_that_is_not_there_is_an_error(
+    tmp_path: Path, monkeypatch: pytest.MonkeyPatch
+) -> None:
+    """The agent goes on, as while a package is upgraded, and the sender is told."""
+    monkeypatch.setenv("BOOTVARS", str(tmp_path / "bootvars"))
+    held = updated(b"")
+    assert (held["to"], held["status"]) == (digest(b""), 127)
+    refusal = read_answer(json.dumps(held).encode()).refusal
+    assert refusal is not None and refusal.remedy == "send again"
+    assert refusal.words.startswith("status 127: bootvars can't be run: ")
+    stand_in(tmp_path, monkeypatch, 0, 'echo "{}"')
+    assert updated(b"") == {"to": digest(b""), "status": 0}
 
 
 @pytest.mark.parametrize(

@@ -80,6 +80,7 @@ def test_a_reply_is_read() -> None:
         changed(journal=JOURNAL + " "),
         changed(unmet=[]),
         changed(unmet={"expected": "next=7"}),
+        changed(unmet={"expected": 7, "found": "next=7"}),
         changed(to=None),
         changed(replies=None),
         changed(replies=[{}]),

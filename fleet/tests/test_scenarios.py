@@ -5,6 +5,7 @@ from __future__ import annotations
 
 import json
 import re
+import shutil
 from pathlib import Path
 from typing import Any, Callable, Dict, List, Optional, Tuple
 
@@ -129,6 +130,18 @@ def test_an_order_that_changes_meanwhile_is_looked_at_again(
     assert list(machine.entries().values()).count(option("new")) == 1
 
 
+def test_a_long_order_that_changes_meanwhile_is_looked_at_again(
+    sender: Sender, machine: Folder
+) -> None:
+    """The word of what is expected has more than 10,000 characters."""
+    stale = b"".join(number.to_bytes(2, "little") for number in range(0x100, 0x100 + 2000))
+    machine.put("BootOrder", b"\1\0\0\0" + stale)
+    courier_of(sender).requests = once(lambda: machine.put("BootOrder", b"\0\0\1\0" + stale))
+    add(sender.ledger, send((Request.FIRST, {"entry": 1})))
+    assert run(sender) and sender.ledger.all_reached()
+    assert machine.order()[:3] == [1, 0, 0x100]
+
+
 def test_a_machine_that_changes_each_time_is_told(sender: Sender, machine: Folder) -> None:
     """Each time before a message comes something else puts itself in front."""
 
@@ -210,6 +223,25 @@ def test_a_broker_that_repeats_everything_changes_nothing(sender: Sender, machin
             answered = deliver(machine, payload)
             assert answered["replies"] == [] and bool(answered["unmet"]) == bool(frames_of(payload))
         assert (machine.entries(), machine.order(), machine.get("BootNext")) == (*before, None)
+
+
+def test_a_clone_of_a_machine_does_nothing(sender: Sender, machine: Folder, tmp_path: Path) -> None:
+    """The machine's variables and its journal's folder, copied before the request came: another machine has them now."""
+    clone = Folder(tmp_path / "clone", {}, [])
+
+    def copy() -> None:
+        for made, kept in ((clone.place, machine.place), (clone.state, machine.state)):
+            shutil.rmtree(made)
+            shutil.copytree(kept, made)
+
+    courier_of(sender).requests = once(copy)
+    add(sender.ledger, goal("first", "new"))
+    assert run(sender) and sender.ledger.all_reached()
+    before = clone.entries(), clone.order()
+    assert before == ({0: option("a"), 1: option("b")}, [1, 0])
+    for payload in [it for _, it in courier_of(sender).sent] * 10:
+        assert "it is the journal of machine" in deliver(clone, payload)["refused"]["words"]
+    assert (clone.entries(), clone.order()) == before
 
 
 def machine_file(name: str) -> str:

@@ -1,6 +1,8 @@
 pub mod BootPart
 pub mod Fault
 pub mod Fields
+pub mod FileNames
+pub mod Numbers
 pub mod Owner
 pub mod Record
 pub mod Timeout

@@ -1,5 +1,6 @@
 //! The folders that records are in.
 
+use crate::file_names::file_name;
 use messages::Failure;
 use std::alloc::{AllocError, Global};
 use std::fs::DirBuilder;
@@ -17,6 +18,9 @@ const HISTORY: &str = "history";
 
 /// The rights of a folder that is made: it is its owner's alone.
 const MODE: u32 = 0o700;
+
+// Nobody else has a right, and the owner has each.
+const _: () = prove!(MODE & 0o077 == 0 && MODE & 0o700 == 0o700);
 
 /// Makes the state folder at this path, for its owner alone, if nothing is there and its own folder is. What is there stays
 /// as it is.
@@ -61,4 +65,14 @@ fn make_folder<R: Files + AllocGlobal>(rt: &R, path: &str, parent: &str) -> Resu
 fn create<R: Files>(rt: &R, path: &str, parent: &str) -> io::Result<()> {
     DirBuilder::new().mode(MODE).create(rt, path)?;
     sync_folder(rt, parent)
+}
+
+/// The path of the file of the record of this number in the folder at this path.
+pub(crate) fn file_path(
+    alloc: Global,
+    folder: Path<'_>,
+    number: u64,
+) -> Result<PathBuf, AllocError> {
+    let name = file_name(alloc, number)?;
+    folder.join(alloc, name.as_str())
 }

@@ -1,29 +1,26 @@
 //! Records that are kept in a state folder: of each machine the last sixteen.
 
-ghost use Rattle.std.specs.Prelude.{◌≡◌, ◌-◌, length, take};
+ghost use Rattle.std.specs.Prelude.{◌≡◌, IfOk, reverse};
+ghost use Rattle.std.specs.List.Sorted.{IsNonDecreasing};
+ghost use Rattle.boot_history.specs.Owner.{counted};
 
-use crate::fault::{RecordFault, WriteFault};
-use crate::file_names::{NUMBER_MAX, file_name, file_number};
-use crate::folder::{history_path, make_history};
+use crate::fault::RecordFault;
+use crate::folder::{file_path, history_path, make_history};
+use crate::numbers::{next_number, numbers_of, oldest};
 use crate::owner::{HEAD_MAX, Owner, owner_of};
 use crate::reader::read_record;
 use crate::record::Record;
 use crate::stands::{Standing, standing_of};
-use crate::writer::write_record;
+use crate::written::Written;
 use boot_journal::MachineName;
 use messages::{Failure, Reason};
-use std::alloc::{AllocError, Global};
+use std::alloc::Global;
 use std::fs;
 use std::io::{self, ErrorKind, Read};
-use std::path::{Path, PathBuf};
+use std::path::Path;
 use std::rt::Files;
 use uefi_vars::Vars;
-use whole_files::{
-    LIMIT, OutputFile, RegularFile, open_regular, read_regular, replace_file, sync_folder,
-};
-
-/// How many records of each machine are kept.
-pub const KEPT_MAX: usize = 16;
+use whole_files::{LIMIT, OutputFile, RegularFile, open_regular, read_regular, sync_folder};
 
 /// A record that is kept.
 #[derive(Debug, Drop)]
@@ -51,10 +48,13 @@ pub fn push<R: Files<File: OutputFile> + AllocGlobal>(
 ) -> Result<u64, Failure> {
     let folder = make_history(rt, state)?;
     let folder = folder.as_path();
-    let kept = numbers(rt, folder)?;
-    let number = next_number(rt.alloc(), folder, &kept)?;
-    write(rt, folder, number, record)?;
-    remove_oldest(rt, folder, &kept, &record.machine)?;
+    let kept = read_numbers(rt, folder)?;
+    let Some(number) = next_number(&kept) else {
+        let fault = "no number is left for a record";
+        return Err(Failure::from_fault(rt.alloc(), folder.as_str(), fault));
+    };
+    let written = Written::new(rt, folder, number, record)?;
+    remove_oldest(rt, folder, &kept, &record.machine, &written)?;
     Ok(number)
 }
 
@@ -100,9 +100,11 @@ pub fn newest<R: Files<File: OutputFile> + AllocGlobal>(
 /// # Errors
 ///
 /// [`Failure::Read`] if the folder can't be read, and [`Failure::Memory`] if memory was refused.
-pub fn kept_numbers<R: Files + AllocGlobal>(rt: &R, state: &str) -> Result<Vec<u64>, Failure> {
+pub fn kept_numbers<R: Files + AllocGlobal>(rt: &R, state: &str) -> Result<Vec<u64>, Failure>
+    ensures { IfOk result (λ numbers. IsNonDecreasing (reverse numbers.items)) }
+{
     let folder = history_path(rt.alloc(), state)?;
-    let mut kept = numbers(rt, folder.as_path())?;
+    let mut kept = read_numbers(rt, folder.as_path())?;
     kept.reverse();
     Ok(kept)
 }
@@ -153,79 +155,45 @@ pub fn records_to_undo<R: Files<File: OutputFile> + AllocGlobal>(
 }
 
 /// The numbers of the records in the folder at this path, which rise. There are none if it isn't there.
-fn numbers<R: Files + AllocGlobal>(rt: &R, folder: Path<'_>) -> Result<Vec<u64>, Failure> {
-    match try_numbers(rt, folder) {
-        Ok(numbers) => Ok(numbers),
-        Err(error) if error.kind() == ErrorKind::NotFound => Ok(Vec::new(rt.alloc())),
-        Err(error) => Err(Failure::from_read(rt.alloc(), folder.as_str(), error)),
-    }
+fn read_numbers<R: Files + AllocGlobal>(rt: &R, folder: Path<'_>) -> Result<Vec<u64>, Failure>
+    ensures { IfOk result (λ numbers. IsNonDecreasing numbers.items) }
+{
+    let names = match read_names(rt, folder) {
+        Ok(names) => names,
+        Err(error) if error.kind() == ErrorKind::NotFound => Vec::new(rt.alloc()),
+        Err(error) => return Err(Failure::from_read(rt.alloc(), folder.as_str(), error)),
+    };
+    let numbers = numbers_of(rt.alloc(), &names)?;
+    Ok(numbers)
 }
 
-/// The numbers of the records in the folder at this path, which rise.
-fn try_numbers<R: Files + AllocGlobal>(rt: &R, folder: Path<'_>) -> io::Result<Vec<u64>> {
+/// The names of the files in the folder at this path, in its own order: of those whose names are UTF-8, as a record's is.
+fn read_names<R: Files + AllocGlobal>(rt: &R, folder: Path<'_>) -> io::Result<Vec<String>> {
     let alloc = rt.alloc();
-    let mut numbers = Vec::new(alloc);
+    let mut names = Vec::new(alloc);
     for entry in fs::read_dir(&(rt, alloc), folder)? {
         match entry {
-            Ok(entry) => {
-                if let Some(number) = file_number(entry.file_name()) {
-                    numbers.push(number)?;
-                }
-            }
-            // Its name isn't UTF-8, so it isn't that of a record.
+            Ok(entry) => names.push(String::from_str(alloc, entry.file_name())?)?,
             Err(error) if error.kind() == ErrorKind::InvalidFilename => {}
             Err(error) => return Err(error),
         }
     }
-    numbers.sort()?;
-    Ok(numbers)
+    Ok(names)
 }
 
-/// The number after these, which rise.
-fn next_number(alloc: Global, folder: Path<'_>, numbers: &[u64]) -> Result<u64, Failure> {
-    match numbers.last() {
-        None => Ok(1),
-        Some(last) if *last < NUMBER_MAX => Ok(*last + 1),
-        Some(_) => Err(Failure::from_fault(
-            alloc,
-            folder.as_str(),
-            "no number is left for a record",
-        )),
-    }
-}
-
-/// Writes the file of a record, and brings its name to the disk.
-fn write<R: Files<File: OutputFile> + AllocGlobal>(
-    rt: &R,
-    folder: Path<'_>,
-    number: u64,
-    record: &Record,
-) -> Result<(), Failure> {
-    let alloc = rt.alloc();
-    let path = file_path(alloc, folder, number)?;
-    let path = path.as_path().as_str();
-    let bytes = match write_record(alloc, record) {
-        Ok(bytes) if bytes.len() <= LIMIT => bytes,
-        Err(WriteFault::OutOfMemory) => return Err(Failure::Memory),
-        _ => return Err(Failure::refused(alloc, path, Reason::TooMuch(LIMIT))),
-    };
-    replace_file(rt, path, &bytes)
-        .and_then(|_| sync_folder(rt, folder.as_str()))
-        .map_err(|error| Failure::from_write(alloc, path, error))
-}
-
-/// Removes the oldest records of the machine of this name, of these numbers, which rise, so that with a new one as many as
-/// are kept are left. One that can't be read or removed stays: the new one is on the disk already, and the next time it is
-/// tried again. This fails only if memory is refused.
+/// Removes the oldest records of the machine of this name, of these numbers, which rise, so that with the new one, which is
+/// written, as many as are kept are left. One that can't be read or removed stays, and the next time it is tried again.
+/// This fails only if memory is refused.
 fn remove_oldest<R: Files<File: OutputFile> + AllocGlobal>(
     rt: &R,
     folder: Path<'_>,
     numbers: &[u64],
     machine: &MachineName,
+    _written: &Written,
 ) -> Result<(), Failure> {
     let mut own = Vec::new(rt.alloc());
     for number in numbers {
-        if is_own(owner(rt, folder, *number, machine))? {
+        if counted(owner(rt, folder, *number, machine))? {
             own.push(*number)?;
         }
     }
@@ -237,21 +205,15 @@ fn remove_oldest<R: Files<File: OutputFile> + AllocGlobal>(
     Ok(())
 }
 
-/// Whether a record is the machine's own, of which this was told.
-fn is_own(told: Result<Owner, Failure>) -> Result<bool, Failure> {
+/// Whether a record counts among the machine's own, of which this was told: one that can't be read doesn't.
+fn counted(told: Result<Owner, Failure>) -> Result<bool, Failure>
+    ensures { result ≡ counted told }
+{
     match told {
         Ok(owner) => Ok(owner == Owner::Own),
         Err(Failure::Memory) => Err(Failure::Memory),
         Err(_) => Ok(false),
     }
-}
-
-/// Of these numbers of a machine's records, which rise, those that don't stay beside a new one.
-fn oldest(numbers: &[u64]) -> &[u64]
-    ensures { result.now ≡ take (length numbers.now - 15) numbers.now }
-{
-    let stay = KEPT_MAX - 1;
-    &numbers[..numbers.len().saturating_sub(stay)]
 }
 
 /// Removes the file of a record, and brings that to the disk.
@@ -300,7 +262,7 @@ fn own_record<R: Files + AllocGlobal>(
     number: u64,
     machine: &MachineName,
 ) -> Result<Option<Record>, Failure> {
-    if owner(rt, folder, number, machine)? == Owner::Other {
+    if owner(rt, folder, number, machine)?.is_passed_over() {
         return Ok(None);
     }
     let alloc = rt.alloc();
@@ -324,10 +286,4 @@ fn record_of(alloc: Global, path: &str, bytes: &[u8]) -> Result<Record, Failure>
             Err(Failure::refused(alloc, path, Reason::Fault(words)))
         }
     }
-}
-
-/// The path of the file of the record of this number.
-fn file_path(alloc: Global, folder: Path<'_>, number: u64) -> Result<PathBuf, AllocError> {
-    let name = file_name(alloc, number)?;
-    folder.join(alloc, name.as_str())
 }

@@ -1,9 +1,10 @@
 //! What follows from the definitions.
 
-ghost use Rattle.std.specs.Prelude.{◌≡◌, ℕ, List};
+ghost use Rattle.std.specs.Prelude.{◌≡◌, ℕ, Some, List};
 ghost use Rattle.boot_history.specs.declared.fault.RecordFault.{RecordFault};
 ghost use Rattle.boot_history.specs.Record.{RecordParts, SpellsRecord};
 ghost use Rattle.boot_history.specs.Fault.{IsRecordFault};
+ghost use Rattle.boot_history.specs.FileNames.{number_named};
 
 use uefi_vars::laws as vars_laws;
 
@@ -28,3 +29,9 @@ pub fn a_fault_leaves_no_record()
 {
     vars_laws::a_fault_leaves_no_set();
 }
+
+/// No two names of files write one number.
+pub fn a_number_has_one_name()
+    ensures { (a b : List ℕ) (number : ℕ) →
+        number_named a ≡ Some number → number_named b ≡ Some number → a ≡ b }
+{}

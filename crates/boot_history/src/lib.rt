@@ -15,6 +15,7 @@ mod file_names;
 mod folder;
 mod history;
 pub mod laws;
+mod numbers;
 mod owner;
 mod reader;
 mod record;
@@ -22,12 +23,12 @@ mod stands;
 mod time;
 mod timeout;
 mod writer;
+mod written;
 
 pub use fault::{RecordFault, WriteFault};
 pub use folder::{DEFAULT_STATE, make_state_folder};
-pub use history::{
-    KEPT_MAX, KeptRecord, kept_numbers, kept_record, newest, push, records_to_undo, remove,
-};
+pub use history::{KeptRecord, kept_numbers, kept_record, newest, push, records_to_undo, remove};
+pub use numbers::KEPT_MAX;
 pub use reader::read_record;
 pub use record::Record;
 pub use stands::{Standing, as_used, standing_of, without_next};

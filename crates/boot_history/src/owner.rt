@@ -1,6 +1,6 @@
 //! Whose a record is.
 
-ghost use Rattle.std.specs.Prelude.{◌≡◌, ◌++◌, ℕ, List, IfSome};
+ghost use Rattle.std.specs.Prelude.{◌≡◌, ◌↔◌, ◌++◌, ℕ, List, IfSome, IsTrue};
 ghost use Rattle.uefi_vars.specs.Set.{data_bytes};
 ghost use Rattle.boot_journal.specs.MachineName.{IsMachineName};
 ghost use Rattle.boot_history.specs.Fields.{magic};
@@ -21,6 +21,16 @@ pub(crate) enum Owner {
     Other,
     /// Its file doesn't tell.
     Unknown,
+}
+
+impl Owner {
+    /// Whether the last record of the machine that is asked for is looked for before this one: if its file tells that it is
+    /// another machine's. One that doesn't tell may be the last one, so it isn't passed over.
+    pub(crate) fn is_passed_over(self) -> bool
+        ensures { IsTrue result ↔ self ≡ Owner.Other }
+    {
+        self == Owner::Other
+    }
 }
 
 /// Whose the record is whose file begins with these bytes.

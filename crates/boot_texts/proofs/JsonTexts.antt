@@ -27,6 +27,10 @@ pub all_done : (f : ℕ → List ℕ) (old now done all : List ℕ)
 all_done f old now done all so_far ends =
     so_far ∙ ap (λ (them : List ℕ). old ++ flat_map f them) (sym (map_same done) ∙ ends)
 
+-- all are taken
+pub all_taken : (now done all : List ℕ) → now ≡ done → map (λ x. x) done ≡ all → now ≡ all
+all_taken now done all so_far ends = so_far ∙ (sym (map_same done) ∙ ends)
+
 -- ---- units
 
 -- a unit at the end

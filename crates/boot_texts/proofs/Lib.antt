@@ -1,3 +1,4 @@
+mod Descriptions
 mod Each
 mod JsonTexts
 mod NamingChanges

@@ -1,4 +1,5 @@
 -- what public contracts cite
+pub mod Description
 pub mod Frame
 pub mod Json
 pub mod NamingChange

@@ -1,10 +1,12 @@
 -- The load option that is made of words (UEFI 2.10, 3.1.3).
 use Rattle.std.specs.Prelude.{◌≡◌, ℕ, Bool, not, bit_or, if◌then◌else◌, List, map}
+use Rattle.std.specs.Str.{chars}
 use Rattle.uefi_path.specs.declared.node.Node.{Node}
 use Rattle.uefi_option.specs.LoadOption.{OptionParts}
 use Rattle.uefi_text.specs.Bytes.{Each}
 use Rattle.uefi_names.specs.Standard.{standard_table}
 use Rattle.uefi_names.specs.Reading.{IsNamedText}
+use Rattle.boot_texts.specs.Description.{IsDescription}
 use Rattle.boot_texts.specs.declared.option.Flags.{Flags}
 use Rattle.boot_texts.specs.declared.option.OptionPaths.{OptionPaths}
 use Rattle.boot_texts.specs.declared.option.OptionPaths.TheVariants.{Texts, Paths}
@@ -29,8 +31,10 @@ abbrev pub ArePaths : OptionPaths → List (List (List Node)) → Type 0
 ArePaths (Texts texts) paths = ArePathTexts (map (λ text. text.now) texts.now) paths
 ArePaths (Paths given) paths = paths ≡ given.now
 
--- the option has the attributes and the optional data of the words, and their paths
+-- the option has the attributes and the optional data of the words, their paths, and the description for which their text
+-- stands
 pub record IsOptionOfWords (words : OptionWords) (option : OptionParts) : Type 0 where
   pub attributes : option.attributes ≡ words.attributes
+  pub description : IsDescription (chars words.description.now) option.description
   pub paths : ArePaths words.paths option.paths
   pub optional : option.optional ≡ words.optional.now

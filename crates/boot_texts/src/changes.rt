@@ -1,7 +1,7 @@
 //! What differs between two sets of variables, by `bootvars diff`.
 
 use crate::at_risk::{EntryName, NamingChange, UnnamedWords, naming_change};
-use crate::content::{Content, DataText, EntryDigits, Quoted, digits_of};
+use crate::content::{Content, DataText, EntryDigits, Quoted};
 use crate::json::{
     JsonObject, JsonWriter, Leaf, append_leaf, append_leaves, append_object, append_objects,
     json_line,
@@ -19,9 +19,9 @@ struct ShownDiff<'a> {
     /// The changes from the first set to the second, in the order in which a machine can make them.
     changes: Vec<ShownChange<'a>>,
     /// The entries of the second set that are in no order there, and weren't in the first.
-    unnamed: Vec<EntryDigits>,
+    unnamed: Vec<u16>,
     /// The entries of the second set that were in no order in the first, and are named there.
-    named: Vec<EntryDigits>,
+    named: Vec<u16>,
 }
 
 impl JsonObject for ShownDiff<'_> {
@@ -30,8 +30,8 @@ impl JsonObject for ShownDiff<'_> {
         append_objects("changes", &self.changes, out)?;
         append_leaves(
             &[
-                ("unnamed", Leaf::Entries(Some(&self.unnamed))),
-                ("named", Leaf::Entries(Some(&self.named))),
+                ("unnamed", Leaf::Numbers(Some(&self.unnamed))),
+                ("named", Leaf::Numbers(Some(&self.named))),
             ],
             out,
         )
@@ -200,8 +200,8 @@ pub fn diff_json(alloc: Global, from: &Vars, to: &Vars) -> Result<String, AllocE
     let shown = ShownDiff {
         equal: changes.is_empty(),
         changes,
-        unnamed: digits_of(alloc, &unnamed)?,
-        named: digits_of(alloc, &named)?,
+        unnamed,
+        named,
     };
     json_line(alloc, &shown)
 }

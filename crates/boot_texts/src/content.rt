@@ -23,7 +23,7 @@ impl fmt::Display for EntryDigits {
 
 /// Numbers of entries, each after a blank, or ` -` if there is none.
 #[derive(Clone, Copy)]
-pub(crate) struct NumberList<'a>(pub(crate) &'a [EntryDigits]);
+pub(crate) struct NumberList<'a>(pub(crate) &'a [u16]);
 
 impl fmt::Display for NumberList<'_> {
     fn fmt<W: fmt::Write>(&self, f: &mut fmt::Formatter<W>) -> fmt::Result {
@@ -31,7 +31,7 @@ impl fmt::Display for NumberList<'_> {
             return f.write_str(" -");
         }
         for number in self.0 {
-            write!(f, " {number}")?;
+            write!(f, " {}", EntryDigits(*number))?;
         }
         Ok(())
     }
@@ -76,7 +76,7 @@ pub(crate) enum Content {
     /// A load option, of an entry.
     LoadOption(ShownOption),
     /// The numbers of BootOrder.
-    Order { entries: Vec<EntryDigits> },
+    Order { entries: Vec<u16> },
     /// The number of BootNext.
     Next { entry: EntryDigits },
     /// The seconds of Timeout.
@@ -120,8 +120,9 @@ impl Content {
         if bytes.len() % 2 != 0 || bytes.len() / 2 > ORDER_MAX {
             return Content::from_bad_numbers(alloc, bytes, VarFault::BadOrder);
         }
-        let entries = digits_of(alloc, &read_units(alloc, bytes)?)?;
-        Ok(Content::Order { entries })
+        Ok(Content::Order {
+            entries: read_units(alloc, bytes)?,
+        })
     }
 
     /// The number that the bytes of BootNext are, or why they are none.
@@ -174,7 +175,7 @@ impl JsonObject for Content {
         match self {
             Content::LoadOption(option) => option.append_members(out),
             Content::Order { entries } => {
-                append_leaf("entries", Leaf::Entries(Some(entries)), out)
+                append_leaf("entries", Leaf::Numbers(Some(entries)), out)
             }
             Content::Next { entry } => append_leaf("entry", Leaf::Entry(Some(*entry)), out),
             Content::Timeout(timeout) => {
@@ -251,15 +252,6 @@ impl fmt::Display for ByteCount {
             count => write!(f, "{count} bytes"),
         }
     }
-}
-
-/// The numbers, to be shown.
-pub(crate) fn digits_of(alloc: Global, numbers: &[u16]) -> Result<Vec<EntryDigits>, AllocError> {
-    let mut digits = Vec::with_capacity(alloc, numbers.len())?;
-    for number in numbers {
-        digits.push(EntryDigits(*number))?;
-    }
-    Ok(digits)
 }
 
 /// The offset of an option's fault in its bytes, if it is known: that of the node at fault.

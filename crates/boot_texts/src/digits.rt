@@ -94,6 +94,6 @@ fn is_decimal(text: &str) -> bool {
 }
 
 /// Whether the text is hexadecimal digits of either case, one at least: no sign, no blank.
-pub(crate) fn is_hexadecimal(text: &str) -> bool {
+fn is_hexadecimal(text: &str) -> bool {
     !text.is_empty() && text.bytes().all(|byte| byte.is_ascii_hexdigit())
 }

@@ -1,6 +1,6 @@
 //! What the frames of a script or a stream ask for, by `bootvars explain`.
 
-use crate::content::{EntryDigits, NumberList, Summary, digits_of, option_place};
+use crate::content::{EntryDigits, NumberList, Summary, option_place};
 use crate::event_position::EventPosition;
 use crate::json::{
     JsonObject, JsonWriter, Leaf, append_leaf, append_leaves, append_object, append_objects,
@@ -66,7 +66,7 @@ struct ShownRequest {
     /// The number of the entry that it names, if it names one.
     entry: Option<EntryDigits>,
     /// The numbers that BootOrder is to have, if it is about that.
-    entries: Option<Vec<EntryDigits>>,
+    entries: Option<Vec<u16>>,
     /// The load option that it has, if it has one. It is in a box, since a script may have many requests without one.
     option: Option<Box<ShownOption>>,
 }
@@ -277,7 +277,7 @@ impl ShownRequest {
             request: number,
             entry: request.entry().map(EntryDigits),
             entries: match request {
-                Request::Order(order) => Some(digits_of(alloc, order.numbers())?),
+                Request::Order(order) => Some(Vec::from_slice(alloc, order.numbers())?),
                 _ => None,
             },
             option: match request {
@@ -388,7 +388,7 @@ impl JsonObject for ShownRequest {
             append_leaf("entry", Leaf::Entry(Some(entry)), out)?;
         }
         if let Some(entries) = &self.entries {
-            append_leaf("entries", Leaf::Entries(Some(entries)), out)?;
+            append_leaf("entries", Leaf::Numbers(Some(entries)), out)?;
         }
         match &self.option {
             Some(option) => append_object("option", Some(&**option), out),

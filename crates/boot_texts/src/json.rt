@@ -12,6 +12,9 @@ use crate::reason::FaultReason;
 use std::alloc::{AllocError, Global};
 use std::fmt::Display;
 
+/// The version of the members: one whose meaning changes gets another number. New members don't change it.
+pub const VERSION: u32 = 1;
+
 /// What is shown as an object of JSON.
 pub trait JsonObject {
     /// Appends the members to the object that is open.
@@ -46,9 +49,7 @@ pub enum Leaf<'a> {
     /// An entry, as its four digits.
     Entry(Option<EntryDigits>),
     /// Entries, each as its four digits.
-    Entries(Option<&'a [EntryDigits]>),
-    /// The same of entries by their numbers.
-    Numbers(&'a [u16]),
+    Numbers(Option<&'a [u16]>),
     /// The words of a reason.
     Reason(FaultReason),
 }
@@ -111,9 +112,8 @@ impl JsonWriter {
             Leaf::Units(units) => append_units(units, &mut self.line),
             Leaf::Name(name) => self.words(name),
             Leaf::Entry(Some(entry)) => self.words(entry),
-            Leaf::Entry(None) | Leaf::Entries(None) => self.null(),
-            Leaf::Entries(Some(entries)) => self.entries(entries),
-            Leaf::Numbers(numbers) => self.numbers(numbers),
+            Leaf::Entry(None) | Leaf::Numbers(None) => self.null(),
+            Leaf::Numbers(Some(numbers)) => self.numbers(numbers),
             Leaf::Reason(reason) => self.words(reason),
         }
     }
@@ -154,16 +154,7 @@ impl JsonWriter {
         self.close(']')
     }
 
-    /// Appends a list of entries.
-    fn entries(&mut self, entries: &[EntryDigits]) -> Result<(), AllocError> {
-        self.open('[')?;
-        for entry in entries {
-            self.item(*entry)?;
-        }
-        self.close(']')
-    }
-
-    /// The same of entries by their numbers.
+    /// Appends a list of entries by their numbers.
     fn numbers(&mut self, numbers: &[u16]) -> Result<(), AllocError> {
         self.open('[')?;
         for number in numbers {
@@ -249,7 +240,7 @@ pub fn append_objects<T: JsonObject>(
     out.close(']')
 }
 
-/// The object as JSON on one line, which ends with a line feed.
+/// The object as JSON on one line, which ends with a line feed. Its first member, `version`, is [`VERSION`].
 ///
 /// # Errors
 ///
@@ -260,7 +251,10 @@ pub fn json_line<T: JsonObject>(alloc: Global, object: &T) -> Result<String, All
         line: String::new(alloc),
         needs_comma: false,
     };
-    out.object(object)?;
+    out.open('{')?;
+    append_leaf("version", Leaf::Number(Some(VERSION)), &mut out)?;
+    object.append_members(&mut out)?;
+    out.close('}')?;
     out.line.push('\n')?;
     Ok(out.line)
 }

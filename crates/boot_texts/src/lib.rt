@@ -27,6 +27,7 @@ pub mod json;
 mod json_text;
 mod look;
 mod option;
+mod plan;
 mod reason;
 mod refusal;
 mod replies;
@@ -52,7 +53,8 @@ pub use option::{
     Flags, OptionPaths, OptionWords, OptionWordsFault, attribute_bits, option_bytes, optional_text,
     single_backslashes,
 };
-pub use reason::{FaultReason, Sizes, open_reason, option_reason};
+pub use plan::{ShownPlan, append_plan, shown_plan};
+pub use reason::{BAD_NEXT, BAD_ORDER, FaultReason, Sizes, open_reason, option_reason};
 pub use refusal::{Refusal, Remedy, refusal_json};
 pub use replies::{ToldReply, reply_json};
 pub use settings::{timeout_json, timeout_report};

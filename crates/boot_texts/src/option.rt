@@ -1,6 +1,9 @@
 //! Load options of words.
 
-ghost use Rattle.std.specs.Prelude.{◌≡◌, map, IfOk};
+ghost use Rattle.std.specs.Prelude.{◌≡◌, flat_map, map, IfOk};
+ghost use Rattle.std.specs.Char.Escape.{encode_utf16};
+ghost use Rattle.std.specs.Str.{chars};
+ghost use Rattle.uefi_path.specs.Units.{units_bytes};
 ghost use Rattle.uefi_option.specs.LoadOption.{OptionParts, SpellsOption};
 ghost use Rattle.uefi_names.specs.Standard.{standard_table};
 ghost use Rattle.uefi_names.specs.Reading.{IsNamedText};
@@ -177,7 +180,9 @@ fn option_of(
 
 /// A text as optional data: its units of UTF-16, two bytes each, little-endian, without a zero unit after them, as
 /// `efibootmgr -u` stores it. This fails only when out of memory.
-pub fn optional_text(alloc: Global, text: &str) -> Result<Vec<u8>, AllocError> {
+pub fn optional_text(alloc: Global, text: &str) -> Result<Vec<u8>, AllocError>
+    ensures { IfOk result (λ bytes. bytes.items ≡ units_bytes (flat_map encode_utf16 (chars text.now))) }
+{
     let mut bytes = Vec::new(alloc);
     let mut units = Vec::new(alloc);
     append_text(text, &mut units)?;

@@ -16,6 +16,12 @@ const HAS_ATTRIBUTES: &str =
 /// What is said of a name that no node has.
 const NO_SUCH_NAME: &str = "no node has this name";
 
+/// What is said of a segment that is no node.
+const NO_SUCH_NODE: &str = "no node is written so";
+
+/// What is said of what is no number.
+const NUMBER_WANTED: &str = "a number is wanted, such as 0x1";
+
 /// Why something is refused. Its `Display` is in plain words.
 #[derive(Clone, Copy, Debug, PartialEq, Eq)]
 pub enum FaultReason {
@@ -120,7 +126,7 @@ pub(crate) fn named_reason(fault: &NamedFault) -> FaultReason {
 /// The same, without a name that is near.
 fn named_words(fault: &NamedFault) -> &'static str {
     match fault {
-        NamedFault::BadSegment(_) => "no node is written so",
+        NamedFault::BadSegment(_) => NO_SUCH_NODE,
         NamedFault::UnknownName(..) => NO_SUCH_NAME,
         NamedFault::BadArgument(_, field) => argument_reason(field),
         NamedFault::BadCount(_) => "the node has another number of arguments",
@@ -151,7 +157,7 @@ fn argument_reason(field: &Field) -> &'static str {
         (Show::Ipv6, _) | (Show::Each(_, Item::Ipv6), _) => {
             "an address of IPv6 is wanted, of eight groups of digits"
         }
-        (Show::Each(_, Item::Number), _) => "a number is wanted, such as 0x1",
+        (Show::Each(_, Item::Number), _) => NUMBER_WANTED,
         (Show::Ascii(_) | Show::LoneAscii, _) => {
             "a text is wanted, with a backslash and four digits for what isn't plain"
         }
@@ -168,28 +174,37 @@ fn argument_reason(field: &Field) -> &'static str {
 /// Why a text stands for no device path (UEFI 2.10, 10.6), after the words `at that character`.
 fn text_reason(fault: &TextFault) -> &'static str {
     match fault {
-        TextFault::BadSegment(_) => "no node is written so",
-        TextFault::BadNumber(_) => "a number is wanted, such as 0x1",
+        TextFault::BadSegment(_) => NO_SUCH_NODE,
+        TextFault::BadNumber(_) => NUMBER_WANTED,
         TextFault::OutOfRange(_) => "what is written is too large",
         TextFault::BadEnd(_) => "the end of a path isn't written",
         TextFault::OutOfMemory => "out of memory",
     }
 }
 
+/// Why bytes are no number of an entry.
+pub(crate) const NOT_ONE_ENTRY: &str = "it isn't the two bytes of one entry";
+
 /// Why the bytes of a variable are no numbers of entries (UEFI 2.10, 3.3).
 pub(crate) fn numbers_reason(fault: &VarFault) -> &'static str {
     match fault {
         VarFault::BadOrder => "it isn't two bytes for each entry, of 65536 entries at most",
-        VarFault::BadNext => "it isn't the two bytes of one entry",
+        VarFault::BadNext => NOT_ONE_ENTRY,
         VarFault::OutOfMemory => "out of memory",
     }
 }
 
+/// Why BootOrder can't be read (UEFI 2.10, 3.3).
+pub const BAD_ORDER: &str = "BootOrder isn't two bytes for each entry, of 65536 entries at most";
+
+/// Why BootNext can't be read (UEFI 2.10, 3.3).
+pub const BAD_NEXT: &str = "BootNext isn't the two bytes of one entry";
+
 /// Why requests can't be run over variables.
 pub fn open_reason(fault: &OpenFault) -> &'static str {
     match fault {
-        OpenFault::BadOrder => "BootOrder isn't two bytes for each entry, of 65536 entries at most",
-        OpenFault::BadNext => "BootNext isn't the two bytes of one entry",
+        OpenFault::BadOrder => BAD_ORDER,
+        OpenFault::BadNext => BAD_NEXT,
         OpenFault::BadState => "what is kept of requests that were applied isn't as it is stored",
         OpenFault::OutOfMemory => "out of memory",
     }

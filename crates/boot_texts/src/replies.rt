@@ -1,16 +1,16 @@
 //! Replies to requests, as `bootvars update` prints them in JSON.
 
-use crate::content::{EntryDigits, digits_of};
+use crate::content::EntryDigits;
 use crate::event_position::EventPosition;
 use crate::json::{
     JsonObject, JsonWriter, Leaf, append_leaf, append_leaves, append_object, append_objects,
     json_line,
 };
+use crate::plan::shown_plan;
 use crate::reason::frame_words;
-use crate::shown_vars::ShownPlan;
 use boot_requests::{Answer, Outcome, Reply};
 use std::alloc::{AllocError, Global};
-use uefi_vars::BootPlan;
+use uefi_vars::{BootPlan, PlanNumbers};
 
 /// An answer to an event, and what is told besides.
 #[derive(Clone, Copy, Debug)]
@@ -55,9 +55,9 @@ pub(crate) struct ShownReply<'a> {
     /// How many options the plan has that is prepared.
     options: Option<usize>,
     /// The plan that is handed out.
-    plan: Option<ShownPlan>,
+    plan: Option<PlanNumbers>,
     /// The entries that the update left in no order, if this is its last reply.
-    unnamed: Option<Vec<EntryDigits>>,
+    unnamed: Option<Vec<u16>>,
     /// The identity of the journal, if it has one.
     journal: Option<&'a str>,
 }
@@ -86,10 +86,10 @@ impl JsonObject for ShownReply<'_> {
             ],
             out,
         )?;
-        append_object("plan", self.plan.as_ref(), out)?;
+        append_object("plan", shown_plan(&self.plan).as_ref(), out)?;
         append_leaves(
             &[
-                ("unnamed", Leaf::Entries(self.unnamed.as_deref())),
+                ("unnamed", Leaf::Numbers(self.unnamed.as_deref())),
                 ("journal", Leaf::Text(self.journal)),
             ],
             out,
@@ -148,7 +148,7 @@ impl<'a> ShownReply<'a> {
             options: options_of(reply),
             plan: plan_of(alloc, reply)?,
             unnamed: match unnamed {
-                Some(entries) => Some(digits_of(alloc, entries)?),
+                Some(entries) => Some(Vec::from_slice(alloc, entries)?),
                 None => None,
             },
             journal,
@@ -226,10 +226,10 @@ fn options_of(reply: &Reply) -> Option<usize> {
     }
 }
 
-/// What is shown of the plan that is handed out.
-fn plan_of(alloc: Global, reply: &Reply) -> Result<Option<ShownPlan>, AllocError> {
+/// The numbers of the plan that is handed out.
+fn plan_of(alloc: Global, reply: &Reply) -> Result<Option<PlanNumbers>, AllocError> {
     match reply {
-        Reply::Plan(plan) => Ok(Some(shown_plan(alloc, plan)?)),
+        Reply::Plan(plan) => Ok(Some(numbers_of(alloc, plan)?)),
         _ => Ok(None),
     }
 }
@@ -254,14 +254,14 @@ fn shown_followers(
     Ok(shown)
 }
 
-/// What is shown of a plan.
-fn shown_plan(alloc: Global, plan: &BootPlan) -> Result<ShownPlan, AllocError> {
+/// The numbers of a plan.
+fn numbers_of(alloc: Global, plan: &BootPlan) -> Result<PlanNumbers, AllocError> {
     let mut normal = Vec::with_capacity(alloc, plan.normal().len())?;
     for choice in plan.normal() {
-        normal.push(EntryDigits(choice.number))?;
+        normal.push(choice.number)?;
     }
-    Ok(ShownPlan {
-        next: plan.next().map(|choice| EntryDigits(choice.number)),
+    Ok(PlanNumbers {
+        next: plan.next().map(|choice| choice.number),
         normal,
     })
 }

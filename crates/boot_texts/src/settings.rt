@@ -2,7 +2,7 @@
 
 use crate::content::{Content, ShownFault};
 use crate::json::{JsonObject, JsonWriter, Leaf, append_leaf, append_object, json_line};
-use crate::reason::FaultReason;
+use crate::reason::{FaultReason, NOT_ONE_ENTRY};
 use std::alloc::{AllocError, Global};
 use std::fmt;
 use uefi_vars::{TIMEOUT, Vars};
@@ -90,12 +90,7 @@ pub(crate) fn number_of(bytes: &[u8]) -> Option<u16> {
 
 /// What is shown of bytes of BootCurrent that aren't two. This fails only when out of memory.
 pub(crate) fn bad_current(alloc: Global, bytes: &[u8]) -> Result<ShownFault, AllocError> {
-    bad_setting(
-        alloc,
-        "BadCurrent",
-        "it isn't the two bytes of one entry",
-        bytes,
-    )
+    bad_setting(alloc, "BadCurrent", NOT_ONE_ENTRY, bytes)
 }
 
 /// What is shown of bytes of Timeout that aren't two. This fails only when out of memory.

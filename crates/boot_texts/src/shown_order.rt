@@ -1,6 +1,6 @@
 //! What is to be said of numbers in BootOrder.
 
-use crate::content::{EntryDigits, NumberList};
+use crate::content::NumberList;
 use crate::json::{JsonWriter, Leaf, append_leaves};
 use std::alloc::{AllocError, Global};
 use uefi_vars::Vars;
@@ -9,11 +9,11 @@ use uefi_vars::Vars;
 #[derive(Drop)]
 pub(crate) struct OrderMarks {
     /// Those that have no entry.
-    stale: Vec<EntryDigits>,
+    stale: Vec<u16>,
     /// Those of entries that aren't active.
-    inactive: Vec<EntryDigits>,
+    inactive: Vec<u16>,
     /// Those that are in it more than once.
-    twice: Vec<EntryDigits>,
+    twice: Vec<u16>,
 }
 
 impl OrderMarks {
@@ -31,8 +31,8 @@ impl OrderMarks {
     pub(crate) fn new(
         alloc: Global,
         vars: &Vars,
-        order: &[EntryDigits],
-        inactive: &[EntryDigits],
+        order: &[u16],
+        inactive: &[u16],
     ) -> Result<OrderMarks, AllocError> {
         let mut numbers = Vec::from_slice(alloc, order)?;
         numbers.sort_unstable();
@@ -41,7 +41,7 @@ impl OrderMarks {
         let mut marks = OrderMarks::empty(alloc);
         marks.twice = twice;
         for number in &numbers {
-            if vars.entry(number.0).is_none() {
+            if vars.entry(*number).is_none() {
                 marks.stale.push(*number)?;
             } else if inactive.binary_search(number).is_ok() {
                 marks.inactive.push(*number)?;
@@ -54,9 +54,9 @@ impl OrderMarks {
     pub(crate) fn append_members(&self, out: &mut JsonWriter) -> Result<(), AllocError> {
         append_leaves(
             &[
-                ("stale", Leaf::Entries(Some(&self.stale))),
-                ("inactive", Leaf::Entries(Some(&self.inactive))),
-                ("twice", Leaf::Entries(Some(&self.twice))),
+                ("stale", Leaf::Numbers(Some(&self.stale))),
+                ("inactive", Leaf::Numbers(Some(&self.inactive))),
+                ("twice", Leaf::Numbers(Some(&self.twice))),
             ],
             out,
         )
@@ -71,7 +71,7 @@ impl OrderMarks {
 }
 
 /// Appends an indented line of these numbers, if there are some.
-fn append_list(word: &str, numbers: &[EntryDigits], report: &mut String) -> Result<(), AllocError> {
+fn append_list(word: &str, numbers: &[u16], report: &mut String) -> Result<(), AllocError> {
     if numbers.is_empty() {
         return Ok(());
     }
@@ -79,7 +79,7 @@ fn append_list(word: &str, numbers: &[EntryDigits], report: &mut String) -> Resu
 }
 
 /// The numbers that come more than once, each once, in a list by rising number.
-fn repeated(alloc: Global, numbers: &[EntryDigits]) -> Result<Vec<EntryDigits>, AllocError> {
+fn repeated(alloc: Global, numbers: &[u16]) -> Result<Vec<u16>, AllocError> {
     let mut repeated = Vec::new(alloc);
     for (number, next) in numbers.iter().zip(numbers.iter().skip(1)) {
         if number == next {

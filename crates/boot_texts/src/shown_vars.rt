@@ -1,20 +1,19 @@
 //! Variables as they are shown, by `bootvars show`.
 
 use crate::at_risk::{Risk, known_risks};
-use crate::content::{
-    ByteCount, Content, DataText, EntryDigits, NumberList, ShownFault, digits_of,
-};
+use crate::content::{ByteCount, Content, DataText, EntryDigits, NumberList, ShownFault};
 use crate::json::{
     JsonObject, JsonWriter, Leaf, append_leaf, append_leaves, append_object, append_objects,
     json_line,
 };
+use crate::plan::{append_plan, shown_plan};
 use crate::settings::{BOOT_CURRENT, Timeout, bad_current, bad_timeout, number_of};
 use crate::shown_option::{AttributeWords, ShownOption};
 use crate::shown_order::OrderMarks;
 use std::alloc::{AllocError, Global};
 use uefi_option::is_active;
 use uefi_vars::{
-    AtRisk, BOOT_NEXT, BOOT_ORDER, TIMEOUT, VarFault, Vars, entry_number, plan_numbers,
+    AtRisk, BOOT_NEXT, BOOT_ORDER, PlanNumbers, TIMEOUT, VarFault, Vars, entry_number, plan_numbers,
 };
 
 /// Variables as they are shown.
@@ -25,15 +24,15 @@ pub(crate) struct ShownVars<'a> {
     /// The entries, by rising number.
     entries: Vec<ShownEntry<'a>>,
     /// The numbers of BootOrder, if it is there and can be read.
-    order: Option<Vec<EntryDigits>>,
+    order: Option<Vec<u16>>,
     /// What is to be said of them.
     marks: OrderMarks,
     /// The number of BootNext, if it is there and can be read.
-    next: Option<EntryDigits>,
+    next: Option<u16>,
     /// What a boot would try, if BootOrder and BootNext can be read.
-    plan: Option<ShownPlan>,
+    plan: Option<PlanNumbers>,
     /// The numbers of BootOrder and BootNext that have no variable, each once, by rising number.
-    missing: Vec<EntryDigits>,
+    missing: Vec<u16>,
     /// The entry by which this system was started, if BootCurrent is there and can be read.
     current: Option<EntryDigits>,
     /// How long the boot manager waits, if Timeout is there and can be read.
@@ -68,27 +67,6 @@ impl JsonObject for ShownEntry<'_> {
             out,
         )?;
         self.content.append_members(out)
-    }
-}
-
-/// What a boot would try.
-#[derive(Drop)]
-pub(crate) struct ShownPlan {
-    /// The entry of BootNext, if it is a load option.
-    pub(crate) next: Option<EntryDigits>,
-    /// The normal entries of BootOrder.
-    pub(crate) normal: Vec<EntryDigits>,
-}
-
-impl JsonObject for ShownPlan {
-    fn append_members(&self, out: &mut JsonWriter) -> Result<(), AllocError> {
-        append_leaves(
-            &[
-                ("next", Leaf::Entry(self.next)),
-                ("normal", Leaf::Entries(Some(&self.normal))),
-            ],
-            out,
-        )
     }
 }
 
@@ -153,7 +131,7 @@ impl<'a> ShownVars<'a> {
             order: None,
             marks: OrderMarks::empty(alloc),
             next: None,
-            plan: shown_plan(alloc, vars)?,
+            plan: plan_if_any(alloc, vars)?,
             missing: Vec::new(alloc),
             current: None,
             timeout: None,
@@ -211,7 +189,7 @@ impl<'a> ShownVars<'a> {
     fn set_numbers(&mut self, name: &'static str, content: Content) -> Result<(), AllocError> {
         match content {
             Content::Order { entries } => self.order = Some(entries),
-            Content::Next { entry } => self.next = Some(entry),
+            Content::Next { entry } => self.next = Some(entry.0),
             Content::Undecodable(fault) => self.push_fault(name, fault)?,
             Content::LoadOption(_option) => {}
             Content::Timeout(_timeout) => {}
@@ -233,14 +211,14 @@ impl JsonObject for ShownVars<'_> {
         append_leaf("variables", Leaf::Count(Some(self.variables)), out)?;
         append_objects("entries", &self.entries, out)?;
         if self.fault_of(BOOT_ORDER).is_none() {
-            append_leaf("order", Leaf::Entries(self.order.as_deref()), out)?;
+            append_leaf("order", Leaf::Numbers(self.order.as_deref()), out)?;
         }
         self.marks.append_members(out)?;
-        append_leaf("next", Leaf::Entry(self.next), out)?;
-        append_object("plan", self.plan.as_ref(), out)?;
+        append_leaf("next", Leaf::Entry(self.next.map(EntryDigits)), out)?;
+        append_object("plan", shown_plan(&self.plan).as_ref(), out)?;
         append_leaves(
             &[
-                ("missing", Leaf::Entries(Some(&self.missing))),
+                ("missing", Leaf::Numbers(Some(&self.missing))),
                 ("current", Leaf::Entry(self.current)),
                 (
                     "timeout",
@@ -255,13 +233,13 @@ impl JsonObject for ShownVars<'_> {
 }
 
 /// The numbers of those entries that are load options and aren't active, in the same order.
-fn inactive_of(alloc: Global, entries: &[ShownEntry<'_>]) -> Result<Vec<EntryDigits>, AllocError> {
+fn inactive_of(alloc: Global, entries: &[ShownEntry<'_>]) -> Result<Vec<u16>, AllocError> {
     let mut inactive = Vec::new(alloc);
     for shown in entries {
         if let Content::LoadOption(option) = &shown.content
             && !is_active(option.attributes)
         {
-            inactive.push(shown.entry)?;
+            inactive.push(shown.entry.0)?;
         }
     }
     Ok(inactive)
@@ -271,9 +249,9 @@ fn inactive_of(alloc: Global, entries: &[ShownEntry<'_>]) -> Result<Vec<EntryDig
 fn missing_of(
     alloc: Global,
     vars: &Vars,
-    order: &[EntryDigits],
-    next: Option<EntryDigits>,
-) -> Result<Vec<EntryDigits>, AllocError> {
+    order: &[u16],
+    next: Option<u16>,
+) -> Result<Vec<u16>, AllocError> {
     let mut missing = Vec::new(alloc);
     push_missing(vars, order, &mut missing)?;
     push_missing(vars, next.as_slice(), &mut missing)?;
@@ -283,25 +261,18 @@ fn missing_of(
 }
 
 /// What a boot would try, or `None` if BootOrder or BootNext can't be read.
-fn shown_plan(alloc: Global, vars: &Vars) -> Result<Option<ShownPlan>, AllocError> {
+fn plan_if_any(alloc: Global, vars: &Vars) -> Result<Option<PlanNumbers>, AllocError> {
     match plan_numbers(alloc, vars) {
-        Ok(plan) => Ok(Some(ShownPlan {
-            next: plan.next.map(EntryDigits),
-            normal: digits_of(alloc, &plan.normal)?,
-        })),
+        Ok(plan) => Ok(Some(plan)),
         Err(VarFault::BadOrder | VarFault::BadNext) => Ok(None),
         Err(VarFault::OutOfMemory) => Err(AllocError),
     }
 }
 
 /// Appends those of the numbers that no entry of the variables has.
-fn push_missing(
-    vars: &Vars,
-    numbers: &[EntryDigits],
-    missing: &mut Vec<EntryDigits>,
-) -> Result<(), AllocError> {
+fn push_missing(vars: &Vars, numbers: &[u16], missing: &mut Vec<u16>) -> Result<(), AllocError> {
     for number in numbers {
-        if vars.entry(number.0).is_none() {
+        if vars.entry(*number).is_none() {
             missing.push(*number)?;
         }
     }
@@ -349,7 +320,7 @@ fn append_vars(shown: &ShownVars<'_>, report: &mut String) -> Result<(), AllocEr
         shown.next.as_slice(),
         report,
     )?;
-    append_plan(shown, report)?;
+    append_plan(shown.plan.as_ref(), report)?;
     if !shown.missing.is_empty() {
         writeln!(report, "missing{}", NumberList(&shown.missing))?;
     }
@@ -411,7 +382,7 @@ fn append_others(others: &[OtherVariable<'_>], report: &mut String) -> Result<()
 fn append_numbers(
     word: &str,
     fault: Option<&ShownFault>,
-    numbers: &[EntryDigits],
+    numbers: &[u16],
     report: &mut String,
 ) -> Result<(), AllocError> {
     match fault {
@@ -455,17 +426,4 @@ fn append_option(option: &ShownOption, report: &mut String) -> Result<(), AllocE
 /// Appends what a variable is shown as, why it can't be read, and its data.
 fn append_fault(name: &str, fault: &ShownFault, report: &mut String) -> Result<(), AllocError> {
     writeln!(report, "{name} {fault}\n  data {}", DataText(&fault.data))
-}
-
-/// Appends the line of the plan.
-fn append_plan(shown: &ShownVars<'_>, report: &mut String) -> Result<(), AllocError> {
-    match &shown.plan {
-        Some(plan) => writeln!(
-            report,
-            "plan next{} normal{}",
-            NumberList(plan.next.as_slice()),
-            NumberList(&plan.normal)
-        ),
-        None => report.push_str("plan none: it takes an order and a next entry that can be read\n"),
-    }
 }

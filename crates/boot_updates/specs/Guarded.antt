@@ -1,4 +1,4 @@
--- Runs of requests that are made only where all is as it was expected.
+-- Runs of requests that are made only if all is as it was expected.
 use Rattle.std.specs.Prelude.{◌≡◌, ℕ, List, [], Option, Some, None, All}
 use Rattle.uefi_vars.specs.Vars.{Variables}
 use Rattle.boot_requests.specs.declared.answer.Answer.{Answer}
@@ -6,7 +6,7 @@ use Rattle.request_preconditions.specs.declared.precondition.Precondition.{Preco
 use Rattle.request_preconditions.specs.Precondition.{IsMet}
 use Rattle.boot_updates.specs.declared.guarded.Unmet.{Unmet}
 
--- all is as it is expected of a machine whose journal has this identity, where the next request has this number, and which
+-- all is as it is expected of a machine whose journal has this identity, whose next request has this number, and which
 -- has these variables
 abbrev pub AreMet : Option (List ℕ) → ℕ → Variables → List Precondition → Type 0
 AreMet journal next vars preconditions = All (IsMet journal next vars) preconditions

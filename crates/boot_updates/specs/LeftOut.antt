@@ -9,7 +9,7 @@ use Rattle.wanted_changes.specs.LeftOut.{IsOneOf}
 abbrev pub IsTouched : Request → List ℕ → Type 0
 IsTouched (Add entry option) name = name ≡ order_text
 IsTouched (Replace entry option) name = IsOneOf (entry ∷ []) name
-IsTouched (Remove entry) name = IsOneOf (entry ∷ []) name
+IsTouched (Remove entry) name = IsOneOf (entry ∷ []) name ⊎ ((name ≡ order_text) ⊎ (name ≡ next_text))
 IsTouched (Order numbers) name = IsOneOf numbers name ⊎ (name ≡ order_text)
 IsTouched (Next entry) name = IsOneOf (entry ∷ []) name ⊎ (name ≡ next_text)
 IsTouched (AddFree option) name = name ≡ order_text

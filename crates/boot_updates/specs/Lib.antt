@@ -1,4 +1,5 @@
 pub mod NextNumber
+pub mod NotMade
 pub mod Replies
 pub mod Told
 pub mod LeftOut

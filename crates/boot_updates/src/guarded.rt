@@ -3,9 +3,8 @@
 ghost use Rattle.std.specs.Prelude.{◌≡◌, ◌↔◌, IfOk, IfSome, IfNone, All, None};
 ghost use Rattle.boot_updates.specs.Guarded.{AreMet};
 
-use request_preconditions::{IDENTITY_LEN, MachineState, Precondition, first_unmet};
+use request_preconditions::{MachineState, Precondition, first_unmet};
 use std::alloc::{AllocError, Global};
-use wanted_changes::KeptNotes;
 
 /// What isn't as it was expected, in the words of preconditions.
 #[derive(Drop)]
@@ -36,10 +35,4 @@ pub(crate) fn unmet_of(
         expected: unmet.words(alloc)?,
         found: unmet.actual(alloc, state)?.words(alloc)?,
     }))
-}
-
-/// The identity that is kept beside the journal, if one is.
-pub(crate) fn identity_of(notes: &KeptNotes) -> Option<[u8; IDENTITY_LEN]> {
-    let notes = notes.try_borrow().ok()?;
-    Some((*notes).as_ref()?.identity())
 }

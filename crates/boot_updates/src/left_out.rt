@@ -75,7 +75,10 @@ fn touches(request: &Request, name: &str) -> bool
     vars_laws::constants_are_those_of_the_definitions();
     match request {
         Request::Add(..) | Request::AddFree(_) | Request::AddFirst(_) => name == BOOT_ORDER,
-        Request::Replace(entry, _) | Request::Remove(entry) => is_one_of(&[*entry], name),
+        Request::Replace(entry, _) => is_one_of(&[*entry], name),
+        Request::Remove(entry) => {
+            is_one_of(&[*entry], name) || name == BOOT_ORDER || name == BOOT_NEXT
+        }
         Request::Next(entry) => is_one_of(&[*entry], name) || name == BOOT_NEXT,
         Request::First(entry) => is_one_of(&[*entry], name) || name == BOOT_ORDER,
         Request::Order(order) => is_one_of(order.numbers(), name) || name == BOOT_ORDER,

@@ -2,7 +2,7 @@
 //! in an emulator's variable file (UEFI specification, version 2.10, chapter 3).
 //!
 //! [`WantedRequests`] are the events of a [`Script`], which [`read_events`] reads, to be run over a machine's variables by
-//! `machine_changes`, whatever is cut off when; beside the journal it is noted which frames were applied. None is run where
+//! `machine_changes`, whatever is cut off when; beside the journal it is noted which frames were applied. None is run if
 //! something isn't as [`Precondition`](request_preconditions::Precondition)s expect it: that is [`Unmet`]. [`ending`] tells
 //! whether all was done, [`NotMade`] why nothing was, and [`next_number`] which request is to be applied next.
 #![tactic(auto)]

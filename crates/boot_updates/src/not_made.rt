@@ -1,5 +1,10 @@
 //! Why updates aren't made, for those who sent them.
 
+ghost use Rattle.std.specs.Prelude.{◌≡◌, None, IfOk};
+ghost use Rattle.std.specs.String.{string_bytes};
+ghost use Rattle.messages.specs.declared.failure.Failure.TheVariants as failure;
+ghost use Rattle.boot_updates.specs.NotMade.{count_of, failure_word, kind_of, refused_for, remedy_of};
+
 use boot_requests::{OpenFault, ScriptFault};
 use boot_texts::{Remedy, open_reason};
 use journaled_requests::RunFault;
@@ -28,7 +33,10 @@ pub(crate) enum Refused {
 
 impl NotMade {
     /// An update is refused for this, which is this failure to the program, unless memory was refused.
-    pub(crate) fn refused(refused: Refused, failure: Failure) -> NotMade {
+    pub(crate) fn refused(refused: Refused, failure: Failure) -> NotMade
+        ensures failure { result.failure ≡ failure }
+        ensures refused { result.refused ≡ refused_for refused failure }
+    {
         match failure {
             Failure::Memory => NotMade::from(Failure::Memory),
             failure => NotMade {
@@ -40,19 +48,26 @@ impl NotMade {
 
     /// What kept the update from being made: the words of a fault, without its number, or a word. This fails only when out of
     /// memory.
-    pub fn kind(&self, alloc: Global) -> Result<String, AllocError> {
+    pub fn kind(&self, alloc: Global) -> Result<String, AllocError>
+        ensures { IfOk result (λ text. string_bytes text ≡ kind_of self.now.refused self.now.failure) }
+    {
         match &self.refused {
             Some(Refused::Script(ScriptFault::BadLine(_))) => String::from_str(alloc, "BadLine"),
             Some(Refused::Script(ScriptFault::Rest(_))) => String::from_str(alloc, "Rest"),
             Some(Refused::Script(fault)) => fault.words(alloc),
             Some(Refused::LeftOut) => String::from_str(alloc, "LeftOut"),
-            Some(Refused::Open(fault)) => format!(in alloc; "Open {fault}"),
+            Some(Refused::Open(fault)) => {
+                let words = fault.words(alloc)?;
+                format!(in alloc; "Open {words}")
+            }
             None => String::from_str(alloc, word_of(&self.failure)),
         }
     }
 
     /// The line or how many bytes, if the fault tells that.
-    pub fn count(&self) -> Option<u32> {
+    pub fn count(&self) -> Option<u32>
+        ensures { result ≡ count_of self.now.refused }
+    {
         match &self.refused {
             Some(Refused::Script(ScriptFault::BadLine(count) | ScriptFault::Rest(count))) => {
                 u32::try_from(*count).ok()
@@ -62,7 +77,9 @@ impl NotMade {
     }
 
     /// What is to be done about it.
-    pub fn remedy(&self) -> Remedy {
+    pub fn remedy(&self) -> Remedy
+        ensures { result ≡ remedy_of self.now.refused self.now.failure }
+    {
         match (&self.refused, &self.failure) {
             (Some(Refused::Script(_)), _) => Remedy::SendAgain,
             (Some(Refused::LeftOut | Refused::Open(_)), _) => Remedy::MendMachine,
@@ -74,7 +91,9 @@ impl NotMade {
 }
 
 /// The failure in a word.
-fn word_of(failure: &Failure) -> &'static str {
+fn word_of(failure: &Failure) -> &'static str
+    ensures { result.now ≡ failure_word failure.now }
+{
     match failure {
         Failure::Words(_) => "Words",
         Failure::Read { .. } => "Read",
@@ -89,6 +108,8 @@ fn word_of(failure: &Failure) -> &'static str {
 }
 
 impl From<Failure> for NotMade {
+    ghost from_gives = { λ failure made. (made.failure ≡ failure) × (made.refused ≡ None) };
+
     fn from(failure: Failure) -> NotMade {
         NotMade {
             failure,
@@ -98,12 +119,16 @@ impl From<Failure> for NotMade {
 }
 
 impl From<AllocError> for NotMade {
-    fn from(refusal: AllocError) -> NotMade {
-        NotMade::from(Failure::from(refusal))
+    ghost from_gives = { λ _ made. (made.failure ≡ failure.Memory) × (made.refused ≡ None) };
+
+    fn from(_refusal: AllocError) -> NotMade {
+        NotMade::from(Failure::Memory)
     }
 }
 
 impl<T: Drop> From<AllocFailed<T>> for NotMade {
+    ghost from_gives = { λ _ made. (made.failure ≡ failure.Memory) × (made.refused ≡ None) };
+
     fn from(_refusal: AllocFailed<T>) -> NotMade {
         NotMade::from(Failure::Memory)
     }

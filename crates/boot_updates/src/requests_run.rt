@@ -1,11 +1,11 @@
-//! Runs of requests over a machine's variables, of which it is noted what they applied. None is made where something isn't as
+//! Runs of requests over a machine's variables, of which it is noted what they applied. None is made if something isn't as
 //! it was expected.
 
 ghost use Rattle.std.specs.Prelude.{◌≡◌, [], Some, IfOk};
 ghost use Rattle.boot_requests.specs.State.{State};
 ghost use Rattle.boot_requests.specs.StoredState.{OpensAs};
 
-use crate::guarded::{Unmet, identity_of, unmet_of};
+use crate::guarded::{Unmet, unmet_of};
 use crate::noted::{Noted, note_run};
 use crate::numbers::next_number;
 use boot_journal::{CallError, Run};
@@ -14,7 +14,7 @@ use journaled_requests::{Requests, RunFault, run_set};
 use request_preconditions::{IDENTITY_LEN, MachineState, Precondition};
 use std::alloc::{AllocError, Global};
 use uefi_vars::Vars;
-use wanted_changes::KeptNotes;
+use wanted_changes::{KeptNotes, leave_out};
 
 /// Events that are run over a machine's variables.
 #[derive(Clone, Copy)]
@@ -23,6 +23,10 @@ pub(crate) struct RequestsRun<'a> {
     pub(crate) requests: Requests<'a>,
     /// What is expected of the machine.
     pub(crate) preconditions: &'a [Precondition],
+    /// The identity that was kept beside the journal before, if one was.
+    pub(crate) journal: Option<[u8; IDENTITY_LEN]>,
+    /// The names of the variables that no set can hold: to what is expected they aren't there.
+    pub(crate) left_out: &'a [String],
     /// What is kept beside the journal, to which the run adds the frames that it applies.
     pub(crate) notes: &'a KeptNotes,
 }
@@ -49,13 +53,16 @@ impl Run for RequestsRun<'_> {
     ghost use Rattle.boot_updates.specs.Guarded.{AreMet, IsGuarded};
     ghost use Rattle.boot_updates.specs.NextNumber.{IsNextOf};
     ghost use Rattle.boot_updates.specs.Told.{AreToldBy};
+    ghost use Rattle.std.specs.Prelude.{map};
+    ghost use Rattle.std.specs.String.{string_bytes};
+    ghost use Rattle.wanted_changes.specs.LeftOut.{without_names};
 
     type Answer = Answered;
 
     type Fault = RunFault;
 
-    ghost leads = { λ run from to answered. IsNextOf from answered.first
-        × IsGuarded (AreMet answered.journal answered.first (data_of from) run.preconditions.now)
+    ghost leads = { λ run from to answered. (answered.journal ≡ run.journal) × IsNextOf from answered.first
+        × IsGuarded (AreMet run.journal answered.first (without_names (data_of from) (map string_bytes run.left_out.now)) run.preconditions.now)
         (IsAnswered run.requests.events.now from to answered.answers.items
         × AreToldBy answered.noted.before answered.first run.requests.events.now answered.answers.items answered.noted.same.items)
         from to answered.answers.items answered.unmet };
@@ -64,11 +71,11 @@ impl Run for RequestsRun<'_> {
 
     fn run(self, alloc: Global, vars: &Vars) -> Result<(Vars, Answered), CallError<RunFault>> {
         let (to, answers) = self.requests.run(alloc, vars)?;
-        let set = run_set(alloc, vars)?;
+        let mut set = run_set(alloc, vars)?;
         let first = first_number(alloc, &set)?;
-        let journal = identity_of(self.notes);
+        leave_out(&mut set, self.left_out);
         let state = MachineState {
-            journal,
+            journal: self.journal,
             next_number: first,
             vars: &set,
         };
@@ -80,7 +87,7 @@ impl Run for RequestsRun<'_> {
             to,
             Answered {
                 unmet: None,
-                journal,
+                journal: self.journal,
                 first,
                 answers,
                 noted,

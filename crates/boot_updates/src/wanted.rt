@@ -46,6 +46,9 @@ impl Wanted for WantedRequests<'_, '_, '_> {
     ghost use Rattle.boot_updates.specs.Guarded.{AreMet, IsGuarded};
     ghost use Rattle.boot_updates.specs.NextNumber.{IsNextOf};
     ghost use Rattle.boot_updates.specs.Told.{AreToldBy};
+    ghost use Rattle.std.specs.Prelude.{◌≡◌, map};
+    ghost use Rattle.std.specs.String.{string_bytes};
+    ghost use Rattle.wanted_changes.specs.LeftOut.{without_names};
 
     type Answer = Answered;
 
@@ -53,8 +56,8 @@ impl Wanted for WantedRequests<'_, '_, '_> {
 
     type Refusal = NotMade;
 
-    ghost leads = { λ wanted seen from to answered. IsNextOf from answered.first
-        × IsGuarded (AreMet answered.journal answered.first (data_of from) wanted.preconditions.now)
+    ghost leads = { λ wanted seen from to answered. (answered.journal ≡ seen.journal) × IsNextOf from answered.first
+        × IsGuarded (AreMet seen.journal answered.first (without_names (data_of from) (map string_bytes seen.left_out.now)) wanted.preconditions.now)
         (IsAnswered wanted.script.now.events.items from to answered.answers.items
         × AreToldBy answered.noted.before answered.first wanted.script.now.events.items answered.answers.items answered.noted.same.items)
         from to answered.answers.items answered.unmet };
@@ -85,6 +88,8 @@ impl Wanted for WantedRequests<'_, '_, '_> {
                 events: &script.events,
             },
             preconditions: self.preconditions,
+            journal: seen.journal,
+            left_out: seen.left_out,
             notes: seen.notes,
         };
         run.run(alloc, vars)
@@ -141,7 +146,7 @@ impl WantedRequests<'_, '_, '_> {
         let mut remarks = Remarks::new(alloc);
         if let Some(Unmet { expected, found }) = &answered.unmet {
             let text = format!(in alloc;
-                "{expected} was expected, and it is {found}: nothing was changed"
+                "{expected} was expected, and it is {found}: no request was run"
             )?;
             remarks.push(self.place, text)?;
         }

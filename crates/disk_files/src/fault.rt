@@ -4,6 +4,7 @@ ghost use Rattle.std.specs.Prelude.{◌≡◌};
 ghost use Rattle.disk_files.specs.declared.fault.DiskFault.TheVariants as disk;
 
 use crate::words::{MountsWords, NameWords};
+use messages::Reason;
 use partitions::{LoaderNameFault, MountsFault, PartitionFault};
 use std::alloc::{AllocError, AllocFailed};
 use thiserror::Error;
@@ -60,7 +61,7 @@ pub enum DiskFault {
     #[error("it has no number")]
     NoNumber,
     /// A file has more than is read of it.
-    #[error("it has more than {0} bytes")]
+    #[error("{}", Reason::TooMuch(*.0))]
     TooMuch(usize),
     /// The text of mounts has a fault.
     #[error("it isn't what Linux tells of mounts: {words}", words = MountsWords(.0))]

@@ -1,5 +1,5 @@
 -- Certificates of db, as they are gone through one after the other.
-use Rattle.std.proofs.Common.{◌≡◌, refl, ℕ, suc, ◌+◌, ◌-◌, ◌<◌, ◌≤◌, ◌==◌, ◌||◌, Bool, true, false, List, [], ◌∷◌, length, map, drop, get_or, Option, Some, None, ◌∙◌, ap, sym, add-one, drop-cons, length-drop, arith}
+use Rattle.std.proofs.Common.{◌≡◌, refl, ℕ, suc, ◌+◌, ◌-◌, ◌<◌, ◌≤◌, ◌==◌, ◌||◌, Bool, true, false, List, [], ◌∷◌, length, map, drop, get_or, Some, None, ◌∙◌, ap, sym, add-one, drop-cons, length-drop, arith}
 use Rattle.std.specs.List.{list_any}
 use Rattle.std.specs.Cmp.Lexicographic.{pointwise}
 use Rattle.efi_images.specs.Signatures.{ListParts, list_parts}

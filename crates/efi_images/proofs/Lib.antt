@@ -8,11 +8,13 @@ pub mod Told
 pub mod Passing
 pub mod Sums
 pub mod Undigested
+pub mod Fronts
 pub mod Grown
 pub mod Whole
 pub mod Among
 pub mod Answered
 pub mod Allowing
+pub mod Compared
 pub mod Alike
 pub mod Bundles
 pub mod Leading

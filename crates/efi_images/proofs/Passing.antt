@@ -2,7 +2,7 @@
 use Rattle.std.proofs.Common.{◌≡◌, refl, ℕ, ◌+◌, ◌<◌, ◌≤◌, true, List, [], ◌∷◌, ◌++◌, length, Option, Some, None, ◌==◌, ◌||◌, nat_le, sym, ◌∙◌, arith}
 use Rattle.std.specs.Option.{option_or}
 use Rattle.std.specs.List.{AllByRecursion, flat_map}
-use Rattle.efi_images.specs.Headers.{HasHeaders, machine, table_end, headers_size, image_size, entry_point, directory_count, directory_start, directory_size}
+use Rattle.efi_images.specs.Headers.{HasHeaders, pe_place, machine, table_end, headers_size, image_size, entry_point, directory_count, directory_start, directory_size}
 use Rattle.efi_images.specs.Sections.{sections, written_size}
 use Rattle.efi_images.specs.Check.{Check, first_fault}
 use Rattle.efi_images.specs.Debug.{debug_checks}
@@ -32,7 +32,7 @@ each checks P gives (s ∷ all) e = let p = parts (checks s) (flat_map checks al
 within_of : (written end most : ℕ) → (written == 0 || nat_le end most) ≡ true → 0 < written → end ≤ most
 within_of written end most e some = grind arith
 
-pub in_file : (file : List ℕ) (s : Section) → first_fault (section_checks file s) ≡ None → IsInFile file s
+pub in_file : (file : List ℕ) (s : Section) → first_fault (section_checks (length file) file s) ≡ None → IsInFile file s
 in_file file s e = record { after = λ some. grind arith; within = λ some. grind arith }
 
 pub in_memory : (file : List ℕ) (s : Section) → first_fault (loading_checks file s) ≡ None → IsInMemory file s
@@ -42,16 +42,20 @@ in_memory file s e =
 
 -- ---- what single lists of checks give
 
-pub has_headers : (file : List ℕ) → first_fault (signature_checks file) ≡ None → HasHeaders file
+pub headers_fit : (len : ℕ) (file : List ℕ) → first_fault (signature_checks len file) ≡ None
+    → (64 ≤ len) × (pe_place file + 264 ≤ len)
 unfolding signature_checks
-has_headers file e = record { least = grind arith; whole = grind arith }
+headers_fit len file e = (grind arith, grind arith)
 
-pub sizes : (file : List ℕ) → first_fault (size_checks file) ≡ None
-    → (table_end file ≤ headers_size file) × (headers_size file ≤ length file) × (headers_size file < image_size file)
+has_headers : (file : List ℕ) → first_fault (signature_checks (length file) file) ≡ None → HasHeaders file
+has_headers file e = let p = headers_fit (length file) file e in record { least = p.0; whole = p.1 }
+
+pub sizes : (len : ℕ) (file : List ℕ) → first_fault (size_checks len file) ≡ None
+    → (table_end file ≤ headers_size file) × (headers_size file ≤ len) × (headers_size file < image_size file)
 unfolding size_checks
-sizes file e = (grind arith, grind arith, grind arith)
+sizes len file e = (grind arith, grind arith, grind arith)
 
-pub certificates : (file : List ℕ) → first_fault (table_checks file) ≡ None
+pub certificates : (file : List ℕ) → first_fault (table_checks (length file) file) ≡ None
     → 4 < directory_count file → 0 < directory_size file 4 → directory_start file 4 + directory_size file 4 ≤ length file
 unfolding table_checks
 certificates file e more some = grind arith
@@ -65,7 +69,7 @@ pub entry : (file : List ℕ) → first_fault (start_checks file) ≡ None → e
 unfolding start_checks
 entry file e = grind arith
 
-pub x86_64 : (file : List ℕ) → first_fault (table_checks file) ≡ None → first_fault (memory_checks file) ≡ None
+pub x86_64 : (file : List ℕ) → first_fault (table_checks (length file) file) ≡ None → first_fault (memory_checks file) ≡ None
     → first_fault (start_checks file) ≡ None → machine file ≡ 0x8664
 unfolding table_checks memory_checks start_checks
 x86_64 file t m s = grind arith
@@ -74,10 +78,10 @@ x86_64 file t m s = grind arith
 
 -- no check of a part of all tells a fault
 record Passes (file : List ℕ) : Type 0 where
-  signatures : first_fault (signature_checks file) ≡ None
-  size : first_fault (size_checks file) ≡ None
-  table : first_fault (table_checks file) ≡ None
-  rows : first_fault (flat_map (section_checks file) (sections file)) ≡ None
+  signatures : first_fault (signature_checks (length file) file) ≡ None
+  size : first_fault (size_checks (length file) file) ≡ None
+  table : first_fault (table_checks (length file) file) ≡ None
+  rows : first_fault (flat_map (section_checks (length file) file) (sections file)) ≡ None
   memory : first_fault (memory_checks file) ≡ None
   loading : first_fault (flat_map (loading_checks file) (sections file)) ≡ None
   moved : first_fault (relocation_checks file) ≡ None
@@ -86,16 +90,16 @@ record Passes (file : List ℕ) : Type 0 where
 passes : (file : List ℕ) → first_fault (image_checks file) ≡ None → Passes file
 unfolding boot_manager_checks form_checks file_checks loader_checks image_checks
 passes file none =
-    let in_file = flat_map (section_checks file) (sections file) in
+    let in_file = flat_map (section_checks (length file) file) (sections file) in
     let in_memory = flat_map (loading_checks file) (sections file) in
-    let last = parts (boot_manager_checks file ++ file_checks file ++ loader_checks file) (start_checks file) none in
-    let loader = parts (boot_manager_checks file ++ file_checks file) (loader_checks file) last.0 in
-    let form = parts (boot_manager_checks file) (file_checks file) loader.0 in
-    let boot = parts (signature_checks file) (kind_checks file) form.0 in
-    let debug = parts (form_checks file) (debug_checks file) form.1 in
-    let rows = parts (directory_checks file ++ size_checks file ++ table_checks file) in_file debug.0 in
-    let table = parts (directory_checks file ++ size_checks file) (table_checks file) rows.0 in
-    let size = parts (directory_checks file) (size_checks file) table.0 in
+    let last = parts (boot_manager_checks (length file) file ++ file_checks file ++ loader_checks file) (start_checks file) none in
+    let loader = parts (boot_manager_checks (length file) file ++ file_checks file) (loader_checks file) last.0 in
+    let form = parts (boot_manager_checks (length file) file) (file_checks file) loader.0 in
+    let boot = parts (signature_checks (length file) file) (kind_checks file) form.0 in
+    let debug = parts (form_checks (length file) file) (debug_checks file) form.1 in
+    let rows = parts (directory_checks file ++ size_checks (length file) file ++ table_checks (length file) file) in_file debug.0 in
+    let table = parts (directory_checks file ++ size_checks (length file) file) (table_checks (length file) file) rows.0 in
+    let size = parts (directory_checks file) (size_checks (length file) file) table.0 in
     let blocks =
     parts (memory_checks file ++ in_memory ++ code_view_checks file ++ resource_checks file ++ relocation_checks file)
     (block_checks file) loader.1 in
@@ -118,7 +122,7 @@ passes file none =
 pub image_in_place : (file : List ℕ) → first_fault (image_checks file) ≡ None → IsInPlace file
 image_in_place file none =
     let p = passes file none in
-    let size = sizes file p.size in
+    let size = sizes (length file) file p.size in
     record {
       headers = has_headers file p.signatures;
       x86_64 = x86_64 file p.table p.memory p.start;
@@ -126,7 +130,7 @@ image_in_place file none =
       headers_in_file = size.1;
       headers_in_image = size.2;
       certificates = certificates file p.table;
-      sections_in_file = each (section_checks file) (IsInFile file) (in_file file) (sections file) p.rows;
+      sections_in_file = each (section_checks (length file) file) (IsInFile file) (in_file file) (sections file) p.rows;
       sections_in_memory = each (loading_checks file) (IsInMemory file) (in_memory file) (sections file) p.loading;
       relocations = relocations file p.moved;
       entry = entry file p.start;

@@ -14,12 +14,14 @@ use Rattle.efi_images.specs.declared.fault.ImageFault.TheVariants as fault
 
 -- ---- the boot manager
 
-unfoldable pub signature_checks : List ℕ → List Check
-signature_checks file =
-    check (not (length file == 0)) fault.Empty
-    ∷ check (nat_le 64 (length file)) (fault.ShortDosHeader (length file))
+-- What is asked of a file before its sections are read is told by its length and by its first bytes. The checks that need
+-- the length are given it, so the file may have more bytes than those that are there.
+unfoldable pub signature_checks : ℕ → List ℕ → List Check
+signature_checks len file =
+    check (not (len == 0)) fault.Empty
+    ∷ check (nat_le 64 len) (fault.ShortDosHeader len)
     ∷ check (u16_at file 0 == 0x5A4D) (fault.DosSignature (u16_at file 0))
-    ∷ check (nat_le (pe_place file + 264) (length file)) (fault.PePlace (pe_place file) (length file))
+    ∷ check (nat_le (pe_place file + 264) len) (fault.PePlace (pe_place file) len)
     ∷ check (u32_at file (pe_place file) == 0x4550) (fault.PeSignature (pe_place file) (u32_at file (pe_place file)))
     ∷ []
 
@@ -59,36 +61,35 @@ directory_checks file =
     (fault.OptionalHeaderSize (pe_place file + 20) (optional_size file) (wanted_optional_size file))
     ∷ []
 
-unfoldable pub size_checks : List ℕ → List Check
-size_checks file =
+unfoldable pub size_checks : ℕ → List ℕ → List Check
+size_checks len file =
     check (nat_le (wanted_image_size file) (image_size file))
     (fault.ImageSize (pe_place file + 80) (image_size file) (wanted_image_size file))
     ∷ check (nat_le (wanted_headers_size file) (headers_size file))
     (fault.HeadersSize (pe_place file + 84) (headers_size file) (wanted_headers_size file))
     ∷ check (nat_lt (headers_size file) (image_size file))
     (fault.HeadersBeyondImage (pe_place file + 84) (headers_size file) (image_size file))
-    ∷ check (nat_le (headers_size file) (length file))
-    (fault.HeadersBeyondFile (pe_place file + 84) (headers_size file) (length file))
+    ∷ check (nat_le (headers_size file) len) (fault.HeadersBeyondFile (pe_place file + 84) (headers_size file) len)
     ∷ []
 
 -- there is no certificate table, or it is in the file
-abbrev pub has_certificates : List ℕ → Bool
-has_certificates file = nat_le (directory_count file) 4 || is_in_file (directory_start file 4) (directory_size file 4) (length file)
+abbrev pub has_certificates : ℕ → List ℕ → Bool
+has_certificates len file = nat_le (directory_count file) 4 || is_in_file (directory_start file 4) (directory_size file 4) len
 
-unfoldable pub table_checks : List ℕ → List Check
-table_checks file =
-    check (has_certificates file)
-    (fault.CertificatesBeyondFile (directory_place file 4) (directory_start file 4) (directory_size file 4) (length file))
+unfoldable pub table_checks : ℕ → List ℕ → List Check
+table_checks len file =
+    check (has_certificates len file)
+    (fault.CertificatesBeyondFile (directory_place file 4) (directory_start file 4) (directory_size file 4) len)
     ∷ check (is_known (machine file)) (fault.Machine (pe_place file + 4) (machine file))
     ∷ []
 
 -- ---- the loader: where sections are in the file
 
-abbrev pub section_checks : List ℕ → Section → List Check
-section_checks file s =
+abbrev pub section_checks : ℕ → List ℕ → Section → List Check
+section_checks len file s =
     check (s.raw_size == 0 || (nat_le (headers_size file) s.virtual_address && nat_le (headers_size file) s.raw_place))
     (fault.SectionInHeaders s (headers_size file))
-    ∷ check (is_in_file s.raw_place s.raw_size (length file)) (fault.SectionBeyondFile s (length file))
+    ∷ check (is_in_file s.raw_place s.raw_size len) (fault.SectionBeyondFile s len)
     ∷ []
 
 -- ---- the loader: memory
@@ -153,20 +154,20 @@ start_checks file =
 
 -- ---- all of them
 
-unfoldable pub boot_manager_checks : List ℕ → List Check
-boot_manager_checks file = signature_checks file ++ kind_checks file
+unfoldable pub boot_manager_checks : ℕ → List ℕ → List Check
+boot_manager_checks len file = signature_checks len file ++ kind_checks file
 
 -- what the loader asks of the headers and of where sections are in the file
-unfoldable pub form_checks : List ℕ → List Check
-form_checks file =
+unfoldable pub form_checks : ℕ → List ℕ → List Check
+form_checks len file =
     directory_checks file
-    ++ size_checks file
-    ++ table_checks file
-    ++ flat_map (section_checks file) (sections file)
+    ++ size_checks len file
+    ++ table_checks len file
+    ++ flat_map (section_checks len file) (sections file)
 
 -- what the loader asks before it takes memory: where things are in the file
 unfoldable pub file_checks : List ℕ → List Check
-file_checks file = form_checks file ++ debug_checks file
+file_checks file = form_checks (length file) file ++ debug_checks file
 
 -- what it asks then: where things are in memory
 unfoldable pub loader_checks : List ℕ → List Check
@@ -179,4 +180,4 @@ loader_checks file =
     ++ block_checks file
 
 unfoldable pub image_checks : List ℕ → List Check
-image_checks file = boot_manager_checks file ++ file_checks file ++ loader_checks file ++ start_checks file
+image_checks file = boot_manager_checks (length file) file ++ file_checks file ++ loader_checks file ++ start_checks file

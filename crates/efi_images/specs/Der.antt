@@ -1,6 +1,6 @@
 -- Elements of DER (ITU-T X.690, 8.1), as far as firmware's forms need them: the tag has one byte, and the length one, two or
 -- three. An element of another form isn't read.
-use Rattle.std.specs.Prelude.{ℕ, ◌+◌, ◌*◌, ◌==◌, nat_le, nat_lt, List, length, take, drop, get_or, Option, Some, None, option_and_then, if◌then◌else◌}
+use Rattle.std.specs.Prelude.{ℕ, ◌+◌, ◌*◌, ◌==◌, nat_le, nat_lt, List, length, drop, get_or, Option, Some, None, option_and_then, if◌then◌else◌}
 use Rattle.efi_images.specs.Digest.{part}
 use Rattle.efi_images.specs.declared.der.Element.{Element}
 

@@ -1,6 +1,6 @@
 -- The Authenticode digest of an image, by SHA-256 (Microsoft, Windows Authenticode Portable Executable Signature Format).
-use Rattle.std.specs.Prelude.{◌≡◌, ℕ, ◌+◌, ◌-◌, ◌&&◌, nat_lt, List, ◌++◌, length, take, drop, Option, Some, None, if◌then◌else◌}
-use Rattle.std.specs.List.{flat_map, sum_by}
+use Rattle.std.specs.Prelude.{◌≡◌, ℕ, ◌+◌, ◌-◌, ◌<◌, ◌≤◌, ◌&&◌, nat_lt, List, [], ◌∷◌, ◌++◌, length, map, take, drop, Option, Some, None, if◌then◌else◌}
+use Rattle.std.specs.List.{All, flat_map, sum_by}
 use Rattle.std.specs.List.Sorted.{IsPermutation, IsNonDecreasingBy, IsStableByKey}
 use Rattle.std.specs.Ordering.{nat_cmp}
 use Rattle.sha2.specs.Sha256.{sha256}
@@ -10,6 +10,9 @@ use Rattle.efi_images.specs.Check.{first_fault}
 use Rattle.efi_images.specs.Checks.{boot_manager_checks, form_checks}
 use Rattle.efi_images.specs.declared.section.Section.{Section}
 use Rattle.efi_images.specs.declared.fault.ImageFault.{ImageFault}
+use Rattle.efi_images.specs.declared.ranges.DigestRange.{DigestRange}
+use Rattle.efi_images.specs.declared.ranges.RangesRead.{RangesRead}
+use Rattle.efi_images.specs.declared.ranges.RangesRead.TheVariants as read
 use Rattle.efi_images.specs.declared.digest_fault.DigestFault.{DigestFault}
 use Rattle.efi_images.specs.declared.digest_fault.DigestFault.TheVariants as fault
 
@@ -17,26 +20,28 @@ use Rattle.efi_images.specs.declared.digest_fault.DigestFault.TheVariants as fau
 abbrev pub part : List ℕ → ℕ → ℕ → List ℕ
 part file start size = take size (drop start file)
 
--- those from one offset to another
-abbrev pub between : List ℕ → ℕ → ℕ → List ℕ
-between file start end = part file start (end - start)
-
 -- ---- what is digested
 
--- the bytes after CheckSum, which is 88 bytes after the PE signature, up to the end of the headers, without directory 4
-abbrev pub behind_sum : List ℕ → List ℕ
+-- the range from one offset to another
+abbrev pub between : ℕ → ℕ → DigestRange
+between start end = record { place = start; len = end - start }
+
+-- ---- the ranges: the first bytes of a file tell them, if they hold its headers and its section table
+
+-- those behind CheckSum, which is 88 bytes after the PE signature, up to the end of the headers, without directory 4
+abbrev pub behind_sum : List ℕ → List DigestRange
 behind_sum file =
     if nat_lt 4 (directory_count file)
-    then between file (pe_place file + 92) (directory_place file 4) ++ between file (directory_place file 5) (headers_size file)
-    else between file (pe_place file + 92) (headers_size file)
+    then between (pe_place file + 92) (directory_place file 4) ∷ between (directory_place file 5) (headers_size file) ∷ []
+    else between (pe_place file + 92) (headers_size file) ∷ []
 
--- the headers, without CheckSum and directory 4
-unfoldable pub header_bytes : List ℕ → List ℕ
-header_bytes file = part file 0 (pe_place file + 88) ++ behind_sum file
+-- those of the headers, without CheckSum and directory 4
+unfoldable pub header_ranges : List ℕ → List DigestRange
+header_ranges file = between 0 (pe_place file + 88) ∷ behind_sum file
 
--- the bytes of a section
-abbrev pub section_bytes : List ℕ → Section → List ℕ
-section_bytes file s = part file s.raw_place s.raw_size
+-- that of a section
+abbrev pub section_range : Section → DigestRange
+section_range s = record { place = s.raw_place; len = s.raw_size }
 
 -- how many bytes the headers and the sections have
 unfoldable pub total_size : List ℕ → ℕ
@@ -46,9 +51,13 @@ total_size file = headers_size file + sum_by (λ (s : Section). s.raw_size) (sec
 abbrev pub certificates_size : List ℕ → ℕ
 certificates_size file = if nat_lt 4 (directory_count file) then directory_size file 4 else 0
 
--- as many bytes as are left of the file after those, up to the certificate table at the file's end
-unfoldable pub last_bytes : List ℕ → List ℕ
-last_bytes file = between file (total_size file) (length file - certificates_size file)
+-- that of what is left of a file of this length after as many bytes as those, up to the certificate table at its end
+unfoldable pub last_range : ℕ → List ℕ → DigestRange
+last_range len file = between (total_size file) (len - certificates_size file)
+
+-- all of them, with the sections in this order
+unfoldable pub digest_ranges : ℕ → List ℕ → List Section → List DigestRange
+digest_ranges len file order = header_ranges file ++ map section_range order ++ last_range len file ∷ []
 
 -- sections in the order of their bytes in the file: those that begin at one offset stay in the table's order
 pub record IsFileOrder (all order : List Section) : Type 0 where
@@ -56,29 +65,59 @@ pub record IsFileOrder (all order : List Section) : Type 0 where
   pub rising : IsNonDecreasingBy (λ (s : Section). s.raw_place) order
   pub stable : IsStableByKey (λ (s : Section). s.raw_place) nat_cmp all order
 
-unfoldable pub digested : List ℕ → List Section → List ℕ
-digested file order = header_bytes file ++ flat_map (section_bytes file) order ++ last_bytes file
-
--- the digest of the file's headers, sections and last bytes
-pub record IsDigest (file digest : List ℕ) : Type 0 where
+-- these are the ranges of a file of this length that begins with these bytes
+pub record HasRanges (len : ℕ) (file : List ℕ) (ranges : List DigestRange) : Type 0 where
   pub order : List Section
   pub in_order : IsFileOrder (sections file) order
-  pub is : digest ≡ sha256 (digested file order)
+  pub are : ranges ≡ digest_ranges len file order
+
+-- the bytes of ranges, one after the other
+abbrev pub range_bytes : List ℕ → List DigestRange → List ℕ
+range_bytes file ranges = flat_map (λ (r : DigestRange). part file r.place r.len) ranges
+
+-- the digest of the file: that of the bytes of its ranges
+pub record IsDigest (file digest : List ℕ) : Type 0 where
+  pub ranges : List DigestRange
+  pub are_ranges : HasRanges (length file) file ranges
+  pub is : digest ≡ sha256 (range_bytes file ranges)
 
 -- ---- faults
 
 -- the headers and sections have more bytes than the file, or the certificate table more than are left of it
-unfoldable pub size_fault : List ℕ → Option DigestFault
-size_fault file =
-    if nat_lt (length file) (total_size file) then Some (fault.Overlap (total_size file) (length file))
-    else (if nat_lt (total_size file) (length file) && nat_lt (length file - total_size file) (certificates_size file)
-    then Some (fault.CertificatesOverlap (total_size file) (certificates_size file) (length file))
+unfoldable pub size_fault : ℕ → List ℕ → Option DigestFault
+size_fault len file =
+    if nat_lt len (total_size file) then Some (fault.Overlap (total_size file) len)
+    else (if nat_lt (total_size file) len && nat_lt (len - total_size file) (certificates_size file)
+    then Some (fault.CertificatesOverlap (total_size file) (certificates_size file) len)
     else None)
 
 abbrev pub form_fault : Option ImageFault → Option DigestFault → Option DigestFault
 form_fault (Some f) other = Some (fault.Image f)
 form_fault None other = other
 
--- why an image has no digest, if it has none
-unfoldable pub digest_fault : List ℕ → Option DigestFault
-digest_fault file = form_fault (first_fault (boot_manager_checks file)) (form_fault (first_fault (form_checks file)) (size_fault file))
+-- why an image of this length that begins with these bytes has no digest, if it has none
+unfoldable pub front_fault : ℕ → List ℕ → Option DigestFault
+front_fault len file =
+    form_fault (first_fault (boot_manager_checks len file)) (form_fault (first_fault (form_checks len file)) (size_fault len file))
+
+-- the same of an image
+abbrev pub digest_fault : List ℕ → Option DigestFault
+digest_fault file = front_fault (length file) file
+
+-- ---- what the first bytes of a file tell
+
+-- each file of this length that begins with these bytes has this fault
+abbrev pub IsFaultOf : ℕ → List ℕ → DigestFault → Type 0
+IsFaultOf len front f = (rest : List ℕ) → length (front ++ rest) ≡ len → digest_fault (front ++ rest) ≡ Some f
+
+-- a range with bytes is in a file of this length
+pub record IsWithin (len : ℕ) (r : DigestRange) : Type 0 where
+  pub within : 0 < r.len → r.place + r.len ≤ len
+
+-- each file of this length that begins with these bytes has these ranges, which are in it; or so many of its bytes are wanted, which are more
+-- than these, and no more than it has
+abbrev pub IsRead : ℕ → List ℕ → RangesRead → Type 0
+IsRead len front (read.Ranges ranges) =
+    All (IsWithin len) ranges.items
+    × ((rest : List ℕ) → length (front ++ rest) ≡ len → (digest_fault (front ++ rest) ≡ None) × HasRanges len (front ++ rest) ranges.items)
+IsRead len front (read.Cut wanted) = (length front < wanted) × (wanted ≤ len)

@@ -102,3 +102,11 @@ table_place file = pe_place file + (24 + optional_size file)
 -- where it ends
 abbrev pub table_end : List ℕ → ℕ
 table_end file = table_place file + 40 * section_count file
+
+-- ---- of a file, the first bytes
+
+-- of a file of this length these first bytes hold what is in it of the headers
+pub record HoldsHeaders (len : ℕ) (front : List ℕ) : Type 0 where
+  pub least : 64 ≤ len → 64 ≤ length front
+  pub whole : pe_place front + 264 ≤ len → pe_place front + 264 ≤ length front
+  pub table : HasHeaders front → table_end front ≤ len → table_end front ≤ length front

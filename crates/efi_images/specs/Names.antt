@@ -1,7 +1,7 @@
 -- Names of X.509 (ITU-T X.501, 9.2), and when OpenSSL, by which EDK2 checks signatures, may take two for one.
-use Rattle.std.specs.Prelude.{ℕ, zero, suc, ◌+◌, ◌==◌, ◌&&◌, ◌||◌, Bool, true, false, not, nat_le, nat_lt, List, [], ◌∷◌, length, Option, Some, None, is_none, if◌then◌else◌}
+use Rattle.std.specs.Prelude.{ℕ, zero, suc, ◌+◌, ◌==◌, ◌&&◌, ◌||◌, Bool, true, not, nat_le, nat_lt, List, [], ◌∷◌, length, Option, Some, None, is_none, if◌then◌else◌}
 use Rattle.std.specs.Cmp.Lexicographic.{pointwise}
-use Rattle.efi_images.specs.Der.{◌>>=◌, ElementParts, element_of, field}
+use Rattle.efi_images.specs.Der.{◌>>=◌, element_of, field}
 use Rattle.efi_images.specs.declared.names.Attribute.{Attribute}
 
 -- ---- texts

@@ -1,6 +1,6 @@
 -- The resource directory (PE/COFF, 6.9), in which a loader looks in memory for the resource that is of the type HII (UEFI 2.10,
 -- 7.4.1).
-use Rattle.std.specs.Prelude.{ℕ, zero, suc, ◌+◌, ◌-◌, ◌*◌, ◌==◌, ◌&&◌, ◌||◌, Bool, not, nat_le, nat_lt, List, [], ◌∷◌, ◌++◌, Option, Some, None, if◌then◌else◌}
+use Rattle.std.specs.Prelude.{ℕ, zero, suc, ◌+◌, ◌-◌, ◌*◌, ◌==◌, ◌&&◌, ◌||◌, Bool, not, nat_le, nat_lt, List, [], ◌∷◌, ◌++◌, if◌then◌else◌}
 use Rattle.efi_images.specs.Headers.{image_size, directory_count, directory_place, directory_start, directory_size}
 use Rattle.efi_images.specs.Loaded.{loaded_at, loaded_u16, loaded_u32, file_offset}
 use Rattle.efi_images.specs.Check.{Check, check}

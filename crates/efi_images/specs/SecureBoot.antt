@@ -43,6 +43,10 @@ unfoldable pub has_digest : List ℕ → ListParts → Bool
 has_digest digest l =
     is_of_digests l && (l.signature_len == 48 && is_among digest l.signatures 0 (length l.signatures / 48))
 
+-- the list has digests with which one is compared
+unfoldable pub has_digests : ListParts → Bool
+has_digests l = is_of_digests l && (l.signature_len == 48 && not (length l.signatures == 0))
+
 -- the list has signatures, and they are neither digests by SHA-256 nor certificates: digests by another hash, say
 unfoldable pub has_others : ListParts → Bool
 has_others l = not (is_of_digests l) && (not (is_of_certificates l) && not (length l.signatures == 0))
@@ -91,6 +95,16 @@ pub data IsListsAnswer (digest : List ℕ) (signed : Signing) (signers : Option 
       → IsListsAnswer digest signed signers db dbx answer.InDbx
   by_db : {denied : List ListParts} {told : SecureBootAnswer} → HasLists dbx 0 denied → IsFalse (is_in_dbx digest signed denied)
       → IsDbAnswer digest signed signers denied db told → IsListsAnswer digest signed signers db dbx told
+
+-- if these are the bytes of lists, one of them has digests, or none has
+abbrev pub HaveDigests : List ℕ → Bool → Type 0
+HaveDigests bytes some = (lists : List ListParts) → HasLists bytes 0 lists → list_any has_digests lists ≡ some
+
+-- what is said of an image of the one digest is said of one of the other
+abbrev pub AnswersAlike : List ℕ → List ℕ → List ℕ → List ℕ → Type 0
+AnswersAlike one other db dbx =
+    (signed : Signing) (signers : Option (List CertificateParts)) (told : SecureBootAnswer)
+    → IsListsAnswer one signed signers db dbx told → IsListsAnswer other signed signers db dbx told
 
 -- the certificates that an image has say this of it, or one isn't whole
 abbrev pub IsSigning : List ℕ → Result Signing ℕ → Type 0

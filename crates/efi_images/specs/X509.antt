@@ -1,7 +1,7 @@
 -- Certificates of X.509 (RFC 5280, 4.1), and those that a signature of PKCS #7 has with it (RFC 2315, 9.1), as far as they
 -- tell who may have signed.
 use Rattle.std.specs.Prelude.{ℕ, zero, suc, ◌==◌, List, [], ◌∷◌, ◌++◌, length, Option, Some, None, if◌then◌else◌}
-use Rattle.efi_images.specs.Der.{◌>>=◌, ElementParts, element_of, field}
+use Rattle.efi_images.specs.Der.{◌>>=◌, element_of, field}
 use Rattle.efi_images.specs.declared.x509.Certificate.{Certificate}
 
 -- ---- certificates

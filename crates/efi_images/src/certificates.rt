@@ -4,9 +4,10 @@ ghost use Rattle.std.specs.Prelude.{◌≡◌, ◌+◌, ◌<◌, ◌≤◌, ◌^
 ghost use Rattle.efi_images.specs.Certificates.{certificate_table, certificate_len, certificate_type, padded_len, is_whole, signature_bytes, is_of_hash, signing_of, joined, IsSigned};
 
 use crate::bytes::{u16_at, u32_at};
-use crate::digest::{certificates_size, part};
+use crate::digest::part;
 use crate::headers::Headers;
 use crate::loader::CERTIFICATES;
+use crate::ranges::certificates_size;
 
 /// How many bytes a certificate has before what it holds: dwLength, wRevision and wCertificateType.
 const HEADER_LEN: usize = 8;

@@ -2,7 +2,7 @@
 
 ghost use Rattle.std.specs.Prelude.{◌≡◌, ◌+◌, ◌*◌, ◌<◌, ◌≤◌, ◌^◌, ◌++◌, List, Some, None, IfOk, IfErr, IfSome, OnOk, IsTrue, IsFalse, length};
 ghost use Rattle.std.specs.Result.{result_err};
-ghost use Rattle.efi_images.specs.Headers.{HasHeaders};
+ghost use Rattle.efi_images.specs.Headers.{HasHeaders, HoldsHeaders};
 ghost use Rattle.efi_images.specs.Sections.{HasTable, sections};
 ghost use Rattle.efi_images.specs.Check.{first_fault};
 ghost use Rattle.efi_images.specs.Debug.{code_view_place};
@@ -44,19 +44,20 @@ const APPLICATION: u16 = 10;
 pub fn check_image(file: &[u8]) -> Result<(), ImageFault>
     ensures { result_err result ≡ first_fault (image_checks file.now) }
 {
-    let headers = check_boot_manager(file)?;
+    let headers = check_boot_manager(file, file.len())?;
     let code_view = check_file(&headers)?;
     check_loader(&headers, code_view)?;
     check_start(&headers)
 }
 
-/// The headers, if the boot manager takes the file for an application.
+/// The headers, if the boot manager takes a file of this length that begins with these bytes for an application.
 #[tactic(auto, using(crate::proofs::Firsts::first_fault_append), unfolding(crate::specs::Checks::boot_manager_checks))]
-pub(crate) fn check_boot_manager(file: &[u8]) -> Result<Headers<'_>, ImageFault>
-    ensures fault { result_err result ≡ first_fault (boot_manager_checks file.now) }
-    ensures headers { IfOk result (λ headers. headers ≡ file.now) }
+pub(crate) fn check_boot_manager(front: &[u8], len: usize) -> Result<Headers<'_>, ImageFault>
+    requires { HoldsHeaders len front.now }
+    ensures fault { result_err result ≡ first_fault (boot_manager_checks len front.now) }
+    ensures headers { IfOk result (λ headers. headers ≡ front.now) }
 {
-    let headers = check_signatures(file)?;
+    let headers = check_signatures(front, len)?;
     check_kind(&headers)?;
     Ok(headers)
 }
@@ -70,20 +71,21 @@ fn check_file(headers: &Headers<'_>) -> Result<Option<usize>, ImageFault>
     ensures entry { IfOk result (λ entry. entry ≡ code_view_place headers.now) }
     ensures bound { IfOk result (λ entry. IfSome entry (λ place. place < 2 ^ 63)) }
 {
-    check_form(headers)?;
+    check_form(headers, headers.file().len())?;
     check_debug(headers)
 }
 
-/// What the loader asks of the headers and of where sections are in the file.
+/// What the loader asks of the headers and of where sections are in the file, which has this length.
 #[tactic(auto, using(crate::proofs::Firsts::first_fault_append), unfolding(crate::specs::Checks::form_checks))]
-pub(crate) fn check_form(headers: &Headers<'_>) -> Result<(), ImageFault>
-    ensures fault { result_err result ≡ first_fault (form_checks headers.now) }
+pub(crate) fn check_form(headers: &Headers<'_>, len: usize) -> Result<(), ImageFault>
+    requires { HoldsHeaders len headers.now }
+    ensures fault { result_err result ≡ first_fault (form_checks len headers.now) }
     ensures table { IfOk result (λ _. HasTable headers.now) }
 {
     check_directories(headers)?;
-    check_sizes(headers)?;
-    check_table(headers)?;
-    check_sections(headers)?;
+    check_sizes(headers, len)?;
+    check_table(headers, len)?;
+    check_sections(headers, len)?;
     Ok(())
 }
 
@@ -103,26 +105,27 @@ fn check_loader(headers: &Headers<'_>, code_view: Option<usize>) -> Result<(), I
     check_blocks(headers)
 }
 
-/// The headers, if the file has the signatures that the boot manager looks for, and bytes for the headers.
+/// The headers, if a file of this length that begins with these bytes has the signatures that the boot manager looks for,
+/// and bytes for the headers.
 #[tactic(auto, unfolding(crate::specs::Checks::signature_checks))]
-fn check_signatures(file: &[u8]) -> Result<Headers<'_>, ImageFault>
-    ensures fault { result_err result ≡ first_fault (signature_checks file.now) }
-    ensures headers { IfOk result (λ headers. headers ≡ file.now) }
+fn check_signatures(front: &[u8], len: usize) -> Result<Headers<'_>, ImageFault>
+    requires { HoldsHeaders len front.now }
+    ensures fault { result_err result ≡ first_fault (signature_checks len front.now) }
+    ensures headers { IfOk result (λ headers. headers ≡ front.now) }
 {
-    let len = file.len();
-    wanted(!file.is_empty(), ImageFault::Empty)?;
+    wanted(len != 0, ImageFault::Empty)?;
     wanted(len >= DOS_LEN, ImageFault::ShortDosHeader { len })?;
-    let found = u16_at(file, 0);
+    let found = u16_at(front, 0);
     wanted(found == DOS_SIGNATURE, ImageFault::DosSignature { found })?;
-    let found = u32_at(file, PE_PLACE);
+    let found = u32_at(front, PE_PLACE);
     let place = found as usize;
     wanted(place + PE_LEN <= len, ImageFault::PePlace { found, len })?;
-    let found = u32_at(file, place);
+    let found = u32_at(front, place);
     wanted(
         found == PE_SIGNATURE,
         ImageFault::PeSignature { place, found },
     )?;
-    Ok(Headers::new(file))
+    Ok(Headers::new(front))
 }
 
 /// That the image is an application.

@@ -65,6 +65,7 @@ impl<'a> Headers<'a> {
     pub(crate) fn pe(&self) -> usize
         ensures place { result ≡ pe_place self.now }
         ensures bound { result < 2 ^ 32 }
+        ensures headers { HasHeaders self.now }
     {
         self.pe
     }

@@ -3,7 +3,7 @@
 ghost use Rattle.std.specs.Prelude.{◌≡◌, ◌+◌, ◌*◌, ◌<◌, ◌≤◌, ◌^◌, IfOk, length};
 ghost use Rattle.std.specs.Result.{result_err};
 ghost use Rattle.std.specs.List.{flat_map};
-ghost use Rattle.efi_images.specs.Headers.{table_place, section_count};
+ghost use Rattle.efi_images.specs.Headers.{HoldsHeaders, table_place, section_count};
 ghost use Rattle.efi_images.specs.Sections.{HasTable, sections};
 ghost use Rattle.efi_images.specs.Check.{first_fault};
 ghost use Rattle.efi_images.specs.Checks.{directory_checks, size_checks, table_checks, section_checks, is_in_file, is_known, wanted_image_size, wanted_headers_size, wanted_optional_size, has_certificates};
@@ -63,10 +63,11 @@ pub(crate) fn check_directories(headers: &Headers<'_>) -> Result<(), ImageFault>
 }
 
 /// That SizeOfImage and SizeOfHeaders have room for the section table, and that the headers end in the image and in the
-/// file.
+/// file, which has this length.
 #[tactic(auto, unfolding(crate::specs::Checks::size_checks))]
-pub(crate) fn check_sizes(headers: &Headers<'_>) -> Result<(), ImageFault>
-    ensures fault { result_err result ≡ first_fault (size_checks headers.now) }
+pub(crate) fn check_sizes(headers: &Headers<'_>, len: usize) -> Result<(), ImageFault>
+    requires { HoldsHeaders len headers.now }
+    ensures fault { result_err result ≡ first_fault (size_checks len headers.now) }
     ensures table { IfOk result (λ _. HasTable headers.now) }
 {
     let place = headers.pe() + 80;
@@ -99,21 +100,19 @@ pub(crate) fn check_sizes(headers: &Headers<'_>) -> Result<(), ImageFault>
             image_size,
         },
     )?;
-    let len = headers.file().len();
     wanted(
         found as usize <= len,
         ImageFault::HeadersBeyondFile { place, found, len },
     )
 }
 
-/// That the certificate table ends in the file, and that firmware knows the machine.
+/// That the certificate table ends in the file, which has this length, and that firmware knows the machine.
 #[tactic(auto, unfolding(crate::specs::Checks::table_checks))]
-pub(crate) fn check_table(headers: &Headers<'_>) -> Result<(), ImageFault>
-    ensures fault { result_err result ≡ first_fault (table_checks headers.now) }
+pub(crate) fn check_table(headers: &Headers<'_>, len: usize) -> Result<(), ImageFault>
+    ensures fault { result_err result ≡ first_fault (table_checks len headers.now) }
 {
     let start = headers.directory_start(CERTIFICATES);
     let size = headers.directory_size(CERTIFICATES);
-    let len = headers.file().len();
     wanted(
         headers.directory_count() <= CERTIFICATES as u32 || is_in_file(start, size, len),
         ImageFault::CertificatesBeyondFile {
@@ -147,20 +146,20 @@ fn is_in_file(start: u32, size: u32, len: usize) -> bool
     size == 0 || start as usize + size as usize <= len.min(END_MAX)
 }
 
-/// That each section is after the headers, and ends in the file.
-pub(crate) fn check_sections(headers: &Headers<'_>) -> Result<(), ImageFault>
+/// That each section is after the headers, and ends in the file, which has this length.
+pub(crate) fn check_sections(headers: &Headers<'_>, len: usize) -> Result<(), ImageFault>
     requires { HasTable headers.now }
-    ensures { result_err result ≡ first_fault (flat_map (section_checks headers.now) (sections headers.now)) }
+    ensures { result_err result ≡ first_fault (flat_map (section_checks len headers.now) (sections headers.now)) }
 {
     for index in 0..headers.section_count() {
-        check_section(headers, headers.section(index))?;
+        check_section(headers, headers.section(index), len)?;
     }
     Ok(())
 }
 
-/// That this section is after the headers, and ends in the file.
-fn check_section(headers: &Headers<'_>, section: Section) -> Result<(), ImageFault>
-    ensures { result_err result ≡ first_fault (section_checks headers.now section) }
+/// That this section is after the headers, and ends in the file, which has this length.
+fn check_section(headers: &Headers<'_>, section: Section, len: usize) -> Result<(), ImageFault>
+    ensures { result_err result ≡ first_fault (section_checks len headers.now section) }
 {
     let headers_size = headers.headers_size();
     wanted(
@@ -171,7 +170,6 @@ fn check_section(headers: &Headers<'_>, section: Section) -> Result<(), ImageFau
             headers_size,
         },
     )?;
-    let len = headers.file().len();
     wanted(
         is_in_file(section.raw_place, section.raw_size, len),
         ImageFault::SectionBeyondFile { section, len },

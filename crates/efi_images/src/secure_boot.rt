@@ -4,17 +4,21 @@ ghost use Rattle.std.specs.Prelude.{◌≡◌, ◌≢◌, ◌+◌, ◌*◌, ◌/
 ghost use Rattle.std.specs.Option.{option_map};
 ghost use Rattle.std.specs.List.{list_any};
 ghost use Rattle.efi_images.specs.declared.signatures.SignatureList.{SignatureList};
+ghost use Rattle.sha2.specs.Sha256.{sha256};
+ghost use Rattle.efi_images.specs.Digest.{range_bytes};
 ghost use Rattle.efi_images.specs.Signatures.{list_parts};
+ghost use Rattle.efi_images.specs.Signers.{all_signers};
 ghost use Rattle.efi_images.specs.X509.{certificate_parts};
-ghost use Rattle.efi_images.specs.SecureBoot.{is_of_digests, is_among, has_digest, has_others, has_certificates, is_in_dbx, lead_answer, signers_answer, db_answer, IsDbAnswer, IsListsAnswer, IsSecureBootAnswer};
+ghost use Rattle.efi_images.specs.SecureBoot.{is_of_digests, is_among, has_digest, has_digests, has_others, has_certificates, is_in_dbx, lead_answer, signers_answer, db_answer, IsDbAnswer, IsListsAnswer, IsSecureBootAnswer, HaveDigests, AnswersAlike};
 
 use crate::answer::SecureBootAnswer;
 use crate::certificates::{Signing, certificate_table, read_certificates};
 use crate::check::check_boot_manager;
-use crate::digest::{DIGEST_LEN, image_digest, part};
+use crate::digest::{DIGEST_LEN, digest_of, part};
 use crate::digest_fault::DigestFault;
 use crate::leads::{Lead, find_lead, is_of_certificates};
 use crate::loader::CERTIFICATES;
+use crate::ranges::{DigestRange, front_ranges};
 use crate::signatures::{GUID_LEN, ListFault, SignatureList, read_lists};
 use crate::signers::read_signers;
 use crate::x509::Certificate;
@@ -53,7 +57,7 @@ pub struct SecureBoot<'a> {
 ///
 /// # Errors
 ///
-/// `AllocError` if memory for lists of sections or signatures was refused.
+/// `AllocError` if memory for lists of sections, ranges or signatures was refused.
 pub fn secure_boot_answer(
     alloc: Global,
     file: &[u8],
@@ -64,12 +68,12 @@ pub fn secure_boot_answer(
     if !secure_boot.is_on {
         return Ok(SecureBootAnswer::NotAsked);
     }
-    let headers = match check_boot_manager(file) {
+    let headers = match check_boot_manager(file, file.len()) {
         Ok(headers) => headers,
         Err(fault) => return Ok(SecureBootAnswer::NoDigest(DigestFault::Image(fault))),
     };
-    let digest = match image_digest(alloc, file) {
-        Ok(digest) => digest,
+    let ranges = match front_ranges(alloc, file, file.len()) {
+        Ok(ranges) => ranges,
         Err(fault) => {
             return match fault {
                 DigestFault::OutOfMemory => Err(AllocError),
@@ -87,11 +91,70 @@ pub fn secure_boot_answer(
     };
     match signed {
         Signing::Unknown => Ok(SecureBootAnswer::NoSignature),
-        _ => {
-            let signers = read_signers(alloc, table)?;
-            lists_answer(alloc, digest.as_slice(), signed, &signers, secure_boot)
-        }
+        _ => signed_answer(alloc, file, &ranges, table, signed, secure_boot),
     }
+}
+
+/// What dbx and then db say of an image with these ranges, which is signed like this by certificates of this table.
+fn signed_answer(
+    alloc: Global,
+    file: &[u8],
+    ranges: &[DigestRange],
+    table: &[u8],
+    signed: Signing,
+    secure_boot: &SecureBoot<'_>,
+) -> Result<SecureBootAnswer, AllocError>
+    ensures { IfOk result (λ answer. IsListsAnswer (sha256 (range_bytes file.now ranges.now)) signed (all_signers 32 table.now 0) secure_boot.now.db.now secure_boot.now.dbx.now answer) }
+{
+    let signers = read_signers(alloc, table)?;
+    let digest = compared_digest(alloc, file, ranges, secure_boot)?;
+    lists_answer(alloc, digest.as_slice(), signed, &signers, secure_boot)
+}
+
+/// The digest of these ranges, if it is compared with those of dbx or db. Otherwise it doesn't matter what it is, and it
+/// isn't made.
+fn compared_digest(
+    alloc: Global,
+    file: &[u8],
+    ranges: &[DigestRange],
+    secure_boot: &SecureBoot<'_>,
+) -> Result<[u8; DIGEST_LEN], AllocError>
+    ensures { IfOk result (λ digest. AnswersAlike digest (sha256 (range_bytes file.now ranges.now)) secure_boot.now.db.now secure_boot.now.dbx.now) }
+{
+    let is_denied_by_some = have_digests(alloc, secure_boot.dbx)?;
+    let is_allowed_by_some = have_digests(alloc, secure_boot.db)?;
+    if is_denied_by_some || is_allowed_by_some {
+        return Ok(digest_of(file, ranges));
+    }
+    Ok([0; DIGEST_LEN])
+}
+
+/// Whether these are the bytes of lists with digests. Damaged ones have none.
+fn have_digests(alloc: Global, bytes: &[u8]) -> Result<bool, AllocError>
+    ensures { IfOk result (λ some. HaveDigests bytes.now some) }
+{
+    match read_lists(alloc, bytes) {
+        Ok(lists) => Ok(has_digests(&lists)),
+        Err(fault) => match fault {
+            ListFault::OutOfMemory => Err(AllocError),
+            _ => Ok(false),
+        },
+    }
+}
+
+/// Whether one of the lists has digests with which one is compared.
+fn has_digests(lists: &[SignatureList<'_>]) -> bool
+    ensures { result ≡ list_any (λ (list : SignatureList). has_digests (list_parts list)) lists.now }
+{
+    lists.iter().any(list_has_digests)
+}
+
+/// Whether the list has digests with which one is compared.
+#[tactic(auto, unfolding(crate::specs::SecureBoot::has_digests))]
+fn list_has_digests(list: &SignatureList<'_>) -> bool
+    ensures { result ≡ has_digests (list_parts list.now) }
+{
+    is_of_digests(list) && list.signature_len == SIGNATURE_LEN && !list.signatures.is_empty()
 }
 
 /// What dbx and then db say of an image of this digest, whose signatures have these certificates with them.

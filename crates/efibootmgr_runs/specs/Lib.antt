@@ -1,1 +1,4 @@
+pub mod Edits
+pub mod Free
 pub mod Planned
+pub mod Stopped

@@ -5,6 +5,7 @@
 //! those of `efibootmgr_words`; docs/machines.md says what is done in another way than by `efibootmgr`.
 #![tactic(auto)]
 
+mod edit_of;
 mod fault_words;
 mod machine;
 mod new_entry;

@@ -1,14 +1,19 @@
 //! What is done, step by step.
 
+ghost use Rattle.std.specs.Prelude.{◌↔◌, IsTrue};
+ghost use Rattle.std.specs.List.{AllByRecursion};
+ghost use Rattle.efibootmgr_runs.specs.Free.{IsFree, IsNotNamed};
+
+use crate::edit_of::edit_of;
 use crate::machine::Machine;
 use crate::new_entry::option_bytes;
 use crate::planned::{Planned, plan_changes};
 use crate::stopped::{Step, Stopped};
-use boot_edits::{Addition, Edit, NewOrder, Position};
+use boot_edits::Edit;
 use boot_texts::EntryName;
 use efibootmgr_words::Asked;
 use machine_changes::{ChangeOptions, PlaceKind, StateUse, change_machine};
-use messages::Failure;
+use messages::{Failure, IsThere, NoSuch};
 use place_edits::{EditForm, WantedEdit};
 use std::alloc::Global;
 use std::rt::{Clock, Files};
@@ -26,76 +31,40 @@ pub(crate) fn make_changes<
     R: Files<File: OutputFile> + Clock + Input + Print + Eprint + AllocGlobal,
 >(rt: &R, machine: &Machine<'_>, asked: &Asked<'_>) -> Result<(), Stopped> {
     for change in &plan_changes(rt.alloc(), asked)? {
-        make(rt, machine, asked, *change)?;
+        make(rt, machine, asked, change)?;
     }
     Ok(())
 }
 
-/// Makes one of them.
+/// Makes one of them, if what it needs is there.
 fn make<R: Files<File: OutputFile> + Clock + Input + Print + Eprint + AllocGlobal>(
     rt: &R,
     machine: &Machine<'_>,
     asked: &Asked<'_>,
-    change: Planned,
+    change: &Planned,
 ) -> Result<(), Stopped> {
+    let step = Step::of(change);
     match change {
-        Planned::Delete(entry) => edit(rt, machine, Step::Delete, Edit::Remove(&[entry])),
-        Planned::Activate(entry) => edit(rt, machine, Step::Activate, Edit::Activate(&[entry])),
-        Planned::Deactivate(entry) => {
-            edit(rt, machine, Step::Activate, Edit::Deactivate(&[entry]))
+        Planned::Create => {
+            // A number that is taken is told before a disk that isn't there.
+            if let Some(entry) = asked.entry {
+                check_free(rt, machine, entry)?;
+            }
+            match option_bytes(rt, &asked.new, &asked.others) {
+                Ok(option) => edit(rt, machine, step, edit_of(asked, change, &option)),
+                Err(failure) => Err(Stopped::at(step, failure)),
+            }
         }
-        Planned::Create => create(rt, machine, asked),
-        Planned::DeleteOrder => edit(rt, machine, Step::DeleteOrder, Edit::Order(NO_ORDER)),
-        Planned::Order => set_order(rt, machine, asked),
-        Planned::RemoveRepeats => edit(rt, machine, Step::RemoveRepeats, Edit::Unrepeat),
         Planned::DeleteNext => {
-            check_there(rt, machine, Step::DeleteNext, BOOT_NEXT)?;
-            edit(rt, machine, Step::DeleteNext, Edit::Next(None))
+            check_there(rt, machine, step, BOOT_NEXT)?;
+            edit(rt, machine, step, edit_of(asked, change, &[]))
         }
         Planned::DeleteTimeout => {
-            check_there(rt, machine, Step::DeleteTimeout, TIMEOUT)?;
-            edit(rt, machine, Step::DeleteTimeout, Edit::Timeout(None))
+            check_there(rt, machine, step, TIMEOUT)?;
+            edit(rt, machine, step, edit_of(asked, change, &[]))
         }
-        Planned::Next(entry) => edit(rt, machine, Step::Next, Edit::Next(Some(entry))),
-        Planned::Timeout(seconds) => {
-            edit(rt, machine, Step::Timeout, Edit::Timeout(Some(seconds)))
-        }
+        _ => edit(rt, machine, step, edit_of(asked, change, &[])),
     }
-}
-
-/// No BootOrder.
-const NO_ORDER: NewOrder<'static> = NewOrder {
-    entries: &[],
-    stale: false,
-    only: true,
-};
-
-/// Makes an entry.
-fn create<R: Files<File: OutputFile> + Clock + Input + Print + Eprint + AllocGlobal>(
-    rt: &R,
-    machine: &Machine<'_>,
-    asked: &Asked<'_>,
-) -> Result<(), Stopped> {
-    // A number that is taken is told before a disk that isn't there.
-    if let Some(entry) = asked.entry {
-        check_free(rt, machine, entry)?;
-    }
-    let option = match option_bytes(rt, &asked.new, &asked.others) {
-        Ok(option) => option,
-        Err(failure) => return Err(Stopped::at(Step::Create, failure)),
-    };
-    let position = if asked.no_order {
-        Position::NoOrder
-    } else {
-        Position::First
-    };
-    let addition = Addition {
-        entry: asked.entry,
-        option: &option,
-        position,
-        again: true,
-    };
-    edit(rt, machine, Step::Create, Edit::Add(addition))
 }
 
 /// Tests whether there is no entry of this number, also none that no set can hold.
@@ -104,31 +73,25 @@ fn check_free<R: Files + Eprint + AllocGlobal>(
     machine: &Machine<'_>,
     entry: u16,
 ) -> Result<(), Stopped> {
-    let found = found_at(rt, machine, Step::Create)?;
-    if found.vars.entry(entry).is_none()
-        && !found
-            .left_out
-            .iter()
-            .any(|name| is_one_of(&[entry], name.as_str()))
-    {
+    if is_free(&found_at(rt, machine, Step::Create)?, entry) {
         return Ok(());
     }
-    let fault = format!(in rt.alloc(); "{} is there already", EntryName(entry))?;
+    let fault = format!(in rt.alloc(); "{}", IsThere(EntryName(entry)))?;
     Err(refused(rt.alloc(), machine, Step::CreateTaken, fault.as_str()))
 }
 
-/// Sets BootOrder.
-fn set_order<R: Files<File: OutputFile> + Clock + Input + Print + Eprint + AllocGlobal>(
-    rt: &R,
-    machine: &Machine<'_>,
-    asked: &Asked<'_>,
-) -> Result<(), Stopped> {
-    let new = NewOrder {
-        entries: asked.order.as_deref().unwrap_or(&[]),
-        stale: false,
-        only: !asked.keep,
-    };
-    edit(rt, machine, Step::Order, Edit::Order(new))
+/// Whether there is no entry of this number, also none that no set can hold.
+fn is_free(found: &PlaceVars, entry: u16) -> bool
+    ensures { IsTrue result ↔ IsFree found.now entry }
+{
+    found.vars.entry(entry).is_none() && names_no(entry, &found.left_out)
+}
+
+/// Whether none of these names of variables is that of this entry.
+fn names_no(entry: u16, names: &[String]) -> bool
+    ensures { IsTrue result ↔ AllByRecursion (IsNotNamed entry) names.now }
+{
+    names.iter().all(|name| !is_one_of(&[entry], name.as_str()))
 }
 
 /// Tests whether the variable of this name, which is to be taken out, is there.
@@ -141,7 +104,7 @@ fn check_there<R: Files + Eprint + AllocGlobal>(
     if found_at(rt, machine, step)?.vars.get(name).is_some() {
         return Ok(());
     }
-    let fault = format!(in rt.alloc(); "there is no {name}")?;
+    let fault = format!(in rt.alloc(); "{}", NoSuch(name))?;
     Err(refused(rt.alloc(), machine, step, fault.as_str()))
 }
 

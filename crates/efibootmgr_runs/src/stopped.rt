@@ -1,5 +1,12 @@
 //! Why a run stops.
 
+ghost use Rattle.std.specs.Prelude.{◌≡◌};
+ghost use Rattle.std.specs.Option.{option_map};
+ghost use Rattle.messages.specs.declared.failure.Failure.TheVariants as failure;
+ghost use Rattle.efibootmgr_runs.specs.declared.stopped.Step.TheVariants as step;
+ghost use Rattle.efibootmgr_runs.specs.Stopped.{status_at, status_of, step_of, told_of};
+
+use crate::planned::Planned;
 use messages::Failure;
 use std::alloc::AllocError;
 
@@ -35,8 +42,28 @@ pub(crate) enum Step {
 }
 
 impl Step {
+    /// What is to be done when this change is to be made.
+    pub(crate) fn of(change: &Planned) -> Step
+        ensures { result ≡ step_of change.now }
+    {
+        match change {
+            Planned::Delete(_) => Step::Delete,
+            Planned::Activate(_) | Planned::Deactivate(_) => Step::Activate,
+            Planned::Create => Step::Create,
+            Planned::DeleteOrder => Step::DeleteOrder,
+            Planned::Order => Step::Order,
+            Planned::RemoveRepeats => Step::RemoveRepeats,
+            Planned::DeleteNext => Step::DeleteNext,
+            Planned::DeleteTimeout => Step::DeleteTimeout,
+            Planned::Next(_) => Step::Next,
+            Planned::Timeout(_) => Step::Timeout,
+        }
+    }
+
     /// The status that `efibootmgr` ends with if this can't be done.
-    fn status(self) -> u8 {
+    fn status(self) -> u8
+        ensures { result ≡ status_of self }
+    {
         match self {
             Step::List => 1,
             Step::Read => 2,
@@ -66,12 +93,17 @@ pub(crate) struct Stopped {
 
 impl Stopped {
     /// What it is to a run that this can't be done.
-    pub(crate) fn at(step: Step, failure: Failure) -> Stopped {
+    pub(crate) fn at(step: Step, failure: Failure) -> Stopped
+        ensures step { result.step ≡ step }
+        ensures failure { result.failure ≡ failure }
+    {
         Stopped { step, failure }
     }
 
     /// The status to end with: that of what was to be done, unless nobody reads what is printed any more.
-    pub(crate) fn status(&self) -> u8 {
+    pub(crate) fn status(&self) -> u8
+        ensures { result ≡ status_at self.now.step self.now.failure }
+    {
         match self.failure {
             Failure::Closed => self.failure.status(),
             _ => self.step.status(),
@@ -79,7 +111,9 @@ impl Stopped {
     }
 
     /// What is told of it, if there is something to tell.
-    pub(crate) fn told(&self) -> Option<&Failure> {
+    pub(crate) fn told(&self) -> Option<&Failure>
+        ensures { option_map (λ failure. failure.now) result ≡ told_of self.now.failure }
+    {
         match self.failure {
             Failure::Closed => None,
             _ => Some(&self.failure),
@@ -89,6 +123,8 @@ impl Stopped {
 
 /// What it is to a run that memory was refused while variables were read or listed.
 impl From<AllocError> for Stopped {
+    ghost from_gives = { λ _ made. (made.step ≡ step.List) × (made.failure ≡ failure.Memory) };
+
     fn from(_refusal: AllocError) -> Stopped {
         Stopped::at(Step::List, Failure::Memory)
     }

@@ -1,6 +1,6 @@
 -- What tells a file from others to which entries lead.
 use Rattle.std.specs.Prelude.{ℕ, ◌+◌, ◌&&◌, nat_le, List, [], ◌∷◌, ◌++◌, map, if◌then◌else◌}
-use Rattle.std.specs.Int.{w16, w32, to_le_bytes}
+use Rattle.std.specs.Int.{w32, to_le_bytes}
 use Rattle.uefi_path.specs.Units.{units_bytes}
 use Rattle.partitions.specs.declared.partition_id.PartitionId.{PartitionId}
 use Rattle.partitions.specs.declared.partition_id.PartitionId.TheVariants.{Gpt, Mbr}

@@ -55,6 +55,7 @@ kind_of_lead lead.FileAlone = codes "file_alone"
 kind_of_lead lead.Network = codes "network"
 kind_of_lead lead.Firmware = codes "firmware"
 kind_of_lead lead.Legacy = codes "legacy"
+kind_of_lead lead.Disk = codes "disk"
 kind_of_lead lead.Device = codes "device"
 
 abbrev pub kind_of_image : ImageState → List ℕ

@@ -1,5 +1,5 @@
 -- Where a path leads, as far as that can be looked at (UEFI 2.10, 10.3).
-use Rattle.std.specs.Prelude.{ℕ, ◌==◌, Bool, true, false, ◌&&◌, ◌||◌, nat_le, List, [], ◌∷◌, Option, Some, None, if◌then◌else◌}
+use Rattle.std.specs.Prelude.{ℕ, ◌-◌, ◌==◌, Bool, false, ◌&&◌, ◌||◌, nat_le, List, [], ◌∷◌, length, slice_get, Option, Some, None, if◌then◌else◌}
 use Rattle.std.specs.List.{list_any}
 use Rattle.uefi_path.specs.declared.node.Node.{Node}
 use Rattle.uefi_path.specs.declared.node.Node.TheVariants.{HardDrive, FilePath}
@@ -35,9 +35,24 @@ is_firmware node = let row = row_of node in
 abbrev pub is_legacy : Node → Bool
 is_legacy node = (row_of node).kind == 5
 
+-- a disk: a node of type 3 with the sub-type of ATAPI, SCSI, Fibre Channel, USB, a class or a name of USB, a logical unit, SATA,
+-- Fibre Channel or SAS in their longer forms, NVM Express, UFS, SD or eMMC; or the image of a CD-ROM
+abbrev pub is_disk : Node → Bool
+is_disk node = let row = row_of node in
+    if row.kind == 3
+    then (nat_le 1 row.sub && nat_le row.sub 3)
+    || ((row.sub == 5) || ((nat_le 15 row.sub && nat_le row.sub 18) || ((nat_le 21 row.sub && nat_le row.sub 23)
+    || ((nat_le 25 row.sub && nat_le row.sub 26) || (row.sub == 29)))))
+    else if row.kind == 4 then row.sub == 2 else false
+
+-- where nodes lead of which this is the last
+abbrev pub lead_of_last : Option Node → Lead
+lead_of_last (Some node) = if is_disk node then lead.Disk else lead.Device
+lead_of_last None = lead.Device
+
 abbrev pub lead_of_first : List Node → Lead
 lead_of_first (FilePath name ∷ others) = lead.FileAlone
-lead_of_first _ = lead.Device
+lead_of_first nodes = lead_of_last (slice_get nodes (length nodes - 1))
 
 -- where nodes lead of which none is a partition
 abbrev pub lead_of : List Node → Lead

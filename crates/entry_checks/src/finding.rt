@@ -121,6 +121,10 @@ impl Lead {
                 "not looked at: it is an application of the firmware",
             ),
             Lead::Legacy => unseen("legacy", "not looked at: it is for a BIOS"),
+            Lead::Disk => unseen(
+                "disk",
+                "not looked at: firmware seeks its own file name on a disk, and the path doesn't tell which one that is",
+            ),
             Lead::Device => unseen("device", "not looked at: it leads to a device"),
         }
     }

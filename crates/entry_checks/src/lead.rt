@@ -35,6 +35,8 @@ pub enum Lead {
     Firmware,
     /// The path is one for the BIOS of before UEFI.
     Legacy,
+    /// The path leads to a disk, and names neither a partition nor a file there.
+    Disk,
     /// The path leads to something else.
     Device,
 }

@@ -2,8 +2,8 @@
 
 ghost use Rattle.std.specs.Prelude.{◌≡◌};
 ghost use Rattle.std.specs.List.{list_any};
-ghost use Rattle.std.specs.Option.{option_map};
-ghost use Rattle.entry_checks.specs.Target.{parts_of, target_of, target_of_nodes, partition_of, behind, lead_of, lead_of_first, is_network, is_firmware, is_legacy};
+ghost use Rattle.std.specs.Option.{option_map, option_copied};
+ghost use Rattle.entry_checks.specs.Target.{parts_of, target_of, target_of_nodes, partition_of, behind, lead_of, lead_of_first, lead_of_last, is_network, is_firmware, is_legacy, is_disk};
 
 use crate::lead::Lead;
 use uefi_path::{FileNode, HardDriveNode, Node, Path};
@@ -95,6 +95,16 @@ fn first_lead(nodes: &[Node]) -> Lead
 {
     match nodes {
         [Node::FilePath(_), ..] => Lead::FileAlone,
+        _ => last_lead(nodes.last()),
+    }
+}
+
+/// Where a path leads that ends with this node, and begins with no file.
+fn last_lead(last: Option<&Node>) -> Lead
+    ensures { result ≡ lead_of_last (option_copied last.entry) }
+{
+    match last {
+        Some(node) if is_disk(node) => Lead::Disk,
         _ => Lead::Device,
     }
 }
@@ -133,6 +143,18 @@ fn is_firmware(node: &Node) -> bool
     match node.kind() {
         HARDWARE => node.sub() == 3,
         MEDIA => matches!(node.sub(), 6..=7),
+        _ => false,
+    }
+}
+
+/// Whether the node is a disk or a medium for one: by ATAPI, SCSI, Fibre Channel, USB, a logical unit, SATA, SAS, NVM
+/// Express, UFS, SD or eMMC (UEFI 2.10, 10.3.4), or a CD-ROM's image (10.3.5.2).
+fn is_disk(node: &Node) -> bool
+    ensures { result ≡ is_disk node.now }
+{
+    match node.kind() {
+        MESSAGING => matches!(node.sub(), 1..=3 | 5 | 15..=18 | 21..=23 | 25..=26 | 29),
+        MEDIA => node.sub() == 2,
         _ => false,
     }
 }

@@ -1,3 +1,4 @@
 pub mod KeptFault
 pub mod Moves
+pub mod Owner
 pub mod StateAccess

@@ -23,7 +23,7 @@ use std::rc::Rc;
 use std::rt::{Clock, Files};
 use uefi_vars::Vars;
 use var_places::{lock_place, write};
-use wanted_changes::{MachineWords, Seen, SetChange, Told, Wanted, set_of};
+use wanted_changes::{MachineWords, Seen, SetChange, Told, Wanted, journal_identity, set_of};
 use whole_files::OutputFile;
 
 /// How a change is to be made.
@@ -189,6 +189,7 @@ where
         left_out: &kept.left_out,
         machine: &name,
         is_folder: kept.is_folder,
+        journal: journal_identity(&notes),
         notes: &notes,
     };
     let run = SeenRun {
@@ -259,14 +260,16 @@ where
     let is_folder = opened.is_folder();
     let left_out = opened.copy_left_out(rt.alloc())?;
     let (mut kept, boot) = open_machine(rt, machine, opened, journal_path)?;
+    let notes = notes_of(kept.storage())?;
+    let journal = journal_identity(&notes);
     if wanted.has_requests() {
         begin_notes(rt, &kept)?;
     }
-    let notes = notes_of(kept.storage())?;
     let seen = Seen {
         left_out: &left_out,
         machine: name,
         is_folder,
+        journal,
         notes: &notes,
     };
     let run = SeenRun {

@@ -1,5 +1,10 @@
 //! Whose a journal is.
 
+ghost use Rattle.std.specs.Prelude.{◌≡◌, ◌≢◌, ◌↔◌, IfOk, IsTrue, OnOk};
+ghost use Rattle.std.specs.List.{AllByRecursion};
+ghost use Rattle.machine_changes.specs.Owner.{IsOther, IsNamedBy, IsAdopted, IsTaken};
+ghost use Rattle.boot_journal.specs.JournalAttributes.{journal_kept};
+
 use crate::storage::PlaceStorage;
 use boot_journal::{AttributesFault, Journal, JournalFile, MachineName};
 use messages::{Failure, Quoted};
@@ -147,7 +152,9 @@ impl Owner<'_, '_> {
         alloc: Global,
         stored: Option<JournalFile>,
         there: &Vars,
-    ) -> Result<OwnJournal, Failure> {
+    ) -> Result<OwnJournal, Failure>
+        ensures { IfOk result (IsTaken self.now stored there.now) }
+    {
         let Some(JournalFile { machine, journal }) = stored else {
             return Ok(OwnJournal {
                 journal: Journal::new(),
@@ -162,15 +169,26 @@ impl Owner<'_, '_> {
                 was_others: true,
             });
         };
-        let standing = self.identity.names(&machine);
-        if standing == Names::Another {
-            self.check_adoption(alloc, &machine, &journal)?;
+        match self.identity.names(&machine) {
+            Names::This => Ok(OwnJournal {
+                journal,
+                is_unnamed: false,
+                was_others: false,
+            }),
+            Names::Former => Ok(OwnJournal {
+                journal,
+                is_unnamed: true,
+                was_others: false,
+            }),
+            Names::Another => {
+                self.check_adoption(alloc, &machine, &journal)?;
+                Ok(OwnJournal {
+                    journal,
+                    is_unnamed: true,
+                    was_others: true,
+                })
+            }
         }
-        Ok(OwnJournal {
-            journal,
-            is_unnamed: standing != Names::This,
-            was_others: standing == Names::Another,
-        })
     }
 
     /// The journal of a file without a name: its changes have no attributes, and get those that are there.
@@ -179,13 +197,14 @@ impl Owner<'_, '_> {
         alloc: Global,
         journal: &Journal,
         there: &Vars,
-    ) -> Result<Journal, Failure> {
-        journal
-            .with_attributes(alloc, there)
-            .map_err(|fault| match fault {
-                AttributesFault::OutOfMemory => Failure::Memory,
-                fault => Failure::from_fault(alloc, self.path, fault),
-            })
+    ) -> Result<Journal, Failure>
+        ensures { IfOk result (λ kept. kept ≡ journal_kept there.now journal.now) }
+    {
+        match journal.with_attributes(alloc, there) {
+            Ok(kept) => Ok(kept),
+            Err(AttributesFault::OutOfMemory) => Err(Failure::Memory),
+            Err(fault) => Err(Failure::from_fault(alloc, self.path, fault)),
+        }
     }
 
     /// Refuses the journal of another machine, unless it is to be taken over and has nothing left to do. If the machine's
@@ -195,7 +214,9 @@ impl Owner<'_, '_> {
         alloc: Global,
         machine: &MachineName,
         journal: &Journal,
-    ) -> Result<(), Failure> {
+    ) -> Result<(), Failure>
+        ensures { OnOk result (IsAdopted self.now journal.now) }
+    {
         if let Some(error) = &self.identity.unread {
             return Err(self.unread(alloc, machine, error));
         }
@@ -243,16 +264,32 @@ pub(crate) enum Names {
 
 impl Identity {
     /// Whom this name names.
-    pub(crate) fn names(&self, machine: &MachineName) -> Names {
+    pub(crate) fn names(&self, machine: &MachineName) -> Names
+        ensures { IsNamedBy self.now machine.now result }
+    {
         let name = machine.as_bytes();
         if name == self.name.as_bytes() {
             Names::This
-        } else if self.former.iter().any(|former| former.as_bytes() == name) {
-            Names::Former
-        } else {
+        } else if are_others(&self.former, name) {
             Names::Another
+        } else {
+            Names::Former
         }
     }
+}
+
+/// Whether none of these names is this one.
+fn are_others(names: &[String], name: &[u8]) -> bool
+    ensures { IsTrue result ↔ AllByRecursion (IsOther name.now) names.now }
+{
+    names.iter().all(|other| is_other(other.as_str(), name))
+}
+
+/// Whether the first isn't the second name.
+fn is_other(other: &str, name: &[u8]) -> bool
+    ensures { IsTrue result ↔ (other.now ≢ name.now) }
+{
+    other.as_bytes() != name
 }
 
 /// The name of a machine as a text.

@@ -6,6 +6,7 @@ ghost use Rattle.messages.specs.declared.failure.Failure.TheVariants as failure;
 
 use crate::notes::shown;
 use crate::reason::Reason;
+use crate::words::Unreadable;
 use std::alloc::{AllocError, AllocFailed, Global};
 use std::fmt::Display;
 use std::io::{self, ErrorKind};
@@ -19,7 +20,7 @@ pub enum Failure {
     #[error("{0}")]
     Words(String),
     /// A file or a folder can't be read.
-    #[error("{name} can't be read: {error}")]
+    #[error("{}", Unreadable {name: .name, why: .error})]
     Read {
         /// What it is called, as messages show it.
         name: String,

@@ -6,6 +6,7 @@ ghost use Rattle.entry_checks.specs.Image.{image_state_of};
 use crate::secure_boot::{SeenSecureBoot, Told, ask_secure_boot};
 use efi_images::{ImageFault, check_image};
 use entry_checks::{ImageState, Processor, image_state};
+use messages::Reason;
 use std::alloc::{AllocError, Global};
 use std::fs::{Metadata, OpenFile};
 use std::io::{self, ErrorKind};
@@ -85,7 +86,7 @@ pub(crate) fn look_at_image<R: Files + AllocGlobal>(
             SeenImage::judged(alloc, processor, check_image(&bytes).err(), &told)
         }
         Ok(RegularFile::TooMuch) => {
-            let detail = format!(in alloc; "it has more than {LIMIT} bytes")?;
+            let detail = format!(in alloc; "{}", Reason::TooMuch(LIMIT))?;
             SeenImage::unseen(alloc, ImageState::TooLong, &detail)
         }
         Ok(RegularFile::Irregular) => {

@@ -7,10 +7,9 @@ use boot_texts::json::{
     JsonObject, JsonWriter, Leaf, append_leaf, append_leaves, append_object, append_objects,
     json_line,
 };
-use boot_texts::{EntryDigits, EntryName};
+use boot_texts::{EntryDigits, EntryName, shown_plan};
 use entry_checks::{Finding, NextFinding, OrderFindings, State};
 use std::alloc::{AllocError, Global};
-use uefi_vars::PlanNumbers;
 
 /// What is found as an object on one line, which ends with a line feed.
 pub(crate) fn json_of(alloc: Global, checked: &Checked) -> Result<String, AllocError> {
@@ -33,27 +32,10 @@ impl JsonObject for ShownCheck<'_> {
     fn append_members(&self, out: &mut JsonWriter) -> Result<(), AllocError> {
         let state = state_word(self.checked.state());
         append_leaf("state", Leaf::Word(Some(state)), out)?;
-        let plan = self.checked.plan.as_ref().map(|plan| ShownPlan(plan));
-        append_object("plan", plan.as_ref(), out)?;
+        append_object("plan", shown_plan(&self.checked.plan).as_ref(), out)?;
         append_objects("entries", &self.entries, out)?;
         append_object("order", shown_order(&self.checked.order).as_ref(), out)?;
         append_object("next", shown_next(self.checked.next).as_ref(), out)
-    }
-}
-
-/// What the next boot tries.
-#[derive(Clone, Copy)]
-struct ShownPlan<'a>(&'a PlanNumbers);
-
-impl JsonObject for ShownPlan<'_> {
-    fn append_members(&self, out: &mut JsonWriter) -> Result<(), AllocError> {
-        append_leaves(
-            &[
-                ("next", Leaf::Entry(self.0.next.map(EntryDigits))),
-                ("normal", Leaf::Numbers(&self.0.normal)),
-            ],
-            out,
-        )
     }
 }
 
@@ -147,8 +129,8 @@ impl JsonObject for ShownOrder<'_> {
     fn append_members(&self, out: &mut JsonWriter) -> Result<(), AllocError> {
         append_leaves(
             &[
-                ("stale", Leaf::Numbers(self.stale)),
-                ("twice", Leaf::Numbers(self.twice)),
+                ("stale", Leaf::Numbers(Some(self.stale))),
+                ("twice", Leaf::Numbers(Some(self.twice))),
             ],
             out,
         )

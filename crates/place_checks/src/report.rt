@@ -2,12 +2,11 @@
 
 use crate::checked::{Checked, Found};
 use crate::entry::LookedEntry;
-use crate::words::{NumberList, state_word};
-use boot_requests::OpenFault;
-use boot_texts::{EntryName, open_reason};
+use crate::words::state_word;
+use boot_texts::{BAD_NEXT, BAD_ORDER, EntryName, append_plan};
 use entry_checks::{Finding, NextFinding, OrderFindings};
 use std::alloc::{AllocError, Global};
-use uefi_vars::PlanNumbers;
+use std::fmt;
 
 /// The lines of what is found.
 pub(crate) fn report_of(alloc: Global, checked: &Checked) -> Result<String, AllocError> {
@@ -19,18 +18,6 @@ pub(crate) fn report_of(alloc: Global, checked: &Checked) -> Result<String, Allo
     append_order(&checked.order, checked.is_order_wrong(), &mut report)?;
     append_next(checked.next, &mut report)?;
     Ok(report)
-}
-
-/// Appends the line of what the next boot tries.
-fn append_plan(plan: Option<&PlanNumbers>, report: &mut String) -> Result<(), AllocError> {
-    match plan {
-        Some(plan) => {
-            let next = NumberList(plan.next.as_slice());
-            let normal = NumberList(&plan.normal);
-            writeln!(report, "plan next{next} normal{normal}")
-        }
-        None => report.push_str("plan none: it takes an order and a next entry that can be read\n"),
-    }
 }
 
 /// Appends the lines of an entry.
@@ -70,13 +57,7 @@ fn append_order(
     report: &mut String,
 ) -> Result<(), AllocError> {
     match order {
-        OrderFindings::Unreadable => {
-            writeln!(
-                report,
-                "BootOrder wrong\n  {}",
-                open_reason(&OpenFault::BadOrder)
-            )
-        }
+        OrderFindings::Unreadable => { writeln!(report, "BootOrder wrong\n  {BAD_ORDER}") }
         OrderFindings::Numbers { stale, twice } => {
             report.push_str(if is_wrong {
                 "BootOrder wrong\n"
@@ -91,7 +72,7 @@ fn append_order(
 /// Appends what is found of a BootOrder that has these numbers without an entry, and these twice.
 fn append_numbers(stale: &[u16], twice: &[u16], report: &mut String) -> Result<(), AllocError> {
     for number in stale {
-        writeln!(report, "  it names {number:04X}, which has no entry")?;
+        writeln!(report, "  {}", NamesNone(*number))?;
     }
     for number in twice {
         writeln!(report, "  it names {number:04X} more than once")?;
@@ -99,20 +80,23 @@ fn append_numbers(stale: &[u16], twice: &[u16], report: &mut String) -> Result<(
     Ok(())
 }
 
+/// That a variable names this number, which has no entry.
+#[derive(Clone, Copy)]
+struct NamesNone(u16);
+
+impl fmt::Display for NamesNone {
+    fn fmt<W: fmt::Write>(&self, f: &mut fmt::Formatter<W>) -> fmt::Result {
+        write!(f, "it names {:04X}, which has no entry", self.0)
+    }
+}
+
 /// Appends the lines of BootNext.
 fn append_next(next: Option<NextFinding>, report: &mut String) -> Result<(), AllocError> {
     match next {
         None => report.push_str("BootNext ok\n"),
-        Some(NextFinding::Unreadable) => {
-            writeln!(
-                report,
-                "BootNext wrong\n  {}",
-                open_reason(&OpenFault::BadNext)
-            )
+        Some(NextFinding::Unreadable) => { writeln!(report, "BootNext wrong\n  {BAD_NEXT}") }
+        Some(NextFinding::Missing(number)) => {
+            writeln!(report, "BootNext wrong\n  {}", NamesNone(number))
         }
-        Some(NextFinding::Missing(number)) => writeln!(
-            report,
-            "BootNext wrong\n  it names {number:04X}, which has no entry"
-        ),
     }
 }

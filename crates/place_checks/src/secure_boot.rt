@@ -5,6 +5,7 @@ ghost use Rattle.entry_checks.specs.Image.{own_verdict_of};
 
 use efi_images::{SecureBoot, SecureBootAnswer, Verdict, secure_boot_answer};
 use entry_checks::own_verdict;
+use messages::Unreadable;
 use std::alloc::{AllocError, Global};
 use std::io::ErrorKind;
 use std::rt::Files;
@@ -139,7 +140,7 @@ fn read_data<R: Files + AllocGlobal>(
 
 /// That the variable of this name can't be read, for this reason.
 fn why_unread(alloc: Global, name: &str, why: &str) -> Result<Vec<u8>, Unread> {
-    let why = format!(in alloc; "{name} can't be read: {why}")?;
+    let why = format!(in alloc; "{}", Unreadable { name, why })?;
     Err(Unread::Because(why))
 }
 

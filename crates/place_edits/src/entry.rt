@@ -1,7 +1,7 @@
 //! The command `get`, which gives the load option of an entry.
 
 use boot_texts::EntryName;
-use messages::Failure;
+use messages::{Failure, NoSuch};
 use std::rt::Files;
 use var_places::{check_output, lock, name_of, read_place, write};
 use whole_files::OutputFile;
@@ -25,7 +25,7 @@ pub fn get_entry<R: Files<File: OutputFile> + Input + Print + Eprint + AllocGlob
     match vars.entry(entry) {
         Some(bytes) => write(rt, output?, bytes),
         None => {
-            let fault = format!(in rt.alloc(); "there is no {}", EntryName(entry))?;
+            let fault = format!(in rt.alloc(); "{}", NoSuch(EntryName(entry)))?;
             Err(Failure::from_run(rt.alloc(), name_of(place), fault.as_str()))
         }
     }

@@ -2,7 +2,7 @@
 
 use boot_edits::{EditFault, EditRunFault};
 use boot_texts::EntryName;
-use messages::Failure;
+use messages::{Failure, IsThere, NoSuch};
 use std::alloc::{AllocError, Global};
 use std::fmt;
 
@@ -32,13 +32,13 @@ struct FaultWords(EditFault);
 impl fmt::Display for FaultWords {
     fn fmt<W: fmt::Write>(&self, f: &mut fmt::Formatter<W>) -> fmt::Result {
         match self.0 {
-            EditFault::Taken(entry) => write!(f, "{} is there already", EntryName(entry)),
+            EditFault::Taken(entry) => write!(f, "{}", IsThere(EntryName(entry))),
             EditFault::Twice(entry) => write!(f, "{} is named twice", EntryName(entry)),
-            EditFault::Missing(entry) => write!(f, "there is no {}", EntryName(entry)),
+            EditFault::Missing(entry) => write!(f, "{}", NoSuch(EntryName(entry))),
             EditFault::Stale(entry) => write!(
                 f,
-                "there is no {}: --stale puts its number into the order all the same",
-                EntryName(entry)
+                "{}: --stale puts its number into the order all the same",
+                NoSuch(EntryName(entry))
             ),
             EditFault::NoOption(entry) => write!(f, "{} is no load option", EntryName(entry)),
             fault => f.write_str(plain_words(&fault)),

@@ -8,7 +8,7 @@ use Rattle.uefi_vars.specs.Vars.{Variables, entry_of}
 use Rattle.request_preconditions.specs.declared.precondition.Precondition.{Precondition}
 use Rattle.request_preconditions.specs.declared.precondition.Precondition.TheVariants.{Journal, NextNumber, Entry, Order}
 
--- It is so of a machine whose journal has this identity, if there is one, where the next request has this number, and which
+-- It is so of a machine whose journal has this identity, if there is one, whose next request has this number, and which
 -- has these variables.
 abbrev pub IsMet : Option (List ℕ) → ℕ → Variables → Precondition → Type 0
 IsMet journal next vars (Journal identity) = journal ≡ identity

@@ -25,9 +25,13 @@ pub enum Precondition {
     Journal(Option<[u8; IDENTITY_LEN]>),
     /// The next request that is to be applied has this number.
     NextNumber(u32),
-    /// The data of the entry of this number, the variable Boot#### (UEFI 2.10, 3.1.1), has this SHA-256, or there is no such
-    /// variable.
-    Entry(u16, Option<[u8; DIGEST_LEN]>),
+    /// An entry, the variable Boot#### (UEFI 2.10, 3.1.1), has data of this SHA-256, or isn't there.
+    Entry {
+        /// The entry's number.
+        number: u16,
+        /// The SHA-256 of its data, or none if it isn't there.
+        digest: Option<[u8; DIGEST_LEN]>,
+    },
     /// BootOrder (UEFI 2.10, 3.3) has this data, two bytes for each number, little-endian, or there is no such variable.
     Order(Option<Vec<u8>>),
 }
@@ -52,7 +56,7 @@ impl Precondition {
         match self {
             Precondition::Journal(identity) => state.journal == *identity,
             Precondition::NextNumber(number) => state.next_number == *number,
-            Precondition::Entry(number, digest) => digest_of(state.vars, *number) == *digest,
+            Precondition::Entry { number, digest } => digest_of(state.vars, *number) == *digest,
             Precondition::Order(data) => state.vars.get(BOOT_ORDER) == data.as_deref(),
         }
     }
@@ -73,10 +77,10 @@ impl Precondition {
         match self {
             Precondition::Journal(_) => Ok(Precondition::Journal(state.journal)),
             Precondition::NextNumber(_) => Ok(Precondition::NextNumber(state.next_number)),
-            Precondition::Entry(number, _) => Ok(Precondition::Entry(
-                *number,
-                digest_of(state.vars, *number),
-            )),
+            Precondition::Entry { number, .. } => Ok(Precondition::Entry {
+                number: *number,
+                digest: digest_of(state.vars, *number),
+            }),
             Precondition::Order(_) => Ok(Precondition::Order(order_data(alloc, state.vars)?)),
         }
     }

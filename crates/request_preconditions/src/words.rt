@@ -43,12 +43,12 @@ pub fn read_precondition(alloc: Global, word: &str) -> Result<Precondition, Prec
     if let Some(value) = word.strip_prefix(ORDER) {
         return Ok(Precondition::Order(order_of(alloc, value)?));
     }
-    let Some((entry, value)) = word.split_once('=') else {
+    let Some((digits, value)) = word.split_once('=') else {
         return Err(PreconditionFault::Subject);
     };
-    let entry = entry_of(entry).ok_or(PreconditionFault::Subject)?;
+    let number = entry_of(digits).ok_or(PreconditionFault::Subject)?;
     let digest = digits_or_none::<DIGEST_LEN>(value).ok_or(PreconditionFault::Digest)?;
-    Ok(Precondition::Entry(entry, digest))
+    Ok(Precondition::Entry { number, digest })
 }
 
 impl Precondition {
@@ -65,10 +65,16 @@ impl Precondition {
                 format!(in alloc; "{JOURNAL}{digits}")
             }
             Precondition::NextNumber(number) => format!(in alloc; "{NEXT}{number}"),
-            Precondition::Entry(entry, None) => format!(in alloc; "{entry:04X}={NONE}"),
-            Precondition::Entry(entry, Some(digest)) => {
+            Precondition::Entry {
+                number,
+                digest: None,
+            } => format!(in alloc; "{number:04X}={NONE}"),
+            Precondition::Entry {
+                number,
+                digest: Some(digest),
+            } => {
                 let digits = hex::encode(alloc, digest)?;
-                format!(in alloc; "{entry:04X}={digits}")
+                format!(in alloc; "{number:04X}={digits}")
             }
             Precondition::Order(None) => format!(in alloc; "{ORDER}{NONE}"),
             Precondition::Order(Some(data)) => order_words(alloc, data),

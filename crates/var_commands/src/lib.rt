@@ -9,9 +9,12 @@
 #![tactic(auto)]
 
 mod action;
+mod arg_rows;
 mod changing;
 mod command_line;
 mod commands;
+mod entry_rows;
+mod frame_rows;
 mod making;
 mod program;
 mod refusals;

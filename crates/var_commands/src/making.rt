@@ -12,7 +12,7 @@ use boot_texts::{
 };
 use disk_files::{disk_path, loader_path};
 use hex::FromHexError;
-use messages::{Failure, Quoted, Reason, note, print};
+use messages::{Failure, Quoted, Reason, WrongWord, note, print};
 use place_checks::{LoaderNote, note_of_file, note_of_path};
 use std::alloc::{AllocError, Global};
 use std::rt::Files;
@@ -397,7 +397,7 @@ pub(crate) fn seconds_of(alloc: Global, word: &str) -> Result<u16, Failure> {
 /// What it is to the program that a word isn't the number that it is to be.
 fn from_digits(alloc: Global, word: &str, fault: DigitsFault) -> Failure {
     let word = Quoted(word);
-    Failure::from_word(alloc, format_args!("{word} is {fault}"))
+    Failure::from_word(alloc, WrongWord { word, fault })
 }
 
 /// What it is to the program that no frame is made of the load option in the file at this path, which has these bytes.

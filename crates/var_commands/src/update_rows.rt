@@ -1,6 +1,6 @@
 //! The command `update` and its arguments.
 
-use crate::commands::{ADOPT, BOOT_ID, FORCE, MACHINE, PLACE, STATE};
+use crate::arg_rows::{ADOPT, BOOT_ID, FORCE, MACHINE, PLACE, STATE};
 use crate::table::{ArgKind, ArgRow, CommandRow};
 use clap::ArgAction;
 
@@ -61,7 +61,7 @@ pub(crate) static UPDATE_COMMANDS: [CommandRow; 1] = [CommandRow {
         },
         ArgRow {
             name: "expect",
-            help: "What is expected, as journal=ID, next=5, 0003=SHA256 or order=0003,0001; again for more: where something isn't so, nothing is changed",
+            help: "What is expected, as journal=ID, next=5, 0003=SHA256 or order=0003,0001; again for more: if something isn't so, nothing is changed",
             kind: ArgKind::Option("WHAT"),
             action: ArgAction::Append,
             excludes: &INSTEAD_OF_SCRIPT,
@@ -93,7 +93,7 @@ pub(crate) static UPDATE_COMMANDS: [CommandRow; 1] = [CommandRow {
 const INSTEAD_OF_SCRIPT: [&str; 2] = ["next", "settle"];
 
 /// A flag of `update` that goes with a script alone. The conflicts have to be named here, since `clap` no longer asks for
-/// the script where a flag excludes it.
+/// the script if a flag excludes it.
 const SCRIPT_FLAG: ArgRow = ArgRow {
     needs: &["SCRIPT"],
     excludes: &INSTEAD_OF_SCRIPT,

@@ -8,7 +8,7 @@ use boot_updates::{
 use machine_changes::{
     ChangeOptions, PlaceKind, StateUse, ToldAnswer, change_machine, settle_machine,
 };
-use messages::{Failure, Quoted};
+use messages::{Failure, Quoted, WrongWord};
 use request_preconditions::{Precondition, PreconditionFault, read_precondition};
 use std::alloc::Global;
 use std::rt::{Clock, Files};
@@ -178,7 +178,7 @@ fn preconditions_of(alloc: Global, words: &[&str]) -> Result<Vec<Precondition>, 
             Err(PreconditionFault::OutOfMemory) => return Err(Failure::Memory),
             Err(fault) => {
                 let word = Quoted(word);
-                return Err(Failure::from_word(alloc, format_args!("{word} is {fault}")));
+                return Err(Failure::from_word(alloc, WrongWord { word, fault }));
             }
         }
     }

@@ -1,13 +1,17 @@
 //! Folders in which Linux shows variables, each as a file: its name, a hyphen and its vendor's GUID are the file's name,
 //! and the file has four bytes of attributes and then the value.
 
-ghost use Rattle.std.specs.Prelude.{◌≡◌, None, IfSome, IfOk, take, drop};
+ghost use Rattle.std.specs.Prelude.{◌≡◌, ◌↔◌, ℕ, List, None, IfSome, IfOk, IsTrue, MatchOption, take, drop};
 ghost use Rattle.std.specs.FinMap as map;
-ghost use Rattle.var_places.specs.Folder.{IsFileName};
+ghost use Rattle.std.specs.String.{string_bytes};
+ghost use Rattle.uefi_text.specs.Guid.{IsGuid};
+ghost use Rattle.uefi_vars.specs.Name.{global_vendor};
+ghost use Rattle.var_places.specs.Folder.{IsFileName, IsVendorText, IsRefused, IsUnkept, IsRead};
+ghost use Rattle.var_places.specs.declared.folder.LeftOut.{LeftOut};
 
 use crate::mounts::is_on_efivarfs;
 use crate::place_vars::PlaceVars;
-use messages::{Failure, Quoted, Reason, Shortened, note};
+use messages::{Failure, IsLeftOut, Quoted, Reason, Shortened, note};
 use std::alloc::{AllocError, Global};
 use std::collections::BTreeMap;
 use std::fs;
@@ -15,7 +19,7 @@ use std::io::ErrorKind;
 use std::path::{Path, PathBuf};
 use std::rt::Files;
 use thiserror::Error;
-use uefi_text::{GuidText, read_guid};
+use uefi_text::{GuidText, laws as text_laws, read_guid};
 use uefi_vars::{ATTRIBUTES_LEN, DATA_MAX, GLOBAL_VENDOR, KEEP_STATE, PutFault, Vars};
 use whole_files::{RegularFile, read_regular};
 
@@ -95,15 +99,39 @@ fn file_names<R: Files + Eprint + AllocGlobal>(rt: &R, path: &str) -> Result<Vec
 
 /// The name of the variable that a file of this name shows, if it is one of the standard's vendor.
 fn variable_name(file: &str) -> Option<&str>
-    ensures { IfSome result (λ name. IsFileName file.now name.now) }
+    ensures found { IfSome result (λ name. IsFileName file.now name.now) }
+    ensures none { result ≡ None → (name : List ℕ) → ¬ IsFileName file.now name }
 {
     let (name, rest) = file.split_at_checked(file.len().checked_sub(VENDOR_LEN)?)?;
-    let (hyphen, vendor) = rest.split_at_checked(1)?;
-    if hyphen == "-" && read_guid(vendor)? == GLOBAL_VENDOR {
-        Some(name)
-    } else {
-        None
+    if is_vendor(rest) { Some(name) } else { None }
+}
+
+/// Whether this is a hyphen and the GUID of the standard's vendor.
+fn is_vendor(text: &str) -> bool
+    ensures { IsTrue result ↔ IsVendorText text.now }
+{
+    match text.strip_prefix('-') {
+        Some(vendor) => is_global(vendor),
+        None => false,
     }
+}
+
+/// Whether this is the GUID of the standard's vendor.
+fn is_global(text: &str) -> bool
+    ensures { IsTrue result ↔ IsGuid text.now global_vendor }
+{
+    match read_guid(text) {
+        Some(guid) => guid == GLOBAL_VENDOR,
+        None => false,
+    }
+}
+
+/// The name that the file of a variable of the standard's vendor gets. This fails only when out of memory.
+fn new_file_name(alloc: Global, name: &str) -> Result<String, AllocError>
+    ensures { IfOk result (λ file. IsFileName (string_bytes file) name.now) }
+{
+    text_laws::a_printed_guid_is_its_text();
+    format!(in alloc; "{name}-{}", GuidText(&GLOBAL_VENDOR))
 }
 
 /// Adds the variable of this name that a file shows, or tells on standard error that it is left out.
@@ -125,7 +153,7 @@ fn add_variable<R: Files + Eprint + AllocGlobal>(
     if let Some(why) = keep(&mut folder.found, name, bytes.as_slice())? {
         folder.found.leave_out(alloc, name)?;
         let file = Quoted(file);
-        note(rt, path, format_args!("{file} is left out: {why}"));
+        note(rt, path, IsLeftOut { name: file, why });
     }
     Ok(())
 }
@@ -185,9 +213,9 @@ fn keep(
     name: &str,
     bytes: Option<&[u8]>,
 ) -> Result<Option<LeftOut>, AllocError>
-    ensures { IfOk result (λ why. why ≡ None → IfSome bytes.entry (λ file.
-        (found.new.vars ≡ map.insert found.old.vars name.now (drop 4 file.now))
-        × (found.new.attributes ≡ map.insert found.old.attributes name.now (take 4 file.now)))) }
+    ensures { IfOk result (λ why. MatchOption why
+        (IsRead name.now bytes.entry (found.old.vars, found.old.attributes) (found.new.vars, found.new.attributes))
+        (λ reason. IsUnkept name.now bytes.entry reason × (found.new ≡ found.old))) }
 {
     if name == KEEP_STATE {
         return Ok(Some(LeftOut::KeepState));
@@ -215,7 +243,10 @@ fn parts(bytes: &[u8]) -> (&[u8], &[u8])
 
 /// Stores the bytes under this name, or says why a set can't hold them.
 fn put(vars: &mut Vars, name: &str, bytes: &[u8]) -> Result<Option<LeftOut>, AllocError>
-    ensures { IfOk result (λ why. why ≡ None → vars.new ≡ map.insert vars.old name.now bytes.now) }
+    ensures { IfOk result (λ why. MatchOption why
+        ((vars.new ≡ map.insert vars.old name.now bytes.now)
+        × ((reason : LeftOut) → ¬ IsRefused name.now bytes.now reason))
+        (λ reason. IsRefused name.now bytes.now reason × (vars.new ≡ vars.old))) }
 {
     match vars.put(name, bytes) {
         Ok(()) => Ok(None),
@@ -245,10 +276,7 @@ impl Folder {
         let path = Path::new(path);
         match self.files.get(name) {
             Some(file) => path.join(alloc, file.as_str()),
-            None => {
-                let file = format!(in alloc; "{name}-{}", GuidText(&GLOBAL_VENDOR))?;
-                path.join(alloc, file.as_str())
-            }
+            None => path.join(alloc, new_file_name(alloc, name)?.as_str()),
         }
     }
 }

@@ -1,7 +1,8 @@
 //! Variables of a machine that no set can hold.
 
-ghost use Rattle.std.specs.Prelude.{◌↔◌, IsTrue};
-ghost use Rattle.wanted_changes.specs.LeftOut.{IsOneOf};
+ghost use Rattle.std.specs.Prelude.{◌≡◌, ◌↔◌, IsTrue, map};
+ghost use Rattle.std.specs.String.{string_bytes};
+ghost use Rattle.wanted_changes.specs.LeftOut.{IsOneOf, without_names};
 
 use uefi_vars::{Vars, entry_number};
 
@@ -19,7 +20,9 @@ pub fn is_one_of(entries: &[u16], name: &str) -> bool
 }
 
 /// Takes the variables of these names out.
-pub fn leave_out(vars: &mut Vars, names: &[String]) {
+pub fn leave_out(vars: &mut Vars, names: &[String])
+    ensures { vars.new ≡ without_names vars.old (map string_bytes names.now) }
+{
     for name in names {
         vars.remove(name.as_str());
     }

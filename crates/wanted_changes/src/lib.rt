@@ -13,7 +13,7 @@ mod sets;
 mod told;
 mod wanted;
 
-pub use kept_notes::{KeptNotes, digits_of, identity_digits};
+pub use kept_notes::{KeptNotes, digits_of, identity_digits, journal_identity};
 pub use left_out::{LEFT_OUT, is_one_of, leave_out};
 pub use machine_words::MachineWords;
 pub use sets::{SetChange, set_of};

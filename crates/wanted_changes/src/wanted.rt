@@ -9,6 +9,7 @@ use crate::kept_notes::KeptNotes;
 use crate::sets::SetChange;
 use crate::told::Told;
 use boot_journal::{CallError, MachineName};
+use boot_notes::IDENTITY_LEN;
 use messages::Failure;
 use std::alloc::Global;
 use uefi_vars::Vars;
@@ -22,6 +23,8 @@ pub struct Seen<'a> {
     pub machine: &'a MachineName,
     /// Whether its variables are in a folder, so that firmware has a say in what is stored.
     pub is_folder: bool,
+    /// The identity that was kept beside its journal before the change, if one was.
+    pub journal: Option<[u8; IDENTITY_LEN]>,
     /// What is kept beside its journal.
     pub notes: &'a KeptNotes,
 }

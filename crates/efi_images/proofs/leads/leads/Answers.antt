@@ -1,4 +1,4 @@
-use Rattle.std.proofs.Common.{◌∙◌, sym, ap, Some, map}
+use Rattle.std.proofs.Common.{◌∙◌, ap, Some, map}
 use Rattle.efi_images.specs.X509.{CertificateParts, certificate_parts}
 use Rattle.efi_images.specs.Leads.{leads_to}
 use Rattle.efi_images.proofs.Leading.{any_signers, leads_by, leads_unread}

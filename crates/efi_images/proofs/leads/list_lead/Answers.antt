@@ -1,7 +1,7 @@
 use Rattle.std.proofs.Common.{◌+◌, ◌-◌, ◌∙◌, sym, ap, map, drop}
 use Rattle.efi_images.specs.Signatures.{list_parts}
 use Rattle.efi_images.specs.X509.{certificate_parts}
-use Rattle.efi_images.specs.Leads.{entry_count, entry_data, lead_of, joined, entries_lead}
+use Rattle.efi_images.specs.Leads.{entry_count, lead_of, joined, entries_lead}
 use Rattle.efi_images.proofs.Leading.{lead_step, lead_ended, of_certificates, of_others}
 use Rattle.efi_images.proofs.leads.list_lead.Goals as goal
 

@@ -8,4 +8,4 @@ use Rattle.efi_images.proofs.loader.check_sections.Given as goal
 
 abbrev pub invariant-loop-index : goal.invariant-loop-index
 invariant-loop-index l =
-    first_fault (flat_map (section_checks l.headers) (sections l.headers)) ≡ told_from (section_checks l.headers) l.headers l.index
+    first_fault (flat_map (section_checks l.len l.headers) (sections l.headers)) ≡ told_from (section_checks l.len l.headers) l.headers l.index

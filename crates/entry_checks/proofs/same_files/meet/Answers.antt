@@ -1,4 +1,4 @@
-use Rattle.std.proofs.Common.{refl, sym, ap, ◌∙◌}
+use Rattle.std.proofs.Common.{sym, ap, ◌∙◌}
 use Rattle.std.specs.Option.{option_copied}
 use Rattle.entry_checks.specs.Twins.{twin_among}
 use Rattle.entry_checks.proofs.FirstTo.{looked_up, finds_none, finds_twin, finds_new}

@@ -1,4 +1,4 @@
-use Rattle.std.proofs.Common.{◌<◌, ◌++◌, ◌∷◌, [], ◌+◌, List, Option, ℕ, length, take, drop, ap, ◌∙◌, arith}
+use Rattle.std.proofs.Common.{◌<◌, ◌++◌, ◌∷◌, [], ◌+◌, Option, ℕ, length, take, drop, ap, ◌∙◌, arith}
 use Rattle.entry_checks.specs.Twins.{twins_from}
 use Rattle.entry_checks.proofs.FirstTo.{one_more, finds_more}
 use Rattle.entry_checks.proofs.same_files.twins.Goals as goal

@@ -1,28 +1,35 @@
-use Rattle.std.proofs.Common.{◌≡◌, ◌++◌, ◌∷◌, [], List, ℕ, take, drop, rules, sym, subst, ap, ◌∙◌}
-use Rattle.std.proofs.lemmas.Bool.Decides.{Decides-eqb}
-use Rattle.std.proofs.lemmas.List.{take-append-drop}
-use Rattle.std.proofs.lemmas.Slice.Eq.{slice_eq-Decides}
-use Rattle.uefi_text.specs.Guid.{IsGuid}
-use Rattle.uefi_vars.specs.Name.{global_vendor}
+use Rattle.std.proofs.Common.{◌≡◌, ◌+◌, length, sym, subst, arith}
+use Rattle.var_places.specs.Folder.{IsVendorText}
+use Rattle.var_places.proofs.FileNames.{file_length, rest_at, boundary, joined}
 use Rattle.var_places.proofs.folder.variable_name.Goals as goal
 
--- what is cut at a place is its two parts, one after the other
-joined : (whole front back : List ℕ) (n : ℕ) → front ≡ take n whole → back ≡ drop n whole → whole ≡ front ++ back
-joined whole front back n is_front is_back =
-    subst (λ (x : List ℕ). whole ≡ x ++ back) (sym is_front)
-    (subst (λ (x : List ℕ). whole ≡ take n whole ++ x) (sym is_back) (sym (take-append-drop n whole)))
+-- the file's name is too short
+pub returns-in_err-checked_sub-clause-none : goal.returns-in_err-checked_sub-clause-none
+returns-in_err-checked_sub-clause-none c = λ none name is.
+    let long = file_length c.args.file.now name is in
+    let less = c.in_err-checked_sub.ensures in
+    omega (arith, long, less)
 
--- the name is before the rest, in which the hyphen is before the vendor's GUID
-pub returns-then-eq-2 : goal.returns-then-eq-2
-returns-then-eq-2 c =
-    let outer = joined c.args.file.now c.in_ok-name.name.now c.in_ok-name.rest.now _ c.in_ok-name.ensures.front c.in_ok-name.ensures.back in
-    let inner = joined c.in_ok-name.rest.now c.in_ok-hyphen.hyphen.now c.in_ok-hyphen.vendor.now 1 c.in_ok-hyphen.ensures.front c.in_ok-hyphen.ensures.back in
-    let hyphen : c.in_ok-hyphen.hyphen.now ≡ 45 ∷ [] = search rules in
-    let same : c.in_ok-read_guid.field-0.0 ≡ global_vendor =
-    (slice_eq-Decides Decides-eqb c.in_ok-read_guid.field-0.0 global_vendor c.eq-then-eq.result c.eq-then-eq.ensures).0
-    c.if-eq-2.true in (
-      c.in_ok-hyphen.vendor.now,
-      outer ∙ ap (λ (rest : List ℕ). c.in_ok-name.name.now ++ rest)
-          (inner ∙ ap (λ (mark : List ℕ). mark ++ c.in_ok-hyphen.vendor.now) hyphen),
-      subst (λ (guid : List ℕ). IsGuid c.in_ok-hyphen.vendor.now guid) same c.in_ok-read_guid.ensures.found,
-    )
+-- no character begins where the hyphen would be
+pub returns-in_err-name-clause-none : goal.returns-in_err-name-clause-none
+returns-in_err-name-clause-none c = λ none name is.
+    let long = file_length c.args.file.now name is in
+    let at : c.in_ok-checked_sub.field-0 + 37 ≡ length c.args.file.now = omega (arith, long, c.in_ok-checked_sub.ensures) in
+    let no = c.in_err-name.ensures.variant.1 (boundary c.args.file.now name c.in_ok-checked_sub.field-0 is at) in
+    absurd (cc no)
+
+pub returns-then-is_vendor-clause-found : goal.returns-then-is_vendor-clause-found
+returns-then-is_vendor-clause-found c = (
+  c.in_ok-name.rest.now,
+  joined c.args.file.now c.in_ok-name.name.now c.in_ok-name.rest.now _ c.in_ok-name.ensures.front c.in_ok-name.ensures.back,
+  c.is_vendor.ensures.0 c.if-is_vendor.true,
+)
+
+-- it isn't the hyphen and the vendor that are there
+pub returns-else-is_vendor-clause-none : goal.returns-else-is_vendor-clause-none
+returns-else-is_vendor-clause-none c = λ none name is.
+    let long = file_length c.args.file.now name is in
+    let at : c.in_ok-checked_sub.field-0 + 37 ≡ length c.args.file.now = omega (arith, long, c.in_ok-checked_sub.ensures) in
+    let rest = rest_at c.args.file.now name c.in_ok-checked_sub.field-0 is at in
+    let yes = c.is_vendor.ensures.1 (subst IsVendorText (sym c.in_ok-name.ensures.back) rest) in
+    absurd (cc (yes, c.if-is_vendor.false))

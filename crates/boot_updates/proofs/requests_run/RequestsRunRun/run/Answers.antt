@@ -1,4 +1,5 @@
-use Rattle.std.proofs.Common.{ℕ, List, Option, sym, subst, ◌∙◌}
+use Rattle.std.proofs.Common.{ℕ, List, map, refl, sym, ap, subst, ◌∙◌}
+use Rattle.std.specs.String.{string_bytes}
 use Rattle.uefi_vars.specs.Vars.{Variables}
 use Rattle.boot_requests.specs.declared.answer.Answer.{Answer}
 use Rattle.boot_requests.specs.StoredState.{OpensAs}
@@ -8,6 +9,7 @@ use Rattle.boot_journal.specs.Cause.{IfRefused}
 use Rattle.journaled_requests.specs.declared.requests.RunFault.{RunFault}
 use Rattle.journaled_requests.specs.RunFault.{IsRunFault}
 use Rattle.journaled_requests.proofs.Running.{err_then}
+use Rattle.wanted_changes.specs.LeftOut.{without_names}
 use Rattle.boot_updates.specs.Guarded.{AreMet}
 use Rattle.boot_updates.specs.Told.{AreToldBy}
 use Rattle.boot_updates.proofs.Guards.{none_is, some_is_not, guarded_so}
@@ -25,15 +27,18 @@ returns-in_err-set-clause-refused c =
 
 pub returns-in-Some-clause-done : goal.returns-in-Some-clause-done
 returns-in-Some-clause-done c =
-    let vars = data_of c.args.vars.now in
+    let names = map string_bytes c.args.self.left_out.now in
+    let vars = without_names (data_of c.args.vars.now) names in
+    let journal = c.args.self.journal in
     let preconditions = c.args.self.preconditions.now in
-    let told = c.not_run.result in (
+    let told = c.not_run.result in
+    let left = c.leave_out.ensures ∙ ap (λ (v : Variables). without_names v names) c.in_ok-set.ensures.set in (
+      c.not_run.ensures.journal,
       λ m keeps. c.not_run.ensures.first ∙ c.in_ok-first.ensures m (subst (λ (v : Variables). OpensAs v m) (sym c.in_ok-set.ensures.set) keeps),
       guarded_so _ _ c.args.vars.now c.in_ok-copy.field-0 told.answers.items told.unmet c.in-Some.unmet c.not_run.ensures.unmet
-          (λ (all : AreMet told.journal told.first vars preconditions). some_is_not c.in_ok-unmet.field-0 c.in-Some.unmet c.in-Some.is (c.in_ok-unmet.ensures.1
-          (subst (λ (j : Option (List ℕ)). AreMet j c.in_ok-first.first c.in_ok-set.set preconditions) c.not_run.ensures.journal
-          (subst (λ (n : ℕ). AreMet told.journal n c.in_ok-set.set preconditions) c.not_run.ensures.first
-          (subst (λ (v : Variables). AreMet told.journal told.first v preconditions) (sym c.in_ok-set.ensures.set) all)))))
+          (λ (all : AreMet journal told.first vars preconditions). some_is_not c.in_ok-unmet.field-0 c.in-Some.unmet c.in-Some.is (c.in_ok-unmet.ensures.1
+          (subst (λ (v : Variables). AreMet journal c.in_ok-first.first v preconditions) (sym left)
+          (subst (λ (n : ℕ). AreMet journal n vars preconditions) c.not_run.ensures.first all))))
           c.in_ok-copy.ensures.equal c.not_run.ensures.none,
     )
 
@@ -41,9 +46,14 @@ returns-in-Some-clause-done c =
 
 pub returns-clause-done : goal.returns-clause-done
 returns-clause-done c =
+    let names = map string_bytes c.args.self.left_out.now in
     let noted = c.in_ok-noted.noted in
-    let met = subst (λ (v : Variables). AreMet c.identity_of-journal.result c.in_ok-first.first v c.args.self.preconditions.now) c.in_ok-set.ensures.set
+    let left = c.leave_out.ensures ∙ ap (λ (v : Variables). without_names v names) c.in_ok-set.ensures.set in
+    let met = subst (λ (v : Variables). AreMet c.args.self.journal c.in_ok-first.first v c.args.self.preconditions.now) left
     (c.in_ok-unmet.ensures.0 (none_is c.in_ok-unmet.field-0 c.in_default.not-Some)) in
     let told = subst (λ (a : List Answer). AreToldBy noted.before c.in_ok-first.first c.args.self.requests.events.now a noted.same.items)
-    c.deref.ensures.value c.in_ok-noted.ensures in
-    (λ m keeps. c.in_ok-first.ensures m (subst (λ (v : Variables). OpensAs v m) (sym c.in_ok-set.ensures.set) keeps), (met, (c.in_ok-to.ensures.done, told)))
+    c.deref.ensures.value c.in_ok-noted.ensures in (
+      refl,
+      λ m keeps. c.in_ok-first.ensures m (subst (λ (v : Variables). OpensAs v m) (sym c.in_ok-set.ensures.set) keeps),
+      (met, (c.in_ok-to.ensures.done, told)),
+    )
