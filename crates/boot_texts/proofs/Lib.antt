@@ -1,4 +1,3 @@
 mod Descriptions
 mod Each
 mod JsonTexts
-mod NamingChanges

@@ -2,7 +2,6 @@
 pub mod Description
 pub mod Frame
 pub mod Json
-pub mod NamingChange
 pub mod OptionOfWords
 -- of the crates below, what they cite
 pub use Rattle.uefi_path.specs.declared.node.Node

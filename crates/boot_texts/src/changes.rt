@@ -1,6 +1,6 @@
 //! What differs between two sets of variables, by `bootvars diff`.
 
-use crate::at_risk::{EntryName, NamingChange, UnnamedWords, naming_change};
+use crate::at_risk::{EntryName, UnnamedWords};
 use crate::content::{Content, DataText, EntryDigits, Quoted};
 use crate::json::{
     JsonObject, JsonWriter, Leaf, append_leaf, append_leaves, append_object, append_objects,
@@ -9,7 +9,7 @@ use crate::json::{
 use crate::shown_option::{AttributeWords, ShownOption};
 use std::alloc::{AllocError, Global};
 use std::fmt::{self, Display};
-use uefi_vars::{BootChange, Vars, boot_changes, entry_number};
+use uefi_vars::{BootChange, NamingChange, Vars, boot_changes, entry_number, naming_change};
 
 /// What differs between two sets, as it is shown.
 #[derive(Drop)]

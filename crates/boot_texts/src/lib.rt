@@ -5,8 +5,8 @@
 //! between two sets, [`change_report`] one change, and [`explain_report`] what the frames of a script or a stream ask for,
 //! each as lines for a person. [`vars_json`], [`diff_json`] and [`explain_json`] have the same as JSON, [`reply_json`]
 //! shows the answer to an event, [`look_json`] a machine with the replies to an update of it, and [`refusal_json`] why an
-//! update wasn't made; docs/formats.md has each line and each field, and [`json`] writes them. [`naming_change`] tells
-//! which entries a change leaves in no order, and [`UnnamedWords`] says so of one.
+//! update wasn't made; docs/formats.md has each line and each field, and [`json`] writes them. [`UnnamedWords`] says of
+//! an entry that a change leaves it in no order.
 //!
 //! [`option_bytes`] makes a load option of words, and [`frame_bytes`] a frame, which [`frame_line`] puts into a line of
 //! a script. [`attribute_bits`], [`attributes_of_text`], [`optional_text`], [`entry_of_digits`] and
@@ -38,7 +38,7 @@ mod shown_order;
 mod shown_vars;
 mod sizes;
 
-pub use at_risk::{EntryName, NamingChange, UnnamedWords, naming_change};
+pub use at_risk::{EntryName, UnnamedWords};
 pub use changes::{change_report, changes_text, diff_json, diff_report};
 pub use content::EntryDigits;
 pub use description::DescriptionFault;

@@ -112,7 +112,7 @@ impl JsonObject for Follower {
 
 /// Shows an answer as JSON, an object on one line that ends with a line feed. Its followers are the outcomes of the requests
 /// that had waited and were applied right after the event's own, of which the last is the one below the next number. The
-/// last reply of an update also has the entries that the update left in no order ([`naming_change`](crate::naming_change)).
+/// last reply of an update also has the entries that the update left in no order ([`naming_change`](uefi_vars::naming_change)).
 /// docs/formats.md has each member.
 ///
 /// # Errors

@@ -1,8 +1,8 @@
 use Rattle.uefi_vars.specs.Order.{HasBadOrder}
 use Rattle.uefi_vars.specs.AtRisk.{IsUnnamed}
 use Rattle.uefi_vars.proofs.EntriesAtRisk.{those_along}
-use Rattle.boot_texts.specs.NamingChange.{AreReadable, IsKnownUnnamed}
-use Rattle.boot_texts.proofs.at_risk.known_risks.Goals as goal
+use Rattle.uefi_vars.specs.NamingChange.{AreReadable, IsKnownUnnamed}
+use Rattle.uefi_vars.proofs.naming.known_risks.Goals as goal
 
 pub returns-in-Ok-clause-unnamed : goal.returns-in-Ok-clause-unnamed
 returns-in-Ok-clause-unnamed c =

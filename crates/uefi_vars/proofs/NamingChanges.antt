@@ -16,7 +16,7 @@ use Rattle.uefi_vars.specs.Vars.{Variables, entry_of}
 use Rattle.uefi_vars.specs.AtRisk.{AreThose}
 use Rattle.uefi_vars.proofs.EntriesAtRisk.{those_along}
 use Rattle.uefi_vars.proofs.Records.{none_rise, one_above}
-use Rattle.boot_texts.specs.NamingChange.{AreReadable, IsKnownUnnamed, BecomesUnnamed, BecomesNamed, IsEntryOnlyIn}
+use Rattle.uefi_vars.specs.NamingChange.{AreReadable, IsKnownUnnamed, BecomesUnnamed, BecomesNamed, IsEntryOnlyIn}
 
 -- ---- whether a number is among rising ones
 

@@ -1,7 +1,7 @@
 use Rattle.std.proofs.Common.{ap, is_some}
-use Rattle.boot_texts.specs.NamingChange.{BecomesUnnamed, BecomesNamed}
-use Rattle.boot_texts.proofs.NamingChanges.{none_known, none_of, those_known, unnamed_are, named_are}
-use Rattle.boot_texts.proofs.at_risk.naming_change.Goals as goal
+use Rattle.uefi_vars.specs.NamingChange.{BecomesUnnamed, BecomesNamed}
+use Rattle.uefi_vars.proofs.NamingChanges.{none_known, none_of, those_known, unnamed_are, named_are}
+use Rattle.uefi_vars.proofs.naming.naming_change.Goals as goal
 
 pub returns-in_default-clause-unnamed : goal.returns-in_default-clause-unnamed
 returns-in_default-clause-unnamed c =

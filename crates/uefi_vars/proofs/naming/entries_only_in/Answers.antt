@@ -1,10 +1,10 @@
 use Rattle.std.proofs.Common.{get_or, sym, ◌∙◌}
 use Rattle.std.proofs.lemmas.Bool.{false≢true}
 use Rattle.std.proofs.lemmas.List.{get_or_default}
-use Rattle.boot_texts.proofs.NamingChanges.{is_stored, none_of_first, pass_it, add_it, all_those}
-use Rattle.boot_texts.proofs.at_risk.entries_only_in.Goals as goal
-use Rattle.boot_texts.proofs.at_risk.entries_only_in.Goals.{then-is_some+then-not-is_among+in_ok-push, else-is_some}
-use Rattle.boot_texts.proofs.at_risk.entries_only_in.Goals.{else-is_some-via-then-is_some+else-not-is_among, else-is_some-via-else-is_some}
+use Rattle.uefi_vars.proofs.NamingChanges.{is_stored, none_of_first, pass_it, add_it, all_those}
+use Rattle.uefi_vars.proofs.naming.entries_only_in.Goals as goal
+use Rattle.uefi_vars.proofs.naming.entries_only_in.Goals.{then-is_some+then-not-is_among+in_ok-push, else-is_some}
+use Rattle.uefi_vars.proofs.naming.entries_only_in.Goals.{else-is_some-via-then-is_some+else-not-is_among, else-is_some-via-else-is_some}
 
 pub loop-number-init : goal.loop-number-init
 loop-number-init c = rw c.new-found.ensures.items (none_of_first c.args.vars.now c.args.numbers.now c.args.others.now)

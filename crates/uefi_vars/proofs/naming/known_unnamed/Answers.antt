@@ -1,8 +1,8 @@
 use Rattle.std.proofs.Common.{sym, ap, ◌∙◌, is_some}
 use Rattle.std.proofs.lemmas.Bool.{false≢true}
-use Rattle.boot_texts.specs.NamingChange.{IsKnownUnnamed}
-use Rattle.boot_texts.proofs.NamingChanges.{none_of}
-use Rattle.boot_texts.proofs.at_risk.known_unnamed.Goals as goal
+use Rattle.uefi_vars.specs.NamingChange.{IsKnownUnnamed}
+use Rattle.uefi_vars.proofs.NamingChanges.{none_of}
+use Rattle.uefi_vars.proofs.naming.known_unnamed.Goals as goal
 
 pub returns-in-None : goal.returns-in-None
 returns-in-None c =
