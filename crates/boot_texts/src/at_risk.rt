@@ -1,7 +1,7 @@
 //! Entries that a start of firmware may write over or delete, as they are shown.
 
 use std::fmt;
-use uefi_vars::AtRisk;
+use uefi_vars::{AtRisk, EntryName};
 
 /// What a start of firmware may do to an entry.
 #[derive(Clone, Copy, Debug, PartialEq, Eq)]
@@ -40,16 +40,6 @@ impl fmt::Display for Risk {
             Risk::Unnamed => f.write_str("in no order: firmware may write over it"),
             Risk::Undecodable => f.write_str("undecodable, in the order: firmware may delete it"),
         }
-    }
-}
-
-/// The number of an entry, shown as the name of its variable (UEFI 2.10, 3.1.1).
-#[derive(Clone, Copy, Debug, PartialEq, Eq)]
-pub struct EntryName(pub u16);
-
-impl fmt::Display for EntryName {
-    fn fmt<W: fmt::Write>(&self, f: &mut fmt::Formatter<W>) -> fmt::Result {
-        write!(f, "Boot{:04X}", self.0)
     }
 }
 

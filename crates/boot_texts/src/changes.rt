@@ -1,7 +1,7 @@
 //! What differs between two sets of variables, by `bootvars diff`.
 
-use crate::at_risk::{EntryName, UnnamedWords};
-use crate::content::{Content, DataText, EntryDigits, Quoted};
+use crate::at_risk::UnnamedWords;
+use crate::content::{Content, DataText, Quoted};
 use crate::json::{
     JsonObject, JsonWriter, Leaf, append_leaf, append_leaves, append_object, append_objects,
     json_line,
@@ -9,7 +9,10 @@ use crate::json::{
 use crate::shown_option::{AttributeWords, ShownOption};
 use std::alloc::{AllocError, Global};
 use std::fmt::{self, Display};
-use uefi_vars::{BootChange, NamingChange, Vars, boot_changes, entry_number, naming_change};
+use uefi_vars::{
+    BootChange, EntryDigits, EntryName, NamingChange, Vars, boot_changes, entry_number,
+    naming_change,
+};
 
 /// What differs between two sets, as it is shown.
 #[derive(Drop)]

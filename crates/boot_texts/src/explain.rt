@@ -1,6 +1,6 @@
 //! What the frames of a script or a stream ask for, by `bootvars explain`.
 
-use crate::content::{EntryDigits, NumberList, Summary, option_place};
+use crate::content::{NumberList, Summary, option_place};
 use crate::event_position::EventPosition;
 use crate::json::{
     JsonObject, JsonWriter, Leaf, append_leaf, append_leaves, append_object, append_objects,
@@ -13,6 +13,7 @@ use boot_requests::{Event, EventList, FRAME_MAGIC, FrameFault, InputFormat, Requ
 use std::alloc::{AllocError, Global};
 use std::fmt;
 use uefi_option::LoadOption;
+use uefi_vars::EntryDigits;
 
 /// What a script or a stream asks for, in words.
 #[derive(Debug, Drop)]

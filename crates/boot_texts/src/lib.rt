@@ -38,9 +38,8 @@ mod shown_order;
 mod shown_vars;
 mod sizes;
 
-pub use at_risk::{EntryName, UnnamedWords};
+pub use at_risk::UnnamedWords;
 pub use changes::{change_report, changes_text, diff_json, diff_report};
-pub use content::EntryDigits;
 pub use description::DescriptionFault;
 pub use digits::{
     DigitsFault, attributes_of_text, entry_of_digits, number_of_digits, seconds_of_digits,

@@ -1,6 +1,5 @@
 //! Replies to requests, as `bootvars update` prints them in JSON.
 
-use crate::content::EntryDigits;
 use crate::event_position::EventPosition;
 use crate::json::{
     JsonObject, JsonWriter, Leaf, append_leaf, append_leaves, append_object, append_objects,
@@ -10,7 +9,7 @@ use crate::plan::shown_plan;
 use crate::reason::frame_words;
 use boot_requests::{Answer, Outcome, Reply};
 use std::alloc::{AllocError, Global};
-use uefi_vars::{BootPlan, PlanNumbers};
+use uefi_vars::{BootPlan, EntryDigits, PlanNumbers};
 
 /// An answer to an event, and what is told besides.
 #[derive(Clone, Copy, Debug)]

@@ -1,7 +1,7 @@
 //! Variables as they are shown, by `bootvars show`.
 
 use crate::at_risk::Risk;
-use crate::content::{ByteCount, Content, DataText, EntryDigits, NumberList, ShownFault};
+use crate::content::{ByteCount, Content, DataText, NumberList, ShownFault};
 use crate::json::{
     JsonObject, JsonWriter, Leaf, append_leaf, append_leaves, append_object, append_objects,
     json_line,
@@ -13,8 +13,8 @@ use crate::shown_order::OrderMarks;
 use std::alloc::{AllocError, Global};
 use uefi_option::is_active;
 use uefi_vars::{
-    AtRisk, BOOT_NEXT, BOOT_ORDER, PlanNumbers, TIMEOUT, VarFault, Vars, entry_number, known_risks,
-    plan_numbers,
+    AtRisk, BOOT_NEXT, BOOT_ORDER, EntryDigits, PlanNumbers, TIMEOUT, VarFault, Vars, entry_number,
+    known_risks, plan_numbers,
 };
 
 /// Variables as they are shown.

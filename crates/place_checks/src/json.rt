@@ -7,9 +7,10 @@ use boot_texts::json::{
     JsonObject, JsonWriter, Leaf, append_leaf, append_leaves, append_object, append_objects,
     json_line,
 };
-use boot_texts::{EntryDigits, EntryName, shown_plan};
+use boot_texts::shown_plan;
 use entry_checks::{Finding, NextFinding, OrderFindings, State};
 use std::alloc::{AllocError, Global};
+use uefi_vars::{EntryDigits, EntryName};
 
 /// What is found as an object on one line, which ends with a line feed.
 pub(crate) fn json_of(alloc: Global, checked: &Checked) -> Result<String, AllocError> {

@@ -3,10 +3,11 @@
 use crate::checked::{Checked, Found};
 use crate::entry::LookedEntry;
 use crate::words::state_word;
-use boot_texts::{BAD_NEXT, BAD_ORDER, EntryName, append_plan};
+use boot_texts::{BAD_NEXT, BAD_ORDER, append_plan};
 use entry_checks::{Finding, NextFinding, OrderFindings};
 use std::alloc::{AllocError, Global};
 use std::fmt;
+use uefi_vars::{EntryDigits, EntryName};
 
 /// The lines of what is found.
 pub(crate) fn report_of(alloc: Global, checked: &Checked) -> Result<String, AllocError> {
@@ -75,7 +76,7 @@ fn append_numbers(stale: &[u16], twice: &[u16], report: &mut String) -> Result<(
         writeln!(report, "  {}", NamesNone(*number))?;
     }
     for number in twice {
-        writeln!(report, "  it names {number:04X} more than once")?;
+        writeln!(report, "  it names {} more than once", EntryDigits(*number))?;
     }
     Ok(())
 }
@@ -86,7 +87,7 @@ struct NamesNone(u16);
 
 impl fmt::Display for NamesNone {
     fn fmt<W: fmt::Write>(&self, f: &mut fmt::Formatter<W>) -> fmt::Result {
-        write!(f, "it names {:04X}, which has no entry", self.0)
+        write!(f, "it names {}, which has no entry", EntryDigits(self.0))
     }
 }
 

@@ -3,13 +3,14 @@
 use crate::edits::{EditForm, WantedEdit};
 use crate::unnamed::remark_unnamed;
 use boot_edits::EditAnswer;
+use boot_texts::changes_text;
 use boot_texts::json::{JsonObject, JsonWriter, Leaf, append_leaves, json_line};
-use boot_texts::{EntryDigits, EntryName, changes_text};
 use messages::Shortened;
 use std::alloc::{AllocError, Global};
 use uefi_option::check_option;
 use uefi_vars::{
-    BOOT_NEXT, BOOT_ORDER, VarFault, boot_changes, boot_next, boot_order, entry_number,
+    BOOT_NEXT, BOOT_ORDER, EntryDigits, EntryName, VarFault, boot_changes, boot_next, boot_order,
+    entry_number,
 };
 use wanted_changes::{Remarks, SetChange, Told};
 

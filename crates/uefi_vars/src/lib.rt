@@ -41,7 +41,8 @@ pub use changes::Changes;
 pub use fault::{PutFault, PutRefusal, SetFault, VarFault};
 pub use free::lowest_free;
 pub use name::{
-    BOOT_NEXT, BOOT_ORDER, GLOBAL_VENDOR, KEEP_STATE, NAME_MAX, TIMEOUT, entry_name, entry_number,
+    BOOT_NEXT, BOOT_ORDER, EntryDigits, EntryName, GLOBAL_VENDOR, KEEP_STATE, NAME_MAX, TIMEOUT,
+    entry_name, entry_number,
 };
 pub use naming::{NamingChange, known_risks, naming_change};
 pub use order::{ORDER_MAX, boot_next, boot_order};
