@@ -1,3 +1,2 @@
 mod Descriptions
-mod Each
 mod JsonTexts

@@ -7,10 +7,10 @@ use Rattle.uefi_text.specs.Bytes.{Each}
 use Rattle.uefi_names.specs.Standard.{standard_table}
 use Rattle.uefi_names.specs.Reading.{IsNamedText}
 use Rattle.boot_texts.specs.Description.{IsDescription}
-use Rattle.boot_texts.specs.declared.option.Flags.{Flags}
-use Rattle.boot_texts.specs.declared.option.OptionPaths.{OptionPaths}
-use Rattle.boot_texts.specs.declared.option.OptionPaths.TheVariants.{Texts, Paths}
-use Rattle.boot_texts.specs.declared.option.OptionWords.{OptionWords}
+use Rattle.command_words.specs.declared.option.Flags.{Flags}
+use Rattle.command_words.specs.declared.option.OptionPaths.{OptionPaths}
+use Rattle.command_words.specs.declared.option.OptionPaths.TheVariants.{Texts, Paths}
+use Rattle.command_words.specs.declared.option.OptionWords.{OptionWords}
 
 -- a bit, if something is so
 abbrev pub bit_if : Bool → ℕ → ℕ

@@ -1,8 +1,8 @@
 use Rattle.std.proofs.Common.{ℕ, List, Bor}
 use Rattle.uefi_names.specs.Standard.{standard_table}
 use Rattle.uefi_names.specs.Reading.{IsNamedText}
-use Rattle.boot_texts.proofs.Each.{each_step}
-use Rattle.boot_texts.proofs.option.read_paths.Goals as goal
+use Rattle.command_words.proofs.Each.{each_step}
+use Rattle.command_words.proofs.option.read_paths.Goals as goal
 
 pub loop-text-preserved : goal.loop-text-preserved
 loop-text-preserved c =

@@ -4,10 +4,10 @@ ghost use Rattle.std.specs.Prelude.{◌≡◌, IfOk};
 ghost use Rattle.uefi_option.specs.LoadOption.{SpellsOption};
 ghost use Rattle.boot_requests.specs.declared.request.Request.{Request};
 ghost use Rattle.boot_requests.specs.Frame.{SpellsFrame};
-ghost use Rattle.boot_texts.specs.Frame.{AsksFor};
+ghost use Rattle.command_words.specs.Frame.{AsksFor};
 
-use crate::reason::{FaultReason, frame_words, option_reason};
 use boot_requests::{FrameFault, OrderList, Request, write_frame};
+use boot_texts::{FaultReason, frame_words, option_reason};
 use std::alloc::{AllocError, AllocFailed, Global};
 use std::collections::BTreeSet;
 use thiserror::Error;

@@ -3,7 +3,7 @@ use Rattle.std.specs.Str.{chars}
 use Rattle.std.proofs.lemmas.Iterator.{YieldsList-from_chars}
 use Rattle.std.proofs.lemmas.Iterator.Consumers.{YieldsList-end}
 use Rattle.boot_texts.proofs.JsonTexts.{all_done}
-use Rattle.boot_texts.proofs.description.append_text.Goals as goal
+use Rattle.boot_texts.proofs.description.append_text_units.Goals as goal
 
 pub returns : goal.returns
 returns c =

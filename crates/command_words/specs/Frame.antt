@@ -3,8 +3,8 @@ use Rattle.std.specs.Prelude.{◌≡◌}
 use Rattle.uefi_option.specs.LoadOption.{OptionParts, SpellsOption}
 use Rattle.boot_requests.specs.declared.request.Request.{Request}
 use Rattle.boot_requests.specs.declared.request.Request.TheVariants as request
-use Rattle.boot_texts.specs.declared.frame.FrameWords.{FrameWords}
-use Rattle.boot_texts.specs.declared.frame.FrameWords.TheVariants as words
+use Rattle.command_words.specs.declared.frame.FrameWords.{FrameWords}
+use Rattle.command_words.specs.declared.frame.FrameWords.TheVariants as words
 
 -- the request is the one that the words name, with the option that their bytes spell
 abbrev pub AsksFor : FrameWords → Request → Type 0

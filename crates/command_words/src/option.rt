@@ -7,10 +7,11 @@ ghost use Rattle.uefi_path.specs.Units.{units_bytes};
 ghost use Rattle.uefi_option.specs.LoadOption.{OptionParts, SpellsOption};
 ghost use Rattle.uefi_names.specs.Standard.{standard_table};
 ghost use Rattle.uefi_names.specs.Reading.{IsNamedText};
-ghost use Rattle.boot_texts.specs.OptionOfWords.{bit_if, said_attributes, ArePathTexts, ArePaths, IsOptionOfWords};
+ghost use Rattle.command_words.specs.OptionOfWords.{bit_if, said_attributes, ArePathTexts, ArePaths, IsOptionOfWords};
 
-use crate::description::{DescriptionFault, append_text, description_units};
-use crate::reason::{FaultReason, named_reason, option_words};
+use boot_texts::{
+    DescriptionFault, FaultReason, append_text_units, description_units, named_reason, option_words,
+};
 use std::alloc::{AllocError, AllocFailed, Global};
 use thiserror::Error;
 use uefi_names::{NamedFault, read_named_text};
@@ -185,7 +186,7 @@ pub fn optional_text(alloc: Global, text: &str) -> Result<Vec<u8>, AllocError>
 {
     let mut bytes = Vec::new(alloc);
     let mut units = Vec::new(alloc);
-    append_text(text, &mut units)?;
+    append_text_units(text, &mut units)?;
     append_units(&units, &mut bytes)?;
     Ok(bytes)
 }
