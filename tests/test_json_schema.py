@@ -59,7 +59,7 @@ class Document(unittest.TestCase):
         return {member for it in self.objects.values() for member in it["properties"]}
 
     def test_each_command_that_takes_json_has_its_lines(self) -> None:
-        completions = (ROOT / "completions" / "bootvars.bash").read_text(encoding="utf-8")
+        completions = (ROOT / "packaging/completions" / "bootvars.bash").read_text(encoding="utf-8")
         taking = re.findall(r'"bootvars ([\w-]+)"\) words="[^"]*--json\b', completions)
         told = {it.split()[0] for it in self.definitions["commands"]["properties"]}
         self.assertEqual(told, set(taking))

@@ -1,4 +1,4 @@
-"""The numbers of ``include/bootkeep.h``, under its names without ``BOOTKEEP_``."""
+"""The numbers of ``bootkeep.h``, under its names without ``BOOTKEEP_``."""
 
 from __future__ import annotations
 
@@ -40,7 +40,7 @@ OPTION_CATEGORY_APP = 0x00000100
 
 
 class Kind(IntEnum):
-    """The number of a fault. ``include/bootkeep.h`` says what each means, and none is ever given out again."""
+    """The number of a fault. ``bootkeep.h`` says what each means, and none is ever given out again."""
 
     PATH_NO_END = 0x0101
     PATH_SHORT_HEADER = 0x0102

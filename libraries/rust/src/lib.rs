@@ -1,12 +1,12 @@
 //! Device paths, load options, sets of UEFI boot variables, and numbered requests over them: the library that
-//! `include/bootkeep.h` declares, whose calls are proved. Each call returns for every input, and refuses what isn't
+//! `bootkeep.h` declares, whose calls are proved. Each call returns for every input, and refuses what isn't
 //! what it has to be, with the number and the place of its first fault.
 //!
 //! The plan of a set:
 //!
 //! ```
 //! # fn main() -> Result<(), Box<dyn std::error::Error>> {
-//! let set = std::fs::read("../examples/set")?;
+//! let set = std::fs::read("../../docs/examples/set")?;
 //! let plan = bootkeep::set::plan(&set)?;
 //! println!("{plan}");
 //! for number in plan.normal {
@@ -24,7 +24,7 @@
 //! use bootkeep::Keeper;
 //!
 //! # fn main() -> Result<(), Box<dyn std::error::Error>> {
-//! let mut keeper = Keeper::open(&std::fs::read("../examples/set")?)?;
+//! let mut keeper = Keeper::open(&std::fs::read("../../docs/examples/set")?)?;
 //! let reply = keeper.deliver(&frame::make(0, Request::Next(0x0001))?)?;
 //! assert_eq!(reply.to_string(), "applied Done 1");
 //! assert_eq!(bootkeep::set::plan(&keeper.set()?)?.next, Some(0x0001));

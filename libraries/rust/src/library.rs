@@ -1,4 +1,4 @@
-//! The calls of `include/bootkeep.h`, each once, as safe functions. All that is unsafe is here.
+//! The calls of `bootkeep.h`, each once, as safe functions. All that is unsafe is here.
 
 use crate::error::{Error, Refusal};
 use crate::numbers::{ABSENT, CLOSED, DONE, NAME_MAX, NO_MEMORY, NO_ROOM, REFUSED};

@@ -6,8 +6,8 @@ use bootkeep::set::{BootVariable, ChangeKind, EntryState};
 use bootkeep::{option, path, set, Error, Fault, Keeper, Outcome, Reply};
 use std::collections::HashSet;
 
-const SET: &[u8] = include_bytes!("../../examples/set");
-const STREAM: &[u8] = include_bytes!("../../examples/stream");
+const SET: &[u8] = include_bytes!("../../../docs/examples/set");
+const STREAM: &[u8] = include_bytes!("../../../docs/examples/stream");
 const TEXT: &str = r"HD(1,GPT,5C1E6A3B-7D2F-4A8C-9B1E-2F3A4B5C6D7E,0x800,0x100000)/\EFI\a.efi";
 
 fn new_option() -> Vec<u8> {

@@ -1,4 +1,5 @@
-//! Finds the library: in the folder that BOOTKEEP_LIBRARY_DIR names, as `./build-c FOLDER` makes it, or by pkg-config.
+//! Finds the library: in the folder that BOOTKEEP_LIBRARY_DIR names, as `tools/build-c FOLDER` makes it, or by
+//! pkg-config.
 
 use std::env;
 use std::path::Path;
@@ -15,8 +16,8 @@ fn main() {
     // Cargo calls this in the crate's folder, and not in that in which it was called itself.
     if !Path::new(&folder).is_absolute() || !Path::new(&folder).join(ARCHIVE).is_file() {
         eprintln!(
-            "BOOTKEEP_LIBRARY_DIR has to be the whole path of the folder of {ARCHIVE}, which ./build-c FOLDER makes: \
-             it is {folder:?}"
+            "BOOTKEEP_LIBRARY_DIR has to be the whole path of the folder of {ARCHIVE}, which tools/build-c FOLDER \
+             makes: it is {folder:?}"
         );
         process::exit(1);
     }

@@ -1,6 +1,6 @@
 """Device paths, load options, sets of boot variables, numbered requests over them, and files that firmware starts.
 
-The calls are those of the library for C, ``include/bootkeep.h``: what each accepts and refuses is proved. Bytes go in,
+The calls are those of the library for C, ``bootkeep.h``: what each accepts and refuses is proved. Bytes go in,
 and bytes, texts and values come out::
 
     >>> import bootkeep
@@ -14,12 +14,12 @@ and bytes, texts and values come out::
 What isn't what it has to be is refused by :class:`Refused`, with the number and the place of the fault. Python's own
 ``MemoryError`` is raised where memory is refused, and ``KeyError`` where a set has no variable of a name.
 
-The calls of ``include/bootkeep.h`` that have no keeper have their names here, without ``bootkeep_``, and return what
+The calls of ``bootkeep.h`` that have no keeper have their names here, without ``bootkeep_``, and return what
 they tell; but :func:`option_parts` has the description too, as a text and as a line, and :func:`library_version` is
 ``bootkeep_version``.
 
 The shared library is found by the environment's ``BOOTKEEP_LIBRARY``, beside this file, or where the system looks for
-``libbootkeep.so.1``; ``./build-c FOLDER`` makes it, and a wheel of this package has it.
+``libbootkeep.so.1``; ``tools/build-c FOLDER`` makes it, and a wheel of this package has it.
 """
 
 from __future__ import annotations

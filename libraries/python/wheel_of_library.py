@@ -1,6 +1,6 @@
 """Builds the wheel of the package `bootkeep`, which holds the shared library: what `pip wheel` calls.
 
-The library is the one that the environment's BOOTKEEP_LIBRARY names, as `./build-c FOLDER` makes it. Nothing is
+The library is the one that the environment's BOOTKEEP_LIBRARY names, as `tools/build-c FOLDER` makes it. Nothing is
 downloaded. An archive of the sources has no library: to make a wheel of it takes BOOTKEEP_LIBRARY, too."""
 
 from __future__ import annotations
@@ -59,7 +59,7 @@ def library() -> bytes:
     # What builds wheels calls this in another folder than that in which it was called.
     if not named.is_absolute() or not named.is_file():
         raise SystemExit(
-            "BOOTKEEP_LIBRARY has to be the whole path of libbootkeep.so.1, which ./build-c FOLDER makes: "
+            "BOOTKEEP_LIBRARY has to be the whole path of libbootkeep.so.1, which tools/build-c FOLDER makes: "
             f"it is {str(named)!r}"
         )
     return named.read_bytes()

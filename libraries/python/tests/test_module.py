@@ -21,9 +21,9 @@ from typing import Any, Callable, List, Optional
 import bootkeep
 from bootkeep import Kind, Outcome, ReplyKind, Request, _sets
 
-ROOT = Path(__file__).resolve().parents[2]
-SET = (ROOT / "examples/set").read_bytes()
-STREAM = (ROOT / "examples/stream").read_bytes()
+ROOT = Path(__file__).resolve().parents[3]
+SET = (ROOT / "docs/examples/set").read_bytes()
+STREAM = (ROOT / "docs/examples/stream").read_bytes()
 
 TEXT = "PciRoot(0x0)/Pci(0x1,0x0)"
 PATH = bytes.fromhex("02010c00d041030a00000000010106000001" "7fff0400")

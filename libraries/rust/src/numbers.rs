@@ -1,4 +1,4 @@
-//! The numbers of `include/bootkeep.h`, under its names without `BOOTKEEP_`. Those of faults are in the module `error`.
+//! The numbers of `bootkeep.h`, under its names without `BOOTKEEP_`. Those of faults are in the module `error`.
 
 /// The version of the interface that this crate is for.
 pub const VERSION: u32 = 1;

@@ -62,7 +62,7 @@ fn place_of(place: usize) -> Option<usize> {
 
 macro_rules! faults {
     ($($name:ident = $number:literal,)*) => {
-        /// A fault, by the numbers of `include/bootkeep.h`, which says what each means. None is ever given out again. Two
+        /// A fault, by the numbers of `bootkeep.h`, which says what each means. None is ever given out again. Two
         /// are the same if their numbers are, so [`Fault::Other`] with a number that is known is the known one; `from`
         /// makes that of a number.
         #[derive(Clone, Copy, Debug)]

@@ -115,8 +115,8 @@ extern "C" {
  *
  * No call takes more than BOOTKEEP_STACK_MAX bytes of the stack, of which UEFI has 128 KiB (UEFI 2.10, 2.3.4): a plan,
  * a run and the events of a keeper up to 19,000, bootkeep_set_at_risk 14,000, bootkeep_image_digest 10,000, and all
- * others 2,700. What the three functions take comes on top. `./build-c --firmware` prints it for each call: it adds up
- * the frames that the compiler tells, along the longest way down, and counts what calls itself, sorts of numbers and
+ * others 2,700. What the three functions take comes on top. `tools/build-c --firmware` prints it for each call: it adds
+ * up the frames that the compiler tells, along the longest way down, and counts what calls itself, sorts of numbers and
  * what goes down a tree of them, as often as it does for 65,536 numbers.
  *
  * The library uses no red zone, nothing of it is written, and it needs the processor's level x86-64-v2. Its calls have
