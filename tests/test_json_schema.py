@@ -28,7 +28,7 @@ WHY = json_schema.why_not()
 needs_jsonschema = unittest.skipIf(WHY is not None, WHY or "")
 
 WRITTEN = re.compile(
-    r'\bappend_(?:leaf|object|objects)\(\s*"(\w+)"|\(\s*"(\w+)",\s*(?:Leaf::|self\.detail)'
+    r'\bappend_(?:leaf|object|objects)\(\s*"(\w+)"|\(\s*"(\w+)",\s*(?:Leaf::|detail_leaf)'
 )
 """Where a member of an object is written."""
 

@@ -93,7 +93,7 @@ impl Content {
     /// The load option that the bytes are, or why they are none.
     pub(crate) fn from_entry(alloc: Global, bytes: &[u8]) -> Result<Content, AllocError> {
         match read_option(alloc, bytes) {
-            Ok(option) => Ok(Content::LoadOption(ShownOption::new(alloc, &option)?)),
+            Ok(option) => Ok(Content::LoadOption(ShownOption::new(alloc, option)?)),
             Err(OptionFault::OutOfMemory) => Err(AllocError),
             Err(fault) => Ok(Content::Undecodable(ShownFault {
                 fault: fault.words(alloc)?,

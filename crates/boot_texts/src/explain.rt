@@ -294,7 +294,7 @@ impl ShownRequest {
 
 /// What is shown of an option, in a box.
 fn shown_option(alloc: Global, option: &LoadOption) -> Result<Box<ShownOption>, AllocError> {
-    Ok(Box::new(alloc, ShownOption::new(alloc, option)?)?)
+    Ok(Box::new(alloc, ShownOption::new(alloc, option.copy(alloc)?)?)?)
 }
 
 impl Malformed {
@@ -356,7 +356,7 @@ struct WithAttributes<'a>(&'a ShownOption);
 
 impl fmt::Display for WithAttributes<'_> {
     fn fmt<W: fmt::Write>(&self, f: &mut fmt::Formatter<W>) -> fmt::Result {
-        let attributes = AttributeWords(self.0.attributes);
+        let attributes = AttributeWords(self.0.attributes());
         write!(f, "{} ({attributes})", Summary(self.0))
     }
 }

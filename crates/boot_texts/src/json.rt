@@ -63,6 +63,11 @@ pub struct JsonWriter {
 }
 
 impl JsonWriter {
+    /// What memory comes from.
+    pub(crate) fn alloc(&self) -> Global {
+        self.alloc
+    }
+
     /// Opens an object or a list.
     fn open(&mut self, bracket: char) -> Result<(), AllocError> {
         self.needs_comma = false;

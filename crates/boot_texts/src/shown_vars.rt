@@ -238,7 +238,7 @@ fn inactive_of(alloc: Global, entries: &[ShownEntry<'_>]) -> Result<Vec<u16>, Al
     let mut inactive = Vec::new(alloc);
     for shown in entries {
         if let Content::LoadOption(option) = &shown.content
-            && !is_active(option.attributes)
+            && !is_active(option.attributes())
         {
             inactive.push(shown.entry.0)?;
         }
@@ -411,7 +411,11 @@ fn append_entry(entry: &ShownEntry<'_>, report: &mut String) -> Result<(), Alloc
 
 /// Appends the indented lines of an option.
 fn append_option(option: &ShownOption, report: &mut String) -> Result<(), AllocError> {
-    writeln!(report, "  attributes {}", AttributeWords(option.attributes))?;
+    writeln!(
+        report,
+        "  attributes {}",
+        AttributeWords(option.attributes())
+    )?;
     for path in &option.named_paths {
         writeln!(report, "  path {path}")?;
     }
