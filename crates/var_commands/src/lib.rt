@@ -19,6 +19,8 @@ mod making;
 mod program;
 mod refusals;
 mod table;
+mod trial_rows;
+mod trials;
 mod undo_list;
 mod undoing;
 mod update_rows;

@@ -8,11 +8,13 @@ use crate::action::{Action, Form};
 use crate::changing::change_entries;
 use crate::command_line::{action_of, read_words};
 use crate::making::{entry_of, explain, make_frame, make_option};
+use crate::trials::run_trial;
 use crate::undo_list::list_changes;
 use crate::undoing::undo_change;
 use crate::updates::{UpdateWords, update};
 use crate::writing::write_place;
 use boot_texts::{changes_text, timeout_json, timeout_report, vars_json, vars_report};
+use boot_trials::Outcome;
 use boot_updates::Ended;
 use clap::error::ErrorKind;
 use messages::{Failure, Reason, SHOWN_MAX, Shortened, print};
@@ -41,11 +43,16 @@ pub(crate) enum Ending {
     NotAll,
     /// It was to run requests, and didn't, since something isn't as it was expected.
     Unmet,
+    /// It was to confirm an entry, and the trial failed.
+    TrialFailed,
+    /// It was to confirm an entry, and the machine wasn't started since the trial began.
+    TooEarly,
 }
 
 impl Ending {
     /// The status that the program ends with: 1 if two places differ or something is wrong with the first entry, 6 if not
-    /// all requests were applied and carried out, 9 if none was run since something isn't as it was expected, otherwise 0.
+    /// all requests were applied and carried out, 9 if none was run since something isn't as it was expected, 10 if a trial
+    /// failed, 11 if the machine wasn't started since it began, otherwise 0.
     fn status(self) -> u8
         ensures { result ≡ ending_status self }
     {
@@ -54,13 +61,16 @@ impl Ending {
             Ending::Differs | Ending::Wrong => 1,
             Ending::NotAll => 6,
             Ending::Unmet => 9,
+            Ending::TrialFailed => 10,
+            Ending::TooEarly => 11,
         }
     }
 }
 
 /// Does what the words of the command line ask for, and returns the status to end with: 0, or 1 if two places were
 /// compared and differ or something is wrong with the first entry that was checked, 6 if requests were run and not all of
-/// them were applied and carried out, 9 if none was run since something isn't as it was expected; or, with a message on standard error, 1 if requests aren't run, 2 if the words are
+/// them were applied and carried out, 9 if none was run since something isn't as it was expected, 10 if a start on trial failed, 11 if
+/// the machine wasn't started since the trial began; or, with a message on standard error, 1 if requests aren't run, 2 if the words are
 /// wrong, 3 if a file or a variable can't be read or changed, 4 if memory was refused, 5 if an input is refused, 7 if
 /// another update is at work, and 8 if an update was neither made nor taken back; or 141, without a message, if nobody
 /// reads standard output any more. Words that begin with `efibootmgr` are that program's.
@@ -222,6 +232,7 @@ fn act<R: Files<File: OutputFile> + Clock + Input + Print + Eprint + AllocGlobal
             done(get_entry(rt, place, entry_of(rt.alloc(), entry)?, out))
         }
         Action::Change(change) => done(change_entries(rt, &change, words)),
+        Action::Trial(trial) => run_trial(rt, &trial, words).map(ending_of_trial),
         Action::Undo(words) => undo_change(rt, &words).map(ending_of),
         Action::ListChanges { machine, form } => {
             done(list_changes(rt, &machine, matches!(form, Form::Json)))
@@ -267,6 +278,16 @@ fn ending_of(left: Takeable) -> Ending {
         Ending::Done
     } else {
         Ending::NotAll
+    }
+}
+
+/// How the program ends if this came of a trial.
+fn ending_of_trial(came: Option<Outcome>) -> Ending {
+    match came {
+        None | Some(Outcome::CameUp | Outcome::Done) => Ending::Done,
+        Some(Outcome::TooEarly) => Ending::TooEarly,
+        Some(Outcome::Failed { .. } | Outcome::Changed | Outcome::Interrupted) =>
+            Ending::TrialFailed,
     }
 }
 
