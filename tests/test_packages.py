@@ -230,6 +230,7 @@ class Places(unittest.TestCase):
             sorted(marked[package_files.OTHERS]),
             [
                 "lib/dracut/modules.d/90bootkeep/module-setup.sh",
+                "lib/systemd/system/bootkeep-confirm.service",
                 "lib/systemd/system/bootkeep-settle.service",
                 "libexec/bootkeep/efibootmgr",
                 "share/initramfs-tools/hooks/bootkeep",

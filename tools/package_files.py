@@ -80,8 +80,8 @@ def program_files(made: Made, place: Place) -> FileTree:
         "bootvars.fish": "share/fish/vendor_completions.d/bootvars.fish",
     }.items():
         files.put(path, (ROOT / "packaging/completions" / completion).read_bytes())
-    unit = "bootkeep-settle.service"
-    files.put(f"lib/systemd/system/{unit}", place.script(unit))
+    for unit in ("bootkeep-confirm.service", "bootkeep-settle.service"):
+        files.put(f"lib/systemd/system/{unit}", place.script(unit))
     files.put("libexec/bootkeep/efibootmgr", place.script("efibootmgr"), PROGRAM_MODE)
     for script, hook in {
         "initramfs-tools/bootkeep": "share/initramfs-tools/hooks/bootkeep",

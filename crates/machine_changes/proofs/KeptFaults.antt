@@ -3,7 +3,7 @@ use Rattle.boot_journal.specs.Cause.{IfRefused}
 use Rattle.boot_journal.specs.declared.machine.CallError.{CallError}
 use Rattle.boot_journal.specs.declared.machine.CallError.TheVariants.{OutOfMemory, Refused}
 use Rattle.machine_changes.specs.declared.kept_run.KeptFault.{KeptFault}
-use Rattle.machine_changes.specs.declared.kept_run.KeptFault.TheVariants.{Run, Telling, History}
+use Rattle.machine_changes.specs.declared.kept_run.KeptFault.TheVariants.{Run, Telling, History, Beginning}
 use Rattle.machine_changes.specs.KeptFault.{IsKeptFault, IsUnprepared}
 
 -- what keeps the change from being prepared is a fault of the run before which it is kept
@@ -12,6 +12,7 @@ fault_of : {F : Type 0} (Refuses : F → Type 0) (Changes Leads : Type 0) → (C
 fault_of Refuses Changes Leads leads (Run fault) is = absurd is
 fault_of Refuses Changes Leads leads (Telling failure) is = is
 fault_of Refuses Changes Leads leads (History failure) is = leads is
+fault_of Refuses Changes Leads leads (Beginning failure) is = is
 
 -- the same of an error
 pub unprepared_so : {F : Type 0} (Refuses : F → Type 0) (Changes Leads : Type 0) → (Changes → Leads)

@@ -19,7 +19,7 @@ const BOOT_ID_LEN: usize = 65;
 ///
 /// [`Failure::Words`] if it is needed and isn't given, or isn't one; [`Failure::Read`] and [`Failure::Refused`] if the system
 /// doesn't tell it; and [`Failure::Memory`] if memory was refused.
-pub(crate) fn boot_id<R: Files + AllocGlobal>(
+pub fn boot_id<R: Files + AllocGlobal>(
     rt: &R,
     words: &MachineWords<'_>,
     is_folder: bool,

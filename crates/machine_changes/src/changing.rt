@@ -85,6 +85,14 @@ impl<W: Wanted> Telling<W::Answer> for SeenRun<'_, '_, W> {
         };
         Ok(self.wanted.tell(alloc, self.seen, change, answer)?)
     }
+
+    fn begin(&self, answer: &W::Answer) -> Result<(), Failure> {
+        self.wanted.begin(answer)
+    }
+
+    fn take_back(&self) {
+        self.wanted.take_back();
+    }
 }
 
 /// Does what is left of earlier updates of a machine, and then makes a change of its variables, or looks what it would be
@@ -306,9 +314,11 @@ fn from_command<W: Wanted>(
     match error {
         CommandError::OutOfMemory => W::Refusal::from(Failure::Memory),
         CommandError::Run(KeptFault::Run(fault)) => wanted.refusal(alloc, fault),
-        CommandError::Run(KeptFault::Telling(failure) | KeptFault::History(failure)) => {
-            W::Refusal::from(failure)
-        }
+        CommandError::Run(
+            KeptFault::Telling(failure)
+            | KeptFault::History(failure)
+            | KeptFault::Beginning(failure),
+        ) => W::Refusal::from(failure),
         CommandError::Settling(error) => W::Refusal::from(from_settling(alloc, machine, error)),
         CommandError::Updating(error) => W::Refusal::from(from_updating(alloc, machine, error)),
     }

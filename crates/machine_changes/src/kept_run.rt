@@ -30,6 +30,16 @@ pub(crate) trait Telling<A> {
     /// [`Failure::Memory`] if memory was refused, and others if it can't be told.
     fn tell(&self, alloc: Global, from: &Vars, to: &Vars, answer: &A) -> Result<Told, Failure>
         ensures { IfOk result (tells self.now from.now to.now answer.now) };
+
+    /// What is done right before the change is made, once what is there is kept.
+    ///
+    /// # Errors
+    ///
+    /// [`Failure::Memory`] if memory was refused, and others if it can't be done: it isn't then.
+    fn begin(&self, answer: &A) -> Result<(), Failure>;
+
+    /// What is done if the change had begun so, and is taken back.
+    fn take_back(&self);
 }
 
 /// What a run answers, and what is told of it.
@@ -64,6 +74,8 @@ pub(crate) enum KeptFault<F> {
     Telling(Failure),
     /// The run leads to a change, and what is there can't be kept.
     History(Failure),
+    /// What is to be done right before the change can't be. The failure is never [`Failure::Memory`].
+    Beginning(Failure),
 }
 
 /// The run of a change that is asked for.
@@ -125,7 +137,8 @@ impl<R, T> Preparation<'_, '_, R, T>
 where
     R: Files<File: OutputFile> + Clock + AllocGlobal,
 {
-    /// Makes what is told of a change that is yet to be made, and keeps what is there before it.
+    /// Makes what is told of a change that is yet to be made, keeps what is there before it, and then does what is to be done
+    /// right before it.
     fn prepare<A, F>(
         &self,
         alloc: Global,
@@ -144,23 +157,29 @@ where
             Err(failure) => return Err(CallError::Refused(KeptFault::Telling(failure))),
         };
         match self.history.keep(self.rt, from, to) {
-            Ok(()) => Ok(told),
-            Err(CallError::OutOfMemory) => Err(CallError::OutOfMemory),
+            Ok(()) => {}
+            Err(CallError::OutOfMemory) => return Err(CallError::OutOfMemory),
             Err(CallError::Refused(failure)) => {
-                Err(CallError::Refused(KeptFault::History(failure)))
+                return Err(CallError::Refused(KeptFault::History(failure)));
             }
+        }
+        match self.telling.begin(answer) {
+            Ok(()) => Ok(told),
+            Err(Failure::Memory) => Err(CallError::OutOfMemory),
+            Err(failure) => Err(CallError::Refused(KeptFault::Beginning(failure))),
         }
     }
 }
 
 /// Does what is left of earlier updates of a machine, runs something over its variables, and makes what that leads to, as
 /// [`command`] does; what is told of the change is made before it, and what is there is kept, so that the change can be
-/// undone. The identity is that of the machine's start.
+/// undone; then it is done what is to be right before the change, which is taken back if the change is. The identity is that of
+/// the machine's start.
 ///
 /// # Errors
 ///
-/// Those of [`command`]: [`CommandError::Run`] also if what is to be told can't be, or what is there can't be kept, and
-/// nothing was changed then.
+/// Those of [`command`]: [`CommandError::Run`] also if what is to be told can't be, what is there can't be kept, or what is to be
+/// done right before the change can't be, and nothing was changed then.
 pub(crate) fn kept_command<R, M, Q, T>(
     rt: &R,
     machine: &mut M,
@@ -186,6 +205,7 @@ where
     let ended = command(rt.alloc(), machine, run, boot);
     if let Err(CommandError::Updating(UpdateError::TakenBack(_))) = &ended {
         forget_unmade(rt, machine, history);
+        telling.take_back();
     }
     ended
 }

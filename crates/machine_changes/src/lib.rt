@@ -5,7 +5,8 @@
 //! [`Wanted`](wanted_changes::Wanted) over the variables, makes what is told of it, keeps what is there so that the change can be undone, and makes
 //! the change, as a whole, whatever is cut off when. For that a folder of its own has the journal: it is `boot_journal`'s
 //! [`command`](boot_journal::command) over storage that is the place and that folder. [`settle_machine`] only does what is
-//! left to do. [`kind_of_place`] tells what a place is, and [`name_of_machine`] what its machine is called.
+//! left to do. [`kind_of_place`] tells what a place is, [`name_of_machine`] what its machine is called, and
+//! [`boot_id`] the identity of its start.
 #![tactic(auto)]
 
 mod boot_identity;
@@ -28,6 +29,7 @@ mod told;
 mod values;
 mod variable_file;
 
+pub use boot_identity::boot_id;
 pub use changing::{ChangeOptions, change_machine};
 pub use file_changes::settle_machine;
 pub use kept_run::ToldAnswer;

@@ -17,8 +17,8 @@ fn from_edit(alloc: Global, place: &str, fault: EditFault) -> Failure {
     }
 }
 
-/// What it is to the program that what the machine in the place keeps is refused by a change.
-pub(crate) fn from_edit_run(alloc: Global, place: &str, fault: EditRunFault) -> Failure {
+/// What it is to the program that what the machine keeps in the place of this name is refused by an edit.
+pub fn from_edit_run(alloc: Global, place: &str, fault: EditRunFault) -> Failure {
     match fault {
         EditRunFault::Edit(fault) => from_edit(alloc, place, fault),
         EditRunFault::NoData | EditRunFault::TooLong => Failure::from_fault(alloc, place, fault),

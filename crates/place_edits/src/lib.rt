@@ -3,7 +3,8 @@
 //!
 //! A [`WantedEdit`] is a change of `boot_edits`, a [`WantedSet`] makes the boot variables of a place those of a set, and a
 //! [`WantedUndo`] brings back what was there before the last change that is kept. Each says what it leads to, and what is told
-//! of that; `machine_changes` makes it so. [`get_entry`] gives the load option of an entry.
+//! of that; `machine_changes` makes it so. [`from_edit_run`] tells why an edit isn't made, and
+//! [`get_entry`] gives the load option of an entry.
 #![tactic(auto)]
 
 mod brought;
@@ -20,6 +21,7 @@ mod wanted_set;
 
 pub use edits::{EditForm, WantedEdit};
 pub use entry::get_entry;
+pub use fault_words::from_edit_run;
 pub use takeable::Takeable;
 pub use undo::{UndoWords, WantedUndo};
 pub use undo_run::{ChangedSince, UndoFault, Undone};

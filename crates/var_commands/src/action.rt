@@ -55,6 +55,8 @@ pub enum Action<'a> {
     },
     /// To change boot entries of a place.
     Change(ChangeWords<'a>),
+    /// To begin a start on trial, to make what follows from one, or to end it.
+    Trial(TrialWords<'a>),
     /// To bring back what was there before the last change of a machine.
     Undo(UndoWords<'a>),
     /// To list the changes of a machine that can be undone.
@@ -126,6 +128,30 @@ pub struct SetWords<'a> {
     pub form: Form,
     /// Whether a set without an entry is written.
     pub empty: bool,
+}
+
+/// The words of a start on trial.
+#[derive(Clone, Copy)]
+pub struct TrialWords<'a> {
+    /// The machine.
+    pub machine: MachineWords<'a>,
+    /// What is to be done.
+    pub job: TrialJob<'a>,
+    /// Whether nothing is changed, and what would be is shown.
+    pub dry_run: bool,
+    /// How it is shown.
+    pub form: Form,
+}
+
+/// What is to be done of a start on trial.
+#[derive(Clone, Copy)]
+pub enum TrialJob<'a> {
+    /// It begins, of this entry, as it is written.
+    Begin(&'a str),
+    /// What follows from it is made.
+    Confirm,
+    /// It is ended.
+    End,
 }
 
 /// The words of a change of boot entries.

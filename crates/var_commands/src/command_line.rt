@@ -2,7 +2,7 @@
 
 use crate::action::{
     Action, AddWords, AttributeWords, ChangeWords, EntryChange, Form, LoadOptionWords, LoaderWords,
-    OptionalWords, PathWords, RequestWords, SetWords, StartWords,
+    OptionalWords, PathWords, RequestWords, SetWords, StartWords, TrialJob, TrialWords,
 };
 use crate::commands::program;
 use crate::updates::Job;
@@ -42,6 +42,8 @@ pub(crate) fn action_of<'a>(matches: &'a ArgMatches<'_>) -> Option<Action<'a>> {
         "explain" => explain_of(matches),
         "undo" => undo_of(matches),
         "timeout" => timeout_of(matches),
+        "try" => trial_of(try_job(matches), matches),
+        "confirm" => trial_of(TrialJob::Confirm, matches),
         _ => change_of(entry_change_of(name, matches)?, matches),
     }
 }
@@ -146,6 +148,23 @@ fn undo_of<'a>(matches: &'a ArgMatches<'_>) -> Option<Action<'a>> {
         force: machine.force,
         dry_run: matches.get_flag("dry-run"),
         json: matches!(form, Form::Json),
+    }))
+}
+
+/// What `try` does of a trial.
+fn try_job<'a>(matches: &'a ArgMatches<'_>) -> TrialJob<'a> {
+    match matches.get_str("ENTRY") {
+        Some(entry) => TrialJob::Begin(entry),
+        None => TrialJob::End,
+    }
+}
+
+fn trial_of<'a>(job: TrialJob<'a>, matches: &'a ArgMatches<'_>) -> Option<Action<'a>> {
+    Some(Action::Trial(TrialWords {
+        machine: machine_of(matches)?,
+        job,
+        dry_run: matches.get_flag("dry-run"),
+        form: form_of(matches),
     }))
 }
 

@@ -8,6 +8,7 @@ use crate::arg_rows::{
 use crate::entry_rows::{LIST_COMMANDS, ORDER_COMMANDS, SWITCH_COMMANDS};
 use crate::frame_rows::{FRAME, REQUESTS};
 use crate::table::{ArgKind, ArgRow, CommandRow, GroupRow, add_commands, command};
+use crate::trial_rows::TRIAL_COMMANDS;
 use crate::update_rows::UPDATE_COMMANDS;
 use clap::Command;
 use std::alloc::{AllocError, Global};
@@ -55,6 +56,7 @@ fn commands<'a>(alloc: Global) -> Result<Vec<Command<'a>>, AllocError> {
     add_commands(alloc, &mut commands, &LIST_COMMANDS)?;
     add_commands(alloc, &mut commands, &ORDER_COMMANDS)?;
     add_commands(alloc, &mut commands, &SWITCH_COMMANDS)?;
+    add_commands(alloc, &mut commands, &TRIAL_COMMANDS)?;
     add_commands(alloc, &mut commands, &UNDO_COMMANDS)?;
     add_commands(alloc, &mut commands, &WRITE_COMMANDS)?;
     add_commands(alloc, &mut commands, &UPDATE_COMMANDS)?;

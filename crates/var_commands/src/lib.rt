@@ -19,6 +19,8 @@ mod making;
 mod program;
 mod refusals;
 mod table;
+mod trial_rows;
+mod trials;
 mod undo_list;
 mod undoing;
 mod update_rows;
@@ -26,3 +28,4 @@ mod updates;
 mod writing;
 
 pub use program::{OtherProgram, run};
+pub use trials::Trials;

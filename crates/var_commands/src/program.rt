@@ -8,11 +8,13 @@ use crate::action::{Action, Form};
 use crate::changing::change_entries;
 use crate::command_line::{action_of, read_words};
 use crate::making::{entry_of, explain, make_frame, make_option};
+use crate::trials::{Trials, run_trial};
 use crate::undo_list::list_changes;
 use crate::undoing::undo_change;
 use crate::updates::{UpdateWords, update};
 use crate::writing::write_place;
 use boot_texts::{changes_text, timeout_json, timeout_report, vars_json, vars_report};
+use boot_trials::Outcome;
 use boot_updates::Ended;
 use clap::error::ErrorKind;
 use messages::{Failure, Reason, SHOWN_MAX, Shortened, print};
@@ -41,11 +43,16 @@ pub(crate) enum Ending {
     NotAll,
     /// It was to run requests, and didn't, since something isn't as it was expected.
     Unmet,
+    /// It was to confirm an entry, and the trial failed.
+    TrialFailed,
+    /// It was to confirm an entry, and the machine wasn't started since the trial began.
+    TooEarly,
 }
 
 impl Ending {
     /// The status that the program ends with: 1 if two places differ or something is wrong with the first entry, 6 if not
-    /// all requests were applied and carried out, 9 if none was run since something isn't as it was expected, otherwise 0.
+    /// all requests were applied and carried out, 9 if none was run since something isn't as it was expected, 10 if a trial
+    /// failed, 11 if the machine wasn't started since it began, otherwise 0.
     fn status(self) -> u8
         ensures { result ≡ ending_status self }
     {
@@ -54,25 +61,28 @@ impl Ending {
             Ending::Differs | Ending::Wrong => 1,
             Ending::NotAll => 6,
             Ending::Unmet => 9,
+            Ending::TrialFailed => 10,
+            Ending::TooEarly => 11,
         }
     }
 }
 
 /// Does what the words of the command line ask for, and returns the status to end with: 0, or 1 if two places were
 /// compared and differ or something is wrong with the first entry that was checked, 6 if requests were run and not all of
-/// them were applied and carried out, 9 if none was run since something isn't as it was expected; or, with a message on standard error, 1 if requests aren't run, 2 if the words are
+/// them were applied and carried out, 9 if none was run since something isn't as it was expected, 10 if a start on trial failed, 11 if
+/// the machine wasn't started since the trial began; or, with a message on standard error, 1 if requests aren't run, 2 if the words are
 /// wrong, 3 if a file or a variable can't be read or changed, 4 if memory was refused, 5 if an input is refused, 7 if
 /// another update is at work, and 8 if an update was neither made nor taken back; or 141, without a message, if nobody
 /// reads standard output any more. Words that begin with `efibootmgr` are that program's.
-pub fn run<R, E>(rt: &R, efibootmgr: &E) -> u8
+pub fn run<R, O>(rt: &R, others: &O) -> u8
 where
     R: Env + Files<File: OutputFile> + Clock + Input + Print + Eprint + AllocGlobal,
-    E: OtherProgram<R>,
+    O: OtherProgram<R> + Trials<R>,
 {
     match words(rt) {
         Ok(words) => match words.as_slice() {
-            [_, called @ ..] if is_efibootmgr(called) => efibootmgr.run(rt, called),
-            words => tell(rt, answer(rt, words)),
+            [_, called @ ..] if is_efibootmgr(called) => others.run(rt, called),
+            words => tell(rt, answer(rt, others, words)),
         },
         Err(failure) => tell(rt, Err(failure)),
     }
@@ -112,14 +122,15 @@ fn tell<R: Eprint>(rt: &R, outcome: Result<Ending, Failure>) -> u8
 }
 
 /// Does what the words of the command line ask for, of which the first is the program's name.
-fn answer<R: Files<File: OutputFile> + Clock + Input + Print + Eprint + AllocGlobal>(
-    rt: &R,
-    words: &[String],
-) -> Result<Ending, Failure> {
+fn answer<R, T>(rt: &R, trials: &T, words: &[String]) -> Result<Ending, Failure>
+where
+    R: Files<File: OutputFile> + Clock + Input + Print + Eprint + AllocGlobal,
+    T: Trials<R>,
+{
     let alloc = rt.alloc();
     match read_words(alloc, words) {
         Ok(matches) => match action_of(&matches) {
-            Some(action) => act(rt, action, words.get(1..).unwrap_or(&[])),
+            Some(action) => act(rt, trials, action, words.get(1..).unwrap_or(&[])),
             None => Err(Failure::from_word(alloc, "no command is named")),
         },
         Err(error) => end_without_action(rt, words, &error),
@@ -203,11 +214,11 @@ fn without_controls(alloc: Global, message: &str) -> Result<String, AllocError> 
 }
 
 /// Does what is asked for by these words.
-fn act<R: Files<File: OutputFile> + Clock + Input + Print + Eprint + AllocGlobal>(
-    rt: &R,
-    action: Action<'_>,
-    words: &[String],
-) -> Result<Ending, Failure> {
+fn act<R, T>(rt: &R, trials: &T, action: Action<'_>, words: &[String]) -> Result<Ending, Failure>
+where
+    R: Files<File: OutputFile> + Clock + Input + Print + Eprint + AllocGlobal,
+    T: Trials<R>,
+{
     match action {
         Action::Read {
             place,
@@ -222,6 +233,7 @@ fn act<R: Files<File: OutputFile> + Clock + Input + Print + Eprint + AllocGlobal
             done(get_entry(rt, place, entry_of(rt.alloc(), entry)?, out))
         }
         Action::Change(change) => done(change_entries(rt, &change, words)),
+        Action::Trial(trial) => run_trial(rt, trials, &trial, words).map(ending_of_trial),
         Action::Undo(words) => undo_change(rt, &words).map(ending_of),
         Action::ListChanges { machine, form } => {
             done(list_changes(rt, &machine, matches!(form, Form::Json)))
@@ -267,6 +279,16 @@ fn ending_of(left: Takeable) -> Ending {
         Ending::Done
     } else {
         Ending::NotAll
+    }
+}
+
+/// How the program ends if this came of a trial.
+fn ending_of_trial(came: Option<Outcome>) -> Ending {
+    match came {
+        None | Some(Outcome::CameUp | Outcome::Done) => Ending::Done,
+        Some(Outcome::TooEarly) => Ending::TooEarly,
+        Some(Outcome::Failed { .. } | Outcome::Changed | Outcome::Interrupted) =>
+            Ending::TrialFailed,
     }
 }
 

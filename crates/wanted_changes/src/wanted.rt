@@ -90,6 +90,19 @@ pub trait Wanted {
     /// What keeps it from being made if it refuses variables for this fault.
     fn refusal(&self, alloc: Global, fault: Self::Fault) -> Self::Refusal;
 
+    /// What is done right before the change is made by the journal, once what is told of it is made and what is there is kept:
+    /// nothing, unless it says otherwise. It isn't done for a dry run, nor of a file that is replaced as a whole.
+    ///
+    /// # Errors
+    ///
+    /// That it can't be done, and so isn't: nothing is changed then.
+    fn begin(&self, _answer: &Self::Answer) -> Result<(), Failure> {
+        Ok(())
+    }
+
+    /// What is done if the change had begun so, and is taken back: it hasn't happened.
+    fn take_back(&self) {}
+
     /// What is done once the change is made, while the machine is still locked.
     fn end(&self, answer: &Self::Answer);
 }

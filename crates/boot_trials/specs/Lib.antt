@@ -1,0 +1,5 @@
+pub mod Trial
+pub mod File
+pub mod Outcome
+pub mod Run
+pub mod Words

@@ -1,0 +1,78 @@
+//! Runs that make what follows from a trial.
+
+ghost use Rattle.std.specs.Prelude.{◌≡◌, IfOk, IfErr};
+ghost use Rattle.boot_edits.specs.declared.run.EditRunFault.TheVariants as fault;
+ghost use Rattle.boot_journal.specs.Attributes.{data_of, HasNoData};
+ghost use Rattle.boot_journal.specs.Cause.{IfRefused};
+ghost use Rattle.boot_trials.specs.Outcome.{IsOutcome, current_of};
+
+use crate::confirmation::confirmed;
+use crate::current::boot_current;
+use crate::outcome::{Facts, Outcome, outcome_of};
+use crate::trial::Trial;
+use boot_edits::EditRunFault;
+use boot_journal::{AttributesFault, BootId, CallError, Run, without_attributes};
+use std::alloc::Global;
+use uefi_vars::Vars;
+
+/// What follows from a trial, run over what a machine keeps. It gives what came of the trial.
+#[derive(Clone, Copy, Debug)]
+pub struct ConfirmRun<'a> {
+    /// The trial.
+    pub trial: &'a Trial,
+    /// The identity of the machine's start.
+    pub start: &'a BootId,
+}
+
+impl Run for ConfirmRun<'_> {
+    ghost use Rattle.boot_trials.specs.Run.{IsConfirming, IsConfirmingFault};
+
+    type Answer = Outcome;
+
+    type Fault = EditRunFault;
+
+    ghost leads = { λ run from to came. IsConfirming run.trial.now run.start.now from to came };
+
+    ghost refuses = { λ run from fault. IsConfirmingFault run.trial.now run.start.now from fault };
+
+    /// If the machine came up by the entry, and its data is what it was, puts it first in BootOrder and makes it active. The
+    /// variables have their attributes, and keep them. In every other case nothing is changed.
+    fn run(self, alloc: Global, vars: &Vars) -> Result<(Vars, Outcome), CallError<EditRunFault>> {
+        let came = came_of(alloc, &self, vars)?;
+        let to = match came {
+            Outcome::CameUp => confirmed(alloc, vars, self.trial.entry())?,
+            _ => vars.copy(alloc)?,
+        };
+        Ok((to, came))
+    }
+}
+
+/// What came of the trial, by what the machine keeps.
+fn came_of(
+    alloc: Global,
+    run: &ConfirmRun<'_>,
+    vars: &Vars,
+) -> Result<Outcome, CallError<EditRunFault>>
+    ensures done { IfOk result (IsOutcome run.now.trial.now run.now.start.now (current_of (data_of vars.now)) (data_of vars.now)) }
+    ensures refused { IfErr result (λ error. IfRefused error (λ f. (f ≡ fault.NoData) × HasNoData vars.now)) }
+{
+    let set = data_in(alloc, vars)?;
+    let facts = Facts {
+        start: run.start,
+        current: boot_current(&set),
+        vars: &set,
+    };
+    Ok(outcome_of(alloc, run.trial, &facts)?)
+}
+
+/// The variables without their attributes.
+pub(crate) fn data_in(alloc: Global, vars: &Vars) -> Result<Vars, CallError<EditRunFault>>
+    ensures done { IfOk result (λ set. set ≡ data_of vars.now) }
+    ensures refused { IfErr result (λ error. IfRefused error (λ f. (f ≡ fault.NoData) × HasNoData vars.now)) }
+{
+    match without_attributes(alloc, vars) {
+        Ok(set) => Ok(set),
+        Err(AttributesFault::NoData) => Err(CallError::Refused(EditRunFault::NoData)),
+        Err(_) => Err(CallError::OutOfMemory),
+    }
+}

@@ -1,0 +1,78 @@
+//! Laws of the definitions. Each function's contract is one law; calling it does nothing.
+
+ghost use Rattle.std.specs.Prelude.{◌≡◌, ◌≢◌, ℕ, List, Option, Some};
+ghost use Rattle.uefi_vars.specs.Vars.{Variables};
+ghost use Rattle.boot_journal.specs.Attributes.{data_of};
+ghost use Rattle.boot_trials.specs.File.{SpellsTrial, IsTrialFault};
+ghost use Rattle.boot_trials.specs.Outcome.{IsOutcome, current_of, digest_of};
+ghost use Rattle.boot_trials.specs.Run.{IsConfirming, IsTry, DifferInNext};
+ghost use Rattle.boot_trials.specs.Trial.{TrialParts};
+ghost use Rattle.boot_trials.specs.declared.fault.TrialFault.{TrialFault};
+ghost use Rattle.boot_trials.specs.declared.fault.TrialFault.TheVariants as fault;
+ghost use Rattle.boot_trials.specs.declared.outcome.Outcome.{Outcome};
+ghost use Rattle.boot_trials.specs.declared.outcome.Outcome.TheVariants as came;
+ghost use Rattle.boot_trials.specs.declared.stage.Stage.TheVariants as stage;
+
+use boot_journal::laws as journal_laws;
+use uefi_vars::laws as vars_laws;
+
+/// Bytes spell at most one trial.
+pub fn bytes_spell_one_trial()
+    ensures { (bytes : List ℕ) (a b : TrialParts) → SpellsTrial bytes a → SpellsTrial bytes b → a ≡ b }
+{
+    vars_laws::bytes_spell_one_set();
+}
+
+/// Bytes that have a fault spell no trial.
+pub fn a_fault_leaves_no_trial()
+    ensures { (bytes : List ℕ) (f : TrialFault) (trial : TrialParts) → f ≢ fault.OutOfMemory →
+        IsTrialFault bytes f → SpellsTrial bytes trial → ⊥ }
+{
+    vars_laws::a_fault_leaves_no_set();
+}
+
+/// At most one thing came of a trial.
+pub fn a_trial_has_one_outcome()
+    ensures { (trial : TrialParts) (start : List ℕ) (current : Option ℕ) (vars : Variables) (a b : Outcome) →
+        IsOutcome trial start current vars a → IsOutcome trial start current vars b → a ≡ b }
+{}
+
+/// Nothing that is kept is changed for a trial, unless the machine came up by its entry.
+pub fn no_outcome_but_came_up_changes_a_variable()
+    ensures { (trial : TrialParts) (start : List ℕ) (from to : Variables) (outcome : Outcome) →
+        IsConfirming trial start from to outcome → outcome ≢ came.CameUp → to ≡ from }
+{}
+
+/// If something is changed for a trial, then the trial was open, this is another start than that in which it began, the
+/// machine came up by the entry, and its data is what it was.
+pub fn a_change_needs_the_entry_its_bytes_and_another_start()
+    ensures stage { (trial : TrialParts) (start : List ℕ) (from to : Variables) (outcome : Outcome) →
+        IsConfirming trial start from to outcome → to ≢ from → trial.stage ≡ stage.Open }
+    ensures start { (trial : TrialParts) (start : List ℕ) (from to : Variables) (outcome : Outcome) →
+        IsConfirming trial start from to outcome → to ≢ from → start ≢ trial.start }
+    ensures entry { (trial : TrialParts) (start : List ℕ) (from to : Variables) (outcome : Outcome) →
+        IsConfirming trial start from to outcome → to ≢ from → current_of (data_of from) ≡ Some trial.entry }
+    ensures bytes { (trial : TrialParts) (start : List ℕ) (from to : Variables) (outcome : Outcome) →
+        IsConfirming trial start from to outcome → to ≢ from → digest_of (data_of from) trial.entry ≡ Some trial.digest }
+{}
+
+/// A trial that is being confirmed changes nothing any more, whatever is there then, and in whatever start.
+pub fn a_trial_that_is_confirming_changes_nothing()
+    ensures { (trial : TrialParts) (start : List ℕ) (from to : Variables) (outcome : Outcome) →
+        trial.stage ≡ stage.Confirming → IsConfirming trial start from to outcome → to ≡ from }
+{}
+
+/// The start in which a trial begins changes nothing for it.
+pub fn nothing_is_changed_before_a_start()
+    ensures { (trial : TrialParts) (from to : Variables) (outcome : Outcome) →
+        IsConfirming trial trial.start from to outcome → to ≡ from }
+{}
+
+/// The beginning of a trial changes BootNext alone: every entry, BootOrder and each variable of another name has the data that
+/// it had.
+pub fn a_try_changes_boot_next_alone()
+    ensures { (entry : ℕ) (start : List ℕ) (from to : Variables) (trial : TrialParts) →
+        IsTry entry start from to trial → DifferInNext (data_of from) (data_of to) }
+{
+    journal_laws::attributes_and_data_are_what_is_kept();
+}
