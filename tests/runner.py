@@ -28,8 +28,9 @@ CRATE = "case_runner"
 LIBRARIES = (
     "uefi_path uefi_text uefi_names uefi_option partitions efi_images uefi_vars var_stores "
     "boot_requests whole_files boot_journal journaled_requests boot_moves boot_edits "
-    "boot_commands boot_texts command_words var_places boot_history wanted_changes machine_changes "
-    "boot_updates disk_files place_edits efibootmgr_runs var_commands serde_json hex anyhow"
+    "boot_commands messages boot_texts command_words var_places boot_history wanted_changes "
+    "machine_changes boot_updates disk_files boot_trials place_edits trial_changes "
+    "efibootmgr_runs var_commands serde_json hex anyhow"
 )
 """What it stands on."""
 

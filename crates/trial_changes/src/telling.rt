@@ -1,10 +1,11 @@
 //! What is told of trials.
 
+use boot_texts::changes_text;
 use boot_texts::json::{JsonObject, JsonWriter, Leaf, append_leaves, json_line};
-use boot_texts::{EntryDigits, EntryName, changes_text};
 use boot_trials::Outcome;
 use std::alloc::{AllocError, Global};
 use std::fmt;
+use uefi_vars::{EntryDigits, EntryName};
 use wanted_changes::SetChange;
 
 /// How a trial is told.

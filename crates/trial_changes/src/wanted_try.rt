@@ -4,13 +4,12 @@ use crate::telling::{ShownTrial, Standing, TrialForm, trial_text};
 use crate::trial_file::{forget_trial, store_trial, stored_trial};
 use boot_edits::{Edit, EditAnswer, EditRunFault};
 use boot_journal::{BootId, CallError, Run};
-use boot_texts::EntryName;
 use boot_trials::{Trial, TryRun};
 use messages::{Failure, note};
 use place_edits::{EditForm, WantedEdit, from_edit_run};
 use std::alloc::Global;
 use std::rt::Files;
-use uefi_vars::Vars;
+use uefi_vars::{EntryName, Vars};
 use wanted_changes::{MachineWords, Seen, SetChange, Told, Wanted};
 use whole_files::OutputFile;
 
