@@ -9,11 +9,11 @@ from pathlib import Path
 from typing import Callable, Dict, List, NamedTuple, Tuple
 
 ROOT = Path(__file__).resolve().parents[1]
-HEADER = ROOT / "include/bootkeep.h"
-MANUAL = ROOT / "man/bootkeep.3"
-PACKAGE = ROOT / "python/bootkeep"
+HEADER = ROOT / "libraries/c/include/bootkeep.h"
+MANUAL = ROOT / "packaging/man/bootkeep.3"
+PACKAGE = ROOT / "libraries/python/bootkeep"
 CRATE = ROOT / "crates/bootkeep_c/src"
-RUST = ROOT / "rust/src"
+RUST = ROOT / "libraries/rust/src"
 
 Field = Tuple[str, int]
 """The name of a field, and how many bytes it has."""

@@ -165,11 +165,11 @@ class Versions(unittest.TestCase):
 
     def test_the_release_is_the_same_everywhere(self) -> None:
         stated = {
-            "build-c": r"VERSION=(\S+) ABI",
-            "python/pyproject.toml": r'version = "(.*)"',
-            "python/bootkeep/__init__.py": r'__version__ = "(.*)"',
-            "rust/Cargo.toml": r"\nversion = \"(.*)\"",
-            "rust/Cargo.lock": r'name = "bootkeep"\nversion = "(.*)"',
+            "tools/build-c": r"VERSION=(\S+) ABI",
+            "libraries/python/pyproject.toml": r'version = "(.*)"',
+            "libraries/python/bootkeep/__init__.py": r'__version__ = "(.*)"',
+            "libraries/rust/Cargo.toml": r"\nversion = \"(.*)\"",
+            "libraries/rust/Cargo.lock": r'name = "bootkeep"\nversion = "(.*)"',
         }
         found = {file: re.findall(words, read(ROOT / file)) for file, words in stated.items()}
         self.assertEqual(

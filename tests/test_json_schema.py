@@ -28,7 +28,7 @@ WHY = json_schema.why_not()
 needs_jsonschema = unittest.skipIf(WHY is not None, WHY or "")
 
 WRITTEN = re.compile(
-    r'\bappend_(?:leaf|object|objects)\(\s*"(\w+)"|\(\s*"(\w+)",\s*(?:Leaf::|self\.detail)'
+    r'\bappend_(?:leaf|object|objects)\(\s*"(\w+)"|\(\s*"(\w+)",\s*(?:Leaf::|detail_leaf)'
 )
 """Where a member of an object is written."""
 
@@ -59,7 +59,7 @@ class Document(unittest.TestCase):
         return {member for it in self.objects.values() for member in it["properties"]}
 
     def test_each_command_that_takes_json_has_its_lines(self) -> None:
-        completions = (ROOT / "completions" / "bootvars.bash").read_text(encoding="utf-8")
+        completions = (ROOT / "packaging/completions" / "bootvars.bash").read_text(encoding="utf-8")
         taking = re.findall(r'"bootvars ([\w-]+)"\) words="[^"]*--json\b', completions)
         told = {it.split()[0] for it in self.definitions["commands"]["properties"]}
         self.assertEqual(told, set(taking))

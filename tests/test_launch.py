@@ -1,4 +1,4 @@
-"""Tests of the scripts `bootkeep` and `bootvars`, over a toolchain that proves nothing."""
+"""Tests of the scripts `bootkeep`, `bootvars` and `efibootmgr`, over a toolchain that proves nothing."""
 
 from __future__ import annotations
 
@@ -132,6 +132,12 @@ class Unproved(Clone):
             called = self.call(program, *words)
             self.assertEqual(called.stdout, f"unproved {program}: {' '.join(words)}\n")
         self.assertEqual(self.proofs(), [])
+
+    def test_the_words_of_efibootmgr(self) -> None:
+        (self.root / "efibootmgr").symlink_to("tools/efibootmgr")
+        for script in ("tools/efibootmgr", "efibootmgr"):
+            called = self.call(script, "-v")
+            self.assertEqual(called.stdout, "unproved bootvars: efibootmgr -v\n")
 
     def test_words_that_keep_are_proved_first(self) -> None:
         for program, words in (

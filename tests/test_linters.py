@@ -23,8 +23,8 @@ FILES = {
     "tools/high": "#!/usr/bin/env python3\n",
     "make": "#!/bin/sh\n",
     "packaging/tool.postinst": "#!/usr/bin/env bash\n",
+    "packaging/completions/tool.bash": "# Completions\n",
     "bench/shared": "# shellcheck shell=bash\n",
-    "completions/tool.bash": "# Completions\n",
     "README.md": "# It is made\n\n#!/bin/sh\n",
     "docs/page.md": "# Shell and Python\n",
     "out/made.py": "",
@@ -79,8 +79,8 @@ class SmallRepository(unittest.TestCase):
         found = linters.find_scripts(self.root)
         self.assertEqual(found.modules, ["tools/low.py"])
         self.assertEqual(found.programs, ["tools/high"])
-        shell = ["make", "bench/shared", "completions/tool.bash"]
-        self.assertEqual(found.shell, [*shell, "packaging/tool.postinst"])
+        packaging = ["packaging/tool.postinst", "packaging/completions/tool.bash"]
+        self.assertEqual(found.shell, ["make", "bench/shared", *packaging])
 
     def test_all_is_well(self) -> None:
         self.assertEqual(self.told(), (0, ["4 passed, 0 failed"]))

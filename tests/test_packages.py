@@ -81,12 +81,12 @@ class Changelog(unittest.TestCase):
         version = debian_package.releases((ROOT / "CHANGELOG.md").read_text("utf-8"))[0].version
         for file, pattern in {
             "crates/var_commands/src/commands.rt": r'^const VERSION: &str = "(.*)";$',
-            "build-c": r"^readonly VERSION=(\S+) ",
-            "python/pyproject.toml": r'^version = "(.*)"$',
-            "python/bootkeep/__init__.py": r'^__version__ = "(.*)"$',
-            "rust/Cargo.toml": r'^version = "(.*)"$',
+            "tools/build-c": r"^readonly VERSION=(\S+) ",
+            "libraries/python/pyproject.toml": r'^version = "(.*)"$',
+            "libraries/python/bootkeep/__init__.py": r'^__version__ = "(.*)"$',
+            "libraries/rust/Cargo.toml": r'^version = "(.*)"$',
             "docs/bootvars.schema.json": r'^  "title": "What bootvars (\S+) prints as JSON",$',
-            "rust/Cargo.lock": r'^name = "bootkeep"\nversion = "(.*)"$',
+            "libraries/rust/Cargo.lock": r'^name = "bootkeep"\nversion = "(.*)"$',
         }.items():
             found = re.findall(pattern, (ROOT / file).read_text("utf-8"), re.M)
             self.assertEqual(found, [version], file)
@@ -253,7 +253,9 @@ class Places(unittest.TestCase):
     def test_manuals_are_packed_for_debian(self) -> None:
         files = package_files.program_files(self.made, package_files.DEBIAN).files
         packed = files["share/man/man1/bootvars.1.gz"].data
-        self.assertEqual(gzip.decompress(packed), (ROOT / "man" / "bootvars.1").read_bytes())
+        self.assertEqual(
+            gzip.decompress(packed), (ROOT / "packaging/man" / "bootvars.1").read_bytes()
+        )
 
 
 class Install(unittest.TestCase):

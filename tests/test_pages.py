@@ -1,22 +1,25 @@
-"""The pages and the manuals: that what they name is there."""
+"""The pages and the manuals: that what they name is there. And the top of the tree, which one of them lists."""
 
 from __future__ import annotations
 
 import re
+import shutil
+import subprocess
 import unittest
 from pathlib import Path
 from typing import Dict, List
 
 ROOT = Path(__file__).resolve().parents[1]
 
-FILE = re.compile(
-    r"`((?:bench|crates|docs|examples|fleet|include|man|python|rust|tests|tools)/[\w./-]+)`"
-)
+FILE = re.compile(r"`((?:bench|crates|docs|fleet|libraries|packaging|tests|tools)/[\w./-]+)`")
+TOP_MAX = 16
+"""How many entries somebody is to see at first, who opens the repository."""
+
 SECTION = re.compile(r'`([\w/]+\.md)`, "([^"]+)"|"([^"]+)" in\s+`([\w/]+\.md)`')
 
 
 def pages() -> List[Path]:
-    return sorted([*ROOT.glob("*.md"), *ROOT.glob("docs/*.md"), *ROOT.glob("man/*")])
+    return sorted([*ROOT.glob("*.md"), *ROOT.glob("docs/*.md"), *ROOT.glob("packaging/man/*")])
 
 
 def texts() -> Dict[str, str]:
@@ -42,8 +45,8 @@ class Pages(unittest.TestCase):
         self.assertGreater(found, 0)
 
     def test_the_manual_describes_each_option(self) -> None:
-        completions = (ROOT / "completions" / "bootvars.fish").read_text(encoding="utf-8")
-        manual = (ROOT / "man" / "bootvars.1").read_text(encoding="utf-8")
+        completions = (ROOT / "packaging/completions" / "bootvars.fish").read_text(encoding="utf-8")
+        manual = (ROOT / "packaging/man" / "bootvars.1").read_text(encoding="utf-8")
         described = manual[manual.index(".Sh DESCRIPTION") : manual.index(".Sh EXAMPLES")]
         options = set(re.findall(r"(?m)^complete .* -l ([\w-]+)", completions))
         self.assertIn("dry-run", options)
@@ -52,6 +55,27 @@ class Pages(unittest.TestCase):
                 self.assertRegex(
                     described, rf"(?m)(^\.|\s)Fl -{option}\b(?!-)|[ ,]-{option}\b(?!-)"
                 )
+
+
+@unittest.skipUnless(shutil.which("git") and (ROOT / ".git").exists(), "this is no clone")
+class Top(unittest.TestCase):
+    def setUp(self) -> None:
+        told = subprocess.run(
+            ["git", "-C", str(ROOT), "ls-files", "-z"], capture_output=True, text=True, check=True
+        )
+        tops = {file.partition("/")[0] for file in told.stdout.split("\0")}
+        self.entries = sorted(it for it in tops if it and not it.startswith("."))
+
+    def test_it_has_few_entries(self) -> None:
+        self.assertLessEqual(len(self.entries), TOP_MAX, self.entries)
+
+    def test_each_is_listed(self) -> None:
+        page = (ROOT / "docs" / "architecture.md").read_text(encoding="utf-8")
+        rows = re.search(r"(?m)^\| At the top .*\n((?:\|.*\n)+)", page)
+        assert rows is not None
+        firsts = [row.split("|")[1] for row in rows[1].splitlines()[1:]]
+        named = re.findall(r"`([\w.-]+)/?`", " ".join(firsts))
+        self.assertEqual(sorted(named), self.entries)
 
 
 if __name__ == "__main__":

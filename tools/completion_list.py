@@ -11,7 +11,7 @@ from typing import Callable, Dict, Iterator, List
 
 from repository import ROOT
 
-FOLDER = ROOT / "completions"
+FOLDER = ROOT / "packaging/completions"
 """The folder of the files."""
 
 FILES = {"FILE", "FOLDER", "SET"}
@@ -267,7 +267,7 @@ def differences(program: Path, name: str) -> List[str]:
         path = FOLDER / file
         if not path.is_file() or path.read_text(encoding="utf-8") != text:
             unlike.append(
-                f"completions/{file} isn't as tools/completions makes it of {name} --help"
+                f"packaging/completions/{file} isn't as tools/completions makes it of {name} --help"
             )
     return unlike
 

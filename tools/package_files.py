@@ -60,7 +60,7 @@ class Made:
 
     programs: Dict[str, Path]
     library: Path
-    """The folder in which `./build-c` put it."""
+    """The folder in which `tools/build-c` put it."""
 
     def built(self, name: str) -> bytes:
         """A file of the library."""
@@ -72,14 +72,14 @@ def program_files(made: Made, place: Place) -> FileTree:
     files = FileTree()
     for name, program in made.programs.items():
         files.put(f"bin/{name}", program.read_bytes(), PROGRAM_MODE)
-    for manual in sorted((ROOT / "man").glob("*.1")):
+    for manual in sorted((ROOT / "packaging/man").glob("*.1")):
         place.put_text(files, f"share/man/man1/{manual.name}", manual.read_bytes())
     for completion, path in {
         "bootvars.bash": "share/bash-completion/completions/bootvars",
         "_bootvars": f"{place.zsh}/_bootvars",
         "bootvars.fish": "share/fish/vendor_completions.d/bootvars.fish",
     }.items():
-        files.put(path, (ROOT / "completions" / completion).read_bytes())
+        files.put(path, (ROOT / "packaging/completions" / completion).read_bytes())
     for unit in ("bootkeep-confirm.service", "bootkeep-settle.service"):
         files.put(f"lib/systemd/system/{unit}", place.script(unit))
     files.put("libexec/bootkeep/efibootmgr", place.script("efibootmgr"), PROGRAM_MODE)
@@ -109,9 +109,9 @@ def development_files(made: Made, place: Place, examples: str) -> FileTree:
     files.link(f"{place.libraries}/{SHARED_NAMES[1]}", SHARED_NAMES[0])
     files.put(f"{place.libraries}/pkgconfig/bootkeep.pc", pkg_config(made, place))
     files.put(f"include/{HEADER}", made.built(HEADER))
-    manual = (ROOT / "man" / "bootkeep.3").read_bytes()
+    manual = (ROOT / "packaging/man" / "bootkeep.3").read_bytes()
     place.put_text(files, "share/man/man3/bootkeep.3", manual)
-    for example in sorted((ROOT / "examples" / "c").iterdir()):
+    for example in sorted((ROOT / "libraries/c/examples").glob("*.[ch]")):
         files.put(f"{examples}/{example.name}", example.read_bytes())
     return files
 

@@ -1,4 +1,4 @@
-"""Makes packages of what is proved, and proves what isn't: what `./package` does."""
+"""Makes packages of what is proved, and proves what isn't: what `packaging/package` does."""
 
 from __future__ import annotations
 
@@ -21,7 +21,7 @@ from package_files import DEBIAN, OTHERS, Made
 from proof_note import Proofs, told
 from repository import ROOT
 
-sys.path.append(str(ROOT / "python"))
+sys.path.append(str(ROOT / "libraries/python"))
 
 import wheel_of_library  # noqa: E402
 
@@ -133,7 +133,7 @@ def build_all(work: Path, version: str) -> Made:
             f"CHANGELOG.md begins with the version {version}, and the program is {said}"
         )
     library = work / "library"
-    if subprocess.run([ROOT / "build-c", library], check=False).returncode != 0:
+    if subprocess.run([ROOT / "tools/build-c", library], check=False).returncode != 0:
         raise NotBuilt("the library for C isn't built")
     return Made(programs, library)
 

@@ -71,7 +71,7 @@ class Side:
 
     def __init__(self, root: Path, command: str, work: Path) -> None:
         self.command, self.work = command, work
-        header = (root / "include/bootkeep.h").read_text()
+        header = (root / "libraries/c/include/bootkeep.h").read_text()
         found = re.findall(r"^#define BOOTKEEP_(\w+) (0x[0-9a-f]{4})$", header, re.M)
         self.kinds = {name: int(number, 16) for name, number in found}
         self.numbers = {
@@ -260,8 +260,8 @@ class Cases:
 
     def __init__(self, root: Path, side: Side, chance: random.Random) -> None:
         self.side, self.chance = side, chance
-        self.set = (root / "examples/set").read_bytes()
-        self.frames = frames_of((root / "examples/stream").read_bytes())
+        self.set = (root / "docs/examples/set").read_bytes()
+        self.frames = frames_of((root / "docs/examples/stream").read_bytes())
         stored = variables_of(self.set)
         self.options = [
             data for name, data in stored if re.fullmatch("Boot[0-9A-F]{4}", name) and len(data) > 8

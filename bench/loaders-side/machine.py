@@ -76,7 +76,7 @@ class Machine:
 
     def __init__(self, folder: Path, bootvars: str) -> None:
         self.bootvars, self.system, self.place = bootvars, folder / "system", folder / "efivars"
-        subprocess.run([ROOT / "examples/make-system", self.system], check=True)
+        subprocess.run([ROOT / "docs/examples/make-system", self.system], check=True)
         self.partition = self.system / "boot/efi"
         self.empty()
 

@@ -25,7 +25,7 @@ ENABLE_GUID = uuid.UUID("f0a30bc7-af08-4556-99c4-001009c93a44").bytes_le
 """Whose SecureBootEnable turns Secure Boot off in EDK2, though there are keys."""
 
 PARTITION = uuid.UUID("5f2c1a9e-7d64-4b0e-9c3b-1e8f60a2d7c4")
-"""By which the partition is known: the first one of examples/make-system."""
+"""By which the partition is known: the first one of docs/examples/make-system."""
 
 FIRST_BLOCK = 2048
 

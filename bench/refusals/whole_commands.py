@@ -31,7 +31,7 @@ from pathlib import Path
 from typing import Dict, List, NamedTuple, Optional, Tuple
 
 ROOT = Path(__file__).resolve().parent.parent.parent
-EFIVARS, VARIABLE_FILE = ROOT / "examples" / "efivars", ROOT / "examples" / "vars.fd"
+EFIVARS, VARIABLE_FILE = ROOT / "docs/examples/efivars", ROOT / "docs/examples/vars.fd"
 
 ALL = 1000000000
 """A number that no growth has."""

@@ -1,8 +1,9 @@
 /*
- * Tries the arena of examples/uefi by random blocks: none overlaps another or leaves the arena, what is kept of one
- * that grows stays, a full arena refuses, and one whose blocks are all freed has room for one of all bytes again.
+ * Tries the arena of libraries/c/examples/uefi by random blocks: none overlaps another or leaves the arena, what is
+ * kept of one that grows stays, a full arena refuses, and one whose blocks are all freed has room for one of all bytes
+ * again.
  */
-#include "../../examples/uefi/arena.h"
+#include "../../libraries/c/examples/uefi/arena.h"
 
 #include <bootkeep.h>
 #include <stdint.h>

@@ -4,8 +4,8 @@
  * entries and values of a megabyte in what collects variables. What differs is told, and the last line is `N tried, M
  * differ`.
  */
-#include "../../examples/uefi/rows.h"
-#include "../../examples/uefi/variables.h"
+#include "../../libraries/c/examples/uefi/rows.h"
+#include "../../libraries/c/examples/uefi/variables.h"
 #include "fake.h"
 
 #include <efilib.h>

@@ -16,7 +16,7 @@ from typing import Any, Callable, Deque, Dict, List, Optional, Sequence, Tuple
 import pytest
 
 FLEET = Path(__file__).resolve().parents[1]
-sys.path[:0] = [str(FLEET), str(FLEET.parent / "python")]
+sys.path[:0] = [str(FLEET), str(FLEET.parent / "libraries/python")]
 
 import bootkeep  # noqa: E402
 from sender.courier import Came  # noqa: E402

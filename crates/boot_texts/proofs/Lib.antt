@@ -1,4 +1,2 @@
 mod Descriptions
-mod Each
 mod JsonTexts
-mod NamingChanges

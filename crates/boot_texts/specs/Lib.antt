@@ -1,9 +1,6 @@
 -- what public contracts cite
 pub mod Description
-pub mod Frame
 pub mod Json
-pub mod NamingChange
-pub mod OptionOfWords
 -- of the crates below, what they cite
 pub use Rattle.uefi_path.specs.declared.node.Node
 pub use Rattle.uefi_option.specs.LoadOption

@@ -1,7 +1,7 @@
 //! What differs between two sets of variables, by `bootvars diff`.
 
-use crate::at_risk::{EntryName, NamingChange, UnnamedWords, naming_change};
-use crate::content::{Content, DataText, EntryDigits, Quoted};
+use crate::at_risk::UnnamedWords;
+use crate::content::{Content, DataText, Quoted};
 use crate::json::{
     JsonObject, JsonWriter, Leaf, append_leaf, append_leaves, append_object, append_objects,
     json_line,
@@ -9,7 +9,12 @@ use crate::json::{
 use crate::shown_option::{AttributeWords, ShownOption};
 use std::alloc::{AllocError, Global};
 use std::fmt::{self, Display};
-use uefi_vars::{BootChange, Vars, boot_changes, entry_number};
+use uefi_path::Path;
+use uefi_text::path_text;
+use uefi_vars::{
+    BootChange, EntryDigits, EntryName, NamingChange, Vars, boot_changes, entry_number,
+    naming_change,
+};
 
 /// What differs between two sets, as it is shown.
 #[derive(Drop)]
@@ -226,16 +231,20 @@ fn append_change(
     change: &BootChange<'_>,
     report: &mut String,
 ) -> Result<(), AllocError> {
-    append_shown(&ShownChange::new(alloc, change)?, report)
+    append_shown(alloc, &ShownChange::new(alloc, change)?, report)
 }
 
 /// Appends the lines of a change, as it is shown.
-fn append_shown(change: &ShownChange<'_>, report: &mut String) -> Result<(), AllocError> {
+fn append_shown(
+    alloc: Global,
+    change: &ShownChange<'_>,
+    report: &mut String,
+) -> Result<(), AllocError> {
     write!(report, "{} {}", change.change.sign(), change.name)?;
     match (&change.before, &change.after) {
         (Some(Content::LoadOption(before)), Some(Content::LoadOption(after))) => {
             writeln!(report, " {}", Quoted(&after.description))?;
-            append_parts(before, after, report)
+            append_parts(alloc, before, after, report)
         }
         (Some(before), Some(after)) => writeln!(report, "{before} ->{after}"),
         (Some(before), None) => writeln!(report, "{before}"),
@@ -246,6 +255,7 @@ fn append_shown(change: &ShownChange<'_>, report: &mut String) -> Result<(), All
 
 /// Appends an indented line for each part in which two options differ.
 fn append_parts(
+    alloc: Global,
     before: &ShownOption,
     after: &ShownOption,
     report: &mut String,
@@ -254,16 +264,15 @@ fn append_parts(
         let (before, after) = (Quoted(&before.description), Quoted(&after.description));
         append_part("description", before, after, report)?;
     }
-    if before.attributes != after.attributes {
-        let before = AttributeWords(before.attributes);
+    if before.attributes() != after.attributes() {
         append_part(
             "attributes",
-            before,
-            AttributeWords(after.attributes),
+            AttributeWords(before.attributes()),
+            AttributeWords(after.attributes()),
             report,
         )?;
     }
-    append_paths(before, after, report)?;
+    append_paths(alloc, before, after, report)?;
     if before.optional != after.optional {
         let before = OptionalData(before.optional.as_ref());
         append_part(
@@ -288,32 +297,45 @@ fn append_part<D: Display + Drop>(
 
 /// Appends an indented line for each place of the lists of paths in which two options differ.
 fn append_paths(
+    alloc: Global,
     before: &ShownOption,
     after: &ShownOption,
     report: &mut String,
 ) -> Result<(), AllocError> {
-    for place in 0..before.paths.len().max(after.paths.len()) {
-        if before.paths.get(place) != after.paths.get(place) {
-            let (old, new) = texts_apart(before, after, place);
-            let number = place.saturating_add(1);
-            writeln!(report, "  path {number} {} -> {}", OrNone(old), OrNone(new))?;
+    for place in 0..before.paths().len().max(after.paths().len()) {
+        if before.paths().get(place) != after.paths().get(place) {
+            append_path(alloc, before, after, place, report)?;
         }
     }
     Ok(())
 }
 
-/// The texts that tell apart the paths at a place in which two options differ, where an option may have none: those
-/// for a person, or the exact ones if only bytes differ that the former don't show.
-fn texts_apart<'a>(
-    before: &'a ShownOption,
-    after: &'a ShownOption,
+/// Appends the indented line of a place at which the paths of two options differ, where an option may have none. The texts
+/// are those for a person, or the exact ones if only bytes differ that the former don't show.
+fn append_path(
+    alloc: Global,
+    before: &ShownOption,
+    after: &ShownOption,
     place: usize,
-) -> (Option<&'a String>, Option<&'a String>) {
+    report: &mut String,
+) -> Result<(), AllocError> {
+    let number = place.saturating_add(1);
     let (old, new) = (before.named_paths.get(place), after.named_paths.get(place));
     if old != new {
-        return (old, new);
+        return writeln!(report, "  path {number} {} -> {}", OrNone(old), OrNone(new));
     }
-    (before.paths.get(place), after.paths.get(place))
+    let old = exact_text(alloc, before.paths().get(place))?;
+    let new = exact_text(alloc, after.paths().get(place))?;
+    let (old, new) = (OrNone(old.as_ref()), OrNone(new.as_ref()));
+    writeln!(report, "  path {number} {old} -> {new}")
+}
+
+/// The exact text of a path, if there is one. This fails only when out of memory.
+fn exact_text(alloc: Global, path: Option<&Path>) -> Result<Option<String>, AllocError> {
+    match path {
+        Some(path) => Ok(Some(path_text(alloc, path)?)),
+        None => Ok(None),
+    }
 }
 
 /// A text, or `none` if there is none.

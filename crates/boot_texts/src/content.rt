@@ -8,18 +8,7 @@ use std::alloc::{AllocError, Global};
 use std::fmt;
 use uefi_option::{OptionFault, read_option};
 use uefi_path::read_units;
-use uefi_vars::{BOOT_NEXT, BOOT_ORDER, ORDER_MAX, TIMEOUT, VarFault};
-
-/// The number of an entry, shown as the four hexadecimal digits in upper case that its variable's name has (UEFI 2.10,
-/// 3.1.1).
-#[derive(Clone, Copy, Debug, PartialEq, Eq, PartialOrd, Ord)]
-pub struct EntryDigits(pub u16);
-
-impl fmt::Display for EntryDigits {
-    fn fmt<W: fmt::Write>(&self, f: &mut fmt::Formatter<W>) -> fmt::Result {
-        write!(f, "{:04X}", self.0)
-    }
-}
+use uefi_vars::{BOOT_NEXT, BOOT_ORDER, EntryDigits, ORDER_MAX, TIMEOUT, VarFault};
 
 /// Numbers of entries, each after a blank, or ` -` if there is none.
 #[derive(Clone, Copy)]
@@ -104,7 +93,7 @@ impl Content {
     /// The load option that the bytes are, or why they are none.
     pub(crate) fn from_entry(alloc: Global, bytes: &[u8]) -> Result<Content, AllocError> {
         match read_option(alloc, bytes) {
-            Ok(option) => Ok(Content::LoadOption(ShownOption::new(alloc, &option)?)),
+            Ok(option) => Ok(Content::LoadOption(ShownOption::new(alloc, option)?)),
             Err(OptionFault::OutOfMemory) => Err(AllocError),
             Err(fault) => Ok(Content::Undecodable(ShownFault {
                 fault: fault.words(alloc)?,

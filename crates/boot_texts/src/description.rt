@@ -68,7 +68,7 @@ pub(crate) fn description_digits(
 ///
 /// [`DescriptionFault::NoDigits`] and [`DescriptionFault::OfLines`] with the first backslash that is neither, and
 /// [`DescriptionFault::OutOfMemory`] if memory was refused.
-pub(crate) fn description_units(alloc: Global, text: &str) -> Result<Vec<u16>, DescriptionFault>
+pub fn description_units(alloc: Global, text: &str) -> Result<Vec<u16>, DescriptionFault>
     ensures found { IfOk result (λ units. IsDescription (chars text.now) units.items) }
     ensures fault { IfErr result (λ f. f ≢ fault.OutOfMemory → IsDescriptionFault (chars text.now) f) }
 {
@@ -191,7 +191,7 @@ fn append_character(character: char, units: &mut Vec<u16>) -> Result<(), AllocEr
 }
 
 /// Appends the units of UTF-16 that a text has. This fails only when out of memory.
-pub(crate) fn append_text(text: &str, units: &mut Vec<u16>) -> Result<(), AllocError>
+pub fn append_text_units(text: &str, units: &mut Vec<u16>) -> Result<(), AllocError>
     ensures { OnOk result (units.new.items ≡ units.old.items ++ flat_map encode_utf16 (chars text.now)) }
 {
     for character in text.chars() {

@@ -1,6 +1,6 @@
 //! What the frames of a script or a stream ask for, by `bootvars explain`.
 
-use crate::content::{EntryDigits, NumberList, Summary, option_place};
+use crate::content::{NumberList, Summary, option_place};
 use crate::event_position::EventPosition;
 use crate::json::{
     JsonObject, JsonWriter, Leaf, append_leaf, append_leaves, append_object, append_objects,
@@ -13,6 +13,7 @@ use boot_requests::{Event, EventList, FRAME_MAGIC, FrameFault, InputFormat, Requ
 use std::alloc::{AllocError, Global};
 use std::fmt;
 use uefi_option::LoadOption;
+use uefi_vars::EntryDigits;
 
 /// What a script or a stream asks for, in words.
 #[derive(Debug, Drop)]
@@ -293,7 +294,7 @@ impl ShownRequest {
 
 /// What is shown of an option, in a box.
 fn shown_option(alloc: Global, option: &LoadOption) -> Result<Box<ShownOption>, AllocError> {
-    Ok(Box::new(alloc, ShownOption::new(alloc, option)?)?)
+    Ok(Box::new(alloc, ShownOption::new(alloc, option.copy(alloc)?)?)?)
 }
 
 impl Malformed {
@@ -355,7 +356,7 @@ struct WithAttributes<'a>(&'a ShownOption);
 
 impl fmt::Display for WithAttributes<'_> {
     fn fmt<W: fmt::Write>(&self, f: &mut fmt::Formatter<W>) -> fmt::Result {
-        let attributes = AttributeWords(self.0.attributes);
+        let attributes = AttributeWords(self.0.attributes());
         write!(f, "{} ({attributes})", Summary(self.0))
     }
 }

@@ -5,12 +5,11 @@ ghost use Rattle.std.specs.Prelude.{◌≡◌, ◌++◌, codes, OnOk};
 ghost use Rattle.std.specs.String.{string_bytes};
 ghost use Rattle.boot_texts.specs.Json.{text_or_null, WritesText};
 
-use crate::at_risk::EntryName;
-use crate::content::EntryDigits;
 use crate::json_text::{append_text, append_units};
 use crate::reason::FaultReason;
 use std::alloc::{AllocError, Global};
 use std::fmt::Display;
+use uefi_vars::{EntryDigits, EntryName};
 
 /// The version of the members: one whose meaning changes gets another number. New members don't change it.
 pub const VERSION: u32 = 1;
@@ -64,6 +63,11 @@ pub struct JsonWriter {
 }
 
 impl JsonWriter {
+    /// What memory comes from.
+    pub(crate) fn alloc(&self) -> Global {
+        self.alloc
+    }
+
     /// Opens an object or a list.
     fn open(&mut self, bracket: char) -> Result<(), AllocError> {
         self.needs_comma = false;

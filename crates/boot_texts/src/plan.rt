@@ -1,18 +1,18 @@
 //! What a boot would try, as it is shown.
 
-use crate::content::{EntryDigits, NumberList};
+use crate::content::NumberList;
 use crate::json::{JsonObject, JsonWriter, Leaf, append_leaves};
 use std::alloc::AllocError;
-use uefi_vars::PlanNumbers;
+use uefi_vars::{EntryDigits, PlanNumbers};
 
 /// What a boot would try, as JSON has it.
 #[derive(Clone, Copy)]
-pub struct ShownPlan<'a> {
+pub(crate) struct ShownPlan<'a> {
     plan: &'a PlanNumbers,
 }
 
 /// What is shown of what a boot would try, if that is known.
-pub fn shown_plan(plan: &Option<PlanNumbers>) -> Option<ShownPlan<'_>> {
+pub(crate) fn shown_plan(plan: &Option<PlanNumbers>) -> Option<ShownPlan<'_>> {
     match plan {
         Some(plan) => Some(ShownPlan { plan }),
         None => None,
@@ -33,7 +33,10 @@ impl JsonObject for ShownPlan<'_> {
 
 /// Appends the line of what a boot would try (UEFI 2.10, 3.1.1): the entry of BootNext and the normal ones of BootOrder, or
 /// that it isn't known, since one of the two can't be read. This fails only when out of memory.
-pub fn append_plan(plan: Option<&PlanNumbers>, report: &mut String) -> Result<(), AllocError> {
+pub(crate) fn append_plan(
+    plan: Option<&PlanNumbers>,
+    report: &mut String,
+) -> Result<(), AllocError> {
     match plan {
         Some(plan) => {
             let next = NumberList(plan.next.as_slice());

@@ -89,7 +89,7 @@ pub fn option_reason(bytes: &[u8], fault: &OptionFault) -> FaultReason {
 }
 
 /// Why there is no load option (UEFI 2.10, 3.1.3).
-pub(crate) fn option_words(fault: &OptionFault) -> &'static str {
+pub fn option_words(fault: &OptionFault) -> &'static str {
     match fault {
         OptionFault::Short => "it has fewer bytes than the six before a description",
         OptionFault::NoTerminator => "no zero unit closes the description",
@@ -116,7 +116,7 @@ fn path_words(fault: &PathFault) -> &'static str {
 
 /// Why a text in which nodes have their names stands for no device path (UEFI 2.10, 10.6), after the words `at that
 /// character`.
-pub(crate) fn named_reason(fault: &NamedFault) -> FaultReason {
+pub fn named_reason(fault: &NamedFault) -> FaultReason {
     match fault {
         NamedFault::UnknownName(_, Some(name)) => FaultReason::Nearest(NO_SUCH_NAME, *name),
         fault => FaultReason::Words(named_words(fault)),
@@ -195,10 +195,11 @@ pub(crate) fn numbers_reason(fault: &VarFault) -> &'static str {
 }
 
 /// Why BootOrder can't be read (UEFI 2.10, 3.3).
-pub const BAD_ORDER: &str = "BootOrder isn't two bytes for each entry, of 65536 entries at most";
+pub(crate) const BAD_ORDER: &str =
+    "BootOrder isn't two bytes for each entry, of 65536 entries at most";
 
 /// Why BootNext can't be read (UEFI 2.10, 3.3).
-pub const BAD_NEXT: &str = "BootNext isn't the two bytes of one entry";
+pub(crate) const BAD_NEXT: &str = "BootNext isn't the two bytes of one entry";
 
 /// Why requests can't be run over variables.
 pub fn open_reason(fault: &OpenFault) -> &'static str {
@@ -216,7 +217,7 @@ pub(crate) fn frame_reason(bytes: &[u8], fault: &FrameFault) -> FaultReason {
 }
 
 /// Why bytes are no frame, or a request has none.
-pub(crate) fn frame_words(fault: &FrameFault) -> &'static str {
+pub fn frame_words(fault: &FrameFault) -> &'static str {
     match fault {
         FrameFault::Short => "it has fewer bytes than the twelve of a header",
         FrameFault::BadMagic => "a frame begins with the bytes 42 51",

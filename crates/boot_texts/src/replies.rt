@@ -1,6 +1,5 @@
 //! Replies to requests, as `bootvars update` prints them in JSON.
 
-use crate::content::EntryDigits;
 use crate::event_position::EventPosition;
 use crate::json::{
     JsonObject, JsonWriter, Leaf, append_leaf, append_leaves, append_object, append_objects,
@@ -10,7 +9,7 @@ use crate::plan::shown_plan;
 use crate::reason::frame_words;
 use boot_requests::{Answer, Outcome, Reply};
 use std::alloc::{AllocError, Global};
-use uefi_vars::{BootPlan, PlanNumbers};
+use uefi_vars::{BootPlan, EntryDigits, PlanNumbers};
 
 /// An answer to an event, and what is told besides.
 #[derive(Clone, Copy, Debug)]
@@ -112,7 +111,7 @@ impl JsonObject for Follower {
 
 /// Shows an answer as JSON, an object on one line that ends with a line feed. Its followers are the outcomes of the requests
 /// that had waited and were applied right after the event's own, of which the last is the one below the next number. The
-/// last reply of an update also has the entries that the update left in no order ([`naming_change`](crate::naming_change)).
+/// last reply of an update also has the entries that the update left in no order ([`naming_change`](uefi_vars::naming_change)).
 /// docs/formats.md has each member.
 ///
 /// # Errors

@@ -1,7 +1,7 @@
 //! Load options as they are shown.
 
 use crate::description::description_digits;
-use crate::json::{JsonObject, JsonWriter, Leaf, append_leaves};
+use crate::json::{JsonObject, JsonWriter, Leaf, append_leaf, append_leaves};
 use std::alloc::{AllocError, Global};
 use std::fmt;
 use uefi_names::named_text;
@@ -12,21 +12,13 @@ use uefi_option::{
 use uefi_path::{Path, read_units};
 use uefi_text::path_text;
 
-/// A load option (UEFI 2.10, 3.1.3) as it is shown.
+/// A load option (UEFI 2.10, 3.1.3) as it is shown. What JSON alone has is made when JSON is.
 #[derive(Drop)]
 pub(crate) struct ShownOption {
+    /// The option.
+    option: LoadOption,
     /// The description, as [`description_text`] shows it.
     pub(crate) description: String,
-    /// The units of the description.
-    description_units: Vec<u16>,
-    /// The units of the description in hexadecimal digits, if its text in JSON doesn't say all.
-    description_digits: Option<String>,
-    /// The attributes, all 32 bits.
-    pub(crate) attributes: u32,
-    /// `boot`, `app`, or the bits of the category.
-    category: String,
-    /// The text of each path from which it can be had again, as [`path_text`] has it.
-    pub(crate) paths: Vec<String>,
     /// The text of each path for a person, as [`named_text`] has it.
     pub(crate) named_paths: Vec<String>,
     /// The optional data in hexadecimal digits, if there are some.
@@ -41,48 +33,68 @@ impl ShownOption {
     /// # Errors
     ///
     /// [`AllocError`] if memory was refused.
-    pub(crate) fn new(alloc: Global, option: &LoadOption) -> Result<ShownOption, AllocError> {
-        let attributes = option.attributes();
-        let (paths, named_paths) = path_texts(alloc, option.paths())?;
+    pub(crate) fn new(alloc: Global, option: LoadOption) -> Result<ShownOption, AllocError> {
         Ok(ShownOption {
             description: description_text(alloc, option.description())?,
-            description_units: Vec::from_slice(alloc, option.description())?,
-            description_digits: description_digits(alloc, option.description())?,
-            attributes,
-            category: format!(in alloc; "{}", Category(attributes))?,
-            paths,
-            named_paths,
+            named_paths: named_texts(alloc, option.paths())?,
             optional: optional_digits(alloc, option.optional())?,
             optional_text: printed_text(alloc, option.optional())?,
+            option,
         })
+    }
+
+    /// The attributes, all 32 bits.
+    pub(crate) fn attributes(&self) -> u32 {
+        self.option.attributes()
+    }
+
+    /// The device paths.
+    pub(crate) fn paths(&self) -> &[Path] {
+        self.option.paths()
     }
 
     /// Whether the boot manager tries the option by itself.
     pub(crate) fn is_normal(&self) -> bool {
-        is_normal(self.attributes)
+        is_normal(self.attributes())
+    }
+
+    /// Appends the members of the description, from which it can be had again.
+    fn append_description(&self, out: &mut JsonWriter) -> Result<(), AllocError> {
+        let units = self.option.description();
+        let digits = description_digits(out.alloc(), units)?;
+        append_leaf("description", Leaf::Units(units), out)?;
+        append_leaf("description_hex", Leaf::Text(digits.as_deref()), out)
+    }
+
+    /// Appends the members of the attributes.
+    fn append_attributes(&self, out: &mut JsonWriter) -> Result<(), AllocError> {
+        let bits = self.attributes();
+        let category = format!(in out.alloc(); "{}", Category(bits))?;
+        append_leaves(
+            &[
+                ("attributes", Leaf::Number(Some(bits))),
+                ("active", Leaf::Flag(Some(is_active(bits)))),
+                ("hidden", Leaf::Flag(Some(bits & HIDDEN != 0))),
+                (
+                    "force_reconnect",
+                    Leaf::Flag(Some(bits & FORCE_RECONNECT != 0)),
+                ),
+                ("category", Leaf::Text(Some(&category))),
+                ("normal", Leaf::Flag(Some(self.is_normal()))),
+            ],
+            out,
+        )
     }
 }
 
 impl JsonObject for ShownOption {
     fn append_members(&self, out: &mut JsonWriter) -> Result<(), AllocError> {
-        let attributes = self.attributes;
+        self.append_description(out)?;
+        self.append_attributes(out)?;
+        let paths = exact_texts(out.alloc(), self.paths())?;
+        append_leaf("paths", Leaf::Texts(&paths), out)?;
         append_leaves(
             &[
-                ("description", Leaf::Units(&self.description_units)),
-                (
-                    "description_hex",
-                    Leaf::Text(self.description_digits.as_deref()),
-                ),
-                ("attributes", Leaf::Number(Some(attributes))),
-                ("active", Leaf::Flag(Some(is_active(attributes)))),
-                ("hidden", Leaf::Flag(Some(attributes & HIDDEN != 0))),
-                (
-                    "force_reconnect",
-                    Leaf::Flag(Some(attributes & FORCE_RECONNECT != 0)),
-                ),
-                ("category", Leaf::Text(Some(&self.category))),
-                ("normal", Leaf::Flag(Some(self.is_normal()))),
-                ("paths", Leaf::Texts(&self.paths)),
                 ("named_paths", Leaf::Texts(&self.named_paths)),
                 ("optional", Leaf::Text(self.optional.as_deref())),
                 ("optional_text", Leaf::Text(self.optional_text.as_deref())),
@@ -92,15 +104,22 @@ impl JsonObject for ShownOption {
     }
 }
 
-/// The exact text of each path, and the text of each for a person.
-fn path_texts(alloc: Global, paths: &[Path]) -> Result<(Vec<String>, Vec<String>), AllocError> {
-    let mut exact = Vec::with_capacity(alloc, paths.len())?;
-    let mut named = Vec::with_capacity(alloc, paths.len())?;
+/// The text of each path for a person, as [`named_text`] has it. This fails only when out of memory.
+fn named_texts(alloc: Global, paths: &[Path]) -> Result<Vec<String>, AllocError> {
+    let mut texts = Vec::with_capacity(alloc, paths.len())?;
     for path in paths {
-        exact.push(path_text(alloc, path)?)?;
-        named.push(named_text(alloc, path)?)?;
+        texts.push(named_text(alloc, path)?)?;
     }
-    Ok((exact, named))
+    Ok(texts)
+}
+
+/// The text of each path from which it can be had again, as [`path_text`] has it. This fails only when out of memory.
+fn exact_texts(alloc: Global, paths: &[Path]) -> Result<Vec<String>, AllocError> {
+    let mut texts = Vec::with_capacity(alloc, paths.len())?;
+    for path in paths {
+        texts.push(path_text(alloc, path)?)?;
+    }
+    Ok(texts)
 }
 
 /// Data in hexadecimal digits, or `None` if there are none.

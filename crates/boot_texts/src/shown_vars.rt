@@ -1,7 +1,7 @@
 //! Variables as they are shown, by `bootvars show`.
 
-use crate::at_risk::{Risk, known_risks};
-use crate::content::{ByteCount, Content, DataText, EntryDigits, NumberList, ShownFault};
+use crate::at_risk::Risk;
+use crate::content::{ByteCount, Content, DataText, NumberList, ShownFault};
 use crate::json::{
     JsonObject, JsonWriter, Leaf, append_leaf, append_leaves, append_object, append_objects,
     json_line,
@@ -13,7 +13,8 @@ use crate::shown_order::OrderMarks;
 use std::alloc::{AllocError, Global};
 use uefi_option::is_active;
 use uefi_vars::{
-    AtRisk, BOOT_NEXT, BOOT_ORDER, PlanNumbers, TIMEOUT, VarFault, Vars, entry_number, plan_numbers,
+    AtRisk, BOOT_NEXT, BOOT_ORDER, EntryDigits, PlanNumbers, TIMEOUT, VarFault, Vars, entry_number,
+    known_risks, plan_numbers,
 };
 
 /// Variables as they are shown.
@@ -237,7 +238,7 @@ fn inactive_of(alloc: Global, entries: &[ShownEntry<'_>]) -> Result<Vec<u16>, Al
     let mut inactive = Vec::new(alloc);
     for shown in entries {
         if let Content::LoadOption(option) = &shown.content
-            && !is_active(option.attributes)
+            && !is_active(option.attributes())
         {
             inactive.push(shown.entry.0)?;
         }
@@ -410,7 +411,11 @@ fn append_entry(entry: &ShownEntry<'_>, report: &mut String) -> Result<(), Alloc
 
 /// Appends the indented lines of an option.
 fn append_option(option: &ShownOption, report: &mut String) -> Result<(), AllocError> {
-    writeln!(report, "  attributes {}", AttributeWords(option.attributes))?;
+    writeln!(
+        report,
+        "  attributes {}",
+        AttributeWords(option.attributes())
+    )?;
     for path in &option.named_paths {
         writeln!(report, "  path {path}")?;
     }

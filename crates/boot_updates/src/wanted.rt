@@ -7,12 +7,12 @@ use crate::replies::{Replies, ReplyForm, next_in};
 use crate::requests_run::{Answered, RequestsRun};
 use crate::script::Script;
 use boot_journal::{CallError, Run};
-use boot_texts::{Look, UnnamedWords, changes_text, look_json, naming_change};
+use boot_texts::{Look, UnnamedWords, changes_text, look_json};
 use journaled_requests::{Requests, RunFault};
 use messages::Failure;
 use request_preconditions::Precondition;
 use std::alloc::{AllocError, Global};
-use uefi_vars::{KEEP_STATE, Vars};
+use uefi_vars::{KEEP_STATE, Vars, naming_change};
 use wanted_changes::{Remarks, Seen, SetChange, Told, Wanted, identity_digits, leave_out};
 
 /// What is printed of an update.

@@ -1,4 +1,4 @@
-//! The calls of Bootkeep for C, as `include/bootkeep.h` declares them: bytes in, bytes out, a status, and at a refusal
+//! The calls of Bootkeep for C, as `libraries/c/include/bootkeep.h` declares them: bytes in, bytes out, a status, and at a refusal
 //! its numbers.
 //!
 //! Each export calls the library that does the work, and repeats what that promises of what C sees. Slices are a

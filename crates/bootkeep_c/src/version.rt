@@ -2,7 +2,7 @@
 
 ghost use Rattle.std.specs.Prelude.{◌≡◌};
 
-/// The version of the interface that `include/bootkeep.h` declares.
+/// The version of the interface that `libraries/c/include/bootkeep.h` declares.
 pub const VERSION: u32 = 1;
 
 /// The version of the interface that the library has.

@@ -1,24 +1,64 @@
 //! The command `bootvars`, which reads, compares and writes the UEFI boot variables of a machine, and makes load options
-//! and the frames of requests. All of it is in the libraries `var_commands` and `efibootmgr_runs`.
+//! and the frames of requests. All of it is in the libraries `var_commands`, `efibootmgr_runs` and `trial_changes`.
 #![tactic(auto)]
 
+use boot_trials::Outcome;
+use machine_changes::ChangeOptions;
+use messages::Failure;
 use std::process::ExitCode;
 use std::rt::{Clock, Env, Files};
-use var_commands::OtherProgram;
+use trial_changes::{TrialForm, begin_trial, confirm_trial, end_trial};
+use var_commands::{OtherProgram, Trials};
+use wanted_changes::MachineWords;
 use whole_files::OutputFile;
 
-/// What is done for the words of `efibootmgr`.
+/// What is done for the words of `efibootmgr`, and for those of starts on trial.
 #[derive(Clone, Copy)]
-struct Efibootmgr;
+struct Others;
 
 impl<R: Env + Files<File: OutputFile> + Clock + Input + Print + Eprint + AllocGlobal> OtherProgram<
     R,
-> for Efibootmgr {
+> for Others {
     fn run(&self, rt: &R, words: &[String]) -> u8 {
         efibootmgr_runs::run(rt, words)
     }
 }
 
+impl<R: Files<File: OutputFile> + Clock + Input + Print + Eprint + AllocGlobal> Trials<R>
+    for Others {
+    fn begin(
+        &self,
+        rt: &R,
+        options: &ChangeOptions<'_>,
+        entry: u16,
+        json: bool,
+    ) -> Result<(), Failure> {
+        begin_trial(rt, options, entry, form_of(json))
+    }
+
+    fn confirm(
+        &self,
+        rt: &R,
+        options: &ChangeOptions<'_>,
+        json: bool,
+    ) -> Result<Option<Outcome>, Failure> {
+        confirm_trial(rt, options, form_of(json))
+    }
+
+    fn end(&self, rt: &R, machine: &MachineWords<'_>, json: bool) -> Result<(), Failure> {
+        end_trial(rt, machine, form_of(json))
+    }
+}
+
+/// How a trial is told.
+fn form_of(json: bool) -> TrialForm {
+    if json {
+        TrialForm::Json
+    } else {
+        TrialForm::Lines
+    }
+}
+
 fn main(rt: HostRuntime) -> ExitCode {
-    ExitCode::from(var_commands::run(&rt, &Efibootmgr))
+    ExitCode::from(var_commands::run(&rt, &Others))
 }

@@ -1,6 +1,6 @@
 //! The load option of an entry that is to be made.
 
-use boot_texts::optional_text;
+use command_words::optional_text;
 use disk_files::disk_path;
 use efibootmgr_words::EntryWords;
 use messages::Failure;

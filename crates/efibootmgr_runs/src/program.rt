@@ -5,14 +5,14 @@ use crate::machine::{Machine, place};
 use crate::steps::make_changes;
 use crate::stopped::{Step, Stopped};
 use crate::told_once::ToldOnce;
-use boot_texts::{EntryName, option_reason};
+use boot_texts::option_reason;
 use efibootmgr_words::{Asked, HELP, VERSION, WordFault, list_vars, options, read_words};
 use messages::{Failure, note, print};
 use std::alloc::AllocError;
 use std::fmt::Display;
 use std::rt::{Clock, Env, Files};
 use uefi_option::check_option;
-use uefi_vars::Vars;
+use uefi_vars::{EntryName, Vars};
 use whole_files::OutputFile;
 
 /// Does what the words ask for, of which the first is the name by which the program is called, and returns the status to end

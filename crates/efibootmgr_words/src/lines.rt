@@ -12,7 +12,7 @@ use crate::efivar_path::{append_units, efivar_text};
 use std::alloc::{AllocError, Global};
 use uefi_option::{OptionFault, check_option, is_active};
 use uefi_path::{PathFault, read_path, read_units};
-use uefi_vars::{BOOT_NEXT, BOOT_ORDER, TIMEOUT, Vars, entry_name, entry_number};
+use uefi_vars::{BOOT_NEXT, BOOT_ORDER, EntryName, TIMEOUT, Vars, entry_name, entry_number};
 
 /// The variable with the entry that was started, which firmware sets (UEFI 2.10, 3.3).
 const BOOT_CURRENT: &str = "BootCurrent";
@@ -158,7 +158,7 @@ fn append_entry(
     } else {
         ' '
     };
-    write!(listing.text, "Boot{number:04X}{star} ")?;
+    write!(listing.text, "{}{star} ", EntryName(number))?;
     let units = read_units(alloc, data.get(6..).unwrap_or(&[]))?;
     append_units(&units, &mut listing.text)?;
     let is_faulty = match check_option(data) {

@@ -3,10 +3,10 @@
 ghost use Rattle.std.specs.Prelude.{IfOk};
 
 use crate::checked::check_vars;
-use crate::json::json_of;
 use crate::machine::Machine;
 use crate::place::read_with_source;
-use crate::report::report_of;
+use crate::view::view_of;
+use boot_texts::{check_json, check_report};
 use messages::{Failure, print};
 use std::rt::Files;
 
@@ -46,10 +46,11 @@ pub fn check_place<R: Files + Input + Print + Eprint + AllocGlobal>(
     let alloc = rt.alloc();
     let place = read_with_source(rt, words.place)?;
     let checked = check_vars(Machine::new(rt, words.root, place.source), &place.vars)?;
+    let view = view_of(alloc, &checked)?;
     let text = if words.json {
-        json_of(alloc, &checked)?
+        check_json(alloc, &view)?
     } else {
-        report_of(alloc, &checked)?
+        check_report(alloc, &view)?
     };
     print(rt, text.as_bytes())?;
     Ok(checked.verdict())

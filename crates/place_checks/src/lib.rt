@@ -12,14 +12,12 @@ mod check;
 mod checked;
 mod entry;
 mod image;
-mod json;
 mod loader;
 mod machine;
 mod place;
-mod report;
 mod secure_boot;
 mod stored_secure_boot;
-mod words;
+mod view;
 
 pub use check::{CheckWords, Verdict, check_place};
 pub use loader::{LoaderNote, note_of_file, note_of_path};

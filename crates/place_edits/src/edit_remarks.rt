@@ -3,13 +3,12 @@
 use crate::edits::{EditForm, WantedEdit};
 use crate::unnamed::remark_unnamed;
 use boot_edits::EditAnswer;
-use boot_texts::json::{JsonObject, JsonWriter, Leaf, append_leaves, json_line};
-use boot_texts::{EntryDigits, EntryName, changes_text};
+use boot_texts::{AdditionView, addition_json, addition_line, changes_text};
 use messages::Shortened;
 use std::alloc::{AllocError, Global};
 use uefi_option::check_option;
 use uefi_vars::{
-    BOOT_NEXT, BOOT_ORDER, VarFault, boot_changes, boot_next, boot_order, entry_number,
+    BOOT_NEXT, BOOT_ORDER, EntryName, VarFault, boot_changes, boot_next, boot_order, entry_number,
 };
 use wanted_changes::{Remarks, SetChange, Told};
 
@@ -65,33 +64,11 @@ fn name_line(alloc: Global, json: bool, answer: EditAnswer) -> Result<String, Al
         EditAnswer::Added(entry) => (entry, true),
         EditAnswer::Present(entry) => (entry, false),
     };
+    let addition = AdditionView { entry, is_added };
     if json {
-        json_line(alloc, &ShownName { entry, is_added })
+        addition_json(alloc, addition)
     } else {
-        let name = EntryName(entry);
-        format!(in alloc; "{name}\n")
-    }
-}
-
-/// An entry that was to be added, as it is shown.
-#[derive(Clone, Copy)]
-struct ShownName {
-    /// Its number.
-    entry: u16,
-    /// Whether it wasn't there before.
-    is_added: bool,
-}
-
-impl JsonObject for ShownName {
-    fn append_members(&self, out: &mut JsonWriter) -> Result<(), AllocError> {
-        append_leaves(
-            &[
-                ("name", Leaf::Name(EntryName(self.entry))),
-                ("entry", Leaf::Entry(Some(EntryDigits(self.entry)))),
-                ("added", Leaf::Flag(Some(self.is_added))),
-            ],
-            out,
-        )
+        addition_line(alloc, addition)
     }
 }
 

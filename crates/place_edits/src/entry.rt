@@ -1,8 +1,8 @@
 //! The command `get`, which gives the load option of an entry.
 
-use boot_texts::EntryName;
 use messages::{Failure, NoSuch};
 use std::rt::Files;
+use uefi_vars::EntryName;
 use var_places::{check_output, lock, name_of, read_place, write};
 use whole_files::OutputFile;
 

@@ -1,10 +1,10 @@
 //! Why a change of entries is refused, in words for a person.
 
 use boot_edits::{EditFault, EditRunFault};
-use boot_texts::EntryName;
 use messages::{Failure, IsThere, NoSuch};
 use std::alloc::{AllocError, Global};
 use std::fmt;
+use uefi_vars::EntryName;
 
 /// What it is to the program that the change of the place of this name is refused for this fault.
 fn from_edit(alloc: Global, place: &str, fault: EditFault) -> Failure {

@@ -7,13 +7,14 @@ ghost use Rattle.uefi_vars.specs.Attributes.{attributes_len};
 ghost use Rattle.uefi_vars.specs.Name.{order_text, next_text};
 ghost use Rattle.place_edits.specs.Takeable.{IsNoOption, IsRefused, IsOut, AreOut, IsChangedAt, IsWithout, IsTaken};
 
-use boot_texts::{EntryName, option_reason};
+use boot_texts::option_reason;
 use messages::{Failure, Reason};
 use std::alloc::{AllocError, Global};
 use uefi_option::check_option;
 use uefi_path::{append_units, read_units};
 use uefi_vars::{
-    ATTRIBUTES_LEN, BOOT_NEXT, BOOT_ORDER, TIMEOUT, Vars, entry_number, laws as vars_laws,
+    ATTRIBUTES_LEN, BOOT_NEXT, BOOT_ORDER, EntryName, TIMEOUT, Vars, entry_number,
+    laws as vars_laws,
 };
 use wanted_changes::Remarks;
 

@@ -1,7 +1,8 @@
 //! Entries that a change leaves in no order.
 
-use boot_texts::{UnnamedWords, naming_change};
+use boot_texts::UnnamedWords;
 use std::alloc::{AllocError, Global};
+use uefi_vars::naming_change;
 use wanted_changes::{Remarks, SetChange};
 
 /// Remarks which entries are in no order after a change of this place and weren't so before it. What is printed of the change

@@ -11,7 +11,7 @@ use std::rt::Files;
 /// # Errors
 ///
 /// [`Failure::Read`] and [`Failure::Write`] if it can't be read or taken away, and [`Failure::Memory`] if memory was refused.
-pub fn end_trial<R: Files + AllocGlobal>(
+pub(crate) fn end_stored<R: Files + AllocGlobal>(
     rt: &R,
     state: &str,
     form: TrialForm,

@@ -8,6 +8,7 @@ pub mod MapChanges
 pub mod Maps
 pub mod Names
 pub mod NameTests
+pub mod NamingChanges
 pub mod Distinct
 pub mod Afterwards
 pub mod Members

@@ -11,6 +11,7 @@ pub mod Order
 pub mod Free
 pub mod Plan
 pub mod AtRisk
+pub mod NamingChange
 pub mod Words
 pub mod Equality
 pub mod PlanEquality

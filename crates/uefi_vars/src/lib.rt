@@ -7,9 +7,10 @@
 //! Load options are stored under the names that [`entry_name`] gives, and [`entry_option`] reads one; [`lowest_free`]
 //! finds a number for one more. [`boot_order`] and [`boot_next`] read which of them are to be tried, [`plan`] puts
 //! together what a boot would try, and [`plan_numbers`] its numbers alone. [`entries_at_risk`] tells which of them a
-//! start of firmware may write over or delete. [`boot_changes`] lists the single changes of Boot####, BootOrder,
-//! BootNext and Timeout that lead from one set to another, in an order in which a machine can make them: after each of
-//! them, BootOrder and BootNext name a missing entry only if they did before all of them or do after them.
+//! start of firmware may write over or delete, and [`naming_change`] what a change makes of those that are in no order.
+//! [`boot_changes`] lists the single changes of Boot####, BootOrder, BootNext and Timeout that lead from one set to
+//! another, in an order in which a machine can make them: after each of them, BootOrder and BootNext name a missing entry
+//! only if they did before all of them or do after them.
 #![tactic(auto)]
 
 mod at_risk;
@@ -23,6 +24,7 @@ mod free;
 pub mod laws;
 mod name;
 mod named;
+mod naming;
 mod normal_entry;
 mod order;
 mod planner;
@@ -39,8 +41,10 @@ pub use changes::Changes;
 pub use fault::{PutFault, PutRefusal, SetFault, VarFault};
 pub use free::lowest_free;
 pub use name::{
-    BOOT_NEXT, BOOT_ORDER, GLOBAL_VENDOR, KEEP_STATE, NAME_MAX, TIMEOUT, entry_name, entry_number,
+    BOOT_NEXT, BOOT_ORDER, EntryDigits, EntryName, GLOBAL_VENDOR, KEEP_STATE, NAME_MAX, TIMEOUT,
+    entry_name, entry_number,
 };
+pub use naming::{NamingChange, known_risks, naming_change};
 pub use order::{ORDER_MAX, boot_next, boot_order};
 pub use planner::{entry_option, plan, plan_numbers};
 pub use reader::read_set;

@@ -4,6 +4,7 @@ ghost use Rattle.std.specs.Prelude.{◌≡◌, ◌↔◌, ℕ, ◌<◌, ◌^◌,
 ghost use Rattle.std.specs.List.{AllByRecursion};
 ghost use Rattle.uefi_vars.specs.Name.{IsNameByte, IsName, upper_digit, four_digits, entry_text};
 
+use std::fmt;
 use uefi_path::Guid;
 
 /// The most characters that a name has.
@@ -104,4 +105,25 @@ pub fn entry_number(name: &str) -> Option<u16>
     let high = digit_value(*a)? * 0x1000 + digit_value(*b)? * 0x100;
     let low = digit_value(*c)? * 0x10 + digit_value(*d)?;
     Some(high + low)
+}
+
+/// The number of an entry, shown as the name of its variable (UEFI 2.10, 3.1.1).
+#[derive(Clone, Copy, Debug, PartialEq, Eq)]
+pub struct EntryName(pub u16);
+
+impl fmt::Display for EntryName {
+    fn fmt<W: fmt::Write>(&self, f: &mut fmt::Formatter<W>) -> fmt::Result {
+        write!(f, "Boot{}", EntryDigits(self.0))
+    }
+}
+
+/// The number of an entry, shown as the four hexadecimal digits in upper case that its variable's name has (UEFI 2.10,
+/// 3.1.1).
+#[derive(Clone, Copy, Debug, PartialEq, Eq, PartialOrd, Ord)]
+pub struct EntryDigits(pub u16);
+
+impl fmt::Display for EntryDigits {
+    fn fmt<W: fmt::Write>(&self, f: &mut fmt::Formatter<W>) -> fmt::Result {
+        write!(f, "{:04X}", self.0)
+    }
 }

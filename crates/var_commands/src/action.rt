@@ -2,7 +2,7 @@
 
 use crate::updates::Job;
 use boot_edits::Position;
-use boot_texts::Flags;
+use command_words::Flags;
 use place_checks::CheckWords;
 use place_edits::UndoWords;
 use wanted_changes::MachineWords;

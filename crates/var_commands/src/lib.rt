@@ -28,3 +28,4 @@ mod updates;
 mod writing;
 
 pub use program::{OtherProgram, run};
+pub use trials::Trials;

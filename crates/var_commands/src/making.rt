@@ -4,11 +4,11 @@ use crate::action::{
     AttributeWords, Form, LoadOptionWords, LoaderWords, OptionalWords, PathWords, RequestWords,
 };
 use boot_requests::InputFormat;
-use boot_texts::{
+use boot_texts::{explain_json, explain_report};
+use command_words::{
     DigitsFault, FrameWords, FrameWordsFault, OptionPaths, OptionWords, OptionWordsFault,
-    attribute_bits, attributes_of_text, entry_of_digits, explain_json, explain_report, frame_bytes,
-    frame_line, number_of_digits, option_bytes, optional_text, seconds_of_digits,
-    single_backslashes,
+    attribute_bits, attributes_of_text, entry_of_digits, frame_bytes, frame_line, number_of_digits,
+    option_bytes, optional_text, seconds_of_digits, single_backslashes,
 };
 use disk_files::{disk_path, loader_path};
 use hex::FromHexError;

@@ -8,7 +8,7 @@ use crate::action::{Action, Form};
 use crate::changing::change_entries;
 use crate::command_line::{action_of, read_words};
 use crate::making::{entry_of, explain, make_frame, make_option};
-use crate::trials::run_trial;
+use crate::trials::{Trials, run_trial};
 use crate::undo_list::list_changes;
 use crate::undoing::undo_change;
 use crate::updates::{UpdateWords, update};
@@ -74,15 +74,15 @@ impl Ending {
 /// wrong, 3 if a file or a variable can't be read or changed, 4 if memory was refused, 5 if an input is refused, 7 if
 /// another update is at work, and 8 if an update was neither made nor taken back; or 141, without a message, if nobody
 /// reads standard output any more. Words that begin with `efibootmgr` are that program's.
-pub fn run<R, E>(rt: &R, efibootmgr: &E) -> u8
+pub fn run<R, O>(rt: &R, others: &O) -> u8
 where
     R: Env + Files<File: OutputFile> + Clock + Input + Print + Eprint + AllocGlobal,
-    E: OtherProgram<R>,
+    O: OtherProgram<R> + Trials<R>,
 {
     match words(rt) {
         Ok(words) => match words.as_slice() {
-            [_, called @ ..] if is_efibootmgr(called) => efibootmgr.run(rt, called),
-            words => tell(rt, answer(rt, words)),
+            [_, called @ ..] if is_efibootmgr(called) => others.run(rt, called),
+            words => tell(rt, answer(rt, others, words)),
         },
         Err(failure) => tell(rt, Err(failure)),
     }
@@ -122,14 +122,15 @@ fn tell<R: Eprint>(rt: &R, outcome: Result<Ending, Failure>) -> u8
 }
 
 /// Does what the words of the command line ask for, of which the first is the program's name.
-fn answer<R: Files<File: OutputFile> + Clock + Input + Print + Eprint + AllocGlobal>(
-    rt: &R,
-    words: &[String],
-) -> Result<Ending, Failure> {
+fn answer<R, T>(rt: &R, trials: &T, words: &[String]) -> Result<Ending, Failure>
+where
+    R: Files<File: OutputFile> + Clock + Input + Print + Eprint + AllocGlobal,
+    T: Trials<R>,
+{
     let alloc = rt.alloc();
     match read_words(alloc, words) {
         Ok(matches) => match action_of(&matches) {
-            Some(action) => act(rt, action, words.get(1..).unwrap_or(&[])),
+            Some(action) => act(rt, trials, action, words.get(1..).unwrap_or(&[])),
             None => Err(Failure::from_word(alloc, "no command is named")),
         },
         Err(error) => end_without_action(rt, words, &error),
@@ -213,11 +214,11 @@ fn without_controls(alloc: Global, message: &str) -> Result<String, AllocError> 
 }
 
 /// Does what is asked for by these words.
-fn act<R: Files<File: OutputFile> + Clock + Input + Print + Eprint + AllocGlobal>(
-    rt: &R,
-    action: Action<'_>,
-    words: &[String],
-) -> Result<Ending, Failure> {
+fn act<R, T>(rt: &R, trials: &T, action: Action<'_>, words: &[String]) -> Result<Ending, Failure>
+where
+    R: Files<File: OutputFile> + Clock + Input + Print + Eprint + AllocGlobal,
+    T: Trials<R>,
+{
     match action {
         Action::Read {
             place,
@@ -232,7 +233,7 @@ fn act<R: Files<File: OutputFile> + Clock + Input + Print + Eprint + AllocGlobal
             done(get_entry(rt, place, entry_of(rt.alloc(), entry)?, out))
         }
         Action::Change(change) => done(change_entries(rt, &change, words)),
-        Action::Trial(trial) => run_trial(rt, &trial, words).map(ending_of_trial),
+        Action::Trial(trial) => run_trial(rt, trials, &trial, words).map(ending_of_trial),
         Action::Undo(words) => undo_change(rt, &words).map(ending_of),
         Action::ListChanges { machine, form } => {
             done(list_changes(rt, &machine, matches!(form, Form::Json)))

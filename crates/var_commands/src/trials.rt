@@ -3,102 +3,75 @@
 use crate::action::{Form, TrialJob, TrialWords};
 use crate::making::entry_of;
 use boot_trials::Outcome;
-use machine_changes::{
-    ChangeOptions, PlaceKind, StateUse, boot_id, change_machine, kind_of_place, lock_folder,
-};
-use messages::{Failure, print};
-use std::fs;
-use std::rt::{Clock, Files};
-use trial_changes::{TrialForm, WantedConfirm, WantedTry, end_trial, no_trial, stored_trial};
+use machine_changes::{ChangeOptions, StateUse};
+use messages::Failure;
 use wanted_changes::MachineWords;
-use whole_files::OutputFile;
 
-/// Begins a trial, makes what follows from it or ends it, as the words ask for, and prints that. Gives what came of the trial,
-/// if that was asked for and there is one.
+/// What begins starts on trial, makes what follows from them, and ends them. Each call prints what is told of that, as lines or
+/// as JSON.
+pub trait Trials<R> {
+    /// Begins a trial of the entry of this number.
+    ///
+    /// # Errors
+    ///
+    /// Why it doesn't begin.
+    fn begin(
+        &self,
+        rt: &R,
+        options: &ChangeOptions<'_>,
+        entry: u16,
+        json: bool,
+    ) -> Result<(), Failure>;
+
+    /// Makes what follows from the trial that is kept, and gives what came of it: `None` if there is none.
+    ///
+    /// # Errors
+    ///
+    /// Why that isn't made.
+    fn confirm(
+        &self,
+        rt: &R,
+        options: &ChangeOptions<'_>,
+        json: bool,
+    ) -> Result<Option<Outcome>, Failure>;
+
+    /// Ends the trial that is kept, without a change of variables.
+    ///
+    /// # Errors
+    ///
+    /// Why it can't be ended.
+    fn end(&self, rt: &R, machine: &MachineWords<'_>, json: bool) -> Result<(), Failure>;
+}
+
+/// Begins a trial, makes what follows from it or ends it, as the words ask for. Gives what came of the trial, if that was asked
+/// for and there is one.
 ///
 /// # Errors
 ///
-/// [`Failure::Refused`] if the place is a file, which doesn't tell by which entry a machine came up; [`Failure::Run`] if there
-/// is a trial already, or the entry can't be tried; and otherwise those of [`change_machine`].
-pub(crate) fn run_trial<R: Files<File: OutputFile> + Clock + Input + Print + Eprint + AllocGlobal>(
+/// [`Failure::Words`] if a word isn't what it is to be, and those of the call.
+pub(crate) fn run_trial<R: AllocGlobal, T: Trials<R>>(
     rt: &R,
+    trials: &T,
     words: &TrialWords<'_>,
     command: &[String],
 ) -> Result<Option<Outcome>, Failure> {
-    let place = words.machine.place;
-    if kind_of_place(rt, place)? != PlaceKind::Folder {
-        return Err(Failure::from_fault(
-            rt.alloc(),
-            place,
-            "it is a file, and only a folder as Linux shows variables tells by which entry the machine came up",
-        ));
-    }
+    let json = matches!(words.form, Form::Json);
     match words.job {
-        TrialJob::Begin(entry) => begin(rt, words, entry, command),
-        TrialJob::Confirm => confirm(rt, words, command),
-        TrialJob::End => end(rt, words),
+        TrialJob::Begin(entry) => {
+            let entry = entry_of(rt.alloc(), entry)?;
+            let options = options_of(words, command, StateUse::Made);
+            trials.begin(rt, &options, entry, json)?;
+            Ok(None)
+        }
+        TrialJob::Confirm => {
+            let options = options_of(words, command, StateUse::Needed);
+            trials.confirm(rt, &options, json)
+        }
+        TrialJob::End => {
+            trials.end(rt, &words.machine, json)?;
+            Ok(None)
+        }
     }
-}
-
-/// Begins a trial of the entry that the word names.
-fn begin<R: Files<File: OutputFile> + Clock + Input + Print + Eprint + AllocGlobal>(
-    rt: &R,
-    words: &TrialWords<'_>,
-    entry: &str,
-    command: &[String],
-) -> Result<Option<Outcome>, Failure> {
-    let entry = entry_of(rt.alloc(), entry)?;
-    let start = boot_id(rt, &words.machine, true)?;
-    let wanted = WantedTry {
-        rt,
-        machine: words.machine,
-        entry,
-        start: &start,
-        form: form_of(words.form),
-    };
-    let options = options_of(words, command, StateUse::Made);
-    change_machine(rt, &options, PlaceKind::Folder, &wanted)?.give(rt)?;
-    Ok(None)
-}
-
-/// Makes what follows from the trial. Without one nothing is locked, and nothing is done that an earlier update has left.
-fn confirm<R: Files<File: OutputFile> + Clock + Input + Print + Eprint + AllocGlobal>(
-    rt: &R,
-    words: &TrialWords<'_>,
-    command: &[String],
-) -> Result<Option<Outcome>, Failure> {
-    let form = form_of(words.form);
-    if stored_trial(rt, words.machine.state)?.is_none() {
-        print(rt, no_trial(rt.alloc(), form)?.as_bytes())?;
-        return Ok(None);
-    }
-    let start = boot_id(rt, &words.machine, true)?;
-    let wanted = WantedConfirm {
-        rt,
-        machine: words.machine,
-        start: &start,
-        form,
-    };
-    let options = options_of(words, command, StateUse::Needed);
-    let confirmation = change_machine(rt, &options, PlaceKind::Folder, &wanted)?.give(rt)?;
-    Ok(confirmation.map(|confirmation| confirmation.outcome))
-}
-
-/// Ends the trial.
-fn end<R: Files<File: OutputFile> + Print + AllocGlobal>(
-    rt: &R,
-    words: &TrialWords<'_>,
-) -> Result<Option<Outcome>, Failure> {
-    let form = form_of(words.form);
-    let MachineWords { state, .. } = words.machine;
-    let text = if fs::metadata(rt, state).is_err() {
-        no_trial(rt.alloc(), form)?
-    } else {
-        let _folder = lock_folder(rt, state)?;
-        end_trial(rt, state, form)?
-    };
-    print(rt, text.as_bytes())?;
-    Ok(None)
 }
 
 /// How the change is to be made.
@@ -112,13 +85,5 @@ fn options_of<'a>(
         command: Some(command),
         dry_run: words.dry_run,
         state,
-    }
-}
-
-/// How a trial is told.
-fn form_of(form: Form) -> TrialForm {
-    match form {
-        Form::Text => TrialForm::Lines,
-        Form::Json => TrialForm::Json,
     }
 }

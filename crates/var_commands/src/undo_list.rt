@@ -1,9 +1,9 @@
 //! The changes that can be undone.
 
 use boot_history::{KeptRecord, kept_numbers, kept_record, time_text};
-use boot_texts::json::{JsonObject, JsonWriter, Leaf, append_leaves, json_line};
+use boot_texts::{RecordView, record_json, record_line};
 use machine_changes::{lock_folder, name_of_machine};
-use messages::{Failure, print, shown};
+use messages::{Failure, print};
 use std::alloc::{AllocError, Global};
 use std::rt::Files;
 use var_places::is_folder;
@@ -35,43 +35,23 @@ pub(crate) fn list_changes<R: Files<File: OutputFile> + Print + AllocGlobal>(
     print(rt, text.as_bytes())
 }
 
-/// Appends the line of a change.
+/// Appends the line of a change. This fails only when out of memory.
 fn append_change(
     alloc: Global,
     kept: &KeptRecord,
     json: bool,
     text: &mut String,
 ) -> Result<(), AllocError> {
-    let number = kept.number;
     let time = time_text(alloc, kept.record.time)?;
-    if json {
-        let shown = ShownRecord { kept, time: &time };
-        return text.push_str(&json_line(alloc, &shown)?);
-    }
-    write!(text, "{number} {time}")?;
-    for word in &kept.record.words {
-        write!(text, " {}", shown(alloc, word)?)?;
-    }
-    text.push('\n')
-}
-
-/// A change that can be undone, as it is shown.
-#[derive(Clone, Copy)]
-struct ShownRecord<'a> {
-    kept: &'a KeptRecord,
-    /// The text of its time.
-    time: &'a str,
-}
-
-impl JsonObject for ShownRecord<'_> {
-    fn append_members(&self, out: &mut JsonWriter) -> Result<(), AllocError> {
-        append_leaves(
-            &[
-                ("number", Leaf::Record(self.kept.number)),
-                ("time", Leaf::Text(Some(self.time))),
-                ("words", Leaf::Texts(&self.kept.record.words)),
-            ],
-            out,
-        )
-    }
+    let record = RecordView {
+        number: kept.number,
+        time: &time,
+        words: &kept.record.words,
+    };
+    let line = if json {
+        record_json(alloc, record)?
+    } else {
+        record_line(alloc, record)?
+    };
+    text.push_str(&line)
 }

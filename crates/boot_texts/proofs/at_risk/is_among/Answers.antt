@@ -1,5 +1,0 @@
-use Rattle.boot_texts.proofs.NamingChanges.{found_is_among}
-use Rattle.boot_texts.proofs.at_risk.is_among.Goals as goal
-
-pub returns : goal.returns
-returns c = λ rising. rw c.is_ok.ensures.value (found_is_among c.args.numbers.now c.args.number c.binary_search.result c.binary_search.ensures.position rising)

@@ -1,6 +1,0 @@
-use Rattle.std.proofs.Common.{map, take}
-use Rattle.boot_texts.specs.OptionOfWords.{ArePathTexts}
-use Rattle.boot_texts.proofs.option.read_paths.Given as goal
-
-abbrev pub invariant-loop-text : goal.invariant-loop-text
-invariant-loop-text l = ArePathTexts (map (λ text. text.now) (take l.text-index l.texts)) l.paths.items

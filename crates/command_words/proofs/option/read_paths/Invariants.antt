@@ -1,0 +1,6 @@
+use Rattle.std.proofs.Common.{map, take}
+use Rattle.command_words.specs.OptionOfWords.{ArePathTexts}
+use Rattle.command_words.proofs.option.read_paths.Given as goal
+
+abbrev pub invariant-loop-text : goal.invariant-loop-text
+invariant-loop-text l = ArePathTexts (map (λ text. text.now) (take l.text-index l.texts)) l.paths.items

@@ -1,0 +1,1138 @@
+/*
+ * bootkeep.h - device paths, load options, sets of boot variables, and numbered requests over them
+ *
+ * NAME
+ *
+ *     libbootkeep - the calls of Bootkeep for C
+ *
+ * SYNOPSIS
+ *
+ *     #include <bootkeep.h>
+ *
+ *     cc program.c $(pkg-config --cflags --libs bootkeep)
+ *
+ * DESCRIPTION
+ *
+ * Bytes go in and bytes come out. The calls are those of Bootkeep's proved libraries: each returns for every input,
+ * accepts exactly what the formats say, and tells the first fault of anything else by number. What each call does is
+ * said here. docs/c.md leads to a first program, and docs/formats.md has the formats to the byte; both are in the
+ * sources, as is all that is named in docs/ here.
+ *
+ * The calls are on values alone: they read and write no machine. To change one, call `bootvars`, which keeps a journal
+ * over a loss of power, and takes a change back by `bootvars undo`.
+ *
+ * Each call answers a status, BOOTKEEP_DONE if all went well. Everything else that it tells goes to places of the
+ * caller, so there is never anything to free: a program closes the keepers that it opened, and that is all.
+ *
+ * BUFFERS
+ *
+ * An answer of bytes goes to the caller's buffer: `out`, which has room for `cap` of them, and `*len`.
+ *
+ *     BOOTKEEP_DONE      the answer is the first `*len` bytes of `out`; the others are as they were
+ *     BOOTKEEP_NO_ROOM   the answer has `*len` bytes, more than `cap`; nothing has happened, and `out` is as it was.
+ *                        The same call with room for `*len` bytes will do
+ *
+ * At any other status `out` and `*len` are as they were. No answer has a zero byte at its end unless its format says
+ * so: texts are `*len` bytes and not strings of C. A first call with a `cap` of 0 asks how long the answer is; its
+ * `out` may be NULL.
+ *
+ * What else a call tells, as `*taken`, is written at BOOTKEEP_DONE alone.
+ *
+ * PROCESSORS
+ *
+ * The libraries are for x86-64 (level x86-64-v2), in ELF and by the System V convention: another processor's compiler
+ * is stopped here by an `#error`. What links COFF objects alone, as EDK2 does with MSVC or CLANGPDB, and Rust for
+ * x86_64-unknown-uefi, can't link them.
+ *
+ * REFUSALS
+ *
+ * At BOOTKEEP_REFUSED, and only then, `*refusal` says why: `kind` is one of the numbers below, `place` is where, in
+ * bytes from the first one of what was handed in unless the number says otherwise, and `inner_kind` and `inner_place`
+ * are those of the fault within, if the number says that there is one. BOOTKEEP_NO_KIND and BOOTKEEP_NO_PLACE stand
+ * for none.
+ *
+ * A number is never given out again, and its meaning never changes. A later version may add numbers, so a program
+ * has to do with a number that it doesn't know.
+ *
+ * WHAT STAYS ON THE CALLER'S SIDE
+ *
+ * The promises of docs/promises.md are proved of the calls as they are written, on these conditions, which no proof
+ * can see:
+ *
+ *   - Each pointer is to what its type says, as many of them as the number behind it says. One that has a number
+ *     behind it may be NULL if that is 0, and no other is NULL. No length is above PTRDIFF_MAX.
+ *   - What a call may write, an `out`, a `*len` and every other pointer without `const`, overlaps nothing else that
+ *     the same call was handed, and nobody else reads or writes it until the call returns. Nobody writes what is
+ *     handed in behind `const` until then.
+ *   - A `struct bootkeep_keeper` is opened, or zeroed, before any other call is handed it, and is never written, copied
+ *     or moved by value after that: it has one owner. `at` is nobody's but the library's. One that is open is closed
+ *     before it is opened again: what it holds is lost otherwise.
+ *   - The program's malloc, realloc and free are one allocator, whose blocks have the usual alignment; in firmware its
+ *     bootkeep_allocate, bootkeep_grow and bootkeep_free are. What these refuse is answered by BOOTKEEP_NO_MEMORY.
+ *   - No call is made from a signal's handler, or in the child of a fork of a process with several threads before it
+ *     has called exec.
+ *   - The declarations here are those of the library that is linked: bootkeep_version() == BOOTKEEP_VERSION or more.
+ *
+ * THREADS
+ *
+ * Calls without a keeper may be made by any thread at any time. A keeper is used by one thread at a time: it may be
+ * handed from one to another, and closed by any, if what hands it over orders the two calls, as a lock, a channel or
+ * the start and the end of a thread does. Keepers have nothing to do with each other: all that one holds is its own,
+ * and the library keeps nothing beside it. docs/c.md says what this rests on, which is no proof.
+ */
+
+#ifndef BOOTKEEP_H
+#define BOOTKEEP_H
+
+/* The structs below are laid out for 64 bits, and no library is built for another processor. x32 has pointers of 32. */
+#if !defined(__x86_64__) && !defined(_M_X64)
+#error "libbootkeep is built for x86-64 alone: this compiler makes code for another processor"
+#elif defined(__ILP32__)
+#error "libbootkeep is built for x86-64 with pointers of 64 bits: this compiler makes code for x32"
+#endif
+
+#include <stddef.h>
+#include <stdint.h>
+
+#ifdef __cplusplus
+extern "C" {
+#endif
+
+/* What a compiler can check of calls: that an answer isn't dropped, and which pointers are never NULL. */
+#if defined(__GNUC__) || defined(__clang__)
+#define BOOTKEEP_CHECKED __attribute__((warn_unused_result))
+#define BOOTKEEP_NONNULL(which) __attribute__((nonnull which))
+#else
+#define BOOTKEEP_CHECKED
+#define BOOTKEEP_NONNULL(which)
+#endif
+
+/* ---- Firmware --------------------------------------------------------------------------------------------------- */
+
+/*
+ * The library for firmware, libbootkeep-firmware.a, has these calls without a C library. It takes memory by these three
+ * functions of the program's, and refers to nothing else. The other libraries don't call them.
+ *
+ * No call takes more than BOOTKEEP_STACK_MAX bytes of the stack, of which UEFI has 128 KiB (UEFI 2.10, 2.3.4): a plan,
+ * a run and the events of a keeper up to 19,000, bootkeep_set_at_risk 14,000, bootkeep_image_digest 10,000, and all
+ * others 2,700. What the three functions take comes on top. `tools/build-c --firmware` prints it for each call: it adds
+ * up the frames that the compiler tells, along the longest way down, and counts what calls itself, sorts of numbers and
+ * what goes down a tree of them, as often as it does for 65,536 numbers.
+ *
+ * The library uses no red zone, nothing of it is written, and it needs the processor's level x86-64-v2. Its calls have
+ * the System V convention, so that XMM6 to XMM15 may be changed, which firmware wants back from what it calls (UEFI
+ * 2.10, 2.3.4.2): a function with Microsoft's convention around them saves these, as compilers do.
+ *
+ * bootkeep_allocate gives a block of this many bytes, at least one, at a place that 8 divides, or NULL to refuse.
+ * bootkeep_grow gives a block of `len` bytes in the place of one that was given: its first `kept` bytes are those of
+ * that one, which is freed. At NULL that one stays as it was. bootkeep_free frees a block; the library hands it no
+ * NULL.
+ */
+#define BOOTKEEP_STACK_MAX 20480
+
+void *bootkeep_allocate(size_t len);
+void *bootkeep_grow(void *block, size_t kept, size_t len);
+void bootkeep_free(void *block);
+
+/* ---- Version ---------------------------------------------------------------------------------------------------- */
+
+/* The version of the interface that this file declares. Each version has all that earlier ones have. */
+#define BOOTKEEP_VERSION 1
+
+/* The version of the interface that the library has. */
+uint32_t bootkeep_version(void);
+
+/* ---- Statuses --------------------------------------------------------------------------------------------------- */
+
+/* The call did what it says. */
+#define BOOTKEEP_DONE 0
+/* What was handed in isn't what it has to be: `*refusal` says why. */
+#define BOOTKEEP_REFUSED 1
+/* A buffer is too short: `*len` says how much room the answer needs. Nothing has happened. */
+#define BOOTKEEP_NO_ROOM 2
+/* There is no variable of this name, or no word of this number. */
+#define BOOTKEEP_ABSENT 3
+/*
+ * Memory was refused. Nothing has happened. This may come in the place of any other status but BOOTKEEP_CLOSED and
+ * BOOTKEEP_BAD_SIZE, and but BOOTKEEP_REFUSED at the calls that say so.
+ */
+#define BOOTKEEP_NO_MEMORY 4
+/* The keeper isn't open. */
+#define BOOTKEEP_CLOSED 5
+/* The `size` of a struct is below that which the struct had when it first came. Nothing has happened. */
+#define BOOTKEEP_BAD_SIZE 6
+
+/* ---- Sizes ------------------------------------------------------------------------------------------------------ */
+
+/* The most bytes of a frame, of the name and of the data of a variable, and of the list of paths of an option. */
+#define BOOTKEEP_FRAME_MAX 131084
+#define BOOTKEEP_NAME_MAX 64
+#define BOOTKEEP_DATA_MAX 1048576
+#define BOOTKEEP_LIST_MAX 65535
+/* The most numbers of a BootOrder, and so of a plan. */
+#define BOOTKEEP_ORDER_MAX 65536
+/* The most bytes of a word of a number. */
+#define BOOTKEEP_WORD_MAX 32
+
+/* ---- Refusals --------------------------------------------------------------------------------------------------- */
+
+struct bootkeep_refusal {
+    /* Why: one of the numbers below. */
+    uint32_t kind;
+    /* The number of the fault within, or BOOTKEEP_NO_KIND. */
+    uint32_t inner_kind;
+    /* Where, or BOOTKEEP_NO_PLACE. */
+    size_t place;
+    /* Where the fault within is, or BOOTKEEP_NO_PLACE. It counts from `place`. */
+    size_t inner_place;
+};
+
+#define BOOTKEEP_NO_KIND 0
+#define BOOTKEEP_NO_PLACE SIZE_MAX
+
+/*
+ * Of the bytes of a device path. The place is that of the node with the fault.
+ */
+
+/* No byte remains where a node must be. */
+#define BOOTKEEP_PATH_NO_END 0x0101
+/* One to three bytes remain, fewer than the header of a node has. */
+#define BOOTKEEP_PATH_SHORT_HEADER 0x0102
+/* The node states a length below 4, that of its header alone. */
+#define BOOTKEEP_PATH_BAD_LENGTH 0x0103
+/* The node states more bytes than remain. */
+#define BOOTKEEP_PATH_PAST_END 0x0104
+/* The node has type 0x7F and isn't an end node. */
+#define BOOTKEEP_PATH_BAD_END 0x0105
+
+/*
+ * Of the text of a device path. The place is in the text.
+ */
+
+/* What is at this place isn't a segment. */
+#define BOOTKEEP_TEXT_BAD_SEGMENT 0x0201
+/* The argument at this place must be a number and isn't a number's text. */
+#define BOOTKEEP_TEXT_BAD_NUMBER 0x0202
+/* The argument at this place is out of its range. */
+#define BOOTKEEP_TEXT_OUT_OF_RANGE 0x0203
+/* The segment at this place is a `Path` of type 0x7F, that of the end nodes. */
+#define BOOTKEEP_TEXT_BAD_END 0x0204
+/* The text isn't UTF-8 from this place on. This comes before any other fault of a text. */
+#define BOOTKEEP_TEXT_NOT_UTF8 0x0205
+/*
+ * These are of bootkeep_path_parse alone, which reads the names of nodes too. No node has the name at this place.
+ */
+#define BOOTKEEP_TEXT_UNKNOWN_NAME 0x0206
+/* The argument at this place isn't what the node has there. */
+#define BOOTKEEP_TEXT_BAD_ARGUMENT 0x0207
+/* At this place the segment ends before it has all its arguments, or has one more. */
+#define BOOTKEEP_TEXT_BAD_COUNT 0x0208
+/* What the arguments of the segment at this place say is no data of its node. */
+#define BOOTKEEP_TEXT_BAD_DATA 0x0209
+
+/*
+ * Of a load option. Only BOOTKEEP_OPTION_PATH and BOOTKEEP_OPTION_NOT_UTF8 have a place, and the first has a fault
+ * within.
+ */
+
+/* There are fewer bytes than the six of the attributes and of the length of the list. */
+#define BOOTKEEP_OPTION_SHORT 0x0301
+/* No zero unit closes the description. */
+#define BOOTKEEP_OPTION_NO_TERMINATOR 0x0302
+/* The list of paths has fewer bytes than the option states. */
+#define BOOTKEEP_OPTION_LIST_PAST_END 0x0303
+/* The list of paths has no byte. */
+#define BOOTKEEP_OPTION_EMPTY_LIST 0x0304
+/* The bytes of the list from this place of the option on don't begin with a path: `inner_kind` is that path's fault. */
+#define BOOTKEEP_OPTION_PATH 0x0305
+/*
+ * These are of parts of which an option is to be made, as BOOTKEEP_OPTION_EMPTY_LIST and BOOTKEEP_OPTION_PATH may be,
+ * whose place is then in the list. A character of the description is zero.
+ */
+#define BOOTKEEP_OPTION_ZERO_UNIT 0x0306
+/* The paths have more bytes than BOOTKEEP_LIST_MAX. */
+#define BOOTKEEP_OPTION_LIST_TOO_LONG 0x0307
+/* The description isn't UTF-8 from this place of it on. */
+#define BOOTKEEP_OPTION_NOT_UTF8 0x0308
+/* Of bootkeep_option_description_utf8: half of a pair of units stands alone in the description, which is no text. */
+#define BOOTKEEP_OPTION_NOT_UTF16 0x0309
+
+/*
+ * Of a set file. The place is that of the record with the fault.
+ */
+
+/* The file doesn't begin with the four bytes `BVS1`. */
+#define BOOTKEEP_SET_BAD_MAGIC 0x0401
+/* The file ends within the record. */
+#define BOOTKEEP_SET_TRUNCATED 0x0402
+/* The name isn't one to 64 characters from 0x21 to 0x7E. */
+#define BOOTKEEP_SET_BAD_NAME 0x0403
+/* The data is to have no byte, or more than 1,048,576. */
+#define BOOTKEEP_SET_BAD_DATA 0x0404
+/* The name isn't above that of the record before, by bytes. */
+#define BOOTKEEP_SET_NOT_RISING 0x0405
+
+/*
+ * Of variables that say what is to be booted. None has a place.
+ */
+
+/* The bytes of BootOrder are odd in number, or more than two for each of 65,536 entries. */
+#define BOOTKEEP_VARS_BAD_ORDER 0x0501
+/* BootNext has another number of bytes than two. */
+#define BOOTKEEP_VARS_BAD_NEXT 0x0502
+/* The bytes of BootKeepState aren't ones that a keeper stores. Only keepers and runs look at it. */
+#define BOOTKEEP_VARS_BAD_STATE 0x0503
+
+/*
+ * Of a variable that is to be put into a set. None has a place.
+ */
+
+/* The name isn't one to 64 characters from 0x21 to 0x7E. */
+#define BOOTKEEP_PUT_BAD_NAME 0x0601
+/* There is no data. A variable without data is deleted, and never stored. */
+#define BOOTKEEP_PUT_EMPTY_DATA 0x0602
+/* The data has more than 1,048,576 bytes. */
+#define BOOTKEEP_PUT_DATA_TOO_LONG 0x0603
+
+/*
+ * Of a stream of frames, which can't be cut. Only BOOTKEEP_STREAM_REST has a place.
+ */
+
+/* A header doesn't begin with 0x42 0x51. */
+#define BOOTKEEP_STREAM_BAD_MAGIC 0x0701
+/* The version of a header is none of 1 to 3. */
+#define BOOTKEEP_STREAM_BAD_VERSION 0x0702
+/* A payload is to have more bytes than a frame can have. */
+#define BOOTKEEP_STREAM_TOO_LONG 0x0703
+/* The last frame isn't whole. The place is how many bytes of it are there. */
+#define BOOTKEEP_STREAM_REST 0x0704
+
+/*
+ * Of a frame. None has a place. bootkeep_frame_make answers BOOTKEEP_FRAME_TOO_LONG, BOOTKEEP_FRAME_BAD_KIND and
+ * BOOTKEEP_FRAME_BAD_NUMBER; all of them are the `fault` of a reply to bytes that aren't a frame.
+ */
+
+/* There are fewer bytes than the twelve before the payload. */
+#define BOOTKEEP_FRAME_SHORT 0x0801
+/* The bytes don't begin with 0x42 0x51. */
+#define BOOTKEEP_FRAME_BAD_MAGIC 0x0802
+/* The version is none of 1 to 3. */
+#define BOOTKEEP_FRAME_BAD_VERSION 0x0803
+/* The payload has more bytes than a frame can have. */
+#define BOOTKEEP_FRAME_TOO_LONG 0x0804
+/* There are fewer or more bytes than the twelve and those of the payload. */
+#define BOOTKEEP_FRAME_BAD_SIZE 0x0805
+/* No kind of request has this number. */
+#define BOOTKEEP_FRAME_BAD_KIND 0x0806
+/* The number is BOOTKEEP_NO_NUMBER, which no request has. */
+#define BOOTKEEP_FRAME_BAD_NUMBER 0x0807
+/* The payload doesn't have the bytes that a request of its kind has. */
+#define BOOTKEEP_FRAME_BAD_PAYLOAD 0x0808
+/* The payload's load option isn't one. Only replies have this number. */
+#define BOOTKEEP_FRAME_OPTION 0x0809
+
+/*
+ * Of an image that firmware doesn't start. The place is that of the field that has the fault, or of a section's header.
+ * bootkeep_image_check tells by `*effect` what comes of it.
+ */
+
+/* The file has no bytes. */
+#define BOOTKEEP_IMAGE_EMPTY 0x0901
+/* The file ends in its DOS header. */
+#define BOOTKEEP_IMAGE_SHORT_DOS_HEADER 0x0902
+/* The file doesn't begin with MZ. */
+#define BOOTKEEP_IMAGE_DOS_SIGNATURE 0x0903
+/* There are no 264 bytes from e_lfanew on, as many as headers with 16 data directories have. */
+#define BOOTKEEP_IMAGE_PE_PLACE 0x0904
+/* There is no PE signature where e_lfanew says. */
+#define BOOTKEEP_IMAGE_PE_SIGNATURE 0x0905
+/* Magic is neither that of PE32 nor that of PE32+. */
+#define BOOTKEEP_IMAGE_MAGIC 0x0906
+/* The image is no EFI application. */
+#define BOOTKEEP_IMAGE_SUBSYSTEM 0x0907
+/* There are more data directories than the format has. */
+#define BOOTKEEP_IMAGE_DIRECTORY_COUNT 0x0908
+/* The optional header isn't as long as one with so many data directories. */
+#define BOOTKEEP_IMAGE_OPTIONAL_HEADER_SIZE 0x0909
+/* The image has no room for its section table and one header more. */
+#define BOOTKEEP_IMAGE_IMAGE_SIZE 0x090a
+/* The headers have no room for the section table. */
+#define BOOTKEEP_IMAGE_HEADERS_SIZE 0x090b
+/* The headers don't end in the image. */
+#define BOOTKEEP_IMAGE_HEADERS_BEYOND_IMAGE 0x090c
+/* The file ends in the headers. */
+#define BOOTKEEP_IMAGE_HEADERS_BEYOND_FILE 0x090d
+/* The file ends before the certificate table does. */
+#define BOOTKEEP_IMAGE_CERTIFICATES_BEYOND_FILE 0x090e
+/* The machine isn't one that firmware knows. */
+#define BOOTKEEP_IMAGE_MACHINE 0x090f
+/* A section lies in the headers, in the file or in memory. */
+#define BOOTKEEP_IMAGE_SECTION_IN_HEADERS 0x0910
+/* The file ends before a section does. */
+#define BOOTKEEP_IMAGE_SECTION_BEYOND_FILE 0x0911
+/* The debug directory is at an offset of more than four bytes. */
+#define BOOTKEEP_IMAGE_DEBUG_PLACE 0x0912
+/* The file ends in an entry of the debug directory. */
+#define BOOTKEEP_IMAGE_DEBUG_BEYOND_FILE 0x0913
+/* CodeView data are in no section: firmware loads them after the sections. */
+#define BOOTKEEP_IMAGE_UNMAPPED_CODE_VIEW 0x0914
+/* The image is one for ARM64. */
+#define BOOTKEEP_IMAGE_ARM64 0x0915
+/* The image takes more memory than is taken for granted, 512 MiB. */
+#define BOOTKEEP_IMAGE_MEMORY 0x0916
+/* The relocations are stripped, and the image's address is in the first page of memory. */
+#define BOOTKEEP_IMAGE_FIXED_BASE 0x0917
+/* The relocations are stripped: the memory at the image's address has to be free. */
+#define BOOTKEEP_IMAGE_RELOCATIONS_STRIPPED 0x0918
+/* Sections are aligned to nothing. */
+#define BOOTKEEP_IMAGE_SECTION_ALIGNMENT 0x0919
+/* A section isn't in the image. */
+#define BOOTKEEP_IMAGE_SECTION_BEYOND_IMAGE 0x091a
+/* A section is written after the image's memory. */
+#define BOOTKEEP_IMAGE_SECTION_BEYOND_MEMORY 0x091b
+/* A section without bytes in the file is written over the section table. */
+#define BOOTKEEP_IMAGE_SECTION_OVER_TABLE 0x091c
+/* The directory of relocations is the first after those that there are, and isn't in the headers. */
+#define BOOTKEEP_IMAGE_RELOCATIONS_NOT_LOADED 0x091d
+/* The relocations end after the last address of four bytes. */
+#define BOOTKEEP_IMAGE_RELOCATIONS_OVERFLOW 0x091e
+/* The relocations aren't in the image. */
+#define BOOTKEEP_IMAGE_RELOCATIONS_BEYOND_IMAGE 0x091f
+/* The image is one for IA32, which is loaded and not started. */
+#define BOOTKEEP_IMAGE_IA32 0x0920
+/* The image is EFI byte code, which needs an interpreter. */
+#define BOOTKEEP_IMAGE_BYTE_CODE 0x0921
+/* The image's entry point isn't in it. */
+#define BOOTKEEP_IMAGE_ENTRY_POINT 0x0922
+/* These two are of bootkeep_image_digest alone, without a place. Headers and sections have more bytes than the file. */
+#define BOOTKEEP_IMAGE_OVERLAP 0x0923
+/* The certificate table has more bytes than are left of the file after the headers and sections. */
+#define BOOTKEEP_IMAGE_CERTIFICATES_OVERLAP 0x0924
+
+/*
+ * Of signature lists. The place is that of the list with the fault.
+ */
+
+/* The bytes end in the 28 before the list's header. */
+#define BOOTKEEP_LISTS_CUT_HEADER 0x0a01
+/* The list has fewer bytes than its headers, or more than there are. */
+#define BOOTKEEP_LISTS_BAD_LIST_SIZE 0x0a02
+/* A signature has fewer than 16 bytes, or the signatures aren't whole. */
+#define BOOTKEEP_LISTS_BAD_SIGNATURE_SIZE 0x0a03
+
+/*
+ * Of what an image has in memory, which bootkeep_image_check tells. The place is an offset in the file.
+ */
+
+/* The debug entry of CodeView data isn't in the image. */
+#define BOOTKEEP_IMAGE_CODE_VIEW_ENTRY_BEYOND_IMAGE 0x0b01
+/* The debug entry of CodeView data isn't in one section, or the headers, once they are in memory. */
+#define BOOTKEEP_IMAGE_CODE_VIEW_ENTRY_NOT_LOADED 0x0b02
+/* CodeView data aren't in the image. */
+#define BOOTKEEP_IMAGE_CODE_VIEW_BEYOND_IMAGE 0x0b03
+/* CodeView data aren't in one section, or the headers, once they are in memory. */
+#define BOOTKEEP_IMAGE_CODE_VIEW_NOT_LOADED 0x0b04
+/* CodeView data have fewer bytes than data with their signature. */
+#define BOOTKEEP_IMAGE_CODE_VIEW_SIZE 0x0b05
+/* What the loader reads of the resources isn't in one section, or the headers. */
+#define BOOTKEEP_IMAGE_RESOURCES_NOT_LOADED 0x0b06
+/* A directory, a name or the data of a resource begin after the resources. */
+#define BOOTKEEP_IMAGE_RESOURCE_BEYOND_RESOURCES 0x0b07
+/* The entries of a directory of resources end after the resources. */
+#define BOOTKEEP_IMAGE_RESOURCE_DIRECTORY_SIZE 0x0b08
+/* A block of relocations isn't in one section, or the headers. */
+#define BOOTKEEP_IMAGE_RELOCATION_BLOCK_NOT_LOADED 0x0b09
+/* A block of relocations has no bytes, or more than are left of the relocations. */
+#define BOOTKEEP_IMAGE_RELOCATION_BLOCK_SIZE 0x0b0a
+/* A block of relocations is of a page that isn't in the image. */
+#define BOOTKEEP_IMAGE_RELOCATION_BLOCK_ADDRESS 0x0b0b
+/* A relocation is of an address that isn't in the image. */
+#define BOOTKEEP_IMAGE_RELOCATION_BEYOND_IMAGE 0x0b0c
+/* A relocation is of a type that firmware doesn't know. */
+#define BOOTKEEP_IMAGE_RELOCATION_UNKNOWN_TYPE 0x0b0d
+
+/* ---- Words ------------------------------------------------------------------------------------------------------ */
+
+/*
+ * The word that a status, the number of a refusal or that of an outcome has for a person: that of its name here, as
+ * `NoRoom` of BOOTKEEP_NO_ROOM, `PathNoEnd` of BOOTKEEP_PATH_NO_END and `OrderRepeats` of
+ * BOOTKEEP_OUTCOME_ORDER_REPEATS. It is ASCII, and room for BOOTKEEP_WORD_MAX bytes is always enough. These calls take
+ * no memory.
+ *
+ *     BOOTKEEP_DONE, BOOTKEEP_NO_ROOM
+ *     BOOTKEEP_ABSENT    this version has no such number
+ */
+uint32_t bootkeep_status_word(uint32_t status, uint8_t *out, size_t cap, size_t *len)
+    BOOTKEEP_CHECKED BOOTKEEP_NONNULL((4));
+uint32_t bootkeep_refusal_word(uint32_t kind, uint8_t *out, size_t cap, size_t *len)
+    BOOTKEEP_CHECKED BOOTKEEP_NONNULL((4));
+uint32_t bootkeep_outcome_word(uint32_t outcome, uint8_t *out, size_t cap, size_t *len)
+    BOOTKEEP_CHECKED BOOTKEEP_NONNULL((4));
+
+/* ---- Device paths ----------------------------------------------------------------------------------------------- */
+
+/*
+ * The text of the device path at the start of the bytes (UEFI 2.10, 10.3 and 10.6), in the one spelling that is
+ * printed, and in `*taken` how many bytes the path takes. What comes after its end is left: if the path is to be all of
+ * the bytes, compare `*taken` with `bytes_len`. bootkeep_text_path and bootkeep_path_parse read the text. A fault of
+ * the path is told even if there is no memory.
+ *
+ *     BOOTKEEP_DONE, BOOTKEEP_NO_ROOM, BOOTKEEP_NO_MEMORY
+ *     BOOTKEEP_REFUSED   a number of paths
+ */
+uint32_t bootkeep_path_text(const uint8_t *bytes, size_t bytes_len, uint8_t *out, size_t cap, size_t *len,
+                            size_t *taken, struct bootkeep_refusal *refusal)
+    BOOTKEEP_CHECKED BOOTKEEP_NONNULL((5, 6, 7));
+
+/*
+ * The text of the device path for a person, as `bootvars show` prints it: that of bootkeep_path_text, with its name and
+ * its fields for each node of the standard's table whose text can be read back as the node. It is UTF-8: names of files
+ * may have characters past ASCII. bootkeep_path_parse reads it as the same path; bootkeep_text_path refuses most of the
+ * names. All else is as there.
+ *
+ *     BOOTKEEP_DONE, BOOTKEEP_NO_ROOM, BOOTKEEP_NO_MEMORY
+ *     BOOTKEEP_REFUSED   a number of paths
+ */
+uint32_t bootkeep_path_names(const uint8_t *bytes, size_t bytes_len, uint8_t *out, size_t cap, size_t *len,
+                             size_t *taken, struct bootkeep_refusal *refusal)
+    BOOTKEEP_CHECKED BOOTKEEP_NONNULL((5, 6, 7));
+
+/*
+ * In `*taken` how many bytes the device path at the start of the bytes takes. This takes no memory.
+ *
+ *     BOOTKEEP_DONE
+ *     BOOTKEEP_REFUSED   a number of paths
+ */
+uint32_t bootkeep_path_check(const uint8_t *bytes, size_t bytes_len, size_t *taken, struct bootkeep_refusal *refusal)
+    BOOTKEEP_CHECKED BOOTKEEP_NONNULL((3, 4));
+
+/*
+ * The bytes of the device path that the text stands for: the one to call for what a person wrote. It reads each text
+ * that bootkeep_path_text and bootkeep_path_names give, as the path of which they gave it, and other spellings besides:
+ * docs/formats.md has the grammar. What the first one gives has the same bytes for good; a later version may know more
+ * names.
+ *
+ *     BOOTKEEP_DONE, BOOTKEEP_NO_ROOM, BOOTKEEP_NO_MEMORY
+ *     BOOTKEEP_REFUSED   a number of texts
+ */
+uint32_t bootkeep_path_parse(const uint8_t *text, size_t text_len, uint8_t *out, size_t cap, size_t *len,
+                             struct bootkeep_refusal *refusal) BOOTKEEP_CHECKED BOOTKEEP_NONNULL((5, 6));
+
+/*
+ * The same for texts as bootkeep_path_text gives them, and other spellings of these: it refuses the names of most
+ * nodes, so that what a person copies from `bootvars show` isn't read. It takes a text and gives a path, where
+ * bootkeep_path_text takes a path and gives a text.
+ *
+ *     BOOTKEEP_DONE, BOOTKEEP_NO_ROOM, BOOTKEEP_NO_MEMORY
+ *     BOOTKEEP_REFUSED   a number of texts
+ */
+uint32_t bootkeep_text_path(const uint8_t *text, size_t text_len, uint8_t *out, size_t cap, size_t *len,
+                            struct bootkeep_refusal *refusal) BOOTKEEP_CHECKED BOOTKEEP_NONNULL((5, 6));
+
+/* ---- Load options ----------------------------------------------------------------------------------------------- */
+
+/* Bits of the attributes (UEFI 2.10, 3.1.3), and the values of those of BOOTKEEP_OPTION_CATEGORY. */
+#define BOOTKEEP_OPTION_ACTIVE 0x00000001
+#define BOOTKEEP_OPTION_FORCE_RECONNECT 0x00000002
+#define BOOTKEEP_OPTION_HIDDEN 0x00000008
+#define BOOTKEEP_OPTION_CATEGORY 0x00001f00
+#define BOOTKEEP_OPTION_CATEGORY_BOOT 0x00000000
+#define BOOTKEEP_OPTION_CATEGORY_APP 0x00000100
+
+/* Where the parts of a load option are in its bytes: for each part its offset, and how many bytes it has. */
+struct bootkeep_option_parts {
+    /* All 32 bits as they are stored. */
+    uint32_t attributes;
+    /* 0. It is written, so that no byte of the struct is left open. */
+    uint32_t reserved;
+    /* The description, two bytes for each unit, little-endian, without the zero unit that closes it. */
+    size_t description;
+    size_t description_len;
+    /* The list of device paths, one after the other: bootkeep_path_check tells how long the first one is. */
+    size_t list;
+    size_t list_len;
+    /* The optional data, up to the end of the option. */
+    size_t optional;
+    size_t optional_len;
+};
+
+/* To GCC a call of C++ that has the name of a struct hides that struct's constructors. */
+#if defined(__cplusplus) && defined(__GNUC__)
+#pragma GCC diagnostic push
+#pragma GCC diagnostic ignored "-Wshadow"
+#endif
+
+/*
+ * The parts of the load option that the bytes are, all of them, in `*parts`. This takes no memory.
+ *
+ *     BOOTKEEP_DONE
+ *     BOOTKEEP_REFUSED   a number of load options
+ */
+uint32_t bootkeep_option_parts(const uint8_t *bytes, size_t bytes_len, struct bootkeep_option_parts *parts,
+                               struct bootkeep_refusal *refusal) BOOTKEEP_CHECKED BOOTKEEP_NONNULL((3, 4));
+
+#if defined(__cplusplus) && defined(__GNUC__)
+#pragma GCC diagnostic pop
+#endif
+
+/*
+ * The description of the load option that the bytes are, as one line of ASCII, for a terminal or a log: units that
+ * don't print are shown by their numbers, as docs/formats.md says. bootkeep_option_make takes these for characters of a
+ * name: it is to be given what bootkeep_option_description_utf8 gives. A fault of the option is told even if there is
+ * no memory.
+ *
+ *     BOOTKEEP_DONE, BOOTKEEP_NO_ROOM, BOOTKEEP_NO_MEMORY
+ *     BOOTKEEP_REFUSED   a number of load options
+ */
+uint32_t bootkeep_option_description(const uint8_t *bytes, size_t bytes_len, uint8_t *out, size_t cap, size_t *len,
+                                     struct bootkeep_refusal *refusal) BOOTKEEP_CHECKED BOOTKEEP_NONNULL((5, 6));
+
+/*
+ * The description of the load option that the bytes are, in UTF-8, all of its characters as they are, also those that a
+ * terminal acts on. bootkeep_option_make makes the same description of it. Of one that is no text, which is refused,
+ * bootkeep_option_parts tells where the units are, and bootkeep_option_make_units takes them.
+ *
+ *     BOOTKEEP_DONE, BOOTKEEP_NO_ROOM, BOOTKEEP_NO_MEMORY
+ *     BOOTKEEP_REFUSED   a number of load options; otherwise BOOTKEEP_OPTION_NOT_UTF16
+ */
+uint32_t bootkeep_option_description_utf8(const uint8_t *bytes, size_t bytes_len, uint8_t *out, size_t cap, size_t *len,
+                                          struct bootkeep_refusal *refusal) BOOTKEEP_CHECKED BOOTKEEP_NONNULL((5, 6));
+
+/*
+ * The load option of these parts: its attributes, its description, which is UTF-8 and has no zero at its end, the list
+ * of its device paths, as their bytes one after the other, each as bootkeep_path_parse gives it, and its optional data.
+ *
+ *     BOOTKEEP_DONE, BOOTKEEP_NO_ROOM, BOOTKEEP_NO_MEMORY
+ *     BOOTKEEP_REFUSED   BOOTKEEP_OPTION_NOT_UTF8; otherwise BOOTKEEP_OPTION_PATH, with its place in the list;
+ *                        otherwise BOOTKEEP_OPTION_ZERO_UNIT, BOOTKEEP_OPTION_EMPTY_LIST or
+ *                        BOOTKEEP_OPTION_LIST_TOO_LONG, in this order
+ */
+uint32_t bootkeep_option_make(uint32_t attributes, const uint8_t *description, size_t description_len,
+                              const uint8_t *list, size_t list_len, const uint8_t *optional, size_t optional_len,
+                              uint8_t *out, size_t cap, size_t *len, struct bootkeep_refusal *refusal)
+    BOOTKEEP_CHECKED BOOTKEEP_NONNULL((10, 11));
+
+/*
+ * The same with the units of the description as they are stored, whether or not they are a text, and without the zero
+ * unit that closes it. `units_len` counts units. So each option can be made again of its parts, to the byte.
+ *
+ *     BOOTKEEP_DONE, BOOTKEEP_NO_ROOM, BOOTKEEP_NO_MEMORY
+ *     BOOTKEEP_REFUSED   BOOTKEEP_OPTION_PATH, with its place in the list; otherwise BOOTKEEP_OPTION_ZERO_UNIT,
+ *                        BOOTKEEP_OPTION_EMPTY_LIST or BOOTKEEP_OPTION_LIST_TOO_LONG, in this order
+ */
+uint32_t bootkeep_option_make_units(uint32_t attributes, const uint16_t *units, size_t units_len, const uint8_t *list,
+                                    size_t list_len, const uint8_t *optional, size_t optional_len, uint8_t *out,
+                                    size_t cap, size_t *len, struct bootkeep_refusal *refusal)
+    BOOTKEEP_CHECKED BOOTKEEP_NONNULL((10, 11));
+
+/* ---- Frames ----------------------------------------------------------------------------------------------------- */
+
+/* What a request is to do: docs/requests.md has what comes of each. */
+
+/* To store the option under the entry's number, which must be free, and to append the number to BootOrder. */
+#define BOOTKEEP_REQUEST_ADD 1
+/* To store the option in the place of the entry, which must be there. */
+#define BOOTKEEP_REQUEST_REPLACE 2
+/* To take out the entry, its number from BootOrder, and a BootNext that names it. */
+#define BOOTKEEP_REQUEST_REMOVE 3
+/* To set BootOrder to the numbers. */
+#define BOOTKEEP_REQUEST_ORDER 4
+/* To set BootNext to the entry. */
+#define BOOTKEEP_REQUEST_NEXT 5
+/* To store the option under the lowest free number, and to append that to BootOrder. */
+#define BOOTKEEP_REQUEST_ADD_FREE 6
+/* To store the option under the lowest free number, and to put that in front of BootOrder. */
+#define BOOTKEEP_REQUEST_ADD_FIRST 7
+/* To put the entry in front of BootOrder. */
+#define BOOTKEEP_REQUEST_FIRST 8
+
+/* No request has this number. */
+#define BOOTKEEP_NO_NUMBER 0xffffffff
+
+/*
+ * The frame of the request with this number. Of `entry`, the bytes of the load option and the numbers of the order it
+ * has what its kind takes; the others aren't looked at, and may be 0 and NULL. An `entry` of 0 is Boot0000, and an
+ * order of no numbers empties BootOrder: no call knows that they were forgotten.
+ *
+ *     BOOTKEEP_DONE, BOOTKEEP_NO_ROOM, BOOTKEEP_NO_MEMORY
+ *     BOOTKEEP_REFUSED   BOOTKEEP_FRAME_BAD_KIND; otherwise a number of load options; otherwise
+ *                        BOOTKEEP_FRAME_TOO_LONG or BOOTKEEP_FRAME_BAD_NUMBER
+ */
+uint32_t bootkeep_frame_make(uint32_t number, uint32_t kind, uint16_t entry, const uint8_t *option, size_t option_len,
+                             const uint16_t *order, size_t order_len, uint8_t *out, size_t cap, size_t *len,
+                             struct bootkeep_refusal *refusal) BOOTKEEP_CHECKED BOOTKEEP_NONNULL((10, 11));
+
+/* ---- Sets of variables ------------------------------------------------------------------------------------------ */
+
+/*
+ * A set is the bytes of a set file, all of them. Each call reads the whole set, and one that changes it gives another
+ * one: a program that makes many changes lets a keeper or a run make them.
+ */
+
+/* No entry has this number. */
+#define BOOTKEEP_NO_ENTRY 0x00010000
+
+/*
+ * What a boot would try (UEFI 2.10, 3.3): in `*next` the number of BootNext's entry, or BOOTKEEP_NO_ENTRY, and in
+ * `numbers` those of the normal entries of BootOrder, in its order. `cap` and `*len` count numbers here, and not bytes.
+ *
+ *     BOOTKEEP_DONE, BOOTKEEP_NO_ROOM, BOOTKEEP_NO_MEMORY
+ *     BOOTKEEP_REFUSED   a number of sets, BOOTKEEP_VARS_BAD_ORDER or BOOTKEEP_VARS_BAD_NEXT
+ */
+uint32_t bootkeep_set_plan(const uint8_t *set, size_t set_len, uint16_t *numbers, size_t cap, size_t *len,
+                           uint32_t *next, struct bootkeep_refusal *refusal)
+    BOOTKEEP_CHECKED BOOTKEEP_NONNULL((5, 6, 7));
+
+/*
+ * The entries that a start of firmware may write over or delete. In `numbers` first come those that neither BootOrder
+ * nor BootNext names, `*unnamed` of them: firmware that gives an entry of its own the lowest number that neither names
+ * may write over them. After them come those of BootOrder that are no load option, which firmware may delete. Each of
+ * the two parts rises, and no number is in both. edk2 was seen to do both; the standard asks for neither. `cap` and
+ * `*len` count numbers, of which there are 65536 at most.
+ *
+ *     BOOTKEEP_DONE, BOOTKEEP_NO_ROOM, BOOTKEEP_NO_MEMORY
+ *     BOOTKEEP_REFUSED   a number of sets, BOOTKEEP_VARS_BAD_ORDER or BOOTKEEP_VARS_BAD_NEXT
+ */
+uint32_t bootkeep_set_at_risk(const uint8_t *set, size_t set_len, uint16_t *numbers, size_t cap, size_t *len,
+                              size_t *unnamed, struct bootkeep_refusal *refusal)
+    BOOTKEEP_CHECKED BOOTKEEP_NONNULL((5, 6, 7));
+
+/*
+ * The data of the variable of this name.
+ *
+ *     BOOTKEEP_DONE, BOOTKEEP_NO_ROOM, BOOTKEEP_NO_MEMORY
+ *     BOOTKEEP_ABSENT    the set has no such variable, be the name one of a variable or not
+ *     BOOTKEEP_REFUSED   a number of sets
+ */
+uint32_t bootkeep_set_get(const uint8_t *set, size_t set_len, const uint8_t *name, size_t name_len, uint8_t *out,
+                          size_t cap, size_t *len, struct bootkeep_refusal *refusal)
+    BOOTKEEP_CHECKED BOOTKEEP_NONNULL((7, 8));
+
+/*
+ * The set with this data for the variable of this name, in the place of what it had, if it had any. `out` must not be
+ * `set`.
+ *
+ *     BOOTKEEP_DONE, BOOTKEEP_NO_ROOM, BOOTKEEP_NO_MEMORY
+ *     BOOTKEEP_REFUSED   a number of sets, or a number of what is put
+ */
+uint32_t bootkeep_set_put(const uint8_t *set, size_t set_len, const uint8_t *name, size_t name_len, const uint8_t *data,
+                          size_t data_len, uint8_t *out, size_t cap, size_t *len, struct bootkeep_refusal *refusal)
+    BOOTKEEP_CHECKED BOOTKEEP_NONNULL((9, 10));
+
+/*
+ * The set without the variable of this name.
+ *
+ *     BOOTKEEP_DONE, BOOTKEEP_NO_ROOM, BOOTKEEP_NO_MEMORY
+ *     BOOTKEEP_ABSENT    the set has no such variable
+ *     BOOTKEEP_REFUSED   a number of sets
+ */
+uint32_t bootkeep_set_remove(const uint8_t *set, size_t set_len, const uint8_t *name, size_t name_len, uint8_t *out,
+                             size_t cap, size_t *len, struct bootkeep_refusal *refusal)
+    BOOTKEEP_CHECKED BOOTKEEP_NONNULL((7, 8));
+
+/* Where a variable is in the bytes of its set: its name and its data, each with how many bytes it has. */
+struct bootkeep_variable {
+    size_t name;
+    size_t name_len;
+    size_t data;
+    size_t data_len;
+};
+
+/*
+ * Where the variables of the set are in its bytes, in the order of their names: nothing is copied. `cap` and `*len`
+ * count variables.
+ *
+ *     BOOTKEEP_DONE, BOOTKEEP_NO_ROOM, BOOTKEEP_NO_MEMORY
+ *     BOOTKEEP_REFUSED   a number of sets
+ */
+uint32_t bootkeep_set_variables(const uint8_t *set, size_t set_len, struct bootkeep_variable *variables, size_t cap,
+                                size_t *len, struct bootkeep_refusal *refusal)
+    BOOTKEEP_CHECKED BOOTKEEP_NONNULL((5, 6));
+
+/*
+ * In `*number` the lowest number under which the set has no entry, or BOOTKEEP_NO_ENTRY if all are taken.
+ *
+ *     BOOTKEEP_DONE, BOOTKEEP_NO_MEMORY
+ *     BOOTKEEP_REFUSED   a number of sets
+ */
+uint32_t bootkeep_set_lowest_free(const uint8_t *set, size_t set_len, uint32_t *number,
+                                  struct bootkeep_refusal *refusal) BOOTKEEP_CHECKED BOOTKEEP_NONNULL((3, 4));
+
+/* What a boot makes of an entry that BootOrder names. It is tried. */
+#define BOOTKEEP_ENTRY_NORMAL 0
+/* No entry has the number. */
+#define BOOTKEEP_ENTRY_ABSENT 1
+/* What is stored under the number is no load option. */
+#define BOOTKEEP_ENTRY_UNDECODABLE 2
+/* It isn't active. */
+#define BOOTKEEP_ENTRY_INACTIVE 3
+/* It is active, and of another category than the normal boot. */
+#define BOOTKEEP_ENTRY_OTHER_CATEGORY 4
+
+/*
+ * In `*state` why a number of BootOrder isn't in the plan, or that it is, by one of the numbers above. That of BootNext
+ * isn't if it is absent or undecodable. Whether an option is hidden doesn't matter.
+ *
+ *     BOOTKEEP_DONE, BOOTKEEP_NO_MEMORY
+ *     BOOTKEEP_REFUSED   a number of sets
+ */
+uint32_t bootkeep_set_entry(const uint8_t *set, size_t set_len, uint16_t number, uint32_t *state,
+                            struct bootkeep_refusal *refusal) BOOTKEEP_CHECKED BOOTKEEP_NONNULL((4, 5));
+
+/* What stands for BootOrder, BootNext and Timeout where other numbers are those of entries. */
+#define BOOTKEEP_VARIABLE_ORDER 0x00010001
+#define BOOTKEEP_VARIABLE_NEXT 0x00010002
+#define BOOTKEEP_VARIABLE_TIMEOUT 0x00010003
+
+/* A number that BootNext or BootOrder names. */
+struct bootkeep_named {
+    /* Which of them names it: BOOTKEEP_VARIABLE_NEXT or BOOTKEEP_VARIABLE_ORDER. */
+    uint32_t variable;
+    uint32_t number;
+    /* What a boot makes of the entry: one of BOOTKEEP_ENTRY_... */
+    uint32_t state;
+};
+
+/*
+ * What BootNext names, if it is there, and then what BootOrder names, in its order, each with why it isn't in the plan,
+ * or that it is, as bootkeep_set_entry tells it. A number that BootOrder repeats is told again, and its entry looked at
+ * once. `cap` and `*len` count numbers, of which there are BOOTKEEP_ORDER_MAX + 1 at most.
+ *
+ *     BOOTKEEP_DONE, BOOTKEEP_NO_ROOM, BOOTKEEP_NO_MEMORY
+ *     BOOTKEEP_REFUSED   a number of sets, BOOTKEEP_VARS_BAD_ORDER or BOOTKEEP_VARS_BAD_NEXT
+ */
+uint32_t bootkeep_set_named(const uint8_t *set, size_t set_len, struct bootkeep_named *named, size_t cap, size_t *len,
+                            struct bootkeep_refusal *refusal) BOOTKEEP_CHECKED BOOTKEEP_NONNULL((5, 6));
+
+/* The variable is new, has other data, or is taken out. */
+#define BOOTKEEP_CHANGE_ADDED 1
+#define BOOTKEEP_CHANGE_REPLACED 2
+#define BOOTKEEP_CHANGE_REMOVED 3
+
+/* A change of one variable of the boot manager. */
+struct bootkeep_change {
+    /* The number of the entry, BOOTKEEP_VARIABLE_ORDER, BOOTKEEP_VARIABLE_NEXT or BOOTKEEP_VARIABLE_TIMEOUT. */
+    uint32_t variable;
+    /* BOOTKEEP_CHANGE_ADDED, BOOTKEEP_CHANGE_REPLACED or BOOTKEEP_CHANGE_REMOVED. */
+    uint32_t kind;
+};
+
+/*
+ * The changes that lead from one set to the boot manager's variables of another, Boot####, BootOrder, BootNext and
+ * Timeout, in an order in which a machine can make them: after each of them BootOrder and BootNext name a missing entry
+ * only if they did before all of them, or do after them. The data of a variable before and after is in the two sets.
+ * `cap` and `*len` count changes.
+ *
+ * BootKeepState isn't among them, and firmware refuses it: a program that makes the changes of a keeper on a machine
+ * keeps that state elsewhere, and together with them, as is said at bootkeep_keeper_set.
+ *
+ *     BOOTKEEP_DONE, BOOTKEEP_NO_ROOM, BOOTKEEP_NO_MEMORY
+ *     BOOTKEEP_REFUSED   a number of sets, of `from`; otherwise one of `to`
+ */
+uint32_t bootkeep_set_changes(const uint8_t *from, size_t from_len, const uint8_t *to, size_t to_len,
+                              struct bootkeep_change *changes, size_t cap, size_t *len,
+                              struct bootkeep_refusal *refusal) BOOTKEEP_CHECKED BOOTKEEP_NONNULL((7, 8));
+
+/* ---- Runs ------------------------------------------------------------------------------------------------------- */
+
+/*
+ * Delivers each frame of a stream to a keeper of the set, in order, and gives the set after them, and a line for each
+ * reply, ended by a line feed, as `bootkeep run --stream` prints it. The stream is frames one after the other, to its
+ * end: whether each is a request is told by its reply. Two buffers are filled, both or none: at BOOTKEEP_NO_ROOM
+ * `*set_len_out` and `*lines_len` say what the two need.
+ *
+ *     BOOTKEEP_DONE, BOOTKEEP_NO_ROOM, BOOTKEEP_NO_MEMORY
+ *     BOOTKEEP_REFUSED   a number of sets; otherwise a number of streams; otherwise one of variables
+ */
+uint32_t bootkeep_run(const uint8_t *set, size_t set_len, const uint8_t *stream, size_t stream_len, uint8_t *set_out,
+                      size_t set_cap, size_t *set_len_out, uint8_t *lines, size_t lines_cap, size_t *lines_len,
+                      struct bootkeep_refusal *refusal) BOOTKEEP_CHECKED BOOTKEEP_NONNULL((7, 10, 11));
+
+/* ---- Keepers ---------------------------------------------------------------------------------------------------- */
+
+/*
+ * What keeps the boot entries of a machine: its variables, the number of the request that is to be applied next, what
+ * came of the last ones, the requests that wait, and the plan that is prepared. docs/requests.md has what becomes of
+ * each event. A keeper holds memory until it is closed, and writes nothing anywhere: whoever has to survive a loss of
+ * power stores bootkeep_keeper_set after each event and before it goes on.
+ *
+ * It needs no first value: bootkeep_keeper_open reads nothing of it. One that is closed before it was ever opened is
+ * `{0}`, or `{}` in C++.
+ */
+struct bootkeep_keeper {
+    /* 0 if the keeper is closed. Read it, if you like. */
+    uint32_t is_open;
+    /* The library's. */
+    void *at;
+};
+
+/*
+ * Opens a keeper of the variables of a set. `*keeper` may be memory that was never written: nothing of it is read, and
+ * at any status but BOOTKEEP_DONE it is closed. So one that is open is closed first: what it holds is lost otherwise.
+ *
+ *     BOOTKEEP_DONE, BOOTKEEP_NO_MEMORY
+ *     BOOTKEEP_REFUSED   a number of sets; otherwise one of variables
+ */
+uint32_t bootkeep_keeper_open(struct bootkeep_keeper *keeper, const uint8_t *set, size_t set_len,
+                              struct bootkeep_refusal *refusal) BOOTKEEP_CHECKED BOOTKEEP_NONNULL((1, 4));
+
+/*
+ * Each of these four is an event, and its answer is the line of its reply, without a line feed. At any status but
+ * BOOTKEEP_DONE the event has not happened, and the same call may be made again.
+ *
+ *     BOOTKEEP_DONE, BOOTKEEP_NO_ROOM, BOOTKEEP_NO_MEMORY, BOOTKEEP_CLOSED
+ */
+
+/* These bytes are delivered, which may be a frame: `applied`, `waiting`, `repeat`, `malformed` and others. */
+uint32_t bootkeep_keeper_deliver(struct bootkeep_keeper *keeper, const uint8_t *frame, size_t frame_len, uint8_t *out,
+                                 size_t cap, size_t *len) BOOTKEEP_CHECKED BOOTKEEP_NONNULL((1, 6));
+
+/* A boot is prepared: its plan is made, and BootNext is deleted. `prepared` or `already prepared`. */
+uint32_t bootkeep_keeper_prepare(struct bootkeep_keeper *keeper, uint8_t *out, size_t cap, size_t *len)
+    BOOTKEEP_CHECKED BOOTKEEP_NONNULL((1, 4));
+
+/* The plan that is prepared is handed out, once. `plan` or `nothing prepared`. */
+uint32_t bootkeep_keeper_hand(struct bootkeep_keeper *keeper, uint8_t *out, size_t cap, size_t *len)
+    BOOTKEEP_CHECKED BOOTKEEP_NONNULL((1, 4));
+
+/* The keeper starts again, without what waits and what is prepared. `restarted`. */
+uint32_t bootkeep_keeper_restart(struct bootkeep_keeper *keeper, uint8_t *out, size_t cap, size_t *len)
+    BOOTKEEP_CHECKED BOOTKEEP_NONNULL((1, 4));
+
+/* What a reply is. */
+
+/* What was delivered isn't a frame: `fault` says why, and `option_fault` if that is BOOTKEEP_FRAME_OPTION. */
+#define BOOTKEEP_REPLY_MALFORMED 1
+/* The request was applied before, with this outcome. */
+#define BOOTKEEP_REPLY_REPEAT 2
+/* The request was applied before, and its outcome isn't kept any more. */
+#define BOOTKEEP_REPLY_OLD 3
+/* The number is too far ahead of `next_number`. */
+#define BOOTKEEP_REPLY_AHEAD 4
+/* Another request of this number waits. */
+#define BOOTKEEP_REPLY_CONFLICT 5
+/* The request waits for those before it. */
+#define BOOTKEEP_REPLY_WAITING 6
+/* The request was applied, with this outcome. */
+#define BOOTKEEP_REPLY_APPLIED 7
+/* A plan of `count` options is prepared. */
+#define BOOTKEEP_REPLY_PREPARED 8
+/* A plan was prepared before, and stays. */
+#define BOOTKEEP_REPLY_ALREADY_PREPARED 9
+/* The plan that was prepared: `plan_next`, and the numbers of the others. */
+#define BOOTKEEP_REPLY_PLAN 10
+/* No plan is prepared. */
+#define BOOTKEEP_REPLY_NOTHING_PREPARED 11
+/* What waited and what was prepared is forgotten. */
+#define BOOTKEEP_REPLY_RESTARTED 12
+
+/* What came of a request: nothing is told, it was carried out, or why it wasn't. */
+#define BOOTKEEP_OUTCOME_NONE 0
+#define BOOTKEEP_OUTCOME_DONE 1
+#define BOOTKEEP_OUTCOME_EXISTS 2
+#define BOOTKEEP_OUTCOME_MISSING 3
+#define BOOTKEEP_OUTCOME_ORDER_REPEATS 4
+#define BOOTKEEP_OUTCOME_ORDER_UNKNOWN 5
+#define BOOTKEEP_OUTCOME_NO_FREE 6
+
+/* A reply as a value. Later versions may add fields at its end: of those a call writes none that `size` leaves out. */
+struct bootkeep_reply {
+    /* sizeof(struct bootkeep_reply): the caller writes it before a call, and no call changes it. */
+    size_t size;
+    /* One of BOOTKEEP_REPLY_... */
+    uint32_t kind;
+    /* One of BOOTKEEP_FRAME_..., or BOOTKEEP_NO_KIND. */
+    uint32_t fault;
+    /* The fault of a frame's option, with its places in the option. Its `kind` is BOOTKEEP_NO_KIND if there is none. */
+    struct bootkeep_refusal option_fault;
+    /* One of BOOTKEEP_OUTCOME_... */
+    uint32_t outcome;
+    /* The entry that was added, or BOOTKEEP_NO_ENTRY. */
+    uint32_t entry;
+    /* The number of the request that is to be applied next, or BOOTKEEP_NO_NUMBER where the reply tells none. */
+    uint32_t next_number;
+    /* The number of the option that a plan tries first, or BOOTKEEP_NO_ENTRY. */
+    uint32_t plan_next;
+    /* How many options a plan has, that of `plan_next` included. */
+    size_t count;
+};
+
+/*
+ * The same four events, with the reply as a value and the numbers of a plan in place of the line: in `numbers` those of
+ * the normal options of the plan that is handed out, and none at any other reply. `cap` and `*len` count numbers.
+ *
+ *     BOOTKEEP_DONE, BOOTKEEP_NO_ROOM, BOOTKEEP_NO_MEMORY, BOOTKEEP_CLOSED
+ *     BOOTKEEP_BAD_SIZE   `reply->size` is below that of the struct of version 1
+ */
+uint32_t bootkeep_keeper_deliver_reply(struct bootkeep_keeper *keeper, const uint8_t *frame, size_t frame_len,
+                                       struct bootkeep_reply *reply, uint16_t *numbers, size_t cap, size_t *len)
+    BOOTKEEP_CHECKED BOOTKEEP_NONNULL((1, 4, 7));
+uint32_t bootkeep_keeper_prepare_reply(struct bootkeep_keeper *keeper, struct bootkeep_reply *reply, uint16_t *numbers,
+                                       size_t cap, size_t *len) BOOTKEEP_CHECKED BOOTKEEP_NONNULL((1, 2, 5));
+uint32_t bootkeep_keeper_hand_reply(struct bootkeep_keeper *keeper, struct bootkeep_reply *reply, uint16_t *numbers,
+                                    size_t cap, size_t *len) BOOTKEEP_CHECKED BOOTKEEP_NONNULL((1, 2, 5));
+uint32_t bootkeep_keeper_restart_reply(struct bootkeep_keeper *keeper, struct bootkeep_reply *reply, uint16_t *numbers,
+                                       size_t cap, size_t *len) BOOTKEEP_CHECKED BOOTKEEP_NONNULL((1, 2, 5));
+
+/*
+ * The variables of the machine as they are to be stored, BootKeepState among them: the bytes of a set file. Store all
+ * of them, after each event. In BootKeepState are the number of the request that is to be applied next and what came of
+ * the last ones: without it the next delivery of a request applies it again.
+ *
+ * A file can hold it; firmware refuses it. So a program that makes the changes on a machine has to keep BootKeepState
+ * elsewhere, and together with the changes that are still to be made, so that after a cut between two of them it makes
+ * the others before it delivers anything. `bootvars update` does that: it is the call for a machine.
+ *
+ *     BOOTKEEP_DONE, BOOTKEEP_NO_ROOM, BOOTKEEP_NO_MEMORY, BOOTKEEP_CLOSED
+ */
+uint32_t bootkeep_keeper_set(struct bootkeep_keeper *keeper, uint8_t *out, size_t cap, size_t *len)
+    BOOTKEEP_CHECKED BOOTKEEP_NONNULL((1, 4));
+
+/*
+ * In `*number` the number of the request that is to be applied next. This takes no memory.
+ *
+ *     BOOTKEEP_DONE, BOOTKEEP_CLOSED
+ */
+uint32_t bootkeep_keeper_next_number(struct bootkeep_keeper *keeper, uint32_t *number)
+    BOOTKEEP_CHECKED BOOTKEEP_NONNULL((1, 2));
+
+/*
+ * Gives up what the keeper holds. It is closed then, and may be opened again; to close one that is closed is no
+ * fault.
+ *
+ *     BOOTKEEP_DONE, BOOTKEEP_CLOSED
+ */
+uint32_t bootkeep_keeper_close(struct bootkeep_keeper *keeper) BOOTKEEP_NONNULL((1));
+
+/* ---- Images ------------------------------------------------------------------------------------------------------ */
+
+/* Which part of firmware finds a fault: the boot manager, for which there is no such file then. */
+#define BOOTKEEP_STAGE_BOOT_MANAGER 0
+/* LoadImage. With Secure Boot the faults up to BOOTKEEP_IMAGE_DEBUG_BEYOND_FILE are found before it. */
+#define BOOTKEEP_STAGE_LOADER 1
+/* StartImage. */
+#define BOOTKEEP_STAGE_START 2
+
+/* What comes of a fault: firmware doesn't start the file. */
+#define BOOTKEEP_EFFECT_REFUSED 0
+/* Firmware doesn't look at it, and goes wrong: it writes after the image's memory, or runs what isn't in it. */
+#define BOOTKEEP_EFFECT_UNSAFE 1
+/* The file's bytes don't tell whether it starts: the machine decides. */
+#define BOOTKEEP_EFFECT_UNDECIDED 2
+
+/*
+ * What firmware for x86-64 asks of a file that an entry names before it starts it: `image` is all its bytes. The fault
+ * is the first one, in firmware's order; which part of firmware finds it is in `*stage`, and what comes of it in
+ * `*effect`. Without a fault the file may still be refused: docs/formats.md has what isn't looked at. This takes no
+ * memory.
+ *
+ *     BOOTKEEP_DONE      there is no fault
+ *     BOOTKEEP_REFUSED   a number of images
+ */
+uint32_t bootkeep_image_check(const uint8_t *image, size_t image_len, uint32_t *stage, uint32_t *effect,
+                              struct bootkeep_refusal *refusal) BOOTKEEP_CHECKED BOOTKEEP_NONNULL((3, 4, 5));
+
+/*
+ * The Authenticode digest of an image by SHA-256, in 32 bytes, by which a signature, db and dbx tell of it.
+ *
+ *     BOOTKEEP_DONE, BOOTKEEP_NO_ROOM, BOOTKEEP_NO_MEMORY
+ *     BOOTKEEP_REFUSED   a number of images: the boot manager's, and the loader's up to
+ *                        BOOTKEEP_IMAGE_SECTION_BEYOND_FILE, or one of the two of digests
+ */
+uint32_t bootkeep_image_digest(const uint8_t *image, size_t image_len, uint8_t *out, size_t cap, size_t *len,
+                               struct bootkeep_refusal *refusal) BOOTKEEP_CHECKED BOOTKEEP_NONNULL((5, 6));
+
+/*
+ * Where a signature list is (UEFI 2.10, 32.4.1). It begins with the GUID of its type, in 16 bytes; its header is after
+ * 28, and after that are its signatures, each of the GUID of its owner, in 16 bytes, and its data.
+ */
+struct bootkeep_signature_list {
+    size_t place;
+    size_t len;
+    size_t header_len;
+    size_t signature_len;
+};
+
+/*
+ * Where the signature lists are in the data of db, dbx or KEK, in their order: nothing is copied. `cap` and `*len`
+ * count lists.
+ *
+ *     BOOTKEEP_DONE, BOOTKEEP_NO_ROOM, BOOTKEEP_NO_MEMORY
+ *     BOOTKEEP_REFUSED   a number of signature lists
+ */
+uint32_t bootkeep_signature_lists(const uint8_t *bytes, size_t bytes_len, struct bootkeep_signature_list *lists,
+                                  size_t cap, size_t *len, struct bootkeep_refusal *refusal)
+    BOOTKEEP_CHECKED BOOTKEEP_NONNULL((5, 6));
+
+/* ---- Layouts ---------------------------------------------------------------------------------------------------- */
+
+/* Where the library has the fields of each struct. A compiler that can compares its own places with these. */
+#if defined(__cplusplus) && __cplusplus >= 201103L
+#define BOOTKEEP_ASSERT(condition) static_assert(condition, #condition)
+#elif defined(__STDC_VERSION__) && __STDC_VERSION__ >= 201112L
+#define BOOTKEEP_ASSERT(condition) _Static_assert(condition, #condition)
+#endif
+
+#ifdef BOOTKEEP_ASSERT
+BOOTKEEP_ASSERT(offsetof(struct bootkeep_refusal, kind) == 0);
+BOOTKEEP_ASSERT(offsetof(struct bootkeep_refusal, inner_kind) == 4);
+BOOTKEEP_ASSERT(offsetof(struct bootkeep_refusal, place) == 8);
+BOOTKEEP_ASSERT(offsetof(struct bootkeep_refusal, inner_place) == 16);
+BOOTKEEP_ASSERT(sizeof(struct bootkeep_refusal) == 24);
+
+BOOTKEEP_ASSERT(offsetof(struct bootkeep_option_parts, attributes) == 0);
+BOOTKEEP_ASSERT(offsetof(struct bootkeep_option_parts, reserved) == 4);
+BOOTKEEP_ASSERT(offsetof(struct bootkeep_option_parts, description) == 8);
+BOOTKEEP_ASSERT(offsetof(struct bootkeep_option_parts, description_len) == 16);
+BOOTKEEP_ASSERT(offsetof(struct bootkeep_option_parts, list) == 24);
+BOOTKEEP_ASSERT(offsetof(struct bootkeep_option_parts, list_len) == 32);
+BOOTKEEP_ASSERT(offsetof(struct bootkeep_option_parts, optional) == 40);
+BOOTKEEP_ASSERT(offsetof(struct bootkeep_option_parts, optional_len) == 48);
+BOOTKEEP_ASSERT(sizeof(struct bootkeep_option_parts) == 56);
+
+BOOTKEEP_ASSERT(offsetof(struct bootkeep_variable, name) == 0);
+BOOTKEEP_ASSERT(offsetof(struct bootkeep_variable, name_len) == 8);
+BOOTKEEP_ASSERT(offsetof(struct bootkeep_variable, data) == 16);
+BOOTKEEP_ASSERT(offsetof(struct bootkeep_variable, data_len) == 24);
+BOOTKEEP_ASSERT(sizeof(struct bootkeep_variable) == 32);
+
+BOOTKEEP_ASSERT(offsetof(struct bootkeep_signature_list, place) == 0);
+BOOTKEEP_ASSERT(offsetof(struct bootkeep_signature_list, len) == 8);
+BOOTKEEP_ASSERT(offsetof(struct bootkeep_signature_list, header_len) == 16);
+BOOTKEEP_ASSERT(offsetof(struct bootkeep_signature_list, signature_len) == 24);
+BOOTKEEP_ASSERT(sizeof(struct bootkeep_signature_list) == 32);
+
+BOOTKEEP_ASSERT(offsetof(struct bootkeep_named, variable) == 0);
+BOOTKEEP_ASSERT(offsetof(struct bootkeep_named, number) == 4);
+BOOTKEEP_ASSERT(offsetof(struct bootkeep_named, state) == 8);
+BOOTKEEP_ASSERT(sizeof(struct bootkeep_named) == 12);
+
+BOOTKEEP_ASSERT(offsetof(struct bootkeep_change, variable) == 0);
+BOOTKEEP_ASSERT(offsetof(struct bootkeep_change, kind) == 4);
+BOOTKEEP_ASSERT(sizeof(struct bootkeep_change) == 8);
+
+BOOTKEEP_ASSERT(offsetof(struct bootkeep_reply, size) == 0);
+BOOTKEEP_ASSERT(offsetof(struct bootkeep_reply, kind) == 8);
+BOOTKEEP_ASSERT(offsetof(struct bootkeep_reply, fault) == 12);
+BOOTKEEP_ASSERT(offsetof(struct bootkeep_reply, option_fault) == 16);
+BOOTKEEP_ASSERT(offsetof(struct bootkeep_reply, outcome) == 40);
+BOOTKEEP_ASSERT(offsetof(struct bootkeep_reply, entry) == 44);
+BOOTKEEP_ASSERT(offsetof(struct bootkeep_reply, next_number) == 48);
+BOOTKEEP_ASSERT(offsetof(struct bootkeep_reply, plan_next) == 52);
+BOOTKEEP_ASSERT(offsetof(struct bootkeep_reply, count) == 56);
+BOOTKEEP_ASSERT(sizeof(struct bootkeep_reply) == 64);
+
+BOOTKEEP_ASSERT(offsetof(struct bootkeep_keeper, is_open) == 0);
+BOOTKEEP_ASSERT(offsetof(struct bootkeep_keeper, at) == 8);
+BOOTKEEP_ASSERT(sizeof(struct bootkeep_keeper) == 16);
+#undef BOOTKEEP_ASSERT
+#endif
+
+#undef BOOTKEEP_CHECKED
+#undef BOOTKEEP_NONNULL
+
+#ifdef __cplusplus
+}
+#endif
+
+#endif

@@ -1,0 +1,522 @@
+//! The calls of `bootkeep.h`, each once, as safe functions. All that is unsafe is here.
+
+use crate::error::{Error, Refusal};
+use crate::numbers::{ABSENT, CLOSED, DONE, NAME_MAX, NO_MEMORY, NO_ROOM, REFUSED};
+use std::mem::size_of;
+use std::ptr;
+
+/// How many bytes or numbers a first call has room for if nothing tells how many there will be.
+const ROOM: usize = 512;
+
+/// The most bytes that a set has for a variable beside its data.
+const RECORD_MAX: usize = 1 + NAME_MAX + 4;
+
+#[repr(C)]
+#[derive(Clone, Copy, Default)]
+pub(crate) struct RawRefusal {
+    pub(crate) kind: u32,
+    pub(crate) inner_kind: u32,
+    pub(crate) place: usize,
+    pub(crate) inner_place: usize,
+}
+
+#[repr(C)]
+#[derive(Clone, Copy, Default)]
+pub(crate) struct RawParts {
+    pub(crate) attributes: u32,
+    reserved: u32,
+    pub(crate) description: usize,
+    pub(crate) description_len: usize,
+    pub(crate) list: usize,
+    pub(crate) list_len: usize,
+    pub(crate) optional: usize,
+    pub(crate) optional_len: usize,
+}
+
+#[repr(C)]
+#[derive(Clone, Copy, Default)]
+pub(crate) struct RawVariable {
+    pub(crate) name: usize,
+    pub(crate) name_len: usize,
+    pub(crate) data: usize,
+    pub(crate) data_len: usize,
+}
+
+#[repr(C)]
+#[derive(Clone, Copy, Default)]
+pub(crate) struct RawList {
+    pub(crate) place: usize,
+    pub(crate) len: usize,
+    pub(crate) header_len: usize,
+    pub(crate) signature_len: usize,
+}
+
+#[repr(C)]
+#[derive(Clone, Copy, Default)]
+pub(crate) struct RawNamed {
+    pub(crate) variable: u32,
+    pub(crate) number: u32,
+    pub(crate) state: u32,
+}
+
+#[repr(C)]
+#[derive(Clone, Copy, Default)]
+pub(crate) struct RawChange {
+    pub(crate) variable: u32,
+    pub(crate) kind: u32,
+}
+
+#[repr(C)]
+#[derive(Clone, Copy, Default)]
+pub(crate) struct RawReply {
+    size: usize,
+    pub(crate) kind: u32,
+    pub(crate) fault: u32,
+    pub(crate) option_fault: RawRefusal,
+    pub(crate) outcome: u32,
+    pub(crate) entry: u32,
+    pub(crate) next_number: u32,
+    pub(crate) plan_next: u32,
+    pub(crate) count: usize,
+}
+
+/// `struct bootkeep_keeper`. It isn't moved while it is open, so it is in a box.
+#[repr(C)]
+struct RawKeeper {
+    is_open: u32,
+    at: *mut u8,
+}
+
+// As many bytes as the header asserts.
+const _: () = assert!(size_of::<RawRefusal>() == 24);
+const _: () = assert!(size_of::<RawParts>() == 56);
+const _: () = assert!(size_of::<RawVariable>() == 32);
+const _: () = assert!(size_of::<RawList>() == 32);
+const _: () = assert!(size_of::<RawNamed>() == 12);
+const _: () = assert!(size_of::<RawChange>() == 8);
+const _: () = assert!(size_of::<RawReply>() == 64);
+const _: () = assert!(size_of::<RawKeeper>() == 16);
+
+#[rustfmt::skip]
+extern "C" {
+    fn bootkeep_version() -> u32;
+    fn bootkeep_status_word(status: u32, out: *mut u8, cap: usize, len: *mut usize) -> u32;
+    fn bootkeep_refusal_word(kind: u32, out: *mut u8, cap: usize, len: *mut usize) -> u32;
+    fn bootkeep_outcome_word(outcome: u32, out: *mut u8, cap: usize, len: *mut usize) -> u32;
+    fn bootkeep_path_text(bytes: *const u8, bytes_len: usize, out: *mut u8, cap: usize, len: *mut usize, taken: *mut usize, refusal: *mut RawRefusal) -> u32;
+    fn bootkeep_path_names(bytes: *const u8, bytes_len: usize, out: *mut u8, cap: usize, len: *mut usize, taken: *mut usize, refusal: *mut RawRefusal) -> u32;
+    fn bootkeep_path_check(bytes: *const u8, bytes_len: usize, taken: *mut usize, refusal: *mut RawRefusal) -> u32;
+    fn bootkeep_path_parse(text: *const u8, text_len: usize, out: *mut u8, cap: usize, len: *mut usize, refusal: *mut RawRefusal) -> u32;
+    fn bootkeep_text_path(text: *const u8, text_len: usize, out: *mut u8, cap: usize, len: *mut usize, refusal: *mut RawRefusal) -> u32;
+    fn bootkeep_option_parts(bytes: *const u8, bytes_len: usize, parts: *mut RawParts, refusal: *mut RawRefusal) -> u32;
+    fn bootkeep_option_description(bytes: *const u8, bytes_len: usize, out: *mut u8, cap: usize, len: *mut usize, refusal: *mut RawRefusal) -> u32;
+    fn bootkeep_option_description_utf8(bytes: *const u8, bytes_len: usize, out: *mut u8, cap: usize, len: *mut usize, refusal: *mut RawRefusal) -> u32;
+    fn bootkeep_option_make(attributes: u32, description: *const u8, description_len: usize, list: *const u8, list_len: usize, optional: *const u8, optional_len: usize, out: *mut u8, cap: usize, len: *mut usize, refusal: *mut RawRefusal) -> u32;
+    fn bootkeep_option_make_units(attributes: u32, units: *const u16, units_len: usize, list: *const u8, list_len: usize, optional: *const u8, optional_len: usize, out: *mut u8, cap: usize, len: *mut usize, refusal: *mut RawRefusal) -> u32;
+    fn bootkeep_frame_make(number: u32, kind: u32, entry: u16, option: *const u8, option_len: usize, order: *const u16, order_len: usize, out: *mut u8, cap: usize, len: *mut usize, refusal: *mut RawRefusal) -> u32;
+    fn bootkeep_set_plan(set: *const u8, set_len: usize, numbers: *mut u16, cap: usize, len: *mut usize, next: *mut u32, refusal: *mut RawRefusal) -> u32;
+    fn bootkeep_set_at_risk(set: *const u8, set_len: usize, numbers: *mut u16, cap: usize, len: *mut usize, unnamed: *mut usize, refusal: *mut RawRefusal) -> u32;
+    fn bootkeep_set_get(set: *const u8, set_len: usize, name: *const u8, name_len: usize, out: *mut u8, cap: usize, len: *mut usize, refusal: *mut RawRefusal) -> u32;
+    fn bootkeep_set_put(set: *const u8, set_len: usize, name: *const u8, name_len: usize, data: *const u8, data_len: usize, out: *mut u8, cap: usize, len: *mut usize, refusal: *mut RawRefusal) -> u32;
+    fn bootkeep_set_remove(set: *const u8, set_len: usize, name: *const u8, name_len: usize, out: *mut u8, cap: usize, len: *mut usize, refusal: *mut RawRefusal) -> u32;
+    fn bootkeep_set_variables(set: *const u8, set_len: usize, variables: *mut RawVariable, cap: usize, len: *mut usize, refusal: *mut RawRefusal) -> u32;
+    fn bootkeep_set_named(set: *const u8, set_len: usize, named: *mut RawNamed, cap: usize, len: *mut usize, refusal: *mut RawRefusal) -> u32;
+    fn bootkeep_set_lowest_free(set: *const u8, set_len: usize, number: *mut u32, refusal: *mut RawRefusal) -> u32;
+    fn bootkeep_set_entry(set: *const u8, set_len: usize, number: u16, state: *mut u32, refusal: *mut RawRefusal) -> u32;
+    fn bootkeep_set_changes(from: *const u8, from_len: usize, to: *const u8, to_len: usize, changes: *mut RawChange, cap: usize, len: *mut usize, refusal: *mut RawRefusal) -> u32;
+    fn bootkeep_run(set: *const u8, set_len: usize, stream: *const u8, stream_len: usize, set_out: *mut u8, set_cap: usize, set_len_out: *mut usize, lines: *mut u8, lines_cap: usize, lines_len: *mut usize, refusal: *mut RawRefusal) -> u32;
+    fn bootkeep_keeper_open(keeper: *mut RawKeeper, set: *const u8, set_len: usize, refusal: *mut RawRefusal) -> u32;
+    fn bootkeep_keeper_deliver_reply(keeper: *mut RawKeeper, frame: *const u8, frame_len: usize, reply: *mut RawReply, numbers: *mut u16, cap: usize, len: *mut usize) -> u32;
+    fn bootkeep_keeper_prepare_reply(keeper: *mut RawKeeper, reply: *mut RawReply, numbers: *mut u16, cap: usize, len: *mut usize) -> u32;
+    fn bootkeep_keeper_hand_reply(keeper: *mut RawKeeper, reply: *mut RawReply, numbers: *mut u16, cap: usize, len: *mut usize) -> u32;
+    fn bootkeep_keeper_restart_reply(keeper: *mut RawKeeper, reply: *mut RawReply, numbers: *mut u16, cap: usize, len: *mut usize) -> u32;
+    fn bootkeep_keeper_set(keeper: *mut RawKeeper, out: *mut u8, cap: usize, len: *mut usize) -> u32;
+    fn bootkeep_keeper_next_number(keeper: *mut RawKeeper, number: *mut u32) -> u32;
+    fn bootkeep_keeper_close(keeper: *mut RawKeeper) -> u32;
+    fn bootkeep_image_check(image: *const u8, image_len: usize, stage: *mut u32, effect: *mut u32, refusal: *mut RawRefusal) -> u32;
+    fn bootkeep_image_digest(image: *const u8, image_len: usize, out: *mut u8, cap: usize, len: *mut usize, refusal: *mut RawRefusal) -> u32;
+    fn bootkeep_signature_lists(bytes: *const u8, bytes_len: usize, lists: *mut RawList, cap: usize, len: *mut usize, refusal: *mut RawRefusal) -> u32;
+}
+
+/// The error of a status that isn't done.
+fn error(status: u32, refusal: &RawRefusal) -> Error {
+    match status {
+        REFUSED => Error::Refused(Refusal::of(refusal)),
+        ABSENT => Error::Absent,
+        NO_MEMORY => Error::NoMemory,
+        CLOSED => Error::Closed,
+        other => Error::Other(other),
+    }
+}
+
+/// What a call tells that gives nothing.
+fn told<T: Default>(call: impl FnOnce(&mut T, &mut RawRefusal) -> u32) -> Result<T, Error> {
+    let (mut told, mut refusal) = (T::default(), RawRefusal::default());
+    match call(&mut told, &mut refusal) {
+        DONE => Ok(told),
+        status => Err(error(status, &refusal)),
+    }
+}
+
+/// What a call gives, and what it tells beside that: a second call is made if the first has no room for it.
+fn given<T: Copy + Default, U: Default>(
+    room: usize,
+    mut call: impl FnMut(&mut [T], &mut usize, &mut U, &mut RawRefusal) -> u32,
+) -> Result<(Vec<T>, U), Error> {
+    let mut items = vec![T::default(); room];
+    loop {
+        let (mut len, mut beside, mut refusal) = (0, U::default(), RawRefusal::default());
+        match call(&mut items, &mut len, &mut beside, &mut refusal) {
+            DONE => {
+                items.truncate(len);
+                return Ok((items, beside));
+            }
+            NO_ROOM => items.resize(len, T::default()),
+            status => return Err(error(status, &refusal)),
+        }
+    }
+}
+
+/// The same of a call that tells nothing beside.
+fn given_alone<T: Copy + Default>(
+    room: usize,
+    mut call: impl FnMut(&mut [T], &mut usize, &mut RawRefusal) -> u32,
+) -> Result<Vec<T>, Error> {
+    Ok(given(room, |items, len, _beside: &mut (), refusal| call(items, len, refusal))?.0)
+}
+
+// In each call below, every pointer is to a value or a slice that lives until the call returns, its number is the
+// length of that slice, and what is written is borrowed by that call alone.
+
+pub(crate) fn version() -> u32 {
+    unsafe { bootkeep_version() }
+}
+
+pub(crate) fn path_text(bytes: &[u8]) -> Result<(Vec<u8>, usize), Error> {
+    given(ROOM, |out, len, taken, refusal| unsafe {
+        bootkeep_path_text(bytes.as_ptr(), bytes.len(), out.as_mut_ptr(), out.len(), len, taken, refusal)
+    })
+}
+
+/// The calls that have a word for a number.
+#[derive(Clone, Copy)]
+pub(crate) enum WordOf {
+    Status,
+    Refusal,
+    Outcome,
+}
+
+pub(crate) fn word(of: WordOf, number: u32) -> Result<Vec<u8>, Error> {
+    given_alone(ROOM, |out, len, _refusal| unsafe {
+        let (at, cap) = (out.as_mut_ptr(), out.len());
+        match of {
+            WordOf::Status => bootkeep_status_word(number, at, cap, len),
+            WordOf::Refusal => bootkeep_refusal_word(number, at, cap, len),
+            WordOf::Outcome => bootkeep_outcome_word(number, at, cap, len),
+        }
+    })
+}
+
+pub(crate) fn path_names(bytes: &[u8]) -> Result<(Vec<u8>, usize), Error> {
+    given(ROOM, |out, len, taken, refusal| unsafe {
+        bootkeep_path_names(bytes.as_ptr(), bytes.len(), out.as_mut_ptr(), out.len(), len, taken, refusal)
+    })
+}
+
+pub(crate) fn path_check(bytes: &[u8]) -> Result<usize, Error> {
+    told(|taken, refusal| unsafe { bootkeep_path_check(bytes.as_ptr(), bytes.len(), taken, refusal) })
+}
+
+pub(crate) fn path_parse(text: &str) -> Result<Vec<u8>, Error> {
+    given_alone(ROOM, |out, len, refusal| unsafe {
+        bootkeep_path_parse(text.as_ptr(), text.len(), out.as_mut_ptr(), out.len(), len, refusal)
+    })
+}
+
+pub(crate) fn text_path(text: &str) -> Result<Vec<u8>, Error> {
+    given_alone(ROOM, |out, len, refusal| unsafe {
+        bootkeep_text_path(text.as_ptr(), text.len(), out.as_mut_ptr(), out.len(), len, refusal)
+    })
+}
+
+pub(crate) fn option_parts(bytes: &[u8]) -> Result<RawParts, Error> {
+    told(|parts, refusal| unsafe { bootkeep_option_parts(bytes.as_ptr(), bytes.len(), parts, refusal) })
+}
+
+pub(crate) fn option_description(bytes: &[u8]) -> Result<Vec<u8>, Error> {
+    given_alone(ROOM, |out, len, refusal| unsafe {
+        bootkeep_option_description(bytes.as_ptr(), bytes.len(), out.as_mut_ptr(), out.len(), len, refusal)
+    })
+}
+
+pub(crate) fn option_description_utf8(bytes: &[u8]) -> Result<Vec<u8>, Error> {
+    given_alone(ROOM, |out, len, refusal| unsafe {
+        bootkeep_option_description_utf8(bytes.as_ptr(), bytes.len(), out.as_mut_ptr(), out.len(), len, refusal)
+    })
+}
+
+pub(crate) fn option_make(attributes: u32, description: &str, list: &[u8], optional: &[u8]) -> Result<Vec<u8>, Error> {
+    given_alone(description.len() * 2 + list.len() + optional.len() + ROOM, |out, len, refusal| unsafe {
+        bootkeep_option_make(
+            attributes,
+            description.as_ptr(),
+            description.len(),
+            list.as_ptr(),
+            list.len(),
+            optional.as_ptr(),
+            optional.len(),
+            out.as_mut_ptr(),
+            out.len(),
+            len,
+            refusal,
+        )
+    })
+}
+
+pub(crate) fn option_make_units(
+    attributes: u32,
+    units: &[u16],
+    list: &[u8],
+    optional: &[u8],
+) -> Result<Vec<u8>, Error> {
+    given_alone(units.len() * 2 + list.len() + optional.len() + ROOM, |out, len, refusal| unsafe {
+        bootkeep_option_make_units(
+            attributes,
+            units.as_ptr(),
+            units.len(),
+            list.as_ptr(),
+            list.len(),
+            optional.as_ptr(),
+            optional.len(),
+            out.as_mut_ptr(),
+            out.len(),
+            len,
+            refusal,
+        )
+    })
+}
+
+pub(crate) fn frame_make(number: u32, kind: u32, entry: u16, option: &[u8], order: &[u16]) -> Result<Vec<u8>, Error> {
+    given_alone(option.len() + order.len() * 2 + ROOM, |out, len, refusal| unsafe {
+        bootkeep_frame_make(
+            number,
+            kind,
+            entry,
+            option.as_ptr(),
+            option.len(),
+            order.as_ptr(),
+            order.len(),
+            out.as_mut_ptr(),
+            out.len(),
+            len,
+            refusal,
+        )
+    })
+}
+
+pub(crate) fn set_plan(set: &[u8]) -> Result<(Vec<u16>, u32), Error> {
+    given(ROOM, |numbers, len, next, refusal| unsafe {
+        bootkeep_set_plan(set.as_ptr(), set.len(), numbers.as_mut_ptr(), numbers.len(), len, next, refusal)
+    })
+}
+
+pub(crate) fn set_at_risk(set: &[u8]) -> Result<(Vec<u16>, usize), Error> {
+    given(ROOM, |numbers, len, unnamed, refusal| unsafe {
+        bootkeep_set_at_risk(set.as_ptr(), set.len(), numbers.as_mut_ptr(), numbers.len(), len, unnamed, refusal)
+    })
+}
+
+pub(crate) fn set_get(set: &[u8], name: &str) -> Result<Vec<u8>, Error> {
+    given_alone(ROOM, |out, len, refusal| unsafe {
+        bootkeep_set_get(set.as_ptr(), set.len(), name.as_ptr(), name.len(), out.as_mut_ptr(), out.len(), len, refusal)
+    })
+}
+
+pub(crate) fn set_put(set: &[u8], name: &str, data: &[u8]) -> Result<Vec<u8>, Error> {
+    given_alone(set.len() + data.len() + RECORD_MAX, |out, len, refusal| unsafe {
+        bootkeep_set_put(
+            set.as_ptr(),
+            set.len(),
+            name.as_ptr(),
+            name.len(),
+            data.as_ptr(),
+            data.len(),
+            out.as_mut_ptr(),
+            out.len(),
+            len,
+            refusal,
+        )
+    })
+}
+
+pub(crate) fn set_remove(set: &[u8], name: &str) -> Result<Vec<u8>, Error> {
+    given_alone(set.len(), |out, len, refusal| unsafe {
+        bootkeep_set_remove(
+            set.as_ptr(),
+            set.len(),
+            name.as_ptr(),
+            name.len(),
+            out.as_mut_ptr(),
+            out.len(),
+            len,
+            refusal,
+        )
+    })
+}
+
+pub(crate) fn set_variables(set: &[u8]) -> Result<Vec<RawVariable>, Error> {
+    given_alone(ROOM, |variables, len, refusal| unsafe {
+        bootkeep_set_variables(set.as_ptr(), set.len(), variables.as_mut_ptr(), variables.len(), len, refusal)
+    })
+}
+
+pub(crate) fn set_named(set: &[u8]) -> Result<Vec<RawNamed>, Error> {
+    given_alone(ROOM, |named, len, refusal| unsafe {
+        bootkeep_set_named(set.as_ptr(), set.len(), named.as_mut_ptr(), named.len(), len, refusal)
+    })
+}
+
+/// The first fault of an image, with the numbers of who finds it and of what comes of it.
+pub(crate) fn image_check(image: &[u8]) -> Result<Option<(RawRefusal, u32, u32)>, Error> {
+    let (mut stage, mut effect, mut refusal) = (0, 0, RawRefusal::default());
+    let status = unsafe { bootkeep_image_check(image.as_ptr(), image.len(), &mut stage, &mut effect, &mut refusal) };
+    match status {
+        DONE => Ok(None),
+        REFUSED => Ok(Some((refusal, stage, effect))),
+        status => Err(error(status, &refusal)),
+    }
+}
+
+pub(crate) fn image_digest(image: &[u8]) -> Result<Vec<u8>, Error> {
+    given_alone(32, |out, len, refusal| unsafe {
+        bootkeep_image_digest(image.as_ptr(), image.len(), out.as_mut_ptr(), out.len(), len, refusal)
+    })
+}
+
+pub(crate) fn signature_lists(bytes: &[u8]) -> Result<Vec<RawList>, Error> {
+    given_alone(ROOM, |lists, len, refusal| unsafe {
+        bootkeep_signature_lists(bytes.as_ptr(), bytes.len(), lists.as_mut_ptr(), lists.len(), len, refusal)
+    })
+}
+
+pub(crate) fn set_lowest_free(set: &[u8]) -> Result<u32, Error> {
+    told(|number, refusal| unsafe { bootkeep_set_lowest_free(set.as_ptr(), set.len(), number, refusal) })
+}
+
+pub(crate) fn set_entry(set: &[u8], number: u16) -> Result<u32, Error> {
+    told(|state, refusal| unsafe { bootkeep_set_entry(set.as_ptr(), set.len(), number, state, refusal) })
+}
+
+pub(crate) fn set_changes(from: &[u8], to: &[u8]) -> Result<Vec<RawChange>, Error> {
+    given_alone(ROOM, |changes, len, refusal| unsafe {
+        bootkeep_set_changes(
+            from.as_ptr(),
+            from.len(),
+            to.as_ptr(),
+            to.len(),
+            changes.as_mut_ptr(),
+            changes.len(),
+            len,
+            refusal,
+        )
+    })
+}
+
+pub(crate) fn run(set: &[u8], stream: &[u8]) -> Result<(Vec<u8>, Vec<u8>), Error> {
+    let mut after = vec![0; set.len() + stream.len() + ROOM];
+    let mut lines = vec![0; stream.len() + ROOM];
+    loop {
+        let (mut after_len, mut lines_len, mut refusal) = (0, 0, RawRefusal::default());
+        let status = unsafe {
+            bootkeep_run(
+                set.as_ptr(),
+                set.len(),
+                stream.as_ptr(),
+                stream.len(),
+                after.as_mut_ptr(),
+                after.len(),
+                &mut after_len,
+                lines.as_mut_ptr(),
+                lines.len(),
+                &mut lines_len,
+                &mut refusal,
+            )
+        };
+        match status {
+            DONE => {
+                after.truncate(after_len);
+                lines.truncate(lines_len);
+                return Ok((after, lines));
+            }
+            NO_ROOM => {
+                after.resize(after_len.max(after.len()), 0);
+                lines.resize(lines_len.max(lines.len()), 0);
+            }
+            status => return Err(error(status, &refusal)),
+        }
+    }
+}
+
+/// An event of a keeper.
+pub(crate) enum Event<'a> {
+    Deliver(&'a [u8]),
+    Prepare,
+    Hand,
+    Restart,
+}
+
+/// A keeper that is open, and closed when it is dropped, and how many bytes its set had when it was last given.
+pub(crate) struct Handle {
+    raw: Box<RawKeeper>,
+    set_len: usize,
+}
+
+// All that a keeper holds is its own, and `&mut` gives it to one thread at a time.
+unsafe impl Send for Handle {}
+
+impl Handle {
+    pub(crate) fn open(set: &[u8]) -> Result<Handle, Error> {
+        let mut handle = Handle { raw: Box::new(RawKeeper { is_open: 0, at: ptr::null_mut() }), set_len: set.len() };
+        let keeper: *mut RawKeeper = &mut *handle.raw;
+        told(|_told: &mut (), refusal| unsafe { bootkeep_keeper_open(keeper, set.as_ptr(), set.len(), refusal) })?;
+        Ok(handle)
+    }
+
+    pub(crate) fn event(&mut self, event: &Event<'_>) -> Result<(Vec<u16>, RawReply), Error> {
+        let keeper: *mut RawKeeper = &mut *self.raw;
+        given(ROOM, |numbers: &mut [u16], len, reply: &mut RawReply, _refusal| unsafe {
+            reply.size = size_of::<RawReply>();
+            let (at, cap) = (numbers.as_mut_ptr(), numbers.len());
+            match event {
+                Event::Deliver(frame) => {
+                    bootkeep_keeper_deliver_reply(keeper, frame.as_ptr(), frame.len(), reply, at, cap, len)
+                }
+                Event::Prepare => bootkeep_keeper_prepare_reply(keeper, reply, at, cap, len),
+                Event::Hand => bootkeep_keeper_hand_reply(keeper, reply, at, cap, len),
+                Event::Restart => bootkeep_keeper_restart_reply(keeper, reply, at, cap, len),
+            }
+        })
+    }
+
+    pub(crate) fn set(&mut self) -> Result<Vec<u8>, Error> {
+        let keeper: *mut RawKeeper = &mut *self.raw;
+        let set = given_alone(self.set_len + ROOM, |out, len, _refusal| unsafe {
+            bootkeep_keeper_set(keeper, out.as_mut_ptr(), out.len(), len)
+        })?;
+        self.set_len = set.len();
+        Ok(set)
+    }
+
+    pub(crate) fn next_number(&mut self) -> Result<u32, Error> {
+        let keeper: *mut RawKeeper = &mut *self.raw;
+        told(|number, _refusal| unsafe { bootkeep_keeper_next_number(keeper, number) })
+    }
+}
+
+impl Drop for Handle {
+    fn drop(&mut self) {
+        let keeper: *mut RawKeeper = &mut *self.raw;
+        // It may be closed already, if it couldn't be opened.
+        let _status = unsafe { bootkeep_keeper_close(keeper) };
+    }
+}
