@@ -16,7 +16,6 @@ prefix=${PREFIX:-/usr/local}
 destdir=${DESTDIR:-}
 below=$destdir$prefix
 list=share/bootkeep/installed
-units='bootkeep-settle.service bootkeep-confirm.service'
 
 give_up() {
     echo "install.sh: $1" >&2
@@ -122,7 +121,7 @@ case $#${1:+" $1"} in
         ;;
     '1 uninstall')
         if is_this_system && [ -d /run/systemd/system ]; then
-            systemctl disable $units >/dev/null 2>&1 || :
+            systemctl disable bootkeep-settle.service bootkeep-confirm.service >/dev/null 2>&1 || :
         fi
         do_uninstall
         ! is_this_system || tell_system

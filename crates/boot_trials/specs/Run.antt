@@ -61,12 +61,19 @@ pub record IsTry (entry : ℕ) (start : List ℕ) (from to : Variables) (trial :
   pub new : IsNewTrial (data_of from) entry start trial
   pub next : IsKept (IsNext entry) from to
 
+-- why there is no trial of the entry: it is missing, or is no load option
+abbrev pub IsNoTrial : Variables → ℕ → EditRunFault → Type 0
+IsNoTrial vars entry f = (g : EditFault) × (f ≡ run.Edit g) × IsNoOption vars entry g
+
+-- why BootNext isn't set
+abbrev pub IsNextRefusal : ℕ → Variables → EditRunFault → Type 0
+IsNextRefusal entry = IsKeptFault (IsNext entry) (λ vars. IsNextFault vars (Some entry))
+
 -- why no trial begins: nothing can be kept of what is there, the entry is missing or is no load option, or BootNext isn't set
 abbrev pub IsTryFault : ℕ → Variables → EditRunFault → Type 0
 IsTryFault entry from f =
     ((f ≡ run.NoData) × HasNoData from)
-    ⊎ (((g : EditFault) × (f ≡ run.Edit g) × IsNoOption (data_of from) entry g)
-    ⊎ IsKeptFault (IsNext entry) (λ vars. IsNextFault vars (Some entry)) from f)
+    ⊎ (IsNoTrial (data_of from) entry f ⊎ IsNextRefusal entry from f)
 
 -- ---- what follows from a trial
 
@@ -90,12 +97,19 @@ pub record IsConfirming (trial : TrialParts) (start : List ℕ) (from to : Varia
   pub outcome : IsOutcome trial start (current_of (data_of from)) (data_of from) came
   pub made : IsMade trial.entry came from to
 
+-- why the entry isn't put first, and why it isn't made active
+abbrev pub IsFirstRefusal : ℕ → Variables → EditRunFault → Type 0
+IsFirstRefusal entry =
+    IsKeptFault (IsPutFirst entry) (λ vars. IsReorderFault (IsMissing vars) (entry ∷ []) (IsFrontOrder vars (entry ∷ [])))
+
+abbrev pub IsActiveRefusal : ℕ → Variables → EditRunFault → Type 0
+IsActiveRefusal entry = IsKeptFault (IsActivated entry) (λ vars. IsFirstFault (IsNoOption vars) (entry ∷ []))
+
 -- why the entry isn't confirmed: the first edit of what is kept isn't made, or the second
 abbrev pub IsConfirmFault : ℕ → Variables → EditRunFault → Type 0
 IsConfirmFault entry from f =
-    IsKeptFault (IsPutFirst entry) (λ vars. IsReorderFault (IsMissing vars) (entry ∷ []) (IsFrontOrder vars (entry ∷ []))) from f
-    ⊎ ((between : Variables) × IsKept (IsPutFirst entry) from between
-    × IsKeptFault (IsActivated entry) (λ vars. IsFirstFault (IsNoOption vars) (entry ∷ [])) between f)
+    IsFirstRefusal entry from f
+    ⊎ ((between : Variables) × IsKept (IsPutFirst entry) from between × IsActiveRefusal entry between f)
 
 -- why nothing follows: nothing can be read of what is there, or the machine came up by the entry, which isn't confirmed
 abbrev pub IsConfirmingFault : TrialParts → List ℕ → Variables → EditRunFault → Type 0

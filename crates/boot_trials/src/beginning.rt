@@ -1,15 +1,12 @@
 //! Runs that begin trials.
 
-ghost use Rattle.std.specs.Prelude.{◌≡◌, Some, IfOk, IfErr};
+ghost use Rattle.std.specs.Prelude.{◌≡◌, IfOk, IfErr};
 ghost use Rattle.std.specs.FinMap.{get};
 ghost use Rattle.std.specs.Option.{option_map};
 ghost use Rattle.uefi_vars.specs.Name.{order_text};
-ghost use Rattle.boot_edits.specs.Edit.{IsNextFault};
-ghost use Rattle.boot_edits.specs.Lists.{IsNoOption};
-ghost use Rattle.boot_edits.specs.declared.fault.EditFault.{EditFault};
-ghost use Rattle.boot_edits.specs.declared.run.EditRunFault.TheVariants as fault;
+ghost use Rattle.boot_journal.specs.Attributes.{data_of};
 ghost use Rattle.boot_journal.specs.Cause.{IfRefused};
-ghost use Rattle.boot_trials.specs.Run.{IsKept, IsKeptFault, IsNext, IsNewTrial};
+ghost use Rattle.boot_trials.specs.Run.{IsKept, IsNext, IsNewTrial, IsNoTrial, IsNextRefusal, IsTry, IsTryFault};
 
 use crate::confirming::data_in;
 use crate::stage::Stage;
@@ -32,8 +29,6 @@ pub struct TryRun<'a> {
 }
 
 impl Run for TryRun<'_> {
-    ghost use Rattle.boot_trials.specs.Run.{IsTry, IsTryFault};
-
     type Answer = Trial;
 
     type Fault = EditRunFault;
@@ -44,18 +39,51 @@ impl Run for TryRun<'_> {
 
     /// Makes BootNext name the entry, which has to be a load option. The variables have their attributes, and keep them.
     fn run(self, alloc: Global, vars: &Vars) -> Result<(Vars, Trial), CallError<EditRunFault>> {
-        let set = data_in(alloc, vars)?;
-        let trial = new_trial(alloc, &set, &self)?;
-        let to = with_next(alloc, vars, self.entry)?;
-        Ok((to, trial))
+        match data_in(alloc, vars) {
+            Ok(set) => begin(alloc, &self, vars, &set),
+            Err(error) => Err(error),
+        }
+    }
+}
+
+/// Begins the trial over these variables, whose data is the set.
+fn begin(
+    alloc: Global,
+    run: &TryRun<'_>,
+    vars: &Vars,
+    set: &Vars,
+) -> Result<(Vars, Trial), CallError<EditRunFault>>
+    requires { set.now ≡ data_of vars.now }
+    ensures done { IfOk result (λ done. IsTry run.now.entry run.now.start.now vars.now done.0 done.1) }
+    ensures refused { IfErr result (λ error. IfRefused error (IsTryFault run.now.entry vars.now)) }
+{
+    match new_trial(alloc, set, run) {
+        Ok(trial) => begun(alloc, run, vars, trial),
+        Err(error) => Err(error),
+    }
+}
+
+/// Makes BootNext name the entry of the trial that begins.
+fn begun(
+    alloc: Global,
+    run: &TryRun<'_>,
+    vars: &Vars,
+    trial: Trial,
+) -> Result<(Vars, Trial), CallError<EditRunFault>>
+    requires { IsNewTrial (data_of vars.now) run.now.entry run.now.start.now trial }
+    ensures done { IfOk result (λ done. IsTry run.now.entry run.now.start.now vars.now done.0 done.1) }
+    ensures refused { IfErr result (λ error. IfRefused error (IsTryFault run.now.entry vars.now)) }
+{
+    match with_next(alloc, vars, run.entry) {
+        Ok(to) => Ok((to, trial)),
+        Err(error) => Err(error),
     }
 }
 
 /// The trial that begins.
 fn new_trial(alloc: Global, vars: &Vars, run: &TryRun<'_>) -> Result<Trial, CallError<EditRunFault>>
     ensures done { IfOk result (IsNewTrial vars.now run.now.entry run.now.start.now) }
-    ensures refused { IfErr result (λ error. IfRefused error (λ f.
-        (g : EditFault) × (f ≡ fault.Edit g) × IsNoOption vars.now run.now.entry g)) }
+    ensures refused { IfErr result (λ error. IfRefused error (IsNoTrial vars.now run.now.entry)) }
 {
     let Some(bytes) = vars.entry(run.entry) else {
         return Err(CallError::Refused(EditRunFault::Edit(EditFault::Missing(run.entry))));
@@ -93,12 +121,13 @@ fn order_data(alloc: Global, vars: &Vars) -> Result<Option<Vec<u8>>, AllocError>
 /// Makes BootNext name the entry of this number.
 fn with_next(alloc: Global, vars: &Vars, entry: u16) -> Result<Vars, CallError<EditRunFault>>
     ensures done { IfOk result (IsKept (IsNext entry) vars.now) }
-    ensures refused { IfErr result (λ error. IfRefused error
-        (IsKeptFault (IsNext entry) (λ v. IsNextFault v (Some entry)) vars.now)) }
+    ensures refused { IfErr result (λ error. IfRefused error (IsNextRefusal entry vars.now)) }
 {
     let run = EditRun {
         edit: Edit::Next(Some(entry)),
     };
-    let (to, _done) = run.run(alloc, vars)?;
-    Ok(to)
+    match run.run(alloc, vars) {
+        Ok((to, _done)) => Ok(to),
+        Err(error) => Err(error),
+    }
 }

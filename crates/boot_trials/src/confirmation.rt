@@ -1,10 +1,8 @@
 //! The change of what a machine keeps by which an entry is confirmed.
 
-ghost use Rattle.std.specs.Prelude.{[], ◌∷◌, IfOk, IfErr};
-ghost use Rattle.boot_edits.specs.Edit.{IsReorderFault, IsFrontOrder};
-ghost use Rattle.boot_edits.specs.Lists.{IsMissing, IsNoOption, IsFirstFault};
+ghost use Rattle.std.specs.Prelude.{IfOk, IfErr};
 ghost use Rattle.boot_journal.specs.Cause.{IfRefused};
-ghost use Rattle.boot_trials.specs.Run.{IsKept, IsKeptFault, IsPutFirst, IsActivated, IsConfirmed, IsConfirmFault};
+ghost use Rattle.boot_trials.specs.Run.{IsKept, IsPutFirst, IsActivated, IsConfirmed, IsFirstRefusal, IsActiveRefusal, IsConfirmFault};
 
 use boot_edits::{Edit, EditRun, EditRunFault};
 use boot_journal::{CallError, Run};
@@ -20,32 +18,54 @@ pub(crate) fn confirmed(
     ensures done { IfOk result (IsConfirmed entry vars.now) }
     ensures refused { IfErr result (λ error. IfRefused error (IsConfirmFault entry vars.now)) }
 {
-    let between = put_first(alloc, vars, entry)?;
-    activated(alloc, &between, entry)
+    match put_first(alloc, vars, entry) {
+        Ok(between) => activated_after(alloc, vars, &between, entry),
+        Err(error) => Err(error),
+    }
+}
+
+/// Makes the entry of this number active, which was put first in the first of these variables, and is in the second.
+fn activated_after(
+    alloc: Global,
+    vars: &Vars,
+    between: &Vars,
+    entry: u16,
+) -> Result<Vars, CallError<EditRunFault>>
+    requires { IsKept (IsPutFirst entry) vars.now between.now }
+    ensures done { IfOk result (IsConfirmed entry vars.now) }
+    ensures refused { IfErr result (λ error. IfRefused error (IsConfirmFault entry vars.now)) }
+{
+    let _vars = vars;
+    match activated(alloc, between, entry) {
+        Ok(to) => Ok(to),
+        Err(error) => Err(error),
+    }
 }
 
 /// Puts the entry of this number first in BootOrder.
 fn put_first(alloc: Global, vars: &Vars, entry: u16) -> Result<Vars, CallError<EditRunFault>>
     ensures done { IfOk result (IsKept (IsPutFirst entry) vars.now) }
-    ensures refused { IfErr result (λ error. IfRefused error (IsKeptFault (IsPutFirst entry)
-        (λ v. IsReorderFault (IsMissing v) (entry ∷ []) (IsFrontOrder v (entry ∷ []))) vars.now)) }
+    ensures refused { IfErr result (λ error. IfRefused error (IsFirstRefusal entry vars.now)) }
 {
     let run = EditRun {
         edit: Edit::First(&[entry]),
     };
-    let (to, _done) = run.run(alloc, vars)?;
-    Ok(to)
+    match run.run(alloc, vars) {
+        Ok((to, _done)) => Ok(to),
+        Err(error) => Err(error),
+    }
 }
 
 /// Makes the entry of this number active.
 fn activated(alloc: Global, vars: &Vars, entry: u16) -> Result<Vars, CallError<EditRunFault>>
     ensures done { IfOk result (IsKept (IsActivated entry) vars.now) }
-    ensures refused { IfErr result (λ error. IfRefused error (IsKeptFault (IsActivated entry)
-        (λ v. IsFirstFault (IsNoOption v) (entry ∷ [])) vars.now)) }
+    ensures refused { IfErr result (λ error. IfRefused error (IsActiveRefusal entry vars.now)) }
 {
     let run = EditRun {
         edit: Edit::Activate(&[entry]),
     };
-    let (to, _done) = run.run(alloc, vars)?;
-    Ok(to)
+    match run.run(alloc, vars) {
+        Ok((to, _done)) => Ok(to),
+        Err(error) => Err(error),
+    }
 }

@@ -5,6 +5,7 @@ ghost use Rattle.boot_edits.specs.declared.run.EditRunFault.TheVariants as fault
 ghost use Rattle.boot_journal.specs.Attributes.{data_of, HasNoData};
 ghost use Rattle.boot_journal.specs.Cause.{IfRefused};
 ghost use Rattle.boot_trials.specs.Outcome.{IsOutcome, current_of};
+ghost use Rattle.boot_trials.specs.Run.{IsConfirming, IsConfirmingFault};
 
 use crate::confirmation::confirmed;
 use crate::current::boot_current;
@@ -25,8 +26,6 @@ pub struct ConfirmRun<'a> {
 }
 
 impl Run for ConfirmRun<'_> {
-    ghost use Rattle.boot_trials.specs.Run.{IsConfirming, IsConfirmingFault};
-
     type Answer = Outcome;
 
     type Fault = EditRunFault;
@@ -38,12 +37,47 @@ impl Run for ConfirmRun<'_> {
     /// If the machine came up by the entry, and its data is what it was, puts it first in BootOrder and makes it active. The
     /// variables have their attributes, and keep them. In every other case nothing is changed.
     fn run(self, alloc: Global, vars: &Vars) -> Result<(Vars, Outcome), CallError<EditRunFault>> {
-        let came = came_of(alloc, &self, vars)?;
-        let to = match came {
-            Outcome::CameUp => confirmed(alloc, vars, self.trial.entry())?,
-            _ => vars.copy(alloc)?,
-        };
-        Ok((to, came))
+        match came_of(alloc, &self, vars) {
+            Ok(came) => follow(alloc, &self, vars, came),
+            Err(error) => Err(error),
+        }
+    }
+}
+
+/// What follows from the trial, of which this came.
+fn follow(
+    alloc: Global,
+    run: &ConfirmRun<'_>,
+    vars: &Vars,
+    came: Outcome,
+) -> Result<(Vars, Outcome), CallError<EditRunFault>>
+    requires { IsOutcome run.now.trial.now run.now.start.now (current_of (data_of vars.now)) (data_of vars.now) came }
+    ensures done { IfOk result (λ done. IsConfirming run.now.trial.now run.now.start.now vars.now done.0 done.1) }
+    ensures refused { IfErr result (λ error. IfRefused error (IsConfirmingFault run.now.trial.now run.now.start.now vars.now)) }
+{
+    match came {
+        Outcome::CameUp => confirm(alloc, run, vars),
+        Outcome::TooEarly => Ok((vars.copy(alloc)?, Outcome::TooEarly)),
+        Outcome::Changed => Ok((vars.copy(alloc)?, Outcome::Changed)),
+        Outcome::Failed { by } => Ok((vars.copy(alloc)?, Outcome::Failed { by })),
+        Outcome::Interrupted => Ok((vars.copy(alloc)?, Outcome::Interrupted)),
+        Outcome::Done => Ok((vars.copy(alloc)?, Outcome::Done)),
+    }
+}
+
+/// Confirms the entry, by which the machine came up.
+fn confirm(
+    alloc: Global,
+    run: &ConfirmRun<'_>,
+    vars: &Vars,
+) -> Result<(Vars, Outcome), CallError<EditRunFault>>
+    requires { IsOutcome run.now.trial.now run.now.start.now (current_of (data_of vars.now)) (data_of vars.now) Outcome.CameUp }
+    ensures done { IfOk result (λ done. IsConfirming run.now.trial.now run.now.start.now vars.now done.0 done.1) }
+    ensures refused { IfErr result (λ error. IfRefused error (IsConfirmingFault run.now.trial.now run.now.start.now vars.now)) }
+{
+    match confirmed(alloc, vars, run.trial.entry()) {
+        Ok(to) => Ok((to, Outcome::CameUp)),
+        Err(error) => Err(error),
     }
 }
 
@@ -62,7 +96,8 @@ fn came_of(
         current: boot_current(&set),
         vars: &set,
     };
-    Ok(outcome_of(alloc, run.trial, &facts)?)
+    let came = outcome_of(alloc, run.trial, &facts)?;
+    Ok(came)
 }
 
 /// The variables without their attributes.

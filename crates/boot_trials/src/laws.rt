@@ -1,7 +1,9 @@
 //! Laws of the definitions. Each function's contract is one law; calling it does nothing.
 
-ghost use Rattle.std.specs.Prelude.{◌≡◌, ◌≢◌, ℕ, List, Option, Some};
-ghost use Rattle.uefi_vars.specs.Vars.{Variables};
+ghost use Rattle.std.specs.Prelude.{◌≡◌, ◌≢◌, ℕ, List, Option, Some, None};
+ghost use Rattle.uefi_vars.specs.Order.{HasOrder};
+ghost use Rattle.uefi_vars.specs.Plan.{PlanParts, IsPlan};
+ghost use Rattle.uefi_vars.specs.Vars.{Variables, entry_of};
 ghost use Rattle.boot_journal.specs.Attributes.{data_of};
 ghost use Rattle.boot_trials.specs.File.{SpellsTrial, IsTrialFault};
 ghost use Rattle.boot_trials.specs.Outcome.{IsOutcome, current_of, digest_of};
@@ -75,4 +77,15 @@ pub fn a_try_changes_boot_next_alone()
         IsTry entry start from to trial → DifferInNext (data_of from) (data_of to) }
 {
     journal_laws::attributes_and_data_are_what_is_kept();
+}
+
+/// The beginning of a trial leaves the order, and so what a boot would try without BootNext: the plan is what it was.
+pub fn a_try_leaves_the_plan_without_boot_next()
+    ensures { (entry : ℕ) (start : List ℕ) (from to : Variables) (trial : TrialParts) (order : List ℕ) (plan : PlanParts) →
+        IsTry entry start from to trial → HasOrder (data_of from) order →
+        IsPlan (entry_of (data_of from)) order None plan →
+        HasOrder (data_of to) order × IsPlan (entry_of (data_of to)) order None plan }
+{
+    vars_laws::a_plan_reads_entries_alone();
+    a_try_changes_boot_next_alone();
 }
