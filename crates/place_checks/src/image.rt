@@ -3,15 +3,16 @@
 ghost use Rattle.std.specs.Prelude.{◌≡◌, Some, IfOk};
 ghost use Rattle.entry_checks.specs.Image.{image_state_of};
 
+use crate::buffer::read_into;
 use crate::secure_boot::{SeenSecureBoot, Told, ask_secure_boot};
 use efi_images::{ImageFault, check_image};
 use entry_checks::{ImageState, Processor, image_state};
 use messages::Reason;
 use std::alloc::{AllocError, Global};
-use std::fs::{Metadata, OpenFile};
+use std::fs::OpenFile;
 use std::io::{self, ErrorKind};
 use std::rt::Files;
-use whole_files::{LIMIT, RegularFile, open_regular, read_input};
+use whole_files::{LIMIT, open_regular};
 
 /// What is known of a file that an entry leads to.
 #[derive(Drop)]
@@ -71,25 +72,38 @@ impl SeenImage {
     }
 }
 
+/// What is at the path of an image.
+#[derive(Clone, Copy, Debug, PartialEq, Eq)]
+enum ReadImage {
+    /// A file whose bytes were read.
+    Whole,
+    /// A file with more bytes than the limit.
+    TooMuch,
+    /// A pipe, a device or a socket, of which nothing is read.
+    Irregular,
+}
+
 /// What is known of the file at this path, if it is started by firmware of this processor with this Secure Boot. Only a
-/// regular file is opened, and one that is too long isn't read.
+/// regular file is opened, and one that is too long isn't read. Its bytes are read into the buffer, in place of those of
+/// the file before.
 pub(crate) fn look_at_image<R: Files + AllocGlobal>(
     rt: &R,
     path: &str,
+    buffer: &mut Vec<u8>,
     processor: Processor,
     secure_boot: &SeenSecureBoot,
 ) -> Result<SeenImage, AllocError> {
     let alloc = rt.alloc();
-    match read_image(rt, path) {
-        Ok(RegularFile::Bytes(bytes)) => {
-            let told = ask_secure_boot(alloc, &bytes, secure_boot)?;
-            SeenImage::judged(alloc, processor, check_image(&bytes).err(), &told)
+    match read_image(rt, path, buffer) {
+        Ok(ReadImage::Whole) => {
+            let told = ask_secure_boot(alloc, buffer, secure_boot)?;
+            SeenImage::judged(alloc, processor, check_image(buffer).err(), &told)
         }
-        Ok(RegularFile::TooMuch) => {
+        Ok(ReadImage::TooMuch) => {
             let detail = format!(in alloc; "{}", Reason::TooMuch(LIMIT))?;
             SeenImage::unseen(alloc, ImageState::TooLong, &detail)
         }
-        Ok(RegularFile::Irregular) => {
+        Ok(ReadImage::Irregular) => {
             SeenImage::unseen(alloc, ImageState::Irregular, "it isn't opened")
         }
         Err(error) if error.kind() == ErrorKind::OutOfMemory => Err(AllocError),
@@ -108,21 +122,19 @@ fn without_fault(processor: Processor) -> &'static str {
     }
 }
 
-/// The bytes of the regular file at this path. One that says that it has more than the limit isn't read at all.
-fn read_image<R: Files + AllocGlobal>(rt: &R, path: &str) -> io::Result<RegularFile> {
+/// Reads the regular file at this path into the buffer. One that says that it has more bytes than the limit isn't read at
+/// all.
+fn read_image<R: Files>(rt: &R, path: &str, buffer: &mut Vec<u8>) -> io::Result<ReadImage> {
     let Some(file) = open_regular(rt, path)? else {
-        return Ok(RegularFile::Irregular);
+        return Ok(ReadImage::Irregular);
     };
-    if is_too_long(&file.metadata()?) {
-        return Ok(RegularFile::TooMuch);
+    let said = file.metadata()?.len();
+    if said > LIMIT as u64 {
+        return Ok(ReadImage::TooMuch);
     }
-    match read_input(rt.alloc(), file, LIMIT)? {
-        Some(bytes) => Ok(RegularFile::Bytes(bytes)),
-        None => Ok(RegularFile::TooMuch),
+    if read_into(buffer, file, said as usize, LIMIT)? {
+        Ok(ReadImage::Whole)
+    } else {
+        Ok(ReadImage::TooMuch)
     }
-}
-
-/// Whether a file says that it has more bytes than the limit.
-fn is_too_long(found: &Metadata) -> bool {
-    found.len() > LIMIT as u64
 }

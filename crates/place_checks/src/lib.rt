@@ -8,6 +8,7 @@
 //! before an entry is made of it. What goes wrong is a `Failure` of `messages`.
 #![tactic(auto)]
 
+mod buffer;
 mod check;
 mod checked;
 mod entry;

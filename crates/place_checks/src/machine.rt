@@ -16,9 +16,9 @@ use messages::{Failure, shown};
 use partitions::DeviceNumber;
 use std::alloc::{AllocError, Global};
 use std::collections::BTreeMap;
-use std::fs;
 use std::io::{self, ErrorKind};
 use std::rt::Files;
+use std::{fs, mem};
 use uefi_path::HardDriveNode;
 use whole_files::{RegularFile, read_regular};
 
@@ -58,6 +58,8 @@ pub(crate) struct Machine<'a, R> {
     mounts: Option<SeenMounts>,
     /// What is known of the files that were looked at, by their paths: each is read once.
     images: BTreeMap<String, SeenImage>,
+    /// Room for the bytes of such a file, which those of the next one take.
+    buffer: Vec<u8>,
 }
 
 /// Where a path leads.
@@ -128,6 +130,7 @@ impl<'a, R: Files + AllocGlobal> Machine<'a, R> {
             partitions: None,
             mounts: None,
             images: BTreeMap::new(rt.alloc()),
+            buffer: Vec::new(rt.alloc()),
         }
     }
 
@@ -182,10 +185,12 @@ impl<'a, R: Files + AllocGlobal> Machine<'a, R> {
         }
         let processor = self.processor()?;
         let rt = self.rt;
-        let seen = look_at_image(rt, path, processor, self.secure_boot()?)?;
+        let mut buffer = mem::replace(&mut self.buffer, Vec::new(rt.alloc()));
+        let seen = look_at_image(rt, path, &mut buffer, processor, self.secure_boot()?)?;
+        self.buffer = buffer;
         let copy = seen.copy()?;
         self.images
-            .insert(String::from_str(self.rt.alloc(), path)?, copy)?;
+            .insert(String::from_str(rt.alloc(), path)?, copy)?;
         Ok(seen)
     }
 
