@@ -17,19 +17,39 @@ pub(crate) fn end_stored<R: Files + AllocGlobal>(
     form: TrialForm,
 ) -> Result<String, Failure> {
     let alloc = rt.alloc();
-    let entry = match stored_trial(rt, state) {
-        Ok(Some(trial)) => Some(trial.entry()),
-        Ok(None) => return Ok(no_trial(alloc, form)?),
-        // It is damaged.
-        Err(Failure::Refused { .. }) => None,
-        Err(failure) => return Err(failure),
+    let Some(kept) = kept_trial(rt, state)? else {
+        return Ok(no_trial(alloc, form)?);
     };
     let shown = ShownTrial {
         standing: Standing::Ended,
-        entry,
+        entry: kept.entry,
         current: None,
     };
     let text = trial_line(alloc, form, shown)?;
     forget_trial(rt, state)?;
     Ok(text)
+}
+
+/// A trial that is kept.
+#[derive(Clone, Copy)]
+struct KeptTrial {
+    /// The number of its entry, unless it is damaged.
+    entry: Option<u16>,
+}
+
+/// The trial that is kept in the state folder at this path, if there is one.
+fn kept_trial<R: Files + AllocGlobal>(rt: &R, state: &str) -> Result<Option<KeptTrial>, Failure> {
+    match stored_trial(rt, state) {
+        Ok(None) => Ok(None),
+        Ok(Some(trial)) => Ok(Some(KeptTrial {
+            entry: Some(trial.entry()),
+        })),
+        Err(failure) => {
+            if matches!(failure, Failure::Refused { .. }) {
+                Ok(Some(KeptTrial { entry: None }))
+            } else {
+                Err(failure)
+            }
+        }
+    }
 }
