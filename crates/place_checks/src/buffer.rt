@@ -1,21 +1,20 @@
 //! The bytes of one file after another, in one buffer.
 
-ghost use Rattle.std.specs.Prelude.{◌≡◌, ◌<◌, ◌≤◌, IsTrue, length, vec_len, Ok, IfOk, OnOk, IfSome};
-ghost use Rattle.std.specs.Io.KnownBytes.{Consumes};
+ghost use Rattle.std.specs.Prelude.{◌≡◌, ◌<◌, ◌≤◌, [], IsTrue, length, vec_len, Ok, IfOk, IfSome};
 
+use std::alloc::AllocError;
 use std::io::{self, Read};
 
 /// Reads an input to its end into a buffer, in place of what that holds, and tells whether it has no more bytes than the
-/// limit: of more, at most one past it is read, unless it is said to have more. Room for as many bytes as it is said to
-/// have is made at once, and is kept for the next input: to touch fresh memory for each takes longer than to read it.
+/// limit, of which at most one past it is read. Room for as many bytes as it is said to have is made at once, and is kept
+/// for the next input: to touch fresh memory for each takes longer than to read it.
 ///
 /// # Errors
 ///
-/// The reader's, if a read fails before that, [`UnexpectedEof`](io::ErrorKind::UnexpectedEof) if it has fewer bytes than
-/// it is said to have, or [`OutOfMemory`](io::ErrorKind::OutOfMemory) if memory was refused.
+/// The reader's, if a read fails before that, or [`OutOfMemory`](io::ErrorKind::OutOfMemory) if memory was refused.
 pub(crate) fn read_into<R: Read + Drop>(
     buffer: &mut Vec<u8>,
-    mut reader: R,
+    reader: R,
     said: usize,
     limit: usize,
 ) -> io::Result<bool>
@@ -23,20 +22,19 @@ pub(crate) fn read_into<R: Read + Drop>(
     ensures few { IfOk result (λ is_all. IsTrue is_all → vec_len buffer.new ≤ limit) }
     ensures too_much { result ≡ Ok false → IfSome (R.remaining reader) (λ rest. limit < length rest) }
 {
-    read_said(buffer, &mut reader, said)?;
-    let most = (limit as u64).saturating_add(1).saturating_sub(said as u64);
+    empty(buffer, said)?;
+    let most = (limit as u64).saturating_add(1);
     reader.take(most).read_to_end(buffer)?;
-    Ok(buffer.len() <= limit)
+    if buffer.len() > limit {
+        return Ok(false);
+    }
+    Ok(true)
 }
 
-/// Reads so many bytes into a buffer, in place of what that holds, which has room for one more then: by that it is seen
-/// that the input ends.
-fn read_said<R: Read>(buffer: &mut Vec<u8>, reader: &mut R, said: usize) -> io::Result<()>
-    ensures bytes { OnOk result (Consumes (R.remaining reader.old) (R.remaining reader.new) buffer.new.items) }
-    ensures len { OnOk result (vec_len buffer.new ≡ said) }
+/// Empties a buffer, which has room then for so many bytes and one more: by that it is seen that an input ends.
+fn empty(buffer: &mut Vec<u8>, len: usize) -> Result<(), AllocError>
+    ensures { buffer.new.items ≡ [] }
 {
-    let more = said.saturating_sub(buffer.len());
-    buffer.reserve(more.saturating_add(1))?;
-    buffer.resize(said, 0)?;
-    reader.read_exact(buffer.as_mut_slice())
+    buffer.clear();
+    buffer.reserve(len.saturating_add(1))
 }

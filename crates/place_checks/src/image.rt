@@ -96,8 +96,9 @@ pub(crate) fn look_at_image<R: Files + AllocGlobal>(
     let alloc = rt.alloc();
     match read_image(rt, path, buffer) {
         Ok(ReadImage::Whole) => {
-            let told = ask_secure_boot(alloc, buffer, secure_boot)?;
-            SeenImage::judged(alloc, processor, check_image(buffer).err(), &told)
+            let bytes = buffer.as_slice();
+            let told = ask_secure_boot(alloc, bytes, secure_boot)?;
+            SeenImage::judged(alloc, processor, check_image(bytes).err(), &told)
         }
         Ok(ReadImage::TooMuch) => {
             let detail = format!(in alloc; "{}", Reason::TooMuch(LIMIT))?;
