@@ -31,16 +31,16 @@ module _ (entry : ℕ) (from : Variables) where
 
   first_fault : (numbers : Bor (List ℕ)) (f : EditRunFault) → IsRunFault (First numbers) from f →
       numbers.now ≡ entry ∷ [] → IsFirstRefusal entry from f
-  first_fault numbers (run.Edit f) no is =
-      (no.0, subst (λ (l : List ℕ). IsReorderFault (IsMissing (data_of from)) l (IsFrontOrder (data_of from) l) f) is no.1)
-  first_fault numbers run.NoData no is = no
-  first_fault numbers run.TooLong no is =
-      (no.set, subst (λ (l : List ℕ). IsReordered (data_of from) (IsMissing (data_of from)) l (IsFrontOrder (data_of from) l) no.set) is no.edited.1, no.long)
+  first_fault numbers (run.Edit f) why is =
+      (why.0, subst (λ (l : List ℕ). IsReorderFault (IsMissing (data_of from)) l (IsFrontOrder (data_of from) l) f) is why.1)
+  first_fault numbers run.NoData why is = why
+  first_fault numbers run.TooLong why is =
+      (why.set, subst (λ (l : List ℕ). IsReordered (data_of from) (IsMissing (data_of from)) l (IsFrontOrder (data_of from) l) why.set) is why.edited.1, why.long)
 
   pub first_refused : (numbers : Bor (List ℕ)) (error : CallError EditRunFault) → IfRefused error (IsRunFault (First numbers) from) →
       numbers.now ≡ entry ∷ [] → IfRefused error (IsFirstRefusal entry from)
-  first_refused numbers OutOfMemory no is = tt
-  first_refused numbers (Refused f) no is = first_fault numbers f no is
+  first_refused numbers OutOfMemory why is = tt
+  first_refused numbers (Refused f) why is = first_fault numbers f why is
 
   pub kept_active : (numbers : Bor (List ℕ)) (to : Variables) (answer : EditAnswer) → IsRun (Activate numbers) from to answer →
       numbers.now ≡ entry ∷ [] → IsKept (IsActivated entry) from to
@@ -52,62 +52,62 @@ module _ (entry : ℕ) (from : Variables) where
 
   active_fault : (numbers : Bor (List ℕ)) (f : EditRunFault) → IsRunFault (Activate numbers) from f →
       numbers.now ≡ entry ∷ [] → IsActiveRefusal entry from f
-  active_fault numbers (run.Edit f) no is = (no.0, subst (λ (l : List ℕ). IsFirstFault (IsNoOption (data_of from)) l f) is no.1)
-  active_fault numbers run.NoData no is = no
-  active_fault numbers run.TooLong no is = (no.set, subst (λ (l : List ℕ). AreSwitched (data_of from) true l no.set) is no.edited.1, no.long)
+  active_fault numbers (run.Edit f) why is = (why.0, subst (λ (l : List ℕ). IsFirstFault (IsNoOption (data_of from)) l f) is why.1)
+  active_fault numbers run.NoData why is = why
+  active_fault numbers run.TooLong why is = (why.set, subst (λ (l : List ℕ). AreSwitched (data_of from) true l why.set) is why.edited.1, why.long)
 
   pub active_refused : (numbers : Bor (List ℕ)) (error : CallError EditRunFault) → IfRefused error (IsRunFault (Activate numbers) from) →
       numbers.now ≡ entry ∷ [] → IfRefused error (IsActiveRefusal entry from)
-  active_refused numbers OutOfMemory no is = tt
-  active_refused numbers (Refused f) no is = active_fault numbers f no is
+  active_refused numbers OutOfMemory why is = tt
+  active_refused numbers (Refused f) why is = active_fault numbers f why is
 
   pub kept_next : (to : Variables) (answer : EditAnswer) → IsRun (Next (Some entry)) from to answer → IsKept (IsNext entry) from to
   kept_next to answer done = record { set = done.set; edited = done.edited.1; is = done.is }
 
   next_fault : (f : EditRunFault) → IsRunFault (Next (Some entry)) from f → IsNextRefusal entry from f
-  next_fault (run.Edit f) no = no
-  next_fault run.NoData no = no
-  next_fault run.TooLong no = (no.set, no.edited.1, no.long)
+  next_fault (run.Edit f) why = why
+  next_fault run.NoData why = why
+  next_fault run.TooLong why = (why.set, why.edited.1, why.long)
 
   pub next_refused : (error : CallError EditRunFault) → IfRefused error (IsRunFault (Next (Some entry)) from) →
       IfRefused error (IsNextRefusal entry from)
-  next_refused OutOfMemory no = tt
-  next_refused (Refused f) no = next_fault f no
+  next_refused OutOfMemory why = tt
+  next_refused (Refused f) why = next_fault f why
 
   -- ---- a confirmation
 
   pub confirm_first : (error : CallError EditRunFault) → IfRefused error (IsFirstRefusal entry from) → IfRefused error (IsConfirmFault entry from)
-  confirm_first OutOfMemory no = tt
-  confirm_first (Refused f) no = inl no
+  confirm_first OutOfMemory why = tt
+  confirm_first (Refused f) why = inl why
 
   pub confirm_active : (between : Variables) → IsKept (IsPutFirst entry) from between → (error : CallError EditRunFault) →
       IfRefused error (IsActiveRefusal entry between) → IfRefused error (IsConfirmFault entry from)
-  confirm_active between first OutOfMemory no = tt
-  confirm_active between first (Refused f) no = inr (between, first, no)
+  confirm_active between first OutOfMemory why = tt
+  confirm_active between first (Refused f) why = inr (between, first, why)
 
   -- ---- the beginning of a trial
 
   pub try_no_data : (error : CallError EditRunFault) → IfRefused error (λ f. (f ≡ run.NoData) × HasNoData from) → IfRefused error (IsTryFault entry from)
-  try_no_data OutOfMemory no = tt
-  try_no_data (Refused f) no = inl no
+  try_no_data OutOfMemory why = tt
+  try_no_data (Refused f) why = inl why
 
   pub try_no_trial : (error : CallError EditRunFault) → IfRefused error (IsNoTrial (data_of from) entry) → IfRefused error (IsTryFault entry from)
-  try_no_trial OutOfMemory no = tt
-  try_no_trial (Refused f) no = inr (inl no)
+  try_no_trial OutOfMemory why = tt
+  try_no_trial (Refused f) why = inr (inl why)
 
   pub try_no_next : (error : CallError EditRunFault) → IfRefused error (IsNextRefusal entry from) → IfRefused error (IsTryFault entry from)
-  try_no_next OutOfMemory no = tt
-  try_no_next (Refused f) no = inr (inr no)
+  try_no_next OutOfMemory why = tt
+  try_no_next (Refused f) why = inr (inr why)
 
 -- ---- what follows from a trial
 
 module _ (trial : TrialParts) (start : List ℕ) (from : Variables) where
   pub confirming_no_data : (error : CallError EditRunFault) → IfRefused error (λ f. (f ≡ run.NoData) × HasNoData from) →
       IfRefused error (IsConfirmingFault trial start from)
-  confirming_no_data OutOfMemory no = tt
-  confirming_no_data (Refused f) no = inl no
+  confirming_no_data OutOfMemory why = tt
+  confirming_no_data (Refused f) why = inl why
 
   pub confirming_refused : IsOutcome trial start (current_of (data_of from)) (data_of from) CameUp → (error : CallError EditRunFault) →
       IfRefused error (IsConfirmFault trial.entry from) → IfRefused error (IsConfirmingFault trial start from)
-  confirming_refused came OutOfMemory no = tt
-  confirming_refused came (Refused f) no = inr (came, no)
+  confirming_refused came OutOfMemory why = tt
+  confirming_refused came (Refused f) why = inr (came, why)
