@@ -13,7 +13,7 @@ use Rattle.boot_trials.specs.declared.fault.TrialFault.{TrialFault}
 use Rattle.boot_trials.specs.declared.fault.TrialFault.TheVariants.{NoSet, NoTrial, OutOfMemory}
 use Rattle.boot_trials.specs.declared.stage.Stage.{Stage}
 use Rattle.boot_trials.specs.declared.stage.Stage.TheVariants.{Open, Confirming}
-use Rattle.boot_trials.specs.File.{digest_name, entry_name, order_name, stage_name, start_name, stage_byte, trial_vars, Tells, IsOther, SpellsTrial, IsTrialFault}
+use Rattle.boot_trials.specs.File.{digest_name, entry_name, order_name, stage_name, start_name, stage_byte, trial_vars, Tells, IsOther, IsTrialFault}
 use Rattle.boot_trials.specs.Trial.{TrialParts, IsTrial, trial_of}
 
 -- ---- what is under each name

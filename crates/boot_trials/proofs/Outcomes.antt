@@ -1,5 +1,5 @@
 -- What came of a trial is one thing, and what it changes.
-use Rattle.std.proofs.Common.{◌≡◌, ◌≢◌, ℕ, List, Option, Some, refl, sym, ap, ◌∙◌}
+use Rattle.std.proofs.Common.{◌≡◌, ◌≢◌, ℕ, List, Option, refl, sym, ap, ◌∙◌}
 use Rattle.uefi_vars.specs.Vars.{Variables}
 use Rattle.boot_trials.specs.declared.outcome.Outcome.{Outcome}
 use Rattle.boot_trials.specs.declared.outcome.Outcome.TheVariants.{TooEarly, CameUp, Failed, Changed, Interrupted, Done}

@@ -1,5 +1,5 @@
 -- The file of a trial: a set file of a few variables, whose names are fixed.
-use Rattle.std.specs.Prelude.{◌≡◌, ℕ, List, [], ◌∷◌, Option, Some, codes}
+use Rattle.std.specs.Prelude.{◌≡◌, ℕ, List, [], ◌∷◌, Some, codes}
 use Rattle.std.specs.FinMap.{empty, get, insert}
 use Rattle.std.specs.Int.{w16, to_le_bytes}
 use Rattle.uefi_vars.specs.Fault.{IsFirstFault}

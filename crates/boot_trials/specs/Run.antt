@@ -1,6 +1,6 @@
 -- Runs over what a machine keeps, its variables of the boot manager with attributes: one begins a trial, the other makes what
 -- follows from it.
-use Rattle.std.specs.Prelude.{◌≡◌, ◌≢◌, ◌⊎◌, ℕ, true, List, [], ◌∷◌, Option, Some, None}
+use Rattle.std.specs.Prelude.{◌≡◌, ◌≢◌, ◌⊎◌, ℕ, true, List, [], ◌∷◌, Some}
 use Rattle.std.specs.FinMap.{get}
 use Rattle.sha2.specs.Sha256.{sha256}
 use Rattle.uefi_option.specs.LoadOption.{OptionParts, SpellsOption}

@@ -1,8 +1,7 @@
 -- A start on trial, as what is kept of it.
-use Rattle.std.specs.Prelude.{◌≡◌, ℕ, List, length, Option, Some}
+use Rattle.std.specs.Prelude.{◌≡◌, ℕ, List, length, Option}
 use Rattle.uefi_vars.specs.Name.{IsName}
 use Rattle.uefi_vars.specs.Order.{IsEntryNumber}
-use Rattle.uefi_vars.specs.Vars.{IsData}
 use Rattle.boot_trials.specs.declared.stage.Stage.{Stage}
 
 -- the entry, the SHA-256 of its data, the identity of the start in which the trial began, the data of BootOrder then, and how

@@ -1,5 +1,5 @@
 use Rattle.std.proofs.Common.{refl}
-use Rattle.boot_trials.specs.File.{SpellsTrial, IsTrialFault, trial_vars}
+use Rattle.boot_trials.specs.File.{trial_vars}
 use Rattle.boot_trials.specs.declared.fault.TrialFault.TheVariants.{NoSet, NoTrial, OutOfMemory}
 use Rattle.boot_trials.proofs.laws.a_fault_leaves_no_trial.Goals as goal
 
