@@ -1,6 +1,6 @@
 //! The bytes of one file after another, in one buffer.
 
-ghost use Rattle.std.specs.Prelude.{◌≡◌, ◌<◌, ◌≤◌, [], IsTrue, length, vec_len, Ok, IfOk, IfSome};
+ghost use Rattle.std.specs.Prelude.{◌≡◌, ◌<◌, ◌≤◌, [], false, IsTrue, length, vec_len, Ok, IfOk, IfSome};
 
 use std::alloc::AllocError;
 use std::io::{self, Read};
