@@ -17,6 +17,8 @@ _bootvars() {
 "bootvars timeout" | \
 "bootvars activate" | \
 "bootvars deactivate" | \
+"bootvars try" | \
+"bootvars confirm" | \
 "bootvars undo" | \
 "bootvars write" | \
 "bootvars update" | \
@@ -49,6 +51,8 @@ _bootvars() {
 "bootvars timeout --state" | \
 "bootvars activate --state" | \
 "bootvars deactivate --state" | \
+"bootvars try --state" | \
+"bootvars confirm --state" | \
 "bootvars undo --state" | \
 "bootvars write --state" | \
 "bootvars update --state" | \
@@ -80,6 +84,10 @@ _bootvars() {
 "bootvars activate --machine" | \
 "bootvars deactivate --boot-id" | \
 "bootvars deactivate --machine" | \
+"bootvars try --boot-id" | \
+"bootvars try --machine" | \
+"bootvars confirm --boot-id" | \
+"bootvars confirm --machine" | \
 "bootvars undo --boot-id" | \
 "bootvars undo --machine" | \
 "bootvars write --boot-id" | \
@@ -96,7 +104,7 @@ _bootvars() {
 "bootvars option --optional-text") return ;;
     esac
     case $command in
-        "bootvars") words="check read show diff get add remove first order next timeout activate deactivate undo write update option frame explain efibootmgr --help --version -h -V" ;;
+        "bootvars") words="check read show diff get add remove first order next timeout activate deactivate try confirm undo write update option frame explain efibootmgr --help --version -h -V" ;;
         "bootvars check") words="--json --root --help --version -h -V" ;;
         "bootvars read") words="--out --boot-only --help --version -h -V" ;;
         "bootvars show") words="--json --help --version -h -V" ;;
@@ -110,6 +118,8 @@ _bootvars() {
         "bootvars timeout") words="--none --dry-run --json --state --boot-id --machine --adopt --force --help --version -h -V" ;;
         "bootvars activate") words="--dry-run --json --state --boot-id --machine --adopt --force --help --version -h -V" ;;
         "bootvars deactivate") words="--dry-run --json --state --boot-id --machine --adopt --force --help --version -h -V" ;;
+        "bootvars try") words="--forget --dry-run --json --state --boot-id --machine --adopt --help --version -h -V" ;;
+        "bootvars confirm") words="--dry-run --json --state --boot-id --machine --adopt --help --version -h -V" ;;
         "bootvars undo") words="--list --dry-run --json --state --boot-id --machine --adopt --force --help --version -h -V" ;;
         "bootvars write") words="--dry-run --json --empty --state --boot-id --machine --force --help --version -h -V" ;;
         "bootvars update") words="--state --stream --dry-run --json --look --expect --next --settle --boot-id --machine --adopt --force --help --version -h -V" ;;

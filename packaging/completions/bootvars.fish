@@ -16,6 +16,8 @@ function __bootvars_at
 'bootvars timeout' \
 'bootvars activate' \
 'bootvars deactivate' \
+'bootvars try' \
+'bootvars confirm' \
 'bootvars undo' \
 'bootvars write' \
 'bootvars update' \
@@ -50,6 +52,8 @@ complete -c bootvars -n '__bootvars_at bootvars' -a next -d 'Sets the entry that
 complete -c bootvars -n '__bootvars_at bootvars' -a timeout -d 'Sets for how many seconds the boot manager waits before it boots by itself, or prints it'
 complete -c bootvars -n '__bootvars_at bootvars' -a activate -d 'Makes entries active, so that a boot tries them'
 complete -c bootvars -n '__bootvars_at bootvars' -a deactivate -d 'Makes entries inactive, so that no boot tries them by itself'
+complete -c bootvars -n '__bootvars_at bootvars' -a try -d 'Puts an entry on trial: the next start tries it once, and `confirm` keeps it if the machine came up by it'
+complete -c bootvars -n '__bootvars_at bootvars' -a confirm -d 'Keeps the entry that is on trial, if the machine came up by it'
 complete -c bootvars -n '__bootvars_at bootvars' -a undo -d 'Brings back what was there before the last change'
 complete -c bootvars -n '__bootvars_at bootvars' -a write -d 'Makes the boot variables of a place those of a set'
 complete -c bootvars -n '__bootvars_at bootvars' -a update -d 'Runs requests over a machine'\''s boot variables, each exactly once'
@@ -172,6 +176,23 @@ complete -c bootvars -n '__bootvars_at bootvars deactivate' -l adopt -d 'Takes o
 complete -c bootvars -n '__bootvars_at bootvars deactivate' -l force -d 'Writes a variable file that is damaged'
 complete -c bootvars -n '__bootvars_at bootvars deactivate' -l help -s h -d 'Print help'
 complete -c bootvars -n '__bootvars_at bootvars deactivate' -l version -s V -d 'Print version'
+complete -c bootvars -n '__bootvars_at bootvars try' -l forget -d 'Ends the trial, also a failed one, and changes nothing else'
+complete -c bootvars -n '__bootvars_at bootvars try' -l dry-run -d 'Prints the changes and makes none'
+complete -c bootvars -n '__bootvars_at bootvars try' -l json -d 'Prints JSON'
+complete -c bootvars -n '__bootvars_at bootvars try' -l state -r -F -d 'The folder that keeps the trial, what is left to do and what was there before, in place of /var/lib/bootkeep'
+complete -c bootvars -n '__bootvars_at bootvars try' -l boot-id -x -d 'The identity of the machine'\''s start, in place of that which Linux tells'
+complete -c bootvars -n '__bootvars_at bootvars try' -l machine -x -d 'What the machine is called, in place of its UUID or the path of PLACE'
+complete -c bootvars -n '__bootvars_at bootvars try' -l adopt -d 'Takes over what another machine'\''s updates left in FOLDER, unless there is something left to do'
+complete -c bootvars -n '__bootvars_at bootvars try' -l help -s h -d 'Print help (see a summary with '\''-h'\'')'
+complete -c bootvars -n '__bootvars_at bootvars try' -l version -s V -d 'Print version'
+complete -c bootvars -n '__bootvars_at bootvars confirm' -l dry-run -d 'Prints the changes and makes none'
+complete -c bootvars -n '__bootvars_at bootvars confirm' -l json -d 'Prints JSON'
+complete -c bootvars -n '__bootvars_at bootvars confirm' -l state -r -F -d 'The folder that keeps the trial, what is left to do and what was there before, in place of /var/lib/bootkeep'
+complete -c bootvars -n '__bootvars_at bootvars confirm' -l boot-id -x -d 'The identity of the machine'\''s start, in place of that which Linux tells'
+complete -c bootvars -n '__bootvars_at bootvars confirm' -l machine -x -d 'What the machine is called, in place of its UUID or the path of PLACE'
+complete -c bootvars -n '__bootvars_at bootvars confirm' -l adopt -d 'Takes over what another machine'\''s updates left in FOLDER, unless there is something left to do'
+complete -c bootvars -n '__bootvars_at bootvars confirm' -l help -s h -d 'Print help (see a summary with '\''-h'\'')'
+complete -c bootvars -n '__bootvars_at bootvars confirm' -l version -s V -d 'Print version'
 complete -c bootvars -n '__bootvars_at bootvars undo' -l list -d 'Lists the changes that can be undone, the newest first'
 complete -c bootvars -n '__bootvars_at bootvars undo' -l dry-run -d 'Prints the changes and makes none'
 complete -c bootvars -n '__bootvars_at bootvars undo' -l json -d 'Prints JSON'
