@@ -244,13 +244,14 @@ def rust_faults(text: str) -> Dict[str, int]:
 
 
 PACKAGE_PREFIXES = {
+    "Attributes": "OPTION_",
     "ChangeKind": "CHANGE_",
     "Effect": "EFFECT_",
     "EntryState": "ENTRY_",
-    "Kind": "",
+    "Fault": "",
     "Outcome": "OUTCOME_",
     "ReplyKind": "REPLY_",
-    "Request": "REQUEST_",
+    "RequestKind": "REQUEST_",
     "Stage": "STAGE_",
 }
 """What the names of the members of these classes of the package begin with in the header."""

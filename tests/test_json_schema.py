@@ -41,7 +41,12 @@ Place = Tuple[Step, ...]
 NO_VALUE = 0.5
 """What no member may have."""
 
-OPTIONAL = {"show": ["version", "order"], "reply": ["version"]}
+OPTIONAL = {
+    "show": ["version", "order", "trial"],
+    "check": ["trial"],
+    "told_trial": ["version"],
+    "reply": ["version"],
+}
 """The members that objects may be without: a line has its version, but not what it has in it of other lines."""
 
 
@@ -180,7 +185,9 @@ class Refused(unittest.TestCase):
     def test_a_member_that_is_missing(self) -> None:
         for one, place in self.places:
             holder, member = value_at(one.lines, place[:-1]), place[-1]
-            is_optional = member == "order" and "variables" in holder
+            is_optional = (member == "order" and "variables" in holder) or (
+                member == "trial" and ("variables" in holder or "state" in holder)
+            )
             if isinstance(holder, dict) and not is_optional:
                 left = changed(one.lines, place[:-1], lambda it: it.pop(member))
                 self.refuses(one, left, f"without {place}")

@@ -258,6 +258,43 @@ class Places(unittest.TestCase):
         )
 
 
+class Fleet(unittest.TestCase):
+    """What is in the packages of a fleet."""
+
+    def test_an_agent_has_its_unit(self) -> None:
+        files = package_files.agent_files(package_files.DEBIAN).files
+        unit = files["lib/systemd/system/bootfleet-agent.service"].data.decode()
+        called = re.search(r"(?m)^ExecStart=/usr/(\S+) ", unit)
+        assert called is not None
+        self.assertEqual(files[called[1]].mode, PROGRAM_MODE)
+        self.assertIn("share/man/man8/bootfleet-agent.8.gz", files)
+
+    def test_a_sender_finds_its_modules(self) -> None:
+        """By the link that is called, in the folder where the program is."""
+        files = package_files.fleet_files(package_files.DEBIAN)
+        with tempfile.TemporaryDirectory(prefix="bootkeep test ") as folder:
+            files.write(Path(folder), MOMENT)
+            program = (Path(folder) / "bin/bootfleet").resolve()
+            self.assertTrue((program.parent / "sender/commands.py").is_file())
+            self.assertEqual(program.stat().st_mode & 0o777, PROGRAM_MODE)
+
+    def test_the_user_of_a_sender_is_made(self) -> None:
+        files = package_files.fleet_files(package_files.DEBIAN).files
+        unit = files["lib/systemd/system/bootfleet.service"].data.decode()
+        user = re.search(r"(?m)^User=(\w+)$", unit)
+        assert user is not None
+        made = files["lib/sysusers.d/bootkeep-fleet.conf"].data.decode()
+        self.assertRegex(made, rf"(?m)^u {user[1]} ")
+
+    def test_each_package_is_described(self) -> None:
+        control = (ROOT / "packaging/debian/control").read_text(encoding="utf-8")
+        page = (ROOT / "docs/packages.md").read_text(encoding="utf-8")
+        names = re.findall(r"(?m)^Package: (\S+)$", control)
+        self.assertIn("bootkeep-agent", names)
+        for name in names:
+            self.assertIn(f"\n| `{name}` | ", page)
+
+
 class Install(unittest.TestCase):
     """The script install.sh, over an archive of a few files."""
 

@@ -36,6 +36,7 @@ DEPTHS = {
     "std_collections::btree::node::Node::destroy": 12,
     "std_collections::btree::node::Node::fill_above": 12,
     "std_collections::btree::node::Node::fill_last": 12,
+    "std_collections::btree::node::Node::make_room": 12,
 }
 """How often functions of the toolchain's libraries are in themselves, for 65,536 numbers, of which no call sorts more:
 a quicksort twice the binary logarithm of how many there are, and once more, before it leaves the rest to another sort;

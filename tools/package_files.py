@@ -72,8 +72,8 @@ def program_files(made: Made, place: Place) -> FileTree:
     files = FileTree()
     for name, program in made.programs.items():
         files.put(f"bin/{name}", program.read_bytes(), PROGRAM_MODE)
-    for manual in sorted((ROOT / "packaging/man").glob("*.1")):
-        place.put_text(files, f"share/man/man1/{manual.name}", manual.read_bytes())
+    for manual in ("bootkeep.1", "bootvars.1", "bootvars-efibootmgr.1"):
+        put_manual(files, place, manual)
     for completion, path in {
         "bootvars.bash": "share/bash-completion/completions/bootvars",
         "_bootvars": f"{place.zsh}/_bootvars",
@@ -94,6 +94,44 @@ def program_files(made: Made, place: Place) -> FileTree:
     return files
 
 
+def put_manual(files: FileTree, place: Place, name: str) -> None:
+    """Adds a manual of packaging/man."""
+    path = f"share/man/man{name[-1]}/{name}"
+    place.put_text(files, path, (ROOT / "packaging/man" / name).read_bytes())
+
+
+def agent_files(place: Place) -> FileTree:
+    """The agent of a fleet, and its unit."""
+    files = FileTree()
+    agent, unit = "bootfleet-agent", "bootfleet-agent.service"
+    files.put(f"bin/{agent}", (ROOT / "fleet" / agent).read_bytes(), PROGRAM_MODE)
+    files.put(f"lib/systemd/system/{unit}", (ROOT / "fleet" / unit).read_bytes())
+    put_manual(files, place, "bootfleet-agent.8")
+    return files
+
+
+def fleet_files(place: Place) -> FileTree:
+    """The sender of a fleet, with its unit and the user that it runs as. Its program is a link, by which it finds its
+    modules."""
+    files = FileTree()
+    modules = "share/bootkeep-fleet"
+    files.put(f"{modules}/bootfleet", (ROOT / "fleet/bootfleet").read_bytes(), PROGRAM_MODE)
+    files.link("bin/bootfleet", f"../{modules}/bootfleet")
+    for module in sorted((ROOT / "fleet/sender").glob("*.py")):
+        files.put(f"{modules}/sender/{module.name}", module.read_bytes())
+    for source, path in {
+        "fleet/bootfleet.service": "lib/systemd/system/bootfleet.service",
+        "packaging/bootkeep-fleet.sysusers": "lib/sysusers.d/bootkeep-fleet.conf",
+        "packaging/completions/bootfleet.bash": "share/bash-completion/completions/bootfleet",
+        "packaging/completions/bootfleet.fish": "share/fish/vendor_completions.d/bootfleet.fish",
+    }.items():
+        files.put(path, (ROOT / source).read_bytes())
+    put_manual(files, place, "bootfleet.1")
+    page = (ROOT / "docs/fleet.md").read_bytes()
+    place.put_text(files, "share/doc/bootkeep-fleet/fleet.md", page)
+    return files
+
+
 def library_files(made: Made, place: Place) -> FileTree:
     """The shared library."""
     files = FileTree()
@@ -109,8 +147,7 @@ def development_files(made: Made, place: Place, examples: str) -> FileTree:
     files.link(f"{place.libraries}/{SHARED_NAMES[1]}", SHARED_NAMES[0])
     files.put(f"{place.libraries}/pkgconfig/bootkeep.pc", pkg_config(made, place))
     files.put(f"include/{HEADER}", made.built(HEADER))
-    manual = (ROOT / "packaging/man" / "bootkeep.3").read_bytes()
-    place.put_text(files, "share/man/man3/bootkeep.3", manual)
+    put_manual(files, place, "bootkeep.3")
     for example in sorted((ROOT / "libraries/c/examples").glob("*.[ch]")):
         files.put(f"{examples}/{example.name}", example.read_bytes())
     return files

@@ -36,6 +36,11 @@ CALLED = (
     "made of an archive that the toolchain built; every function of the sources named below was proved\n"
     "to meet its contract. As it was when this was built:"
 )
+AGENT = (
+    "No proof speaks of the agent. What it calls is the program bootvars, which the toolchain built of\n"
+    "the sources named below, of which every function was proved to meet its contract. As the programs\n"
+    "were when this was built:"
+)
 
 VERSION = re.compile(r"\d[A-Za-z0-9.+~]*")
 """A version as Debian has it, without a revision."""
@@ -138,29 +143,48 @@ def build_all(work: Path, version: str) -> Made:
     return Made(programs, library)
 
 
+class Content(NamedTuple):
+    """What a package has, and what is to be said of its proofs."""
+
+    files: FileTree
+    proofs: Proofs
+    about: str
+    built: Dict[str, bytes]
+    """What was built of what is proved: files of the package, or what they call."""
+
+
 def debian_packages(made: Made, work: Path, known: List[Release], moment: int) -> List[Path]:
     """Makes the packages for Debian."""
     workshop = debian_package.Workshop(work, known, moment)
+    contents = debian_contents(made)
+    for name, content in contents.items():
+        note = content.proofs.note(f"{name} {known[0].version}", content.about, content.built)
+        said = package_files.proof_files(content.proofs, note, packs_list=True)
+        content.files.files.update(said.below(f"usr/share/doc/{name}").files)
+    return [workshop.pack(name, content.files) for name, content in contents.items()]
+
+
+def debian_contents(made: Made) -> Dict[str, Content]:
+    """What each package for Debian has."""
     examples, modules = "share/doc/libbootkeep-dev/examples", "usr/lib/python3/dist-packages"
     python = package_files.python_files(
         wheel_of_library.modules(), wheel_of_library.metadata(), wheel_of_library.project("version")
-    )
-    contents = {
-        "bootkeep": package_files.program_files(made, DEBIAN).below("usr"),
-        "libbootkeep1": package_files.library_files(made, DEBIAN).below("usr"),
-        "libbootkeep-dev": package_files.development_files(made, DEBIAN, examples).below("usr"),
-        "python3-bootkeep": python.below(modules),
-    }
+    ).below(modules)
+    bootkeep = package_files.program_files(made, DEBIAN).below("usr")
+    shared = package_files.library_files(made, DEBIAN).below("usr")
+    development = package_files.development_files(made, DEBIAN, examples).below("usr")
+    agent = package_files.agent_files(DEBIAN).below("usr")
+    fleet = package_files.fleet_files(DEBIAN).below("usr")
     programs, library = Proofs.of(*PROGRAMS), Proofs.of("bootkeep_c")
-    called = built_files(contents["libbootkeep1"])
-    for name, files in contents.items():
-        proofs = programs if name == "bootkeep" else library
-        built = built_files(files)
-        about = BUILT if built else CALLED
-        note = proofs.note(f"{name} {known[0].version}", about, built or called)
-        said = package_files.proof_files(proofs, note, packs_list=True)
-        files.files.update(said.below(f"usr/share/doc/{name}").files)
-    return [workshop.pack(name, files) for name, files in contents.items()]
+    of_programs, of_library = built_files(bootkeep), built_files(shared)
+    return {
+        "bootkeep": Content(bootkeep, programs, BUILT, of_programs),
+        "bootkeep-agent": Content(agent, programs, AGENT, of_programs),
+        "bootkeep-fleet": Content(fleet, library, CALLED, of_library),
+        "libbootkeep1": Content(shared, library, BUILT, of_library),
+        "libbootkeep-dev": Content(development, library, BUILT, built_files(development)),
+        "python3-bootkeep": Content(python, library, CALLED, of_library),
+    }
 
 
 def built_files(files: FileTree) -> Dict[str, bytes]:

@@ -80,9 +80,14 @@ def digits_of(numbers: Iterable[int]) -> str:
     return digits(b"".join(number.to_bytes(2, "little") for number in numbers))
 
 
+def entry_or_none(number: Optional[bootkeep.EntryNumber]) -> int:
+    """The number of an entry, which is an int whose text is its four digits, or what stands for none."""
+    return NO_ENTRY if number is None else int(number)
+
+
 def set_plan(data: bytes) -> str:
     plan = bootkeep.set_plan(data)
-    return f"{digits_of(plan.normal)} {NO_ENTRY if plan.next is None else plan.next}"
+    return f"{digits_of(plan.normal)} {entry_or_none(plan.next)}"
 
 
 def set_at_risk(data: bytes) -> str:
@@ -110,7 +115,7 @@ def option_description_utf8(data: bytes) -> str:
     """The description of an option. The module has none in the place of one that is no text, so that is told here."""
     description = bootkeep.option_parts(data).description
     if description is None:
-        raise bootkeep.Refused(bootkeep.Kind.OPTION_NOT_UTF16)
+        raise bootkeep.Refused(bootkeep.Fault.OPTION_NOT_UTF16)
     return digits(description.encode())
 
 
@@ -118,9 +123,9 @@ def frame_make(numbers: bytes, option: bytes, order: bytes) -> str:
     """The frame of a request. Which kinds there are, and which parts each has, the module's types say, so that a kind that
     there isn't is answered here."""
     number, kind = numbers_in(numbers[:8], 4)
-    requests = bootkeep.Request
+    requests = bootkeep.RequestKind
     if kind not in list(requests):
-        raise bootkeep.Refused(bootkeep.Kind.FRAME_BAD_KIND)
+        raise bootkeep.Refused(bootkeep.Fault.FRAME_BAD_KIND)
     request, entry = requests(kind), int.from_bytes(numbers[8:], "little")
     if request == requests.ORDER:
         return digits(bootkeep.frame_make(number, request, order=numbers_in(order, 2)))
@@ -155,8 +160,7 @@ def set_named(data: bytes) -> str:
 
 
 def set_lowest_free(data: bytes) -> str:
-    number = bootkeep.set_lowest_free(data)
-    return str(NO_ENTRY if number is None else number)
+    return str(entry_or_none(bootkeep.set_lowest_free(data)))
 
 
 def set_entry(data: bytes, number: bytes) -> str:
@@ -253,8 +257,8 @@ def told(reply: Optional[Union[bootkeep.Reply, bootkeep.Plan]]) -> str:
     return (
         f"{numbers} {int(reply.kind)} {int(reply.fault or 0)} {option} "
         f"{' '.join(str(NO_PLACE if place is None else place) for place in places)} "
-        f"{int(reply.outcome or 0)} {NO_ENTRY if reply.entry is None else reply.entry} {next_number} "
-        f"{NO_ENTRY if first is None else first} {reply.count or 0}"
+        f"{int(reply.outcome or 0)} {entry_or_none(reply.entry)} {next_number} "
+        f"{entry_or_none(first)} {reply.count or 0}"
     )
 
 

@@ -4,7 +4,9 @@
 
 use bootkeep::frame::Request;
 use bootkeep::set::{BootVariable, ChangeKind, EntryState, Plan};
-use bootkeep::{frame, image, option, path, set, Error, Fault, Keeper, Outcome, Refusal, Reply};
+use bootkeep::{
+    frame, image, option, path, set, EntryNumber, Error, Fault, Keeper, LoadOption, Outcome, Refusal, Reply,
+};
 use std::io::{self, BufRead};
 
 const NO_ENTRY: u32 = 0x1_0000;
@@ -41,8 +43,8 @@ fn digits(bytes: &[u8]) -> String {
     bytes.iter().map(|byte| format!("{byte:02x}")).collect()
 }
 
-fn digits_of(numbers: impl IntoIterator<Item = u16>) -> String {
-    digits(&numbers.into_iter().flat_map(u16::to_le_bytes).collect::<Vec<_>>())
+fn digits_of(numbers: impl IntoIterator<Item = EntryNumber>) -> String {
+    digits(&numbers.into_iter().flat_map(|number| number.0.to_le_bytes()).collect::<Vec<_>>())
 }
 
 fn digits_of_longs(numbers: impl IntoIterator<Item = u32>) -> String {
@@ -135,14 +137,14 @@ fn made_of_set(name: &str, set: &[u8], given: &[Vec<u8>]) -> Result<String, Erro
         "set_variables" => set_variables(set),
         "set_named" => {
             let named = set::named(set)?;
-            let numbers = named.iter().map(|one| [stands_for(one.variable), one.number.into(), state(one.state)]);
+            let numbers = named.iter().map(|one| [stands_for(one.variable), one.number.0.into(), state(one.state)]);
             Ok(digits_of_longs(numbers.flatten()))
         }
         "set_lowest_free" => set::lowest_free(set).map(|free| entry_or_none(free).to_string()),
-        "set_entry" => set::entry(set, number(&given[0]) as u16).map(|told| state(told).to_string()),
+        "set_entry" => set::entry(set, entry_of(&given[0])).map(|told| state(told).to_string()),
         "set_changes" => {
             let changes = set::changes(set, &given[0])?;
-            let numbers = changes.iter().map(|(variable, kind)| [stands_for(*variable), change(*kind)]);
+            let numbers = changes.iter().map(|one| [stands_for(one.variable), change(one.kind)]);
             Ok(digits_of_longs(numbers.flatten()))
         }
         "set_get" => set::get(set, &named).map(|data| digits(&data)),
@@ -174,20 +176,26 @@ fn option_parts(bytes: &[u8]) -> Result<String, Error> {
 }
 
 fn frame_make(numbers: &[u8], option: &[u8], order: &[u8]) -> Result<String, Error> {
-    let order: Vec<u16> = order.chunks(2).map(|pair| number(pair) as u16).collect();
-    let entry = number(&numbers[8..]) as u16;
-    let request = match number(&numbers[4..8]) {
-        1 => Request::Add(entry, option),
-        2 => Request::Replace(entry, option),
-        3 => Request::Remove(entry),
-        4 => Request::Order(&order),
-        5 => Request::Next(entry),
-        6 => Request::AddFree(option),
-        7 => Request::AddFirst(option),
-        8 => Request::First(entry),
-        _ => return refused(Fault::FrameBadKind, None),
-    };
-    frame::make(number(&numbers[..4]), request).map(|bytes| digits(&bytes))
+    let order: Vec<EntryNumber> = order.chunks(2).map(entry_of).collect();
+    let entry = entry_of(&numbers[8..]);
+    // Only a kind that takes an option looks at its bytes.
+    let option = || LoadOption::try_from(option);
+    let make = |request| frame::make(number(&numbers[..4]), request).map(|bytes| digits(&bytes));
+    match number(&numbers[4..8]) {
+        1 => make(Request::Add(entry, &option()?)),
+        2 => make(Request::Replace(entry, &option()?)),
+        3 => make(Request::Remove(entry)),
+        4 => make(Request::Order(&order)),
+        5 => make(Request::Next(entry)),
+        6 => make(Request::AddFree(&option()?)),
+        7 => make(Request::AddFirst(&option()?)),
+        8 => make(Request::First(entry)),
+        _ => refused(Fault::FrameBadKind, None),
+    }
+}
+
+fn entry_of(bytes: &[u8]) -> EntryNumber {
+    EntryNumber(number(bytes) as u16)
 }
 
 fn signature_lists(bytes: &[u8]) -> Result<String, Error> {
@@ -206,13 +214,13 @@ fn set_variables(set: &[u8]) -> Result<String, Error> {
     Ok(digits(&places.flat_map(usize::to_le_bytes).collect::<Vec<_>>()))
 }
 
-fn entry_or_none(entry: Option<u16>) -> u32 {
-    entry.map_or(NO_ENTRY, u32::from)
+fn entry_or_none(entry: Option<EntryNumber>) -> u32 {
+    entry.map_or(NO_ENTRY, |entry| entry.0.into())
 }
 
 fn stands_for(variable: BootVariable) -> u32 {
     match variable {
-        BootVariable::Entry(number) => number.into(),
+        BootVariable::Entry(number) => number.0.into(),
         BootVariable::Order => VARIABLE_ORDER,
         BootVariable::Next => VARIABLE_NEXT,
         BootVariable::Timeout => VARIABLE_TIMEOUT,
@@ -266,13 +274,13 @@ fn keep(words: &[&str]) {
 
 /// What a reply has beside its kind: fields that most replies leave as they are here.
 struct Fields {
-    normal: Vec<u16>,
+    normal: Vec<EntryNumber>,
     fault: u32,
     option: Option<Refusal>,
     outcome: u32,
-    entry: Option<u16>,
+    entry: Option<EntryNumber>,
     next_number: u32,
-    first: Option<u16>,
+    first: Option<EntryNumber>,
     count: usize,
 }
 
@@ -305,13 +313,15 @@ fn told(reply: &Reply) -> String {
 
 fn fields_of(reply: &Reply) -> (u32, Fields) {
     match reply {
-        Reply::Malformed { fault, option } => (1, Fields { fault: fault.number(), option: *option, ..NO_FIELDS }),
-        Reply::Repeat { outcome, entry } => (2, Fields { outcome: outcome_of(*outcome), entry: *entry, ..NO_FIELDS }),
+        Reply::Malformed { fault, option, .. } => (1, Fields { fault: fault.number(), option: *option, ..NO_FIELDS }),
+        Reply::Repeat { outcome, entry, .. } => {
+            (2, Fields { outcome: outcome_of(*outcome), entry: *entry, ..NO_FIELDS })
+        }
         Reply::Old => (3, NO_FIELDS),
-        Reply::Ahead { next_number } => (4, Fields { next_number: *next_number, ..NO_FIELDS }),
+        Reply::Ahead { next_number, .. } => (4, Fields { next_number: *next_number, ..NO_FIELDS }),
         Reply::Conflict => (5, NO_FIELDS),
-        Reply::Waiting { next_number } => (6, Fields { next_number: *next_number, ..NO_FIELDS }),
-        Reply::Applied { outcome, entry, next_number } => {
+        Reply::Waiting { next_number, .. } => (6, Fields { next_number: *next_number, ..NO_FIELDS }),
+        Reply::Applied { outcome, entry, next_number, .. } => {
             let outcome = outcome_of(*outcome);
             (7, Fields { outcome, entry: *entry, next_number: *next_number, ..NO_FIELDS })
         }
@@ -319,7 +329,7 @@ fn fields_of(reply: &Reply) -> (u32, Fields) {
         Reply::AlreadyPrepared => (9, NO_FIELDS),
         Reply::Plan(plan) => (10, fields_of_plan(plan)),
         Reply::NothingPrepared => (11, NO_FIELDS),
-        Reply::Restarted { next_number } => (12, Fields { next_number: *next_number, ..NO_FIELDS }),
+        Reply::Restarted { next_number, .. } => (12, Fields { next_number: *next_number, ..NO_FIELDS }),
         other => panic!("{other:?}"),
     }
 }

@@ -54,6 +54,12 @@ class Model:
             self.order.append(number)
         self.next = number
 
+    def send_free(self, option: bytes) -> None:
+        """What the request AddFree makes, however often the option is there."""
+        number = self._add(option)
+        if number not in self.order:
+            self.order.append(number)
+
     def remove(self, option: bytes) -> None:
         for number in self._there(option):
             del self.entries[number]

@@ -10,7 +10,7 @@ from typing import Any, Dict, NamedTuple, Optional, Tuple
 import bootkeep
 
 from .entries import entry_name, entry_number, entry_of_shown
-from .goals import Shown
+from .steps import Shown, Start
 
 
 MOST_WORDS = 2000
@@ -109,7 +109,7 @@ def _answer(held: Dict[str, Any]) -> Answer:
         words, status = _text(held["error"].strip()), _number(held["status"], -(1 << 31))
         return Answer(to, Refusal(f"status {status}: {words}", "send again"))
     show = held["show"]
-    shown = _shown(show)
+    shown = _shown(show)._replace(start=_start(held))
     return Answer(
         to,
         None,
@@ -150,6 +150,21 @@ def _shown(held: Dict[str, Any]) -> Shown:
         tuple(entry_of_shown(entry) for entry in held["entries"]),
         tuple(entry_number(number) for number in held.get("order") or ()),
         None if following is None else entry_number(following),
+    )
+
+
+def _start(held: Dict[str, Any]) -> Optional[Start]:
+    """What it says of its start. An older `bootvars` says nothing of it, and an older agent not whether its boot is
+    complete."""
+    if "start" not in held:
+        return None
+    identity, current, is_complete = held["start"], held["show"]["current"], held.get("complete")
+    if is_complete is not None and not isinstance(is_complete, bool):
+        raise TypeError(f"{is_complete!r:.40} isn't true or false")
+    return Start(
+        None if identity is None else _text(identity),
+        None if current is None else entry_number(current),
+        is_complete,
     )
 
 

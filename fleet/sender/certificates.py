@@ -23,6 +23,7 @@ import time
 from pathlib import Path
 from typing import List
 
+from .brokers import CRL, KINDS, Broker, Mosquitto, broker_of, replace
 from .endings import SOON, days_left, read_certificate
 
 BROKER = "broker"
@@ -35,39 +36,6 @@ DAYS = 3650
 """For how many days a certificate is good."""
 
 CURVE = ["-newkey", "ec", "-pkeyopt", "ec_paramgen_curve:P-256", "-nodes"]
-
-CONFIGURATION = """\
-# The broker of a fleet, for mosquitto 2.0: TLS alone, and nobody without a certificate of the fleet's own authority.
-listener {port}{bind}
-cafile {folder}/broker/ca.pem
-crlfile {folder}/crl.pem
-certfile {folder}/broker/own.pem
-keyfile {folder}/broker/own.key
-require_certificate true
-use_identity_as_username true
-use_username_as_clientid true
-allow_anonymous false
-acl_file {folder}/acl
-# Nothing is kept: what is lost is sent again.
-persistence false
-retain_available false
-max_queued_messages 1000
-max_queued_bytes 67108864
-max_packet_size 1048576
-"""
-
-ACL = """\
-# A machine reads what it is asked, and writes what it replies, and nothing else.
-pattern read bootkeep/%u/request
-pattern write bootkeep/%u/reply
-"""
-
-ACL_OF_SENDER = """
-user {name}
-topic write bootkeep/+/request
-topic read bootkeep/+/reply
-"""
-
 
 OLD = ".old"
 """The folder of what was taken out of use: no name begins with a dot."""
@@ -108,7 +76,7 @@ def make_authority(folder: Path) -> None:
         _make_ca(folder)
     (folder / OLD).mkdir(mode=0o700, exist_ok=True)
     (folder / OLD / "revoked").touch()
-    if not (folder / "crl.pem").exists():
+    if not (folder / CRL).exists():
         _write_revoked(folder)
 
 
@@ -147,30 +115,29 @@ def make_certificate(folder: Path, name: str, addresses: str = "") -> Path:
     return made
 
 
-def make_broker(folder: Path, host: str, port: int) -> None:
-    """Makes the certificate and the configuration of the broker, and of what may be sent by whom."""
+def make_broker(folder: Path, host: str, port: int, kind: str = Mosquitto.kind) -> Broker:
+    """Makes the certificate and the configuration of a broker of this kind, and of what may be sent by whom."""
+    broker = KINDS[kind](folder)
     own = make_certificate(folder, BROKER, _addresses(host))
     try:
-        shutil.chown(own / "own.key", "mosquitto")
+        shutil.chown(own / "own.key", broker.user)
     except (LookupError, PermissionError):
         pass  # A broker that isn't started by root reads it as it is.
-    bind = " 127.0.0.1" if host == "localhost" else ""
-    configuration = CONFIGURATION.format(folder=folder.resolve(), port=port, bind=bind)
-    _write_new(folder / "mosquitto.conf", configuration)
-    _write_new(folder / "acl", ACL)
+    broker.write(host, port)
+    broker.revoked_changed()
+    return broker
 
 
 def make_sender(folder: Path, name: str) -> None:
     """Lets a sender send, and makes its certificate. One that is there before is somebody else's, as that of a machine
     that was forgotten: whoever has its key could send to all."""
-    made = folder / name
-    if not is_sender(folder, name):
+    made, broker = folder / name, broker_of(folder)
+    if not broker.is_sender(name):
         if made.exists():
             raise CertificateError(
                 f"{made}: it is no sender's, and a machine may have its key: take another name, or `revoke {name}`"
             )
-        with (folder / "acl").open("a", encoding="utf-8") as out:
-            out.write(ACL_OF_SENDER.format(name=name))
+        broker.let_sender(name)
     make_certificate(folder, name)
 
 
@@ -231,38 +198,13 @@ def forget_machine(folder: Path, name: str) -> None:
         (folder / name / FORGOTTEN).touch()
 
 
-def is_sender(folder: Path, name: str) -> bool:
-    """Whether a sender has this name."""
-    lines = (folder / "acl").read_text(encoding="utf-8").splitlines()
-    return ["user", name] in (line.split() for line in lines)
-
-
 def revoke(folder: Path, name: str) -> None:
     """Takes the rights of a machine or a sender away: no broker that reads `crl.pem` and `acl` anew lets it in."""
     if name == BROKER or not (folder / name / "own.pem").is_file():
         raise CertificateError(f"{name}: no machine and no sender has a certificate by this name")
     make_authority(folder)  # Of an earlier version it has no list of what is revoked.
-    if is_sender(folder, name):
-        _take_from_acl(folder / "acl", name)
+    broker_of(folder).take_rights(name)
     _revoke(folder, name)
-
-
-def reads_revoked(folder: Path) -> bool:
-    """Whether the broker's configuration names the list of revoked certificates."""
-    lines = (folder / "mosquitto.conf").read_text(encoding="utf-8").splitlines()
-    return any(line.split()[:1] == ["crlfile"] for line in lines)
-
-
-def _take_from_acl(acl: Path, name: str) -> None:
-    """Takes out what one user may do: the lines up to those of another one, or of all."""
-    kept, is_theirs = [], False
-    for line in acl.read_text(encoding="utf-8").splitlines(keepends=True):
-        words = line.split()
-        if words[:1] in (["user"], ["pattern"]):
-            is_theirs = words[:2] == ["user", name]
-        if not is_theirs:
-            kept.append(line)
-    _replace(acl, "".join(kept))
 
 
 def _revoke(folder: Path, name: str) -> None:
@@ -277,7 +219,7 @@ def _revoke(folder: Path, name: str) -> None:
         f"/CN={name}",
     ]
     revoked = folder / OLD / "revoked"
-    _replace(revoked, revoked.read_text(encoding="ascii") + "\t".join(fields) + "\n")
+    replace(revoked, revoked.read_text(encoding="ascii") + "\t".join(fields) + "\n")
     _write_revoked(folder)
     _put_away(folder, name)
 
@@ -292,17 +234,10 @@ def _write_revoked(folder: Path) -> None:
     with tempfile.TemporaryDirectory(dir=folder) as new:
         configuration = REVOKING.format(folder=folder.resolve(), days=2 * DAYS)
         Path(new, "configuration").write_text(configuration, encoding="utf-8")
-        words = ["ca", "-gencrl", "-config", f"{new}/configuration", "-out", f"{new}/crl.pem"]
+        words = ["ca", "-gencrl", "-config", f"{new}/configuration", "-out", f"{new}/{CRL}"]
         _openssl(words)
-        os.replace(f"{new}/crl.pem", folder / "crl.pem")
-
-
-def _replace(path: Path, text: str) -> None:
-    """Writes a file as a whole, with the access that it has."""
-    new = path.with_name(f".{path.name}.new")
-    new.write_text(text, encoding="utf-8")
-    shutil.copymode(path, new)
-    os.replace(new, path)
+        os.replace(f"{new}/{CRL}", folder / CRL)
+    broker_of(folder).revoked_changed()
 
 
 def _addresses(host: str) -> str:
@@ -311,12 +246,6 @@ def _addresses(host: str) -> str:
         return f"IP:{host}"
     except ValueError:
         return f"DNS:{host}"
-
-
-def _write_new(path: Path, text: str) -> None:
-    """Writes a file, unless it is there: somebody may have changed it."""
-    if not path.exists():
-        path.write_text(text, encoding="utf-8")
 
 
 def _openssl(words: List[str]) -> None:

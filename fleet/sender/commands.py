@@ -16,10 +16,11 @@ from typing import IO, Callable, Dict, List
 
 import bootkeep
 
-from . import certificates, machines, status, waves
+from . import certificates, completions, machines, page, status, waves
+from .brokers import KINDS, BrokerError, Mosquitto, broker_of
 from .certificates import CertificateError
 from .courier import MqttCourier, split_broker
-from .entries import Wanted
+from .entries import Wanted, activated
 from .goals import Goal
 from .ledger import Doubt, Ledger
 from .run import Sender
@@ -31,6 +32,8 @@ NOT_DONE = 1
 BAD_WORDS = 2
 FAILED = 3
 
+NAME_OF_MACHINE = "its name"
+
 DELIVER = re.compile(rb"deliver ((?:[0-9a-fA-F]{2})*)")
 
 EMPTY_SET = b"BVS1"
@@ -41,16 +44,22 @@ class Problem(Exception):
     """Why a command isn't carried out."""
 
 
+REFUSALS = (Problem, LedgerError, CertificateError, BrokerError)
+"""Why nothing is done."""
+
+
 def main(words: List[str]) -> int:
     """Does what the words ask for, and gives the status."""
-    options = parser().parse_args(words)
+    known = parser()
+    completions.answer_shell(known)
+    options = known.parse_args(words)
     try:
         command: Callable[[argparse.Namespace], int] = options.command
         return command(options)
     except bootkeep.Error as refused:
         print(f"bootfleet: refused: {refused}", file=sys.stderr)
         return FAILED
-    except (Problem, LedgerError, CertificateError, ValueError, OSError, sqlite3.Error) as problem:
+    except (*REFUSALS, ValueError, OSError, sqlite3.Error) as problem:
         print(f"bootfleet: {problem}", file=sys.stderr)
         return FAILED
 
@@ -59,6 +68,7 @@ def parser() -> argparse.ArgumentParser:
     made = argparse.ArgumentParser(prog="bootfleet", description=__doc__)
     made.add_argument(
         "--ledger",
+        metavar="FILE",
         type=Path,
         default=Path(os.environ.get("BOOTFLEET_LEDGER", LEDGER)),
         help=f"the ledger; otherwise the environment's BOOTFLEET_LEDGER, or {LEDGER}",
@@ -80,18 +90,31 @@ def _add(commands: "argparse._SubParsersAction[argparse.ArgumentParser]", name: 
 
 def _add_set_up(commands: "argparse._SubParsersAction[argparse.ArgumentParser]") -> None:
     init = _add(commands, "init", do_init, "makes a ledger, and what a broker needs")
-    init.add_argument("ledger_made", metavar="LEDGER", type=Path)
-    init.add_argument("--broker", metavar="HOST[:PORT]", required=True)
-    init.add_argument("--certs", metavar="FOLDER", type=Path, required=True)
+    init.add_argument("ledger_made", metavar="LEDGER", type=Path, help="the file that is made")
+    init.add_argument(
+        "--broker", metavar="HOST[:PORT]", required=True, help="as agents and senders call it"
+    )
+    init.add_argument(
+        "--certs", metavar="FOLDER", type=Path, required=True, help="of keys and certificates"
+    )
+    init.add_argument(
+        "--broker-kind",
+        choices=sorted(KINDS),
+        metavar="KIND",
+        default=Mosquitto.kind,
+        help=f"what the broker is: {' or '.join(sorted(KINDS))}; otherwise the former",
+    )
     enroll = _add(commands, "enroll", do_enroll, "takes machines in, with a certificate for each")
-    enroll.add_argument("machines", metavar="MACHINE", nargs="+")
+    enroll.add_argument("machines", metavar="MACHINE", nargs="+", help=NAME_OF_MACHINE)
     enroll.add_argument(
         "--request", metavar="FILE", type=Path, help="of one machine that has made its key itself"
     )
     sender = _add(commands, "enroll-sender", do_enroll_sender, "makes certificates of more senders")
-    sender.add_argument("names", metavar="NAME", nargs="+")
+    sender.add_argument("names", metavar="NAME", nargs="+", help="by which it runs: `run --as`")
     revoke = _add(commands, "revoke", do_revoke, "takes rights away from machines or senders")
-    revoke.add_argument("names", metavar="NAME", nargs="+")
+    _name_machines(
+        revoke.add_argument("names", metavar="NAME", nargs="+", help="of a machine or a sender")
+    )
 
 
 def _add_goals(commands: "argparse._SubParsersAction[argparse.ArgumentParser]") -> None:
@@ -99,11 +122,14 @@ def _add_goals(commands: "argparse._SubParsersAction[argparse.ArgumentParser]") 
         ("first", "an entry is to be there, and first in BootOrder"),
         ("next", "an entry is to be there, and the next one, once"),
         ("remove", "an entry isn't to be there, or several"),
+        ("try", "a new entry is tried by one start, and first only if the machine came up by it"),
     ):
         made = _add(commands, name, do_goal, about)
         made.set_defaults(goal=name)
         made.add_argument("--description", metavar="TEXT", help="its description")
-        made.add_argument("--path", metavar="TEXT", action="append", help="its path, or paths")
+        made.add_argument(
+            "--path", metavar="TEXT", action="append", help="its path; given again, its next one"
+        )
         made.add_argument("--option", metavar="FILE", type=Path, help="all of it: a load option")
         if name == "first":
             made.add_argument("--next", action="store_true", help="and the next one, once")
@@ -116,7 +142,9 @@ def _add_goals(commands: "argparse._SubParsersAction[argparse.ArgumentParser]") 
     send = _add(
         commands, "send", do_send, "sends requests, each once: a script or a stream of frames"
     )
-    send.add_argument("script", metavar="SCRIPT", type=Path)
+    send.add_argument(
+        "script", metavar="SCRIPT", type=Path, help="lines of `deliver` and a frame, or frames"
+    )
     _add_machines(send)
 
 
@@ -145,17 +173,27 @@ def _add_running(commands: "argparse._SubParsersAction[argparse.ArgumentParser]"
     )
     shown = _add(commands, "status", do_status, "shows how it stands")
     how = shown.add_mutually_exclusive_group()
-    how.add_argument("--json", action="store_true")
-    how.add_argument("--page", metavar="FILE", type=Path, help="writes a page of HTML")
+    how.add_argument("--json", action="store_true", help="as one object of JSON")
+    how.add_argument(
+        "--page",
+        metavar="FILE",
+        type=Path,
+        help="writes a page of HTML: troubles first, waves, progress, and a search",
+    )
     how.add_argument(
         "--metrics", metavar="FILE", type=Path, help="writes a text that Prometheus collects"
     )
     shown.add_argument(
-        "--watch", nargs="?", metavar="SECONDS", type=float, const=2.0, help="and so on"
+        "--watch",
+        nargs="?",
+        metavar="SECONDS",
+        type=float,
+        const=2.0,
+        help="again after so many seconds, or 2, until it is ended",
     )
 
     backup = _add(commands, "backup", do_backup, "copies the ledger as it is at one moment")
-    backup.add_argument("file", metavar="FILE", type=Path)
+    backup.add_argument("file", metavar="FILE", type=Path, help="the copy, made anew as a whole")
 
 
 def _add_decisions(commands: "argparse._SubParsersAction[argparse.ArgumentParser]") -> None:
@@ -169,19 +207,30 @@ def _add_decisions(commands: "argparse._SubParsersAction[argparse.ArgumentParser
         ("forget", do_forget, "takes machines out, with all that was asked of them"),
     ):
         made = _add(commands, name, does, about)
-        made.add_argument("machines", metavar="MACHINE", nargs="+")
+        _name_machines(
+            made.add_argument("machines", metavar="MACHINE", nargs="+", help=NAME_OF_MACHINE)
+        )
         if name != "resend":
             made.add_argument("--yes", action="store_true", help="without asking")
         if name == "adopt":
             _add_doubts(made)
     cancel = _add(commands, "cancel", do_cancel, "gives up what isn't reached yet of a job")
-    cancel.add_argument("job", metavar="JOB", type=int)
-    cancel.add_argument("machines", metavar="MACHINE", nargs="*")
+    cancel.add_argument("job", metavar="JOB", type=int, help="its number, as `status` has it")
+    _name_machines(
+        cancel.add_argument(
+            "machines", metavar="MACHINE", nargs="*", help="of these alone; otherwise of all"
+        )
+    )
+
+
+def _name_machines(argument: argparse.Action) -> None:
+    """Has a shell complete what this argument takes by the names in the ledger."""
+    setattr(argument, "completer", completions.machine_names)
 
 
 def _add_doubts(made: argparse.ArgumentParser) -> None:
     for word, about in (
-        ("--done", "this `next` or `send` was done: it isn't sent again"),
+        ("--done", "this `next`, `send` or `try` was done: it isn't sent again"),
         ("--again", "this one wasn't: what isn't known to be done of it is sent again"),
     ):
         made.add_argument(word, metavar="JOB", type=int, action="append", default=[], help=about)
@@ -197,19 +246,22 @@ def do_init(options: argparse.Namespace) -> int:
     options.ledger_made.parent.mkdir(parents=True, exist_ok=True)
     options.certs.mkdir(parents=True, exist_ok=True)
     certificates.make_authority(options.certs)
-    certificates.make_broker(options.certs, host, port)
+    broker = certificates.make_broker(options.certs, host, port, options.broker_kind)
     certificates.make_sender(options.certs, certificates.SENDER)
     settings = {"broker": f"{host}:{port}", "certs": str(options.certs.resolve())}
     Ledger.make(options.ledger_made, settings)
-    print(f"{options.certs / 'mosquitto.conf'}: start the broker by it: mosquitto -c")
+    print(broker.how_to_start())
     return 0
 
 
 def do_enroll(options: argparse.Namespace) -> int:
     ledger = Ledger(options.ledger)
+    broker = broker_of(_certs(ledger))
+    senders = broker.senders()
     for name in options.machines:
         certificates.check_name(name)
-        if name == certificates.BROKER or certificates.is_sender(_certs(ledger), name):
+        broker.check_name(name)
+        if name == certificates.BROKER or name in senders:
             raise Problem(f"{name}: this name isn't a machine's")
     if options.request is not None and len(options.machines) != 1:
         raise Problem(f"{options.request}: a request is of one machine")
@@ -221,17 +273,23 @@ def do_enroll(options: argparse.Namespace) -> int:
         with ledger.transaction():
             ledger.add_machine(name)
         print(f"{made}: copy it to the machine, as /etc/bootfleet")
+    broker.let_machines(options.machines)
+    if broker.knows_machines:
+        print(broker.how_to_let())
     return 0
 
 
 def do_enroll_sender(options: argparse.Namespace) -> int:
     ledger = Ledger(options.ledger)
+    broker = broker_of(_certs(ledger))
     for name in options.names:
         certificates.check_name(name)
+        broker.check_name(name)
         if name == certificates.BROKER or ledger.has_machine(name):
             raise Problem(f"{name}: this name isn't a sender's")
+    for name in options.names:
         certificates.make_sender(_certs(ledger), name)
-    print("let the broker read its acl anew (SIGHUP), and then `run --as NAME`")
+    print(f"{broker.how_to_let()}, and then `run --as NAME`")
     return 0
 
 
@@ -241,16 +299,14 @@ def do_revoke(options: argparse.Namespace) -> int:
         certificates.check_name(name)
         certificates.revoke(_certs(ledger), name)
         print(f"{name}: it has no rights any more")
-    if not certificates.reads_revoked(_certs(ledger)):
-        print(f"name {_certs(ledger) / 'crl.pem'} in the broker's configuration: crlfile")
-    print(
-        "let the broker read its files anew (SIGHUP), or start it anew: who is connected stays so"
-    )
+    print("\n".join(broker_of(_certs(ledger)).how_to_revoke(options.names)))
     return 0
 
 
 def do_goal(options: argparse.Namespace) -> int:
     wanted = _wanted(options)
+    if options.goal == "try":
+        wanted = _tried(wanted)
     goals = [Goal(options.goal, (wanted,))]
     if options.goal == "first" and options.next:
         goals.append(Goal("next", (wanted,)))
@@ -316,7 +372,7 @@ def _show_status(options: argparse.Namespace, found: status.Status) -> None:
         return
     if options.page is not None:
         again = None if options.watch is None else max(1, round(options.watch))
-        status.write_whole(options.page, status.as_page(found, again))
+        status.write_whole(options.page, page.as_page(found, again))
         return
     columns, lines = shutil.get_terminal_size()
     if options.watch is None:
@@ -430,6 +486,13 @@ def _wanted(options: argparse.Namespace) -> Wanted:
         made = bootkeep.option_make(bootkeep.OPTION_ACTIVE, options.description, paths)
         return Wanted(made)
     return Wanted(None, options.description, paths)
+
+
+def _tried(wanted: Wanted) -> Wanted:
+    """The entry that is tried: it is active if it is kept."""
+    if wanted.option is None:
+        raise Problem("which entry? --option, or --description and --path, say all of it")
+    return Wanted(activated(wanted.option, True))
 
 
 def _option(data: bytes, name: str) -> Wanted:

@@ -62,6 +62,12 @@ def parts_of_option(option: bytes) -> Parts:
     return Parts(read.attributes, read.description_bytes, read.paths, read.optional)
 
 
+def activated(option: bytes, is_active: bool) -> bytes:
+    """A load option, made active or inactive: the lowest bit of its attributes (UEFI 2.10, 3.1.3)."""
+    lowest = option[0] & ~bootkeep.OPTION_ACTIVE | (bootkeep.OPTION_ACTIVE if is_active else 0)
+    return bytes([lowest]) + option[1:]
+
+
 def entry_of_shown(shown: Dict[str, Any]) -> Entry:
     """An entry of what `bootvars show --json` prints. Raises what is wrong with it otherwise."""
     number = entry_number(shown["entry"])
@@ -84,6 +90,12 @@ class Wanted(NamedTuple):
     option: Optional[bytes]
     description: Optional[str] = None
     paths: Tuple[str, ...] = ()
+
+    def whole(self) -> bytes:
+        """The load option. Raises ValueError if it is meant by less."""
+        if self.option is None:
+            raise ValueError(f"{self}: only a whole load option can be added")
+        return self.option
 
     def is_meant(self, entry: Entry) -> bool:
         """Whether an entry is one of these."""

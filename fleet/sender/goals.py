@@ -9,8 +9,10 @@
 - `next`: the entry is there, and is the next one, once: BootNext is set once at most, since a boot uses it.
 - `remove`: no such entry is there. `remove` of one after the other.
 - `send`: requests that somebody made, each once.
+- `try`: one start tries the entry, and it is first only if the machine came up by it: `trials.py`.
 
-`next` and `send` are done once each: what is known to be done is never asked for again, whatever becomes of the goal.
+`next`, `send` and `try` are done once each: what is known to be done is never asked for again, whatever becomes of the
+goal, but of a trial that failed.
 
 An entry that is there under several numbers, to the byte, is the one that comes first in BootOrder, or otherwise the
 lowest; of those that are meant by a description or by paths alone there has to be one. The same request is made three
@@ -20,51 +22,26 @@ times at most: if the machine isn't as it is to be then, something else changes 
 from __future__ import annotations
 
 import json
-from typing import Any, Dict, List, NamedTuple, Optional, Tuple, Union
+from typing import Any, Dict, List, NamedTuple, Tuple, Union
 
 from bootkeep import Request
 
-from .entries import Entry, Wanted, entry_name
+from . import trials
+from .entries import Wanted, entry_name
+from .steps import (
+    MOST_TRIES,
+    Ask,
+    Asked,
+    Failed,
+    Past,
+    Reached,
+    Send,
+    Shown,
+    Step,
+    request_words,
+)
 
-MOST_TRIES = 3
-"""How often the same request is made for one goal."""
-
-KINDS = ("first", "order", "next", "remove", "send")
-
-
-class Asked(NamedTuple):
-    """A request without its number: what it is to do with which entry, and what came of it if that is known."""
-
-    kind: int
-    entry: Optional[int] = None
-    outcome: Optional[str] = None
-    stored: Optional[int] = None
-    part: int = 0
-    """Which one of a `send` it is, from 0 on."""
-
-
-class Past(NamedTuple):
-    """The requests for a goal that were answered."""
-
-    asked: Tuple[Asked, ...] = ()
-
-    def stored(self) -> Optional[int]:
-        """The entry under which one of them stored the goal's option."""
-        return next((it.stored for it in self.asked if it.stored is not None), None)
-
-    def tries(self, kind: int, entry: Optional[int]) -> int:
-        return sum((it.kind, it.entry) == (kind, entry) for it in self.asked)
-
-    def is_done(self, kind: int) -> bool:
-        return any(it.kind == kind and it.outcome == "Done" for it in self.asked)
-
-
-class Shown(NamedTuple):
-    """What a machine shows of its boot entries."""
-
-    entries: Tuple[Entry, ...]
-    order: Tuple[int, ...]
-    next: Optional[int]
+KINDS = ("first", "order", "next", "remove", "send", "try")
 
 
 class Goal(NamedTuple):
@@ -76,11 +53,14 @@ class Goal(NamedTuple):
 
     def is_once(self) -> bool:
         """Whether it isn't told by what a machine is like whether the goal was reached."""
-        return self.kind in ("next", "send")
+        return self.kind in ("next", "send", "try")
 
     def is_for_good(self, asked: Asked) -> bool:
         """Whether a request that was done for it counts in each later attempt."""
-        is_it = self.kind == "send" or (self.kind == "next" and asked.kind == Request.NEXT)
+        if self.kind == "try":
+            is_it = asked.kind in (Request.NEXT, Request.REPLACE) and asked.start is not None
+        else:
+            is_it = self.kind == "send" or (self.kind == "next" and asked.kind == Request.NEXT)
         return is_it and asked.outcome == "Done"
 
     def __str__(self) -> str:
@@ -104,38 +84,12 @@ class Goal(NamedTuple):
         )
 
 
-class Reached(NamedTuple):
-    """The machine is as it is to be."""
-
-    entry: Optional[int] = None
-
-
-class Failed(NamedTuple):
-    """The goal can't be reached."""
-
-    why: str
-
-
-class Ask(NamedTuple):
-    """One request brings the machine nearer, with this option if it takes one."""
-
-    asked: Asked
-    option: bytes = b""
-
-
-class Send(NamedTuple):
-    """These of the goal's frames are to be sent as they are, but for their numbers."""
-
-    parts: Tuple[int, ...]
-
-
-Step = Union[Reached, Failed, Ask, Send]
-
-
 def step(goal: Goal, shown: Shown, past: Past) -> Step:
     """What is to be done next for a goal."""
     if goal.kind == "send":
         return _next_frames(goal, past)
+    if goal.kind == "try":
+        return trials.next_step(goal.wanted[0].whole(), shown, past)
     taken = _taken(goal, shown, past)
     if isinstance(taken, Ask) and past.tries(*taken.asked[:2]) >= MOST_TRIES:
         return Failed(f"{request_words(taken.asked)} was made {MOST_TRIES} times, and it is undone")
@@ -146,8 +100,9 @@ def _taken(goal: Goal, shown: Shown, past: Past) -> Step:
     if goal.kind == "remove":
         left = sorted(it.number for it in shown.entries if goal.wanted[0].is_meant(it))
         return Ask(Asked(Request.REMOVE, left[0])) if left else Reached()
-    if goal.kind == "next" and past.is_done(Request.NEXT):
-        return Reached(next(it.entry for it in past.asked if goal.is_for_good(it)))
+    done = past.done(Request.NEXT)
+    if goal.kind == "next" and done is not None:
+        return Reached(done.entry)
     found: List[int] = []
     for wanted in goal.wanted:
         entry = _find(wanted, goal.kind, shown, past)
@@ -202,9 +157,3 @@ def _next_frames(goal: Goal, past: Past) -> Step:
         return Send(left)
     bad = [f"{request_words(it)}: {it.outcome}" for it in asked.values() if it.outcome != "Done"]
     return Failed(", ".join(bad)) if bad else Reached()
-
-
-def request_words(asked: Asked) -> str:
-    """A request for a person, in the words of `bootvars frame`."""
-    kind = Request(asked.kind).name.lower().replace("_", "-")
-    return kind if asked.entry is None else f"{kind} {asked.entry:04X}"

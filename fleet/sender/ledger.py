@@ -22,7 +22,11 @@ A goal, and in it the requests:
                ->  dropped     `adopt`: nobody knows, and it is never sent again
     done, refused -> a look, which the same reply has
 
-What is done once, `next` and `send`, is remembered: which of its requests were done counts over attempts and eras.
+What is done once, `next`, `send` and `try`, is remembered: which of its requests were done counts over attempts and
+eras, but those of a trial that failed until then, and so is over.
+
+A goal that is open and has a note **waits** for what the note says, as for a start of the machine, which is looked at now
+and then.
 
 A machine with **trouble** is sent nothing. Only `resend`, `adopt`, `forget`, and `cancel` of the goal that failed end
 it.
@@ -41,8 +45,9 @@ import secrets
 import time
 from typing import Any, Dict, Iterable, List, NamedTuple, Optional
 
-from .goals import Asked, Goal, Past
+from .goals import Goal
 from .requests import IS_OPEN, Machine, Requests
+from .steps import Asked, Past
 from .waves import Waves, draw
 
 HAS_WORK = """trouble IS NULL AND name IN
@@ -51,8 +56,8 @@ HAS_WORK = """trouble IS NULL AND name IN
 HAS_BEGUN = "(wave IS NULL OR wave <= ?)"
 """Which machines are in no wave that comes later than this one."""
 
-LONGEST_LEFT = 60.0
-"""For how many seconds at most a silent machine is left."""
+LONGEST_LEFT = 300.0
+"""For how many seconds at most a machine is left that is silent, or is to be started."""
 
 
 class OpenGoal(NamedTuple):
@@ -111,14 +116,15 @@ class Ledger(Requests):
     def open_goal(self, machine: Machine) -> Optional[OpenGoal]:
         """The goal that a machine's next request is for."""
         found = self.one(
-            "SELECT job, job.goal, since FROM goal JOIN job ON job = id"
+            "SELECT job, job.goal, since, entry FROM goal JOIN job ON job = id"
             " WHERE machine = ? AND state = 'open' ORDER BY job LIMIT 1",
             machine.name,
         )
         if found is None:
             return None
-        job, goal, since = found[0], Goal.from_json(found[1]), found[2]
-        return OpenGoal(job, goal, self.past(machine, job, goal, since))
+        job, goal, since, entry = found[0], Goal.from_json(found[1]), found[2], found[3]
+        past = self.past(machine, job, goal, since)
+        return OpenGoal(job, goal, past._replace(came_up_by=entry))
 
     def end_goal(
         self, name: str, job: int, state: str, entry: Optional[int], note: Optional[str]
@@ -126,6 +132,18 @@ class Ledger(Requests):
         self.db.execute(
             "UPDATE goal SET state = ?, entry = ?, note = ?, ended = ? WHERE machine = ? AND job = ?",
             (state, entry, note, time.time(), name, job),
+        )
+
+    def wait(self, machine: Machine, job: int, until: Optional[str]) -> None:
+        """A goal waits for something to happen at the machine, or no longer does."""
+        self.db.execute(
+            "UPDATE goal SET note = ? WHERE machine = ? AND job = ?", (until, machine.name, job)
+        )
+
+    def came_up(self, machine: Machine, job: int, entry: int) -> None:
+        """A machine came up by the entry that a goal tries."""
+        self.db.execute(
+            "UPDATE goal SET entry = ? WHERE machine = ? AND job = ?", (entry, machine.name, job)
         )
 
     # How machines are
@@ -187,6 +205,10 @@ class Ledger(Requests):
         self.db.execute(
             "UPDATE machine SET holder = NULL, until = 0, due = ? WHERE name = ?", (due, name)
         )
+
+    def end_pauses(self) -> None:
+        """Lets machines be taken up that are left for a while: what they said meanwhile nobody may have heard."""
+        self.db.execute("UPDATE machine SET due = 0 WHERE due > 0")
 
     def leave_all(self, holder: str) -> None:
         self.db.execute("UPDATE machine SET holder = NULL, until = 0 WHERE holder = ?", (holder,))
@@ -270,11 +292,20 @@ class Ledger(Requests):
             "UPDATE machine SET trouble = NULL, told = NULL, note = NULL, unmet = 0, due = 0 WHERE name = ?",
             (name,),
         )
+        self._end_trials(name)
         self.db.execute(
-            "UPDATE goal SET state = 'open', note = NULL, ended = NULL,"
+            "UPDATE goal SET state = 'open', entry = NULL, note = NULL, ended = NULL,"
             " since = (SELECT next FROM machine WHERE name = machine)"
             " WHERE machine = ? AND state = 'failed'",
             (name,),
+        )
+
+    def _end_trials(self, name: str) -> None:
+        """What a machine answered for a trial that failed counts for no later one."""
+        self.db.execute(
+            "UPDATE request SET start = NULL WHERE machine = ? AND start IS NOT NULL AND outcome IS NOT NULL"
+            " AND job IN (SELECT job FROM goal WHERE machine = ? AND state = 'failed')",
+            (name, name),
         )
 
     def resend(self, name: str) -> None:
@@ -304,14 +335,17 @@ class Ledger(Requests):
             (name,),
         ).fetchall()
         goals = [(job, Goal.from_json(goal)) for job, goal in rows]
-        return [self._doubt(name, job, goal) for job, goal in goals if goal.is_once()]
+        doubts = [self._doubt(name, job, goal) for job, goal in goals if goal.is_once()]
+        return [doubt for doubt in doubts if doubt.done < doubt.of]
 
     def _doubt(self, name: str, job: int, goal: Goal) -> Doubt:
         done, unanswered = set(), set()
-        for kind, part, state in self.db.execute(
-            "SELECT kind, part, state FROM request WHERE machine = ? AND job = ?", (name, job)
+        for kind, part, state, start in self.db.execute(
+            "SELECT kind, part, state, start FROM request WHERE machine = ? AND job = ?",
+            (name, job),
         ):
-            if state == "done" and goal.is_for_good(Asked(kind, outcome="Done")):
+            asked = Asked(kind, outcome="Done", start=start)
+            if state == "done" and goal.is_for_good(asked):
                 done.add(part)
             elif state in ("sent", "late", "dropped"):
                 unanswered.add(part)

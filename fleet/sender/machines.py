@@ -16,10 +16,11 @@ import bootkeep
 
 from . import messages
 from .answers import MOST_WORDS, Answer, Reply, Unmet, plain
-from .goals import Ask, Asked, Failed, Goal, Reached, Send, request_words, step
-from .ledger import Ledger
+from .goals import Goal, step
+from .ledger import Ledger, OpenGoal
 from .messages import Message, Stored, renumbered
 from .requests import MOST_FRAMES, Machine
+from .steps import Ask, AskAll, Asked, Failed, Reached, Send, Wait, request_words
 
 MOST_NUMBERS = (1 << 32) - 1
 """How many numbers requests can have."""
@@ -36,25 +37,27 @@ class Trouble(Exception):
 
 
 class Taken(NamedTuple):
-    """What a machine is asked next, if there is anything; or why it is in trouble."""
+    """What a machine is asked next, if there is anything; or why it is in trouble, or what is waited for."""
 
     message: Optional[Message] = None
     trouble: Optional[str] = None
+    wait: Optional[Wait] = None
 
 
 def take(ledger: Ledger, name: str, answer: Answer, asked: Message) -> Taken:
     """Takes what a machine answers to a message, without a refusal."""
     machine = ledger.machine(name)
     try:
-        return Taken(_next_message(ledger, machine, answer, asked))
+        taken = _next_message(ledger, machine, answer, asked)
     except Trouble as trouble:
         ledger.stop(name, str(trouble), answer.told())
         return Taken(trouble=str(trouble))
+    return Taken(wait=taken) if isinstance(taken, Wait) else Taken(taken)
 
 
 def _next_message(
     ledger: Ledger, machine: Machine, answer: Answer, asked: Message
-) -> Optional[Message]:
+) -> Union[Message, Wait, None]:
     _compare_journal(machine, answer)
     if answer.unmet is None:
         _take_replies(ledger, machine, answer, asked)
@@ -137,7 +140,7 @@ def _unknown(ledger: Ledger, machine: Machine, answer: Answer) -> List[Stored]:
     return []
 
 
-def _go_on(ledger: Ledger, machine: Machine, answer: Answer) -> Optional[Message]:
+def _go_on(ledger: Ledger, machine: Machine, answer: Answer) -> Union[Message, Wait, None]:
     """Ends the goals that are reached, and stores the request for the first that isn't."""
     while True:
         held = ledger.open_goal(machine)
@@ -151,30 +154,41 @@ def _go_on(ledger: Ledger, machine: Machine, answer: Answer) -> Optional[Message
             ledger.withdraw(machine)
             ledger.end_goal(machine.name, held.job, "failed", None, taken.why)
             raise Trouble(f"goal {held.job}: {taken.why}")
+        elif isinstance(taken, Wait):
+            ledger.withdraw(machine)
+            ledger.wait(machine, held.job, taken.until)
+            return taken
         else:
-            return _ask(ledger, machine, answer, held.job, _requests(machine, held.goal, taken))
+            if isinstance(taken, AskAll) and taken.came_up_by is not None:
+                ledger.came_up(machine, held.job, taken.came_up_by)
+            return _ask(ledger, machine, answer, held, _requests(machine, held.goal, taken))
 
 
 def _ask(
     ledger: Ledger,
     machine: Machine,
     answer: Answer,
-    job: int,
+    held: OpenGoal,
     requests: List[Tuple[Asked, bytes]],
 ) -> Message:
     """Stores requests, and gives the message that they are sent by."""
-    stored = ledger.add_requests(machine, job, requests)
-    message = messages.request(answer, stored)
+    stored = ledger.add_requests(machine, held.job, requests)
+    ledger.wait(machine, held.job, None)
+    message = messages.request(answer, stored, is_order_expected=held.goal.kind == "try")
     if message.is_too_long():
         raise Trouble(f"request {machine.next} names too many entries, or BootOrder does")
     return message
 
 
-def _requests(machine: Machine, goal: Goal, taken: Union[Ask, Send]) -> List[Tuple[Asked, bytes]]:
+def _requests(
+    machine: Machine, goal: Goal, taken: Union[Ask, AskAll, Send]
+) -> List[Tuple[Asked, bytes]]:
     """What is to be sent, with the machine's next numbers."""
+    if not isinstance(taken, Send):
+        asks = taken.asks if isinstance(taken, AskAll) else (taken,)
+        _check_number(machine.next + len(asks) - 1)
+        return [(it.asked, _frame(machine.next + at, it)) for at, it in enumerate(asks)]
     _check_number(machine.next)
-    if isinstance(taken, Ask):
-        return [(taken.asked, _frame(machine.next, taken))]
     requests: List[Tuple[Asked, bytes]] = []
     left = MOST_BYTES
     for at, part in enumerate(taken.parts[:MOST_FRAMES]):

@@ -5,7 +5,7 @@ those of `bootvars update --expect`, which changes nothing unless each of them i
 late it comes, and however often. The word `look=..` has no meaning: by it no two looks are one message.
 
 What is expected is what the machine showed when the requests were made of it: its journal, its next number, the bytes of
-each entry that a frame names, and BootOrder where a frame sets it or puts something into it.
+each entry that a frame names, and BootOrder where a frame sets it or puts something into it, or it matters otherwise.
 """
 
 from __future__ import annotations
@@ -77,12 +77,12 @@ def look() -> Message:
     return Message((f"look={secrets.token_hex(8)}",))
 
 
-def request(answer: Answer, requests: Sequence[Stored]) -> Message:
+def request(answer: Answer, requests: Sequence[Stored], is_order_expected: bool = False) -> Message:
     """A message of requests that were made of what a machine has just shown."""
     frames = [it.frame for it in requests]
     words = [_journal(answer), f"next={answer.next}"]
     words += [_entry(answer, number) for number in sorted(entries_of(frames))]
-    if any(frame[3] in CHANGES_ORDER for frame in frames):
+    if is_order_expected or any(frame[3] in CHANGES_ORDER for frame in frames):
         words.append(_order(answer))
     return Message(tuple(words), tuple(requests))
 

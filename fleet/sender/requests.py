@@ -4,8 +4,9 @@ from __future__ import annotations
 
 from typing import Dict, List, NamedTuple, Optional, Sequence, Tuple
 
-from .goals import Asked, Goal, Past
+from .goals import Goal
 from .messages import Stored
+from .steps import Asked, Past
 from .store import Store
 
 IS_OPEN = "state IN ('sent', 'late')"
@@ -59,7 +60,7 @@ class Requests(Store):
         """The answered requests of this attempt at a goal, and those before it that count for good."""
         past = []
         for era, number, *row in self.db.execute(
-            "SELECT era, number, kind, entry, outcome, stored, part FROM request"
+            "SELECT era, number, kind, entry, outcome, stored, part, data, start FROM request"
             " WHERE machine = ? AND job = ? AND outcome IS NOT NULL ORDER BY era, number",
             (machine.name, job),
         ):
@@ -82,9 +83,14 @@ class Requests(Store):
             attempt = max(attempts, default=-1) + 1
             self._insert_requests(machine, job, attempt, requests)
         else:
-            self.db.execute(
-                "UPDATE request SET state = 'sent' WHERE machine = ? AND era = ? AND number >= ? AND attempt = ?",
-                (machine.name, machine.era, machine.next, attempt),
+            # None of it was applied before the look that it is made of now.
+            self.db.executemany(
+                "UPDATE request SET state = 'sent', data = ?, start = ?"
+                " WHERE machine = ? AND era = ? AND number = ? AND attempt = ?",
+                [
+                    (it.data, it.start, machine.name, machine.era, machine.next + at, attempt)
+                    for at, (it, _) in enumerate(requests)
+                ],
             )
         numbers = range(machine.next, machine.next + len(requests))
         return [Stored(number, attempt, frame) for number, (_, frame) in zip(numbers, requests)]
@@ -93,8 +99,8 @@ class Requests(Store):
         self, machine: Machine, job: int, attempt: int, requests: Sequence[Tuple[Asked, bytes]]
     ) -> None:
         self.db.executemany(
-            "INSERT INTO request(machine, era, number, attempt, job, part, kind, entry, frame)"
-            " VALUES(?, ?, ?, ?, ?, ?, ?, ?, ?)",
+            "INSERT INTO request(machine, era, number, attempt, job, part, kind, entry, frame, data, start)"
+            " VALUES(?, ?, ?, ?, ?, ?, ?, ?, ?, ?, ?)",
             [
                 (
                     machine.name,
@@ -106,6 +112,8 @@ class Requests(Store):
                     asked.kind,
                     asked.entry,
                     frame,
+                    asked.data,
+                    asked.start,
                 )
                 for at, (asked, frame) in enumerate(requests)
             ],

@@ -100,6 +100,8 @@ class Sender:
     def run(self, until_done: bool, limit: Optional[float], is_stopped: Callable[[], bool]) -> bool:
         """Sends until all is done, or for so many seconds, or until it is to stop. Whether all is done."""
         ends = None if limit is None else time.monotonic() + limit
+        with self.ledger.transaction():
+            self.ledger.end_pauses()
         try:
             while not is_stopped() and (ends is None or time.monotonic() < ends):
                 self.turn(self.courier.receive(BATCH))
@@ -229,6 +231,10 @@ class Sender:
             taken = machines.take(self.ledger, said.name, answer, held.message)
             if taken.trouble is not None:
                 self._stopped(said.name, taken.trouble)
+            elif taken.wait is not None:
+                self.held.pop(said.name)
+                pause = random.uniform(0.5, 1) * taken.wait.seconds
+                self.ledger.leave(said.name, time.time() + pause)
             else:
                 self._next(said.name, taken.message, now)
 

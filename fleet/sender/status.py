@@ -1,8 +1,7 @@
-"""How it stands: the jobs and the machines of a ledger, as a table, as JSON, and as a page."""
+"""How it stands: the jobs and the machines of a ledger, as a table, as JSON, and as what can be measured."""
 
 from __future__ import annotations
 
-import html
 import json
 import os
 import tempfile
@@ -15,6 +14,7 @@ from .endings import Ending, ending_soon
 from .entries import entry_name
 from .goals import Goal
 from .ledger import Ledger
+from .progress import Progress, read_progress
 
 STATES = ("reached", "open", "failed", "cancelled")
 
@@ -61,16 +61,19 @@ class Status(NamedTuple):
     now: float
     endings: List[Ending]
     waves: List[WaveStatus]
+    progress: Optional[Progress]
 
     def goals(self, state: str) -> int:
         return sum(job.counts[state] for job in self.jobs)
 
-    def troubled(self) -> int:
-        return sum(machine.state == "trouble" for machine in self.machines)
+    def count(self, state: str) -> int:
+        """How many machines are in a state."""
+        return sum(machine.state == state for machine in self.machines)
 
 
-RANK = {"trouble": 0, "asked": 1, "open": 2, "quiet": 3}
-"""The states of machines, the most urgent first: in trouble; sent a request; with something to be done; and without."""
+RANK = {"trouble": 0, "waiting": 1, "asked": 2, "open": 3, "quiet": 4}
+"""The states of machines, the most urgent first: in trouble; to be started; sent a request; with something to be done; and
+without."""
 
 
 def read_status(ledger: Ledger) -> Status:
@@ -79,7 +82,8 @@ def read_status(ledger: Ledger) -> Status:
     endings = ending_soon(Path(ledger.setting("certs") or ""), now)
     with ledger.transaction():
         machines = sorted(_machines(ledger, now), key=lambda it: (RANK[it.state], it.name))
-        return Status(_jobs(ledger), machines, now, endings, _waves(ledger, machines))
+        waves, progress = _waves(ledger, machines), read_progress(ledger, now)
+        return Status(_jobs(ledger), machines, now, endings, waves, progress)
 
 
 def _waves(ledger: Ledger, machines: List[MachineStatus]) -> List[WaveStatus]:
@@ -91,7 +95,7 @@ def _waves(ledger: Ledger, machines: List[MachineStatus]) -> List[WaveStatus]:
     is_stopped, begun = ledger.is_stopped(), ledger.begun_wave()
     found = []
     for wave, of in counts.items():
-        left = of["asked"] + of["open"]
+        left = of["waiting"] + of["asked"] + of["open"]
         if left and is_stopped:
             state = "stopped"
         else:
@@ -114,25 +118,24 @@ def _machines(ledger: Ledger, now: float) -> List[MachineStatus]:
     goals: Dict[str, Dict[str, int]] = {}
     first: Dict[str, int] = {}
     last: Dict[str, Tuple[int, Optional[int]]] = {}
-    for name, job, state, entry in ledger.db.execute(
-        "SELECT machine, job, state, entry FROM goal ORDER BY machine, job"
+    waits: Dict[str, str] = {}
+    for name, job, state, entry, note in ledger.db.execute(
+        "SELECT machine, job, state, entry, note FROM goal ORDER BY machine, job"
     ):
         held = goals.setdefault(name, dict.fromkeys(STATES, 0))
         held[state] += 1
         if state in ("open", "failed"):
             first.setdefault(name, job)
+        if state == "open" and note is not None:
+            waits[name] = f"waits for {note}"
         if entry is not None:
             last[name] = (job, entry)
-    sent = dict(
-        ledger.db.execute(
-            "SELECT machine, COUNT(*) FROM request WHERE state = 'sent' GROUP BY machine"
-        )
-    )
+    sent = _sent(ledger)
     found = []
     for name, following, journal, seen, note, trouble in ledger.db.execute(
         "SELECT name, next, journal, seen, note, trouble FROM machine"
     ):
-        state = _state(trouble, sent.get(name, 0), name in first)
+        state = _state(trouble, sent.get(name, 0), name in waits, name in first)
         found.append(
             MachineStatus(
                 name,
@@ -144,16 +147,24 @@ def _machines(ledger: Ledger, now: float) -> List[MachineStatus]:
                 journal,
                 sent.get(name, 0),
                 None if seen is None else max(0, int(now - seen)),
-                trouble or note,
+                trouble or note or waits.get(name),
             )
         )
     return found
 
 
-def _state(trouble: Optional[str], sent: int, is_open: bool) -> str:
+def _sent(ledger: Ledger) -> Dict[str, int]:
+    """How many requests each machine was sent that aren't answered."""
+    query = "SELECT machine, COUNT(*) FROM request WHERE state = 'sent' GROUP BY machine"
+    return dict(ledger.db.execute(query))
+
+
+def _state(trouble: Optional[str], sent: int, is_waiting: bool, is_open: bool) -> str:
     if trouble is not None:
         return "trouble"
-    return "asked" if sent else "open" if is_open else "quiet"
+    if sent:
+        return "asked"
+    return "waiting" if is_waiting else "open" if is_open else "quiet"
 
 
 def as_json(status: Status) -> str:
@@ -180,7 +191,10 @@ def age(seconds: Optional[int]) -> str:
 
 def counts_line(status: Status) -> str:
     goals = ", ".join(f"{status.goals(it)} {it}" for it in STATES if status.goals(it)) or "none"
-    return f"{len(status.machines)} machines, {status.troubled()} in trouble; goals: {goals}"
+    told = [f"{len(status.machines)} machines", f"{status.count('trouble')} in trouble"]
+    if status.count("waiting"):
+        told.append(f"{status.count('waiting')} waiting for a start")
+    return f"{', '.join(told)}; goals: {goals}"
 
 
 def endings_line(status: Status) -> str:
@@ -263,70 +277,6 @@ def as_metrics(status: Status) -> str:
         Metric("bootfleet_seen_timestamp_seconds", "When this was so.", [({}, status.now)]),
     ]
     return "".join(str(metric) for metric in metrics if metric.values)
-
-
-STYLE = """
-:root { color-scheme: light dark; --done: #2e7d32; --bad: #c62828; --line: #8884; }
-body { font: 15px/1.45 system-ui, sans-serif; margin: 2rem auto; max-width: 70rem; padding: 0 1rem; }
-table { border-collapse: collapse; width: 100%; margin: 1rem 0 2rem; }
-th, td { text-align: left; padding: .3rem .6rem; border-bottom: 1px solid var(--line); vertical-align: top; }
-td.n, th.n { text-align: right; font-variant-numeric: tabular-nums; white-space: nowrap; }
-.bar { background: var(--line); border-radius: 4px; height: .8rem; min-width: 12rem; overflow: hidden; display: flex; }
-.bar i { background: var(--done); display: block; height: 100%; }
-.bar i.failed { background: var(--bad); }
-tr.trouble td { color: var(--bad); }
-"""
-
-
-def as_page(status: Status, refresh: Optional[int] = None) -> str:
-    """All of it as one page of HTML, which is read anew every so many seconds."""
-    again = "" if refresh is None else f'<meta http-equiv="refresh" content="{refresh}">'
-    when = time.strftime("%Y-%m-%d %H:%M:%S UTC", time.gmtime(status.now))
-    waves = "".join(_wave_row(wave) for wave in status.waves)
-    endings = f"<p>{html.escape(endings_line(status))}</p>" if status.endings else ""
-    jobs = "".join(_job_row(job) for job in status.jobs)
-    machines = "".join(_machine_row(machine) for machine in status.machines)
-    return f"""<!DOCTYPE html>
-<html lang="en"><head><meta charset="utf-8">{again}<title>bootfleet</title>
-<meta name="viewport" content="width=device-width"><style>{STYLE}</style></head><body>
-<h1>Boot entries of the fleet</h1><p>{html.escape(counts_line(status))}. As of {when}.</p>{endings}
-<table><tr><th class="n">Job</th><th>Goal</th><th>Done</th><th class="n">Reached</th><th class="n">Open</th>
-<th class="n">Failed</th></tr>{jobs}</table>{f"<table>{WAVE_HEADS}{waves}</table>" if waves else ""}
-<table><tr><th>Machine</th><th>State</th><th class="n">Goals</th><th class="n">Goal</th><th class="n">Seen</th>
-<th class="n">Next</th><th>Why</th></tr>{machines}</table></body></html>
-"""
-
-
-def _job_row(job: JobStatus) -> str:
-    of = sum(job.counts.values())
-    parts = [100 * job.counts[it] / of for it in ("reached", "failed")]
-    bar = (
-        f'<i style="width:{parts[0]:.1f}%"></i><i class="failed" style="width:{parts[1]:.1f}%"></i>'
-    )
-    return (
-        f'<tr><td class="n">{job.job}</td><td>{html.escape(job.goal)}</td><td><div class="bar" role="img"'
-        f' aria-label="{job.counts["reached"]} of {of}">{bar}</div></td>'
-        f'<td class="n">{job.counts["reached"]} of {of}</td><td class="n">{job.counts["open"]}</td>'
-        f'<td class="n">{job.counts["failed"]}</td></tr>'
-    )
-
-
-WAVE_HEADS = """<tr><th class="n">Wave</th><th>State</th><th class="n">Done</th><th class="n">Open</th>
-<th class="n">In trouble</th></tr>"""
-
-
-def _wave_row(wave: WaveStatus) -> str:
-    cells = "".join(f'<td class="n">{it}</td>' for it in (wave.done, wave.open, wave.trouble))
-    return f'<tr><td class="n">{wave.wave}</td><td>{wave.state}</td>{cells}</tr>'
-
-
-def _machine_row(it: MachineStatus) -> str:
-    reached = f"{it.goals['reached']} of {sum(it.goals.values())}"
-    return (
-        f'<tr class="{it.state}"><td>{html.escape(it.name)}</td><td>{it.state}</td><td class="n">{reached}</td>'
-        f'<td class="n">{"-" if it.job is None else it.job}</td><td class="n">{age(it.age)}</td>'
-        f'<td class="n">{it.next}</td><td>{html.escape(it.why or "")}</td></tr>'
-    )
 
 
 def write_whole(path: Path, text: str) -> None:

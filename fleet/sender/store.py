@@ -5,6 +5,8 @@ Each write is in a transaction of SQLite, which is on the disk (`synchronous=FUL
 
 from __future__ import annotations
 
+import fcntl
+import glob
 import os
 import sqlite3
 import tempfile
@@ -38,8 +40,8 @@ CREATE TABLE goal(
     job INTEGER NOT NULL REFERENCES job,
     state TEXT NOT NULL DEFAULT 'open' CHECK (state IN ('open', 'reached', 'failed', 'cancelled')),
     since INTEGER NOT NULL DEFAULT 0,   -- requests before this number aren't of this attempt
-    entry INTEGER,                      -- where its entry is
-    note TEXT,                          -- why it has failed
+    entry INTEGER,                      -- where its entry is; of a trial, once the machine came up by it
+    note TEXT,                          -- why it has failed; or while it is open, what it waits for
     ended REAL,
     PRIMARY KEY(machine, job)
 ) WITHOUT ROWID;
@@ -57,6 +59,8 @@ CREATE TABLE request(
         CHECK (state IN ('sent', 'late', 'done', 'refused', 'passed', 'dropped')),
     outcome TEXT,
     stored INTEGER,                     -- the entry under which it stored an option
+    data TEXT,                          -- of a trial: the SHA-256 of the data of the entry that is tried
+    start TEXT,                         -- of a trial that isn't over: in which start the machine was when it was made
     PRIMARY KEY(machine, era, number, attempt)
 ) WITHOUT ROWID;
 CREATE INDEX goal_open ON goal(machine) WHERE state = 'open';
@@ -68,11 +72,28 @@ CREATE INDEX machine_wave ON machine(wave) WHERE wave IS NOT NULL;
 CREATE INDEX machine_trouble ON machine(name) WHERE trouble IS NOT NULL;
 """
 
-VERSION = 2
+VERSION = 3
+
+UPGRADE = """
+ALTER TABLE request ADD COLUMN data TEXT;
+ALTER TABLE request ADD COLUMN start TEXT;
+UPDATE setting SET value = '3' WHERE name = 'version';
+"""
+"""What makes a ledger of version 3 of one of version 2, in which there were no trials."""
 
 
 class LedgerError(Exception):
     """Why nothing can be done with the ledger."""
+
+
+def is_locked(path: Path) -> bool:
+    """Whether a sender is at work that has this lock."""
+    with open(path, encoding="utf-8") as lock:
+        try:
+            fcntl.flock(lock, fcntl.LOCK_EX | fcntl.LOCK_NB)
+        except BlockingIOError:
+            return True
+    return False
 
 
 class Store:
@@ -88,6 +109,9 @@ class Store:
             self.db.execute("PRAGMA synchronous=FULL")
             self.db.execute("PRAGMA foreign_keys=ON")
             version = self.setting("version")
+            if version == "2":
+                self._upgrade()
+                version = self.setting("version")
         except sqlite3.DatabaseError as error:
             raise LedgerError(f"{path}: it is no ledger: {error}") from error
         if version != str(VERSION):
@@ -107,6 +131,19 @@ class Store:
             db.executemany("INSERT INTO setting VALUES(?, ?)", held.items())
         db.close()
         return cls(path)
+
+    def _upgrade(self) -> None:
+        """Makes this version of a ledger of the one before it: no sender of that one may be at work, as it would take a
+        trial for another goal."""
+        with self.transaction():
+            for path in self.path.parent.glob(f"{glob.escape(self.path.name)}.*.lock"):
+                if is_locked(path):
+                    raise LedgerError(
+                        f"{path}: a sender of an earlier version is at work: end it first"
+                    )
+            if self.setting("version") == "2":
+                for statement in UPGRADE.strip().splitlines():
+                    self.db.execute(statement)
 
     @contextmanager
     def transaction(self) -> Iterator[None]:

@@ -4,6 +4,7 @@ from __future__ import annotations
 
 import json
 import os
+import re
 import subprocess
 import sys
 from collections import deque
@@ -17,6 +18,8 @@ import pytest
 
 FLEET = Path(__file__).resolve().parents[1]
 sys.path[:0] = [str(FLEET), str(FLEET.parent / "libraries/python")]
+# No systemd is asked whether a boot is complete.
+os.environ["BOOTFLEET_COMPLETE"] = "true"
 
 import bootkeep  # noqa: E402
 from sender.courier import Came  # noqa: E402
@@ -60,6 +63,8 @@ class Folder:
 
     def __init__(self, path: Path, entries: Dict[int, bytes], order: List[int]) -> None:
         self.place, self.state = path / "efi", path / "state"
+        self.start: Optional[str] = "start 1"
+        self.is_complete: Optional[bool] = True
         self.place.mkdir(parents=True)
         self.state.mkdir()
         numbers = b"".join(number.to_bytes(2, "little") for number in order)
@@ -69,6 +74,27 @@ class Folder:
 
     def put(self, name: str, data: bytes) -> None:
         (self.place / f"{name}-{VENDOR}").write_bytes(b"\7\0\0\0" + data)
+
+    def take_out(self, name: str) -> None:
+        (self.place / f"{name}-{VENDOR}").unlink(missing_ok=True)
+
+    def restart(self, *broken: int) -> None:
+        """Starts the machine anew: by BootNext, which is gone then, or by the first active entry of BootOrder, but for
+        those that don't start."""
+        number = int((self.start or "start 0").split()[1]) + 1
+        self.start = f"start {number}"
+        following = self.get("BootNext")
+        tried = [] if following is None else [int.from_bytes(following, "little")]
+        tried += [it for it in self.order() if (self.entries().get(it) or b"\0")[0] & 1]
+        self.take_out("BootNext")
+        self.came_up_by(next(it for it in tried if it in self.entries() and it not in broken))
+
+    def came_up_by(self, entry: Optional[int]) -> None:
+        """Says by which entry the machine came up."""
+        if entry is None:
+            self.take_out("BootCurrent")
+        else:
+            self.put("BootCurrent", entry.to_bytes(2, "little"))
 
     def get(self, name: str) -> Optional[bytes]:
         file = self.place / f"{name}-{VENDOR}"
@@ -82,7 +108,7 @@ class Folder:
         return {
             int(file.name[4:8], 16): file.read_bytes()[4:]
             for file in self.place.glob("Boot????-*")
-            if file.name[4:8] != "Next"
+            if re.fullmatch("[0-9A-F]{4}", file.name[4:8])
         }
 
 
@@ -101,6 +127,14 @@ def load_agent() -> ModuleType:
 
 
 agent: Any = load_agent()
+
+
+def answer(machine: Folder, payload: bytes) -> bytes:
+    """What a machine answers to a message: its start isn't that of the machine that the tests run on."""
+    held = json.loads(agent.answer(payload, str(machine.state), str(machine.place)))
+    if "show" in held:
+        held.update({"start": machine.start, "complete": machine.is_complete})
+    return json.dumps(held).encode()
 
 
 def frames_of(payload: bytes) -> bytes:
@@ -145,7 +179,7 @@ class Hand:
         self.sent.append((name, payload))
         for copy in self.requests(self._next(0), payload):
             folder = self.machines[name]
-            said = agent.answer(copy, str(folder.state), str(folder.place)).encode()
+            said = answer(folder, copy)
             self.came += [Came(name, it) for it in self.replies(self._next(1), said)]
 
     def _next(self, way: int) -> int:

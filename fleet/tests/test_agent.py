@@ -4,13 +4,16 @@ from __future__ import annotations
 
 import fcntl
 import json
+import logging
 import os
+import subprocess
+import threading
 from pathlib import Path
-from typing import Any, Dict
+from typing import Any, Dict, List, Optional
 
 import bootkeep
 import pytest
-from conftest import Folder, agent, option, update
+from conftest import FLEET, Folder, agent, option, update
 
 from sender.answers import digest, read_answer
 
@@ -45,7 +48,7 @@ def test_frames_are_handed_on_with_what_is_expected(
     stand_in(tmp_path, monkeypatch, 0, 'echo "{\\"next\\":1}"; exit 6')
     more = f"0003={'0a' * 32} 00FF=none order=0003,0001"
     payload = f"{GUARD} {more}\n".encode() + b"BQ\n\xff"
-    assert updated(payload) == {"to": digest(payload), "status": 6, "next": 1}
+    assert updated(payload) == {"to": digest(payload), "status": 6, "complete": True, "next": 1}
     words = f"{GUARD[12:]} {more}".replace(" ", " --expect ")
     assert (tmp_path / "words").read_text() == (
         f"update --stream --look --expect {words} --state S P -\n"
@@ -58,7 +61,7 @@ def test_what_has_no_frame_asks_for_a_look(
     tmp_path: Path, monkeypatch: pytest.MonkeyPatch, payload: bytes
 ) -> None:
     stand_in(tmp_path, monkeypatch, 0, 'echo "{}"')
-    assert updated(payload) == {"to": digest(payload), "status": 0}
+    assert updated(payload) == {"to": digest(payload), "status": 0, "complete": True}
     assert (tmp_path / "words").read_text() == "update --stream --look --state S P -\n"
     assert (tmp_path / "stdin").read_bytes() == b""
 
@@ -105,7 +108,7 @@ def test_it_waits_while_another_update_is_at_work(
     tmp_path: Path, monkeypatch: pytest.MonkeyPatch
 ) -> None:
     stand_in(tmp_path, monkeypatch, 3, 'echo "{}"')
-    assert updated(b"") == {"to": digest(b""), "status": 0}
+    assert updated(b"") == {"to": digest(b""), "status": 0, "complete": True}
     assert len((tmp_path / "words").read_text().splitlines()) == 4
 
 
@@ -129,7 +132,8 @@ def test_a_lock_that_is_held_is_told(machine: Folder, monkeypatch: pytest.Monkey
 
 def test_what_says_nothing_is_an_error(tmp_path: Path, monkeypatch: pytest.MonkeyPatch) -> None:
     stand_in(tmp_path, monkeypatch, 0, "echo why >&2; exit 4")
-    assert updated(b"") == {"to": digest(b""), "status": 4, "error": "why\n"}
+    held = {"to": digest(b""), "status": 4, "complete": True, "error": "why\n"}
+    assert updated(b"") == held
 
 
 def test_a_program_that_is_not_there_is_an_error(
@@ -143,7 +147,7 @@ def test_a_program_that_is_not_there_is_an_error(
     assert refusal is not None and refusal.remedy == "send again"
     assert refusal.words.startswith("status 127: bootvars can't be run: ")
     stand_in(tmp_path, monkeypatch, 0, 'echo "{}"')
-    assert updated(b"") == {"to": digest(b""), "status": 0}
+    assert updated(b"") == {"to": digest(b""), "status": 0, "complete": True}
 
 
 @pytest.mark.parametrize(
@@ -180,6 +184,84 @@ def test_a_reply_that_no_broker_takes_is_an_error(
     held = updated(b"")
     assert (held["status"], "show" in held) == (0, False)
     assert held["error"].startswith("the reply has 1048") and held["error"].endswith(" too many")
+
+
+def test_whether_a_boot_is_complete_is_asked_until_it_is(
+    tmp_path: Path, monkeypatch: pytest.MonkeyPatch
+) -> None:
+    stand_in(tmp_path, monkeypatch, 0, 'echo "{}"')
+    monkeypatch.setattr(agent, "completed", threading.Event())
+    monkeypatch.setenv("BOOTFLEET_COMPLETE", f"test -e '{tmp_path}/the system is up'")
+    assert updated(b"")["complete"] is False
+    (tmp_path / "the system is up").touch()
+    assert updated(b"")["complete"] is True
+    monkeypatch.setenv("BOOTFLEET_COMPLETE", "false")
+    assert updated(b"")["complete"] is True
+
+
+@pytest.mark.parametrize(
+    "command, told", [("/nonexistent/systemctl is-active", None), ("sleep 60", False)]
+)
+def test_who_does_not_say_whether_a_boot_is_complete(
+    monkeypatch: pytest.MonkeyPatch, command: str, told: Optional[bool]
+) -> None:
+    monkeypatch.setattr(agent, "completed", threading.Event())
+    monkeypatch.setattr(agent, "MOST_ASKED", 0.2)
+    monkeypatch.setenv("BOOTFLEET_COMPLETE", command)
+    assert agent.is_complete() is told
+
+
+class Broker:
+    """What stands for a client of paho."""
+
+    def __init__(self) -> None:
+        self.subscribed: List[str] = []
+
+    def subscribe(self, topic: str) -> None:
+        self.subscribed.append(topic)
+
+
+def test_what_is_told_of_a_connection(
+    monkeypatch: pytest.MonkeyPatch, caplog: pytest.LogCaptureFixture
+) -> None:
+    monkeypatch.setenv("BOOTFLEET_PAUSE", "0")
+    caplog.set_level(logging.INFO)
+    broker = Broker()
+    agent.connected(broker, "m1", {}, 5)
+    assert broker.subscribed == []
+    agent.connected(broker, "m1", {}, 0)
+    assert broker.subscribed == ["bootkeep/m1/request"]
+    assert agent.waiting() == [agent.LOOK]
+    agent.unreachable(broker, "m1")
+    agent.disconnected(broker, "m1", 7)
+    assert [(it.levelname, it.getMessage()[:34]) for it in caplog.records] == [
+        ("WARNING", "the broker refuses this machine: C"),
+        ("INFO", "connected to the broker"),
+        ("WARNING", "the broker can't be reached"),
+        ("WARNING", "the connection to the broker has e"),
+    ]
+
+
+def test_a_certificate_that_is_not_there(tmp_path: Path) -> None:
+    words = [str(FLEET / "bootfleet-agent"), "m1", "localhost:1", str(tmp_path)]
+    run = subprocess.run(words, capture_output=True, text=True, check=False)
+    assert (run.returncode, run.stdout) == (1, "")
+    assert run.stderr.startswith(f"ERROR: no connection to localhost:1 by {tmp_path}: ")
+    assert len(run.stderr.splitlines()) == 1
+
+
+def test_what_is_told_of_frames(
+    tmp_path: Path, monkeypatch: pytest.MonkeyPatch, caplog: pytest.LogCaptureFixture
+) -> None:
+    stand_in(tmp_path, monkeypatch, 0, 'echo "{}"; exit 6')
+    caplog.set_level(logging.INFO)
+    updated(b"")
+    updated(f"{GUARD}\nBQ".encode())
+    updated(b"BQ")
+    assert [(it.levelname, it.getMessage()[:26]) for it in caplog.records] == [
+        ("INFO", "2 bytes of frames: status "),
+        ("WARNING", "a message isn't handed on:"),
+    ]
 
 
 def test_equal_messages_that_wait_are_one() -> None:

@@ -82,6 +82,12 @@ def test_a_reply_is_read() -> None:
         changed(unmet={"expected": "next=7"}),
         changed(unmet={"expected": 7, "found": "next=7"}),
         changed(to=None),
+        changed(start=None),
+        changed(start=7, show={**SHOW, "current": None}),
+        changed(start="s", show={**SHOW, "current": 3}),
+        changed(start="s", show={**SHOW, "current": "x"}),
+        changed(start="s", show={**SHOW, "current": None}, complete="yes"),
+        changed(start="s", show={**SHOW, "current": None}, complete=1),
         changed(replies=None),
         changed(replies=[{}]),
         changed(replies=[{**REPLY, "request": "4"}]),
@@ -126,6 +132,15 @@ def test_what_is_not_so_is_read() -> None:
     unmet = {"expected": "next=4", "found": "next=5"}
     assert read_answer(changed(unmet=unmet, replies=[])).unmet == ("next=4", "next=5")
     assert read_answer(changed()).unmet is None
+
+
+def test_what_is_told_of_a_start_is_read() -> None:
+    assert read_answer(changed()).shown.start is None
+    show = {**SHOW, "current": "00a1"}
+    told = read_answer(changed(start="s\n", show=show, complete=True)).shown.start
+    assert told == ("s\\u000a", 0xA1, True)
+    older = read_answer(changed(start=None, show={**SHOW, "current": None})).shown.start
+    assert older == (None, None, None)
 
 
 def test_a_terminal_is_not_told_what_to_do() -> None:

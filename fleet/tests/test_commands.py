@@ -12,6 +12,7 @@ import pytest
 from conftest import FLEET, PATH, bootfleet, load_agent, option
 
 from sender import status
+from sender.page import as_page
 from sender.certificates import CertificateError, check_name
 from sender.courier import split_broker
 from sender.ledger import Ledger
@@ -227,10 +228,11 @@ def test_the_page_says_the_same(fleet: Path) -> None:
     call(fleet, "status", "--page", fleet / "page.html")
     page = (fleet / "page.html").read_text()
     assert "remove &lt;b&gt;&amp;" in page and "goal 1: &lt;script&gt;" in page
-    assert "<script" not in page and "http-equiv" not in page and "://" not in page
-    assert "2 machines, 1 in trouble" in page
+    assert page.count("<script") == 1 and 'http-equiv="refresh"' not in page and "://" not in page
+    assert "<p>2 machines; goals: 2 open. As of " in page and "<b>1</b> in trouble" in page
     assert [it.name for it in fleet.glob(".bootfleet-*")] == []
-    assert 'content="3"' in status.as_page(status.read_status(ledger), 3)
+    again = as_page(status.read_status(ledger), 3)
+    assert 'content="3"' in again and '<body data-again="3">' in again
 
 
 @pytest.mark.parametrize(

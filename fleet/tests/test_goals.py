@@ -11,7 +11,8 @@ from bootkeep import Request
 from conftest import goal, option
 
 from sender.entries import Entry, entry_name, parts_of_option
-from sender.goals import Ask, Asked, Failed, Goal, Past, Reached, Send, Shown, step
+from sender.goals import Goal, step
+from sender.steps import Ask, Asked, Failed, Past, Reached, Send, Shown
 
 CASES: List[Dict[str, Any]] = json.loads(
     Path(__file__).with_name("goals.json").read_text(encoding="utf-8")

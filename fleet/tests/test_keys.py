@@ -15,6 +15,7 @@ from sender import certificates, status
 from sender.certificates import CertificateError
 from sender.endings import days_left, ending_soon, read_certificate
 from sender.ledger import Ledger
+from sender.page import as_page
 
 KEY = ["-newkey", "ec", "-pkeyopt", "ec_paramgen_curve:P-256", "-nodes", "-subj", "/CN=other"]
 
@@ -191,7 +192,7 @@ def test_certificates_that_end_soon_are_told(fleet: Path) -> None:
     assert told[0]["days"] in (9, 10) and told[1]["days"] == 29
     assert "certificates end: sender in 9 days, m2 in 29 days" in call(fleet, "status")
     found = status.read_status(Ledger(fleet / "ledger"))
-    assert "certificates end: sender in 9 days" in status.as_page(found)
+    assert "certificates end: sender in 9 days" in as_page(found)
     later = ending_soon(fleet / "certs", time.time() + 86_400 * 20)
     assert [(it.name, it.days < 0) for it in later] == [("sender", True), ("m2", False)]
 

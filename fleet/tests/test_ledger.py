@@ -10,9 +10,9 @@ import pytest
 from bootkeep import Request
 from conftest import goal
 
-from sender.goals import Asked
 from sender.ledger import Ledger
 from sender.requests import Machine
+from sender.steps import Asked
 from sender.store import LedgerError
 
 TOLD = {"journal": "other", "next": 7, "entries": [["0000", "a"]], "order": [], "bootnext": None}

@@ -13,6 +13,7 @@ from conftest import Folder, Hand, bootfleet, frames_of, goal, option
 
 from sender import status
 from sender.ledger import Ledger
+from sender.page import as_page
 from sender.run import Sender
 from sender.waves import Waves, draw, read_waves
 
@@ -144,7 +145,7 @@ def test_how_waves_stand(fleet: Sender) -> None:
         (3, "waiting", 4),
     ]
     assert "wave  [....................] 0/3  2: waiting" in status.as_table(found, 80)
-    assert "<td>waiting</td>" in status.as_page(found)
+    assert "<td>waiting</td>" in as_page(found)
     assert json.loads(status.as_json(found))["waves"][0]["state"] == "begun"
 
 

@@ -1,5 +1,5 @@
 //! Finds the library: in the folder that BOOTKEEP_LIBRARY_DIR names, as `tools/build-c FOLDER` makes it, or by
-//! pkg-config.
+//! pkg-config. Without it only the pages of the crate can be made, with DOCS_RS set.
 
 use std::env;
 use std::path::Path;
@@ -9,8 +9,19 @@ const ARCHIVE: &str = "libbootkeep.a";
 
 fn main() {
     println!("cargo:rerun-if-changed=build.rs");
-    for variable in ["BOOTKEEP_LIBRARY_DIR", "PKG_CONFIG_PATH", "PKG_CONFIG_LIBDIR", "PKG_CONFIG_SYSROOT_DIR"] {
+    for variable in
+        ["BOOTKEEP_LIBRARY_DIR", "PKG_CONFIG_PATH", "PKG_CONFIG_LIBDIR", "PKG_CONFIG_SYSROOT_DIR", "DOCS_RS"]
+    {
         println!("cargo:rerun-if-env-changed={variable}");
+    }
+    if env::var_os("DOCS_RS").is_some() {
+        // The pages are made there without the library, as nothing is linked.
+        return;
+    }
+    let target = env::var("TARGET").unwrap_or_default();
+    if !target.starts_with("x86_64-") || !target.contains("-linux-") {
+        eprintln!("the library is built for Linux on x86-64 alone, and this is for {target}");
+        process::exit(1);
     }
     let folder = env::var("BOOTKEEP_LIBRARY_DIR").ok().or_else(installed).unwrap_or_default();
     // Cargo calls this in the crate's folder, and not in that in which it was called itself.

@@ -38,7 +38,9 @@ _bootvars() {
     done
     case "$command $before" in
         "bootvars check --root" | \
+"bootvars check --state" | \
 "bootvars read --out" | \
+"bootvars show --state" | \
 "bootvars get --out" | \
 "bootvars add --loader" | \
 "bootvars add --root" | \
@@ -60,7 +62,9 @@ _bootvars() {
 "bootvars option --root" | \
 "bootvars option --optional-file" | \
 "bootvars option --out") mapfile -t COMPREPLY < <(compgen -f -- "$current"); return ;;
-        "bootvars add --description" | \
+        "bootvars check --boot-id" | \
+"bootvars show --boot-id" | \
+"bootvars add --description" | \
 "bootvars add --disk" | \
 "bootvars add --part" | \
 "bootvars add --path" | \
@@ -105,12 +109,12 @@ _bootvars() {
     esac
     case $command in
         "bootvars") words="check read show diff get add remove first order next timeout activate deactivate try confirm undo write update option frame explain efibootmgr --help --version -h -V" ;;
-        "bootvars check") words="--json --root --help --version -h -V" ;;
+        "bootvars check") words="--json --root --state --boot-id --help --version -h -V" ;;
         "bootvars read") words="--out --boot-only --help --version -h -V" ;;
-        "bootvars show") words="--json --help --version -h -V" ;;
+        "bootvars show") words="--json --state --boot-id --help --version -h -V" ;;
         "bootvars diff") words="--json --help --version -h -V" ;;
         "bootvars get") words="--out --help --version -h -V" ;;
-        "bootvars add") words="--description --loader --disk --part --root --path --first --last --no-order --entry --again --inactive --hidden --app --reconnect --attributes --optional-hex --optional-file --optional-text --dry-run --json --state --boot-id --machine --adopt --force --help --version -h -V" ;;
+        "bootvars add") words="--description --loader --disk --part --root --path --first --last --no-order --entry --again --try --inactive --hidden --app --reconnect --attributes --optional-hex --optional-file --optional-text --dry-run --json --state --boot-id --machine --adopt --force --help --version -h -V" ;;
         "bootvars remove") words="--dry-run --json --state --boot-id --machine --adopt --force --help --version -h -V" ;;
         "bootvars first") words="--dry-run --json --state --boot-id --machine --adopt --force --help --version -h -V" ;;
         "bootvars order") words="--empty --stale --only --dry-run --json --state --boot-id --machine --adopt --force --help --version -h -V" ;;

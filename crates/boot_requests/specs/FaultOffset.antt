@@ -15,11 +15,11 @@ IsOptionOffset bytes offset =
 -- This is the offset of what is at fault in the bytes: the end, behind which bytes are missing; a field of the header; the
 -- payload; or the load option in it, which is so to its end.
 abbrev pub IsFaultOffset : List ℕ → FrameFault → ℕ → Type 0
-IsFaultOffset bytes fault.Short offset = offset ≡ length bytes
+IsFaultOffset bytes (fault.Short found) offset = offset ≡ length bytes
 IsFaultOffset bytes fault.BadMagic offset = offset ≡ 0
 IsFaultOffset bytes fault.BadVersion offset = offset ≡ 2
 IsFaultOffset bytes fault.TooLong offset = offset ≡ 8
-IsFaultOffset bytes fault.BadSize offset = offset ≡ 8
+IsFaultOffset bytes (fault.BadSize stated found) offset = offset ≡ 8
 IsFaultOffset bytes fault.BadKind offset = offset ≡ 3
 IsFaultOffset bytes fault.BadNumber offset = offset ≡ 4
 IsFaultOffset bytes fault.BadPayload offset = offset ≡ 12

@@ -92,13 +92,14 @@ pub record IsRawWith (input : List ℕ) (P : Raw → Type 0) : Type 0 where
   pub is : IsRaw input raw
   pub here : P raw
 
--- The fault is the first of the input, by cases.
+-- The fault is the first of the input, by cases, and has its sizes.
 abbrev pub IsFirstFault : List ℕ → FrameFault → Type 0
-IsFirstFault input fault.Short = length input < 12
+IsFirstFault input (fault.Short found) = (found ≡ length input) × (length input < 12)
 IsFirstFault input fault.BadMagic = IsRawWith input FailsMagic
 IsFirstFault input fault.BadVersion = IsRawWith input FailsVersion
 IsFirstFault input fault.TooLong = IsRawWith input FailsLength
-IsFirstFault input fault.BadSize = IsRawWith input FailsSize
+IsFirstFault input (fault.BadSize stated found) =
+    IsRawWith input (λ raw. FailsSize raw × (stated ≡ raw.len) × (found ≡ length raw.payload))
 IsFirstFault input fault.BadKind = IsRawWith input FailsKind
 IsFirstFault input fault.BadNumber = IsRawWith input FailsNumber
 IsFirstFault input fault.BadPayload = IsRawWith input FailsPayload

@@ -19,11 +19,11 @@ use Rattle.boot_requests.specs.declared.request.Request.{Request}
 use Rattle.boot_requests.specs.declared.request.Request.TheVariants as request
 
 abbrev pub frame_fault_words : FrameFault → List ℕ
-frame_fault_words frame.Short = codes "Short"
+frame_fault_words (frame.Short found) = codes "Short"
 frame_fault_words frame.BadMagic = codes "BadMagic"
 frame_fault_words frame.BadVersion = codes "BadVersion"
 frame_fault_words frame.TooLong = codes "TooLong"
-frame_fault_words frame.BadSize = codes "BadSize"
+frame_fault_words (frame.BadSize stated found) = codes "BadSize"
 frame_fault_words frame.BadKind = codes "BadKind"
 frame_fault_words frame.BadNumber = codes "BadNumber"
 frame_fault_words frame.BadPayload = codes "BadPayload"

@@ -15,7 +15,10 @@ use uefi_option::OptionFault;
 pub enum FrameFault {
     /// There are fewer bytes than the twelve before the payload.
     #[error("Short")]
-    Short,
+    Short {
+        /// How many bytes there are.
+        found: usize,
+    },
     /// The bytes don't begin with 0x42 0x51.
     #[error("BadMagic")]
     BadMagic,
@@ -27,7 +30,12 @@ pub enum FrameFault {
     TooLong,
     /// There are fewer or more bytes than the twelve and those of the payload.
     #[error("BadSize")]
-    BadSize,
+    BadSize {
+        /// How many bytes of payload the header states.
+        stated: usize,
+        /// How many bytes follow the header.
+        found: usize,
+    },
     /// No request has this kind in this version.
     #[error("BadKind")]
     BadKind,
@@ -88,11 +96,11 @@ impl FrameFault {
         ensures { IfOk result (λ text. string_bytes text ≡ frame_fault_words self.now) }
     {
         match self {
-            FrameFault::Short => String::from_str(alloc, "Short"),
+            FrameFault::Short { .. } => String::from_str(alloc, "Short"),
             FrameFault::BadMagic => String::from_str(alloc, "BadMagic"),
             FrameFault::BadVersion => String::from_str(alloc, "BadVersion"),
             FrameFault::TooLong => String::from_str(alloc, "TooLong"),
-            FrameFault::BadSize => String::from_str(alloc, "BadSize"),
+            FrameFault::BadSize { .. } => String::from_str(alloc, "BadSize"),
             FrameFault::BadKind => String::from_str(alloc, "BadKind"),
             FrameFault::BadNumber => String::from_str(alloc, "BadNumber"),
             FrameFault::BadPayload => String::from_str(alloc, "BadPayload"),

@@ -18,12 +18,12 @@ impl FrameFault {
         ensures { IsFirstFault bytes.now self.now → IsFaultOffset bytes.now self.now result }
     {
         match self {
-            FrameFault::Short => bytes.len(),
+            FrameFault::Short { .. } => bytes.len(),
             FrameFault::BadMagic | FrameFault::OutOfMemory => 0,
             FrameFault::BadVersion => 2,
             FrameFault::BadKind => 3,
             FrameFault::BadNumber => 4,
-            FrameFault::TooLong | FrameFault::BadSize => 8,
+            FrameFault::TooLong | FrameFault::BadSize { .. } => 8,
             FrameFault::BadPayload => HEADER_LEN,
             FrameFault::Option(_) => option_offset(bytes),
         }

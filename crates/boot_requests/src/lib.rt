@@ -55,7 +55,7 @@ pub use keeper::Keeper;
 pub use line::{append_reply_line, reply_line};
 pub use mark::KEPT_MAX;
 pub use outcome::{Code, Outcome};
-pub use reader::read_frame;
+pub use reader::{frame_len, read_frame};
 pub use reply::Reply;
 pub use request::{OrderList, Request};
 pub use runs::run;

@@ -11,11 +11,11 @@ ghost use Rattle.uefi_vars.specs.Order.{IsEntryNumber};
 ghost use Rattle.boot_requests.specs.declared.fault.FrameFault.{FrameFault};
 ghost use Rattle.boot_requests.specs.declared.request.Request.{Request};
 ghost use Rattle.boot_requests.specs.Frame.{SpellsFrame};
-ghost use Rattle.boot_requests.specs.FrameFault.{IsRaw, IsFirstFault};
+ghost use Rattle.boot_requests.specs.FrameFault.{Raw, IsRaw, IsFirstFault};
 ghost use Rattle.boot_requests.specs.Reader.{raw_of, PassesLength, FailsHeader, SplitsFrame, SpellsPayload, IsPayloadFault, SpellsEntry, IsEntryFault, IsOptionFault};
 
 use crate::fault::{FeedFault, FrameFault};
-use crate::frame::{ENTRY_LEN, FRAME_MAGIC, Kind, NO_NUMBER, PAYLOAD_MAX};
+use crate::frame::{ENTRY_LEN, FRAME_MAGIC, HEADER_LEN, Kind, NO_NUMBER, PAYLOAD_MAX};
 use crate::laws;
 use crate::request::{OrderList, Request};
 use std::alloc::Global;
@@ -84,6 +84,18 @@ pub(crate) fn header_number(bytes: &[u8]) -> Option<u32>
     Some(raw.number)
 }
 
+/// How many bytes the frame has that begins with these, if they are all of it: the twelve of a header, and those of the
+/// payload that it states, whatever else it says. If there are fewer than twelve, it is the twelve alone.
+pub fn frame_len(bytes: &[u8]) -> usize
+    ensures short { length bytes.now < 12 → result ≡ 12 }
+    ensures stated { (raw : Raw) → IsRaw bytes.now raw → result ≡ 12 + raw.len }
+{
+    match split_header(bytes) {
+        Some(raw) => HEADER_LEN + raw.len as usize,
+        None => HEADER_LEN,
+    }
+}
+
 /// How many bytes the header states after it, if it passes its tests.
 #[inline(always)]
 pub(crate) fn stated_len(raw: RawFrame<'_>) -> Result<usize, FeedFault>
@@ -113,11 +125,14 @@ fn split_frame(bytes: &[u8]) -> Result<Frame<'_>, FrameFault>
     ensures fault { IfErr result (λ fault. IsFirstFault bytes.now fault) }
 {
     let Some(raw) = split_header(bytes) else {
-        return Err(FrameFault::Short);
+        return Err(FrameFault::Short { found: bytes.len() });
     };
     let len = stated_len(raw)?;
     if raw.payload.len() != len {
-        return Err(FrameFault::BadSize);
+        return Err(FrameFault::BadSize {
+            stated: len,
+            found: raw.payload.len(),
+        });
     }
     let Some(kind) = Kind::from_bytes(raw.version, raw.kind) else {
         return Err(FrameFault::BadKind);

@@ -37,8 +37,10 @@ impl Risk {
 impl fmt::Display for Risk {
     fn fmt<W: fmt::Write>(&self, f: &mut fmt::Formatter<W>) -> fmt::Result {
         match self {
-            Risk::Unnamed => f.write_str("in no order: firmware may write over it"),
-            Risk::Undecodable => f.write_str("undecodable, in the order: firmware may delete it"),
+            Risk::Unnamed => f.write_str(
+                "not in BootOrder or BootNext: firmware may write over it",
+            ),
+            Risk::Undecodable => f.write_str("undecodable, in BootOrder: firmware may delete it"),
         }
     }
 }

@@ -306,7 +306,7 @@ impl Malformed {
                 option_place(fault).unwrap_or(0),
                 option_reason(bytes.get(start..).unwrap_or(&[]), fault),
             ),
-            fault => (0, frame_reason(bytes, fault)),
+            fault => (0, frame_reason(fault)),
         };
         Ok(Malformed {
             fault: fault.words(alloc)?,

@@ -3,9 +3,9 @@
 //!
 //! [`vars_report`] shows variables, [`timeout_report`] how long the boot manager waits, [`diff_report`] what differs
 //! between two sets, [`change_report`] one change, and [`explain_report`] what the frames of a script or a stream ask for,
-//! [`check_report`] what a check finds, and [`record_line`] a change that can be undone, each as lines for a person.
-//! [`vars_json`], [`diff_json`], [`explain_json`], [`check_json`] and [`record_json`] have the same as JSON, [`reply_json`]
-//! shows the answer to an event, [`look_json`] a machine with the replies to an update of it, and [`refusal_json`] why an
+//! [`check_report`] what a check finds, [`record_line`] a change that can be undone, and [`trial_line`] a start on trial,
+//! each as lines for a person. [`vars_json`], [`diff_json`], [`explain_json`], [`check_json`], [`record_json`] and
+//! [`trial_json`] have the same as JSON, [`reply_json`] shows the answer to an event, [`look_json`] a machine with the replies to an update of it, and [`refusal_json`] why an
 //! update wasn't made; docs/formats.md has each line and each field, and [`json`] writes them. [`UnnamedWords`] says of
 //! an entry that a change leaves it in no order.
 //!
@@ -33,8 +33,8 @@ mod shown_check;
 mod shown_option;
 mod shown_order;
 mod shown_record;
+mod shown_trial;
 mod shown_vars;
-mod sizes;
 
 pub use at_risk::UnnamedWords;
 pub use changes::{change_report, changes_text, diff_json, diff_report};
@@ -53,4 +53,5 @@ pub use shown_check::{
     CheckView, Detail, EntryView, FindingView, NextView, OrderView, check_json, check_report,
 };
 pub use shown_record::{RecordView, record_json, record_line};
+pub use shown_trial::{TellsTrial, TrialStanding, TrialView, trial_json, trial_line};
 pub use shown_vars::{vars_json, vars_report};

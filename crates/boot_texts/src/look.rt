@@ -4,6 +4,7 @@ use crate::json::{
     JsonObject, JsonWriter, Leaf, append_leaves, append_object, append_objects, json_line,
 };
 use crate::replies::{ShownReply, ToldReply};
+use crate::shown_trial::TrialView;
 use crate::shown_vars::ShownVars;
 use std::alloc::{AllocError, Global};
 use uefi_vars::Vars;
@@ -15,8 +16,12 @@ pub struct Look<'a> {
     pub next: u32,
     /// The identity of the journal, if it has one.
     pub journal: Option<&'a str>,
+    /// The identity of the machine's start, if it is known.
+    pub start: Option<&'a str>,
     /// What isn't as it was expected, if something isn't: then no event was run.
     pub unmet: Option<UnmetWords<'a>>,
+    /// The start on trial, if there is one.
+    pub trial: Option<TrialView>,
     /// The replies to the events that were run, in their order.
     pub replies: &'a [ToldReply<'a>],
     /// The variables after them.
@@ -70,6 +75,7 @@ impl JsonObject for ShownUnmet<'_> {
 struct ShownLook<'a> {
     next: u32,
     journal: Option<&'a str>,
+    start: Option<&'a str>,
     unmet: Option<UnmetWords<'a>>,
     replies: Vec<ShownReply<'a>>,
     shown: ShownVars<'a>,
@@ -81,6 +87,7 @@ impl JsonObject for ShownLook<'_> {
             &[
                 ("next", Leaf::Number(Some(self.next))),
                 ("journal", Leaf::Text(self.journal)),
+                ("start", Leaf::Text(self.start)),
             ],
             out,
         )?;
@@ -90,8 +97,8 @@ impl JsonObject for ShownLook<'_> {
     }
 }
 
-/// Shows a look at a machine as JSON, an object on one line that ends with a line feed: the next number, the identity of the
-/// journal, what isn't as it was expected, the replies as [`reply_json`](crate::reply_json) has them, and what
+/// Shows a look at a machine as JSON, an object on one line that ends with a line feed: the next number, the identities of
+/// the journal and of the machine's start, what isn't as it was expected, the replies as [`reply_json`](crate::reply_json) has them, and what
 /// [`vars_json`](crate::vars_json) has. docs/formats.md has each member.
 ///
 /// # Errors
@@ -105,9 +112,10 @@ pub fn look_json(alloc: Global, look: &Look<'_>) -> Result<String, AllocError> {
     let shown = ShownLook {
         next: look.next,
         journal: look.journal,
+        start: look.start,
         unmet: look.unmet,
         replies,
-        shown: ShownVars::new(alloc, look.vars)?,
+        shown: ShownVars::new(alloc, look.vars, look.trial)?,
     };
     json_line(alloc, &shown)
 }

@@ -1,6 +1,5 @@
 //! Why bytes or a text are refused, in plain words.
 
-use crate::sizes::{frame_sizes, option_sizes};
 use boot_requests::{FrameFault, OpenFault};
 use std::fmt;
 use uefi_names::{Encoding, Field, Item, NamedFault, Show};
@@ -12,6 +11,15 @@ use uefi_vars::{ATTRIBUTES_LEN, VarFault};
 /// What is said of an option that has the attributes of its variable before it.
 const HAS_ATTRIBUTES: &str =
     "four bytes come before the load option, as in a file of efivarfs: leave them out";
+
+/// The bytes of a load option before its description (UEFI 2.10, 3.1.3).
+const OPTION_HEAD_LEN: usize = 6;
+
+/// The bytes of a node's header (UEFI 2.10, 10.3).
+const NODE_HEADER_LEN: usize = 4;
+
+/// The bytes of a frame before its payload.
+const FRAME_HEADER_LEN: usize = 12;
 
 /// What is said of a name that no node has.
 const NO_SUCH_NAME: &str = "no node has this name";
@@ -84,16 +92,40 @@ pub fn option_reason(bytes: &[u8], fault: &OptionFault) -> FaultReason {
     if has_attributes(bytes) {
         FaultReason::Words(HAS_ATTRIBUTES)
     } else {
-        FaultReason::with_sizes(option_words(fault), option_sizes(bytes, fault))
+        FaultReason::with_sizes(option_words(fault), option_sizes(fault))
+    }
+}
+
+/// How many bytes there are and have to be of a load option, its list of paths, or a node, which has this fault: `None` if
+/// no bytes are missing.
+fn option_sizes(fault: &OptionFault) -> Option<Sizes> {
+    match fault {
+        OptionFault::Short { found } => Some(Sizes {
+            found: *found,
+            wanted: OPTION_HEAD_LEN,
+        }),
+        OptionFault::ListPastEnd { stated, left } => Some(Sizes {
+            found: *left,
+            wanted: *stated,
+        }),
+        OptionFault::Path(_, PathFault::ShortHeader { left, .. }) => Some(Sizes {
+            found: *left,
+            wanted: NODE_HEADER_LEN,
+        }),
+        OptionFault::Path(_, PathFault::PastEnd { stated, left, .. }) => Some(Sizes {
+            found: *left,
+            wanted: *stated,
+        }),
+        _ => None,
     }
 }
 
 /// Why there is no load option (UEFI 2.10, 3.1.3).
 pub fn option_words(fault: &OptionFault) -> &'static str {
     match fault {
-        OptionFault::Short => "it has fewer bytes than the six before a description",
+        OptionFault::Short { .. } => "it has fewer bytes than the six before a description",
         OptionFault::NoTerminator => "no zero unit closes the description",
-        OptionFault::ListPastEnd => "the list of paths has fewer bytes than it states",
+        OptionFault::ListPastEnd { .. } => "the list of paths has fewer bytes than it states",
         OptionFault::EmptyList => "it has no device path",
         OptionFault::Path(_, fault) => path_words(fault),
         OptionFault::ZeroUnit => "the description has a zero unit",
@@ -106,9 +138,9 @@ pub fn option_words(fault: &OptionFault) -> &'static str {
 fn path_words(fault: &PathFault) -> &'static str {
     match fault {
         PathFault::NoEnd(_) => "a path has no end node",
-        PathFault::ShortHeader(_) => "a path ends within the header of a node",
+        PathFault::ShortHeader { .. } => "a path ends within the header of a node",
         PathFault::BadLength(_) => "a node of a path states fewer bytes than its header has",
-        PathFault::PastEnd(_) => "a node of a path states more bytes than there are",
+        PathFault::PastEnd { .. } => "a node of a path states more bytes than there are",
         PathFault::BadEnd(_) => "an end node of a path isn't one of the standard",
         PathFault::OutOfMemory => "out of memory",
     }
@@ -211,19 +243,36 @@ pub fn open_reason(fault: &OpenFault) -> &'static str {
     }
 }
 
-/// Why the bytes, which have this fault, are no frame.
-pub(crate) fn frame_reason(bytes: &[u8], fault: &FrameFault) -> FaultReason {
-    FaultReason::with_sizes(frame_words(fault), frame_sizes(bytes, fault))
+/// Why bytes that have this fault are no frame, in words, with sizes if some are missing or too much.
+pub(crate) fn frame_reason(fault: &FrameFault) -> FaultReason {
+    FaultReason::with_sizes(frame_words(fault), frame_sizes(fault))
+}
+
+/// How many bytes there are and have to be of a frame, its payload, or its load option, which has this fault: `None` if no
+/// bytes are missing or too much.
+fn frame_sizes(fault: &FrameFault) -> Option<Sizes> {
+    match fault {
+        FrameFault::Short { found } => Some(Sizes {
+            found: *found,
+            wanted: FRAME_HEADER_LEN,
+        }),
+        FrameFault::BadSize { stated, found } => Some(Sizes {
+            found: *found,
+            wanted: *stated,
+        }),
+        FrameFault::Option(fault) => option_sizes(fault),
+        _ => None,
+    }
 }
 
 /// Why bytes are no frame, or a request has none.
 pub fn frame_words(fault: &FrameFault) -> &'static str {
     match fault {
-        FrameFault::Short => "it has fewer bytes than the twelve of a header",
+        FrameFault::Short { .. } => "it has fewer bytes than the twelve of a header",
         FrameFault::BadMagic => "a frame begins with the bytes 42 51",
         FrameFault::BadVersion => "its version is none of 1 to 3",
         FrameFault::TooLong => "its payload has more than 131072 bytes",
-        FrameFault::BadSize => "its payload hasn't as many bytes as it states",
+        FrameFault::BadSize { .. } => "its payload hasn't as many bytes as it states",
         FrameFault::BadKind => "no request of its version has its kind",
         FrameFault::BadNumber => "4294967295 is the number of no request",
         FrameFault::BadPayload => "its payload isn't one of its kind",

@@ -1,8 +1,7 @@
 //! Why bytes are no script and no stream, in plain words.
 
-use crate::reason::{FaultReason, frame_reason};
-use crate::sizes::cut_frame_sizes;
-use boot_requests::{FrameFault, ScriptFault};
+use crate::reason::{FaultReason, Sizes, frame_reason};
+use boot_requests::{FrameFault, ScriptFault, frame_len};
 use uefi_vars::SET_MAGIC;
 
 /// What a line begins with that delivers a frame.
@@ -12,7 +11,7 @@ const DELIVER: &[u8] = b"deliver ";
 pub(crate) fn script_reason(bytes: &[u8], fault: &ScriptFault) -> FaultReason {
     match fault {
         ScriptFault::BadLine(number) => line_reason(line_of(bytes, *number)),
-        ScriptFault::Stream(fault) => { frame_reason(bytes, &FrameFault::from(*fault)) }
+        ScriptFault::Stream(fault) => frame_reason(&FrameFault::from(*fault)),
         ScriptFault::Rest(count) => rest_reason(bytes, *count),
         ScriptFault::OutOfMemory => FaultReason::Words("out of memory"),
     }
@@ -21,9 +20,13 @@ pub(crate) fn script_reason(bytes: &[u8], fault: &ScriptFault) -> FaultReason {
 /// Why so many bytes at the end of a stream are no frame.
 fn rest_reason(bytes: &[u8], count: usize) -> FaultReason {
     let start = bytes.len().saturating_sub(count);
+    let sizes = Sizes {
+        found: count,
+        wanted: frame_len(bytes.get(start..).unwrap_or(&[])),
+    };
     FaultReason::Sizes(
         "bytes are left after the last whole frame: one was cut, or something was added",
-        cut_frame_sizes(bytes.get(start..).unwrap_or(&[])),
+        sizes,
     )
 }
 

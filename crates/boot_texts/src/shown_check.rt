@@ -6,6 +6,7 @@ use crate::json::{
 };
 use crate::plan::{append_plan, shown_plan};
 use crate::reason::{BAD_NEXT, BAD_ORDER};
+use crate::shown_trial::{TrialView, append_trial, append_trial_member};
 use std::alloc::{AllocError, Global};
 use std::fmt;
 use uefi_vars::{EntryDigits, EntryName, PlanNumbers};
@@ -23,6 +24,8 @@ pub struct CheckView<'a> {
     pub order: Option<OrderView<'a>>,
     /// What is found of BootNext.
     pub next: NextView,
+    /// The start on trial, if one is known.
+    pub trial: Option<TrialView>,
 }
 
 /// An entry, and what is found of it.
@@ -99,6 +102,7 @@ pub fn check_report(alloc: Global, check: &CheckView<'_>) -> Result<String, Allo
     }
     append_order(check.order, &mut report)?;
     append_next(check.next, &mut report)?;
+    append_trial(check.trial, &mut report)?;
     Ok(report)
 }
 
@@ -108,7 +112,8 @@ impl JsonObject for CheckView<'_> {
         append_object("plan", shown_plan(self.plan).as_ref(), out)?;
         append_objects("entries", &self.entries, out)?;
         append_object("order", self.order.as_ref(), out)?;
-        append_object("next", missing_next(self.next).as_ref(), out)
+        append_object("next", missing_next(self.next).as_ref(), out)?;
+        append_trial_member(self.trial.as_ref(), out)
     }
 }
 

@@ -10,6 +10,7 @@ use crate::plan::{append_plan, shown_plan};
 use crate::settings::{BOOT_CURRENT, Timeout, bad_current, bad_timeout, number_of};
 use crate::shown_option::{AttributeWords, ShownOption};
 use crate::shown_order::OrderMarks;
+use crate::shown_trial::{TrialView, append_trial, append_trial_member};
 use std::alloc::{AllocError, Global};
 use uefi_option::is_active;
 use uefi_vars::{
@@ -38,6 +39,8 @@ pub(crate) struct ShownVars<'a> {
     current: Option<EntryDigits>,
     /// How long the boot manager waits, if Timeout is there and can be read.
     timeout: Option<Timeout>,
+    /// The start on trial, if one is known.
+    trial: Option<TrialView>,
     /// Why BootCurrent, BootNext, BootOrder and Timeout can't be read, if they can't.
     faults: Vec<NamedFault>,
     /// The variables that are neither entries nor BootOrder nor BootNext, in the order of their names' bytes.
@@ -109,9 +112,13 @@ impl JsonObject for OtherVariable<'_> {
 }
 
 impl<'a> ShownVars<'a> {
-    /// What is shown of the variables.
-    pub(crate) fn new(alloc: Global, vars: &'a Vars) -> Result<ShownVars<'a>, AllocError> {
-        let mut shown = ShownVars::empty(alloc, vars)?;
+    /// What is shown of the variables, and of the start on trial, if one is known.
+    pub(crate) fn new(
+        alloc: Global,
+        vars: &'a Vars,
+        trial: Option<TrialView>,
+    ) -> Result<ShownVars<'a>, AllocError> {
+        let mut shown = ShownVars::empty(alloc, vars, trial)?;
         let at_risk = known_risks(alloc, vars)?;
         for (name, data) in vars.iter() {
             shown.push(alloc, at_risk.as_ref(), name, data)?;
@@ -125,7 +132,11 @@ impl<'a> ShownVars<'a> {
     }
 
     /// What is shown before the variables are gone over, one by one.
-    fn empty(alloc: Global, vars: &Vars) -> Result<ShownVars<'a>, AllocError> {
+    fn empty(
+        alloc: Global,
+        vars: &Vars,
+        trial: Option<TrialView>,
+    ) -> Result<ShownVars<'a>, AllocError> {
         Ok(ShownVars {
             variables: vars.len(),
             entries: Vec::new(alloc),
@@ -136,6 +147,7 @@ impl<'a> ShownVars<'a> {
             missing: Vec::new(alloc),
             current: None,
             timeout: None,
+            trial,
             faults: Vec::new(alloc),
             others: Vec::new(alloc),
         })
@@ -229,7 +241,8 @@ impl JsonObject for ShownVars<'_> {
             out,
         )?;
         append_objects("faults", &self.faults, out)?;
-        append_objects("others", &self.others, out)
+        append_objects("others", &self.others, out)?;
+        append_trial_member(self.trial.as_ref(), out)
     }
 }
 
@@ -283,7 +296,8 @@ fn push_missing(vars: &Vars, numbers: &[u16], missing: &mut Vec<u16>) -> Result<
 /// Shows variables (UEFI 2.10, 3.3) as lines for a person: those of `bootkeep show`, and after the line of an entry
 /// indented ones with its attributes in words, each of its paths and its optional data, or with the data that are no
 /// load option. After the line of BootOrder indented ones say which of its numbers have no entry, which are of an entry
-/// that isn't active, and which are in it twice, and lines after the plan have BootCurrent and Timeout, if they are there.
+/// that isn't active, and which are in it twice, and lines after the plan have BootCurrent, Timeout and the start on trial,
+/// if they are there.
 /// A line tells of each entry that a start of firmware may write over or delete, by
 /// [`entries_at_risk`](uefi_vars::entries_at_risk).
 /// Whatever the variables hold is told, and nothing is refused. docs/formats.md has each line.
@@ -291,9 +305,13 @@ fn push_missing(vars: &Vars, numbers: &[u16], missing: &mut Vec<u16>) -> Result<
 /// # Errors
 ///
 /// [`AllocError`] if memory was refused.
-pub fn vars_report(alloc: Global, vars: &Vars) -> Result<String, AllocError> {
+pub fn vars_report(
+    alloc: Global,
+    vars: &Vars,
+    trial: Option<TrialView>,
+) -> Result<String, AllocError> {
     let mut report = String::new(alloc);
-    append_vars(&ShownVars::new(alloc, vars)?, &mut report)?;
+    append_vars(&ShownVars::new(alloc, vars, trial)?, &mut report)?;
     Ok(report)
 }
 
@@ -304,8 +322,12 @@ pub fn vars_report(alloc: Global, vars: &Vars) -> Result<String, AllocError> {
 /// # Errors
 ///
 /// [`AllocError`] if memory was refused.
-pub fn vars_json(alloc: Global, vars: &Vars) -> Result<String, AllocError> {
-    json_line(alloc, &ShownVars::new(alloc, vars)?)
+pub fn vars_json(
+    alloc: Global,
+    vars: &Vars,
+    trial: Option<TrialView>,
+) -> Result<String, AllocError> {
+    json_line(alloc, &ShownVars::new(alloc, vars, trial)?)
 }
 
 /// Appends the lines of variables.
@@ -326,6 +348,7 @@ fn append_vars(shown: &ShownVars<'_>, report: &mut String) -> Result<(), AllocEr
         writeln!(report, "missing{}", NumberList(&shown.missing))?;
     }
     append_settings(shown, report)?;
+    append_trial(shown.trial, report)?;
     append_risks(&shown.entries, report)?;
     append_others(&shown.others, report)
 }

@@ -1,3 +1,4 @@
+pub mod AddedPlans
 pub mod Files
 pub mod Outcomes
 pub mod Runs

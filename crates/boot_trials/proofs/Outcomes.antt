@@ -10,24 +10,24 @@ use Rattle.boot_trials.specs.Trial.{TrialParts}
 module _ (trial : TrialParts) (start : List ℕ) (current : Option ℕ) (vars : Variables) where
   pub one_outcome : (a b : Outcome) → IsOutcome trial start current vars a → IsOutcome trial start current vars b → a ≡ b
   one_outcome TooEarly TooEarly p q = refl
-  one_outcome TooEarly CameUp p q = absurd (q.0.1 p.1)
-  one_outcome TooEarly Changed p q = absurd (q.0.1 p.1)
-  one_outcome TooEarly (Failed by) p q = absurd (q.0.1 p.1)
+  one_outcome TooEarly CameUp p q = absurd (p.1 q.0.1)
+  one_outcome TooEarly Changed p q = absurd (p.1 q.0.1)
+  one_outcome TooEarly (Failed by) p q = absurd (p.1 q.0.1)
   one_outcome TooEarly Interrupted p q = absurd (cc (p.0, q.0))
   one_outcome TooEarly Done p q = absurd (cc (p.0, q.0))
-  one_outcome CameUp TooEarly p q = absurd (p.0.1 q.1)
+  one_outcome CameUp TooEarly p q = absurd (q.1 p.0.1)
   one_outcome CameUp CameUp p q = refl
   one_outcome CameUp Changed p q = absurd (q.2 p.2)
   one_outcome CameUp (Failed by) p q = absurd (q.1 p.1)
   one_outcome CameUp Interrupted p q = absurd (cc (p.0.0, q.0))
   one_outcome CameUp Done p q = absurd (cc (p.0.0, q.0))
-  one_outcome Changed TooEarly p q = absurd (p.0.1 q.1)
+  one_outcome Changed TooEarly p q = absurd (q.1 p.0.1)
   one_outcome Changed CameUp p q = absurd (p.2 q.2)
   one_outcome Changed Changed p q = refl
   one_outcome Changed (Failed by) p q = absurd (q.1 p.1)
   one_outcome Changed Interrupted p q = absurd (cc (p.0.0, q.0))
   one_outcome Changed Done p q = absurd (cc (p.0.0, q.0))
-  one_outcome (Failed by) TooEarly p q = absurd (p.0.1 q.1)
+  one_outcome (Failed by) TooEarly p q = absurd (q.1 p.0.1)
   one_outcome (Failed by) CameUp p q = absurd (p.1 q.1)
   one_outcome (Failed by) Changed p q = absurd (p.1 q.1)
   one_outcome (Failed by) (Failed other) p q = ap (λ (o : Option ℕ). Failed o) (p.2 ∙ sym q.2)

@@ -8,11 +8,13 @@ use Rattle.boot_journal.specs.declared.machine.CallError.TheVariants.{OutOfMemor
 use Rattle.boot_edits.specs.Edit.{IsReordered, IsReorderFault, IsFrontOrder, AreSwitched}
 use Rattle.boot_edits.specs.Lists.{IsMissing, IsNoOption, IsFirstFault}
 use Rattle.boot_edits.specs.Run.{IsRun, IsRunFault}
+use Rattle.boot_edits.specs.declared.addition.Addition.{Addition}
 use Rattle.boot_edits.specs.declared.answer.EditAnswer.{EditAnswer}
-use Rattle.boot_edits.specs.declared.edit.Edit.TheVariants.{First, Next, Activate}
+use Rattle.boot_edits.specs.declared.edit.Edit.TheVariants.{Add, First, Next, Activate}
 use Rattle.boot_edits.specs.declared.run.EditRunFault.{EditRunFault}
 use Rattle.boot_edits.specs.declared.run.EditRunFault.TheVariants as run
 use Rattle.boot_trials.specs.declared.outcome.Outcome.TheVariants.{CameUp}
+use Rattle.boot_trials.specs.Adding.{IsAddedTryFault, IsOfEntry}
 use Rattle.boot_trials.specs.Outcome.{IsOutcome, current_of}
 use Rattle.boot_trials.specs.Run.{IsKept, IsPutFirst, IsActivated, IsNext, IsFirstRefusal, IsActiveRefusal, IsNextRefusal, IsNoTrial}
 use Rattle.boot_trials.specs.Run.{IsConfirmFault, IsConfirmingFault, IsTryFault}
@@ -111,3 +113,17 @@ module _ (trial : TrialParts) (start : List ℕ) (from : Variables) where
       IfRefused error (IsConfirmFault trial.entry from) → IfRefused error (IsConfirmingFault trial start from)
   confirming_refused came OutOfMemory why = tt
   confirming_refused came (Refused f) why = inr (came, why)
+
+-- ---- an entry that is added and tried
+
+module _ (addition : Addition) (from between : Variables) (answer : EditAnswer) (entry : ℕ) (added : IsRun (Add addition) from between answer)
+    (names : IsOfEntry answer entry) where
+  pub added_untried : (error : CallError EditRunFault) → IfRefused error (IsTryFault entry between) → IfRefused error (IsAddedTryFault addition from)
+  added_untried OutOfMemory why = tt
+  added_untried (Refused f) why =
+      inr (record { between = between; answer = answer; added = added; entry = entry; names = names; refused = why })
+
+pub unadded : (addition : Addition) (from : Variables) (error : CallError EditRunFault) → IfRefused error (IsRunFault (Add addition) from) →
+    IfRefused error (IsAddedTryFault addition from)
+unadded addition from OutOfMemory why = tt
+unadded addition from (Refused f) why = inl why

@@ -3,3 +3,4 @@ pub mod File
 pub mod Outcome
 pub mod Run
 pub mod Words
+pub mod Adding

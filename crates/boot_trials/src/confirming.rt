@@ -13,7 +13,7 @@ use crate::outcome::{Facts, Outcome, outcome_of};
 use crate::trial::Trial;
 use boot_edits::EditRunFault;
 use boot_journal::{AttributesFault, BootId, CallError, Run, without_attributes};
-use std::alloc::Global;
+use std::alloc::{AllocError, Global};
 use uefi_vars::Vars;
 
 /// What follows from a trial, run over what a machine keeps. It gives what came of the trial.
@@ -91,13 +91,19 @@ fn came_of(
     ensures refused { IfErr result (λ error. IfRefused error (λ f. (f ≡ fault.NoData) × HasNoData vars.now)) }
 {
     let set = data_in(alloc, vars)?;
+    Ok(outcome_in(alloc, run, &set)?)
+}
+
+/// What came of the trial, by these variables without attributes.
+fn outcome_in(alloc: Global, run: &ConfirmRun<'_>, set: &Vars) -> Result<Outcome, AllocError>
+    ensures { IfOk result (IsOutcome run.now.trial.now run.now.start.now (current_of set.now) set.now) }
+{
     let facts = Facts {
         start: run.start,
-        current: boot_current(&set),
-        vars: &set,
+        current: boot_current(set),
+        vars: set,
     };
-    let came = outcome_of(alloc, run.trial, &facts)?;
-    Ok(came)
+    outcome_of(alloc, run.trial, &facts)
 }
 
 /// The variables without their attributes.

@@ -1,14 +1,20 @@
 //! Laws of the definitions. Each function's contract is one law; calling it does nothing.
 
 ghost use Rattle.std.specs.Prelude.{◌≡◌, ◌≢◌, ℕ, List, Option, Some, None};
-ghost use Rattle.uefi_vars.specs.Order.{HasOrder};
+ghost use Rattle.uefi_option.specs.Attributes.{IsNormal};
+ghost use Rattle.uefi_option.specs.LoadOption.{OptionParts, SpellsOption};
+ghost use Rattle.uefi_vars.specs.Order.{HasOrder, IsEntryNumber};
 ghost use Rattle.uefi_vars.specs.Plan.{PlanParts, IsPlan};
 ghost use Rattle.uefi_vars.specs.Vars.{Variables, entry_of};
 ghost use Rattle.boot_journal.specs.Attributes.{data_of};
+ghost use Rattle.boot_edits.specs.declared.addition.Addition.{Addition};
+ghost use Rattle.boot_edits.specs.declared.addition.Position.TheVariants as position;
+ghost use Rattle.boot_trials.specs.Adding.{IsAddedTry};
 ghost use Rattle.boot_trials.specs.File.{SpellsTrial, IsTrialFault};
-ghost use Rattle.boot_trials.specs.Outcome.{IsOutcome, current_of, digest_of};
+ghost use Rattle.boot_trials.specs.Outcome.{IsOutcome, current_of, digest_of, next_of};
 ghost use Rattle.boot_trials.specs.Run.{IsConfirming, IsTry, DifferInNext};
 ghost use Rattle.boot_trials.specs.Trial.{TrialParts};
+ghost use Rattle.boot_trials.specs.declared.adding.BegunTrial.{BegunTrial};
 ghost use Rattle.boot_trials.specs.declared.fault.TrialFault.{TrialFault};
 ghost use Rattle.boot_trials.specs.declared.fault.TrialFault.TheVariants as fault;
 ghost use Rattle.boot_trials.specs.declared.outcome.Outcome.{Outcome};
@@ -45,13 +51,15 @@ pub fn no_outcome_but_came_up_changes_a_variable()
         IsConfirming trial start from to outcome → outcome ≢ came.CameUp → to ≡ from }
 {}
 
-/// If something is changed for a trial, then the trial was open, this is another start than that in which it began, the
-/// machine came up by the entry, and its data is what it was.
+/// If something is changed for a trial, then the trial was open, this is another start than that in which it began, BootNext
+/// doesn't name the entry any more, the machine came up by the entry, and its data is what it was.
 pub fn a_change_needs_the_entry_its_bytes_and_another_start()
     ensures stage { (trial : TrialParts) (start : List ℕ) (from to : Variables) (outcome : Outcome) →
         IsConfirming trial start from to outcome → to ≢ from → trial.stage ≡ stage.Open }
     ensures start { (trial : TrialParts) (start : List ℕ) (from to : Variables) (outcome : Outcome) →
         IsConfirming trial start from to outcome → to ≢ from → start ≢ trial.start }
+    ensures next { (trial : TrialParts) (start : List ℕ) (from to : Variables) (outcome : Outcome) →
+        IsConfirming trial start from to outcome → to ≢ from → next_of (data_of from) ≢ Some trial.entry }
     ensures entry { (trial : TrialParts) (start : List ℕ) (from to : Variables) (outcome : Outcome) →
         IsConfirming trial start from to outcome → to ≢ from → current_of (data_of from) ≡ Some trial.entry }
     ensures bytes { (trial : TrialParts) (start : List ℕ) (from to : Variables) (outcome : Outcome) →
@@ -88,4 +96,18 @@ pub fn a_try_leaves_the_plan_without_boot_next()
 {
     vars_laws::a_plan_reads_entries_alone();
     a_try_changes_boot_next_alone();
+}
+
+/// So does the beginning of a trial of an entry that is added, comes last in BootOrder, and isn't an option that the boot
+/// manager tries by itself: there is an order then with the plan that there was.
+pub fn an_added_try_leaves_the_plan_without_boot_next()
+    ensures { (addition : Addition) (start : List ℕ) (from to : Variables) (begun : BegunTrial) (order : List ℕ) (plan : PlanParts) →
+        IsAddedTry addition start from to begun → IsEntryNumber begun.trial.entry → addition.position ≡ position.Last →
+        ((option : OptionParts) → SpellsOption addition.option.now option → IsNormal option.attributes → ⊥) →
+        HasOrder (data_of from) order → IsPlan (entry_of (data_of from)) order None plan →
+        (new : List ℕ) × HasOrder (data_of to) new × IsPlan (entry_of (data_of to)) new None plan }
+{
+    vars_laws::variables_have_one_order();
+    journal_laws::attributes_and_data_are_what_is_kept();
+    a_try_leaves_the_plan_without_boot_next();
 }

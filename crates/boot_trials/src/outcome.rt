@@ -1,9 +1,10 @@
 //! What came of trials.
 
 ghost use Rattle.std.specs.Prelude.{◌≡◌, ◌≢◌, ◌↔◌, ℕ, List, Some, IfOk, IsTrue};
-ghost use Rattle.boot_trials.specs.Outcome.{IsOutcome, IsFirst, digest_of};
+ghost use Rattle.boot_trials.specs.Outcome.{IsOutcome, IsFirst, IsTried, digest_of};
 ghost use Rattle.boot_trials.specs.declared.stage.Stage.TheVariants as stage;
 
+use crate::current::boot_next;
 use crate::stage::Stage;
 use crate::trial::{DIGEST_LEN, Trial};
 use boot_journal::BootId;
@@ -25,7 +26,8 @@ pub struct Facts<'a> {
 /// What came of a trial.
 #[derive(Clone, Copy, Debug, PartialEq, Eq, Hash)]
 pub enum Outcome {
-    /// Nothing as yet: the machine wasn't started since the trial began.
+    /// Nothing as yet: firmware hasn't tried the entry, since the machine wasn't started since the trial began, or BootNext still
+    /// names the entry.
     TooEarly,
     /// The machine came up by the entry, whose data is what it was.
     CameUp,
@@ -65,7 +67,7 @@ fn open_outcome(trial: &Trial, facts: &Facts<'_>) -> Outcome
     requires { trial.now.stage ≡ stage.Open }
     ensures { IsOutcome trial.now facts.now.start.now facts.now.current facts.now.vars.now result }
 {
-    if is_same_start(facts.start, &trial.start) {
+    if !is_tried(trial, facts) {
         Outcome::TooEarly
     } else if facts.current != Some(trial.entry) {
         Outcome::Failed { by: facts.current }
@@ -74,6 +76,13 @@ fn open_outcome(trial: &Trial, facts: &Facts<'_>) -> Outcome
     } else {
         Outcome::Changed
     }
+}
+
+/// Whether firmware has tried the entry.
+fn is_tried(trial: &Trial, facts: &Facts<'_>) -> bool
+    ensures { IsTrue result ↔ IsTried trial.now facts.now.start.now facts.now.vars.now }
+{
+    !is_same_start(facts.start, &trial.start) && boot_next(facts.vars) != Some(trial.entry)
 }
 
 /// Whether the two are one start.

@@ -7,7 +7,7 @@ use crate::replies::{Replies, ReplyForm, next_in};
 use crate::requests_run::{Answered, RequestsRun};
 use crate::script::Script;
 use boot_journal::{CallError, Run};
-use boot_texts::{Look, UnnamedWords, changes_text, look_json};
+use boot_texts::{Look, TellsTrial, UnnamedWords, changes_text, look_json};
 use journaled_requests::{Requests, RunFault};
 use messages::Failure;
 use request_preconditions::Precondition;
@@ -27,8 +27,8 @@ pub enum Printing {
 }
 
 /// The events of a script, wanted of a machine.
-#[derive(Clone, Copy)]
-pub struct WantedRequests<'a, 'b, 's> {
+#[derive(Drop)]
+pub struct WantedRequests<'a, 'b, 's, T> {
     /// The path of the machine's place.
     pub place: &'a str,
     /// The script.
@@ -37,9 +37,13 @@ pub struct WantedRequests<'a, 'b, 's> {
     pub preconditions: &'b [Precondition],
     /// What of it is printed.
     pub printing: Printing,
+    /// The identity of the machine's start, which a look tells, if it is known.
+    pub start: Option<&'b str>,
+    /// What tells of its start on trial, in a look.
+    pub trials: &'b T,
 }
 
-impl Wanted for WantedRequests<'_, '_, '_> {
+impl<T: TellsTrial> Wanted for WantedRequests<'_, '_, '_, T> {
     ghost use Rattle.boot_journal.specs.Attributes.{data_of};
     ghost use Rattle.journaled_requests.specs.Requests.{IsAnswered};
     ghost use Rattle.journaled_requests.specs.RunFault.{IsRunFault};
@@ -112,7 +116,9 @@ impl Wanted for WantedRequests<'_, '_, '_> {
             journal,
         };
         let text = match self.printing {
-            Printing::Replies(ReplyForm::Look) => look_text(alloc, seen, change.to, &replies)?,
+            Printing::Replies(ReplyForm::Look) => {
+                self.look_text(alloc, seen, change.to, &replies)?
+            }
             Printing::Plan(form) if answered.unmet.is_none() => {
                 plan_text(alloc, change, &replies, form != ReplyForm::Lines)?
             }
@@ -134,7 +140,31 @@ impl Wanted for WantedRequests<'_, '_, '_> {
     fn end(&self, _answered: &Answered) {}
 }
 
-impl WantedRequests<'_, '_, '_> {
+impl<T: TellsTrial> WantedRequests<'_, '_, '_, T> {
+    /// The replies, and what there is after them, without BootKeepState and those variables that no set can hold.
+    fn look_text(
+        &self,
+        alloc: Global,
+        seen: &Seen<'_>,
+        to: &Vars,
+        replies: &Replies<'_, '_, '_>,
+    ) -> Result<String, Failure> {
+        let mut vars = to.copy(alloc)?;
+        vars.remove(KEEP_STATE);
+        leave_out(&mut vars, seen.left_out);
+        let told = replies.told(alloc)?;
+        let look = Look {
+            next: next_in(replies.answered),
+            journal: replies.journal,
+            start: self.start,
+            unmet: replies.unmet(),
+            trial: self.trials.told(&vars)?,
+            replies: &told,
+            vars: &vars,
+        };
+        Ok(look_json(alloc, &look)?)
+    }
+
     /// What standard error is told: what isn't as it was expected, and the entries that are left in no order, unless what is
     /// printed says so.
     fn remarks(
@@ -157,27 +187,6 @@ impl WantedRequests<'_, '_, '_> {
         }
         Ok(remarks)
     }
-}
-
-/// The replies, and what there is after them, without BootKeepState and those variables that no set can hold.
-fn look_text(
-    alloc: Global,
-    seen: &Seen<'_>,
-    to: &Vars,
-    replies: &Replies<'_, '_, '_>,
-) -> Result<String, AllocError> {
-    let mut vars = to.copy(alloc)?;
-    vars.remove(KEEP_STATE);
-    leave_out(&mut vars, seen.left_out);
-    let told = replies.told(alloc)?;
-    let look = Look {
-        next: next_in(replies.answered),
-        journal: replies.journal,
-        unmet: replies.unmet(),
-        replies: &told,
-        vars: &vars,
-    };
-    look_json(alloc, &look)
 }
 
 /// The replies that there would be, and the changes.

@@ -2,6 +2,7 @@ pub mod Telling
 pub mod Answering
 pub mod PartsOfOptions
 pub mod Failures
+pub mod FramesMade
 pub mod Changes
 pub mod Openings
 pub mod Boxes

@@ -62,9 +62,9 @@ at_place kind place = failure.Refused (refusal kind no_kind place no_place)
 
 abbrev pub path_failure : PathFault → Failure
 path_failure (path.NoEnd place) = at_place 0x0101 place
-path_failure (path.ShortHeader place) = at_place 0x0102 place
+path_failure (path.ShortHeader place left) = at_place 0x0102 place
 path_failure (path.BadLength place) = at_place 0x0103 place
-path_failure (path.PastEnd place) = at_place 0x0104 place
+path_failure (path.PastEnd place stated left) = at_place 0x0104 place
 path_failure (path.BadEnd place) = at_place 0x0105 place
 path_failure path.OutOfMemory = failure.Memory
 
@@ -94,9 +94,9 @@ list_failure place (failure.Refused inner) = failure.Refused (refusal 0x0305 inn
 list_failure place failure.Memory = failure.Memory
 
 abbrev pub option_failure : OptionFault → Failure
-option_failure option.Short = bare 0x0301
+option_failure (option.Short found) = bare 0x0301
 option_failure option.NoTerminator = bare 0x0302
-option_failure option.ListPastEnd = bare 0x0303
+option_failure (option.ListPastEnd stated left) = bare 0x0303
 option_failure option.EmptyList = bare 0x0304
 option_failure (option.Path place fault) = list_failure place (path_failure fault)
 option_failure option.ZeroUnit = bare 0x0306
@@ -146,11 +146,11 @@ stream_failure _ = failure.Memory
 
 -- a frame that can't be made, or isn't one: the fault of an option is told as that of the option alone
 abbrev pub frame_failure : FrameFault → Failure
-frame_failure frame.Short = bare 0x0801
+frame_failure (frame.Short found) = bare 0x0801
 frame_failure frame.BadMagic = bare 0x0802
 frame_failure frame.BadVersion = bare 0x0803
 frame_failure frame.TooLong = bare 0x0804
-frame_failure frame.BadSize = bare 0x0805
+frame_failure (frame.BadSize stated found) = bare 0x0805
 frame_failure frame.BadKind = bare 0x0806
 frame_failure frame.BadNumber = bare 0x0807
 frame_failure frame.BadPayload = bare 0x0808

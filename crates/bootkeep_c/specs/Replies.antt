@@ -35,11 +35,11 @@ told_of failure.Memory = no_refusal
 
 -- the number of a frame's fault, and what is told of its option
 abbrev pub fault_number : FrameFault → ℕ
-fault_number frame.Short = 0x0801
+fault_number (frame.Short found) = 0x0801
 fault_number frame.BadMagic = 0x0802
 fault_number frame.BadVersion = 0x0803
 fault_number frame.TooLong = 0x0804
-fault_number frame.BadSize = 0x0805
+fault_number (frame.BadSize stated found) = 0x0805
 fault_number frame.BadKind = 0x0806
 fault_number frame.BadNumber = 0x0807
 fault_number frame.BadPayload = 0x0808

@@ -107,9 +107,9 @@ impl From<PathFault> for Failure {
     fn from(fault: PathFault) -> Failure {
         match fault {
             PathFault::NoEnd(place) => Failure::at(PATH_NO_END, place),
-            PathFault::ShortHeader(place) => Failure::at(PATH_SHORT_HEADER, place),
+            PathFault::ShortHeader { offset: place, .. } => Failure::at(PATH_SHORT_HEADER, place),
             PathFault::BadLength(place) => Failure::at(PATH_BAD_LENGTH, place),
-            PathFault::PastEnd(place) => Failure::at(PATH_PAST_END, place),
+            PathFault::PastEnd { offset: place, .. } => Failure::at(PATH_PAST_END, place),
             PathFault::BadEnd(place) => Failure::at(PATH_BAD_END, place),
             PathFault::OutOfMemory => Failure::Memory,
         }
@@ -151,9 +151,9 @@ impl From<OptionFault> for Failure {
 
     fn from(fault: OptionFault) -> Failure {
         match fault {
-            OptionFault::Short => Failure::bare(OPTION_SHORT),
+            OptionFault::Short { .. } => Failure::bare(OPTION_SHORT),
             OptionFault::NoTerminator => Failure::bare(OPTION_NO_TERMINATOR),
-            OptionFault::ListPastEnd => Failure::bare(OPTION_LIST_PAST_END),
+            OptionFault::ListPastEnd { .. } => Failure::bare(OPTION_LIST_PAST_END),
             OptionFault::EmptyList => Failure::bare(OPTION_EMPTY_LIST),
             OptionFault::Path(place, inner) => Failure::from(inner).in_list(place),
             OptionFault::ZeroUnit => Failure::bare(OPTION_ZERO_UNIT),
@@ -234,11 +234,11 @@ impl From<FrameFault> for Failure {
 
     fn from(fault: FrameFault) -> Failure {
         match fault {
-            FrameFault::Short => Failure::bare(FRAME_SHORT),
+            FrameFault::Short { .. } => Failure::bare(FRAME_SHORT),
             FrameFault::BadMagic => Failure::bare(FRAME_BAD_MAGIC),
             FrameFault::BadVersion => Failure::bare(FRAME_BAD_VERSION),
             FrameFault::TooLong => Failure::bare(FRAME_TOO_LONG),
-            FrameFault::BadSize => Failure::bare(FRAME_BAD_SIZE),
+            FrameFault::BadSize { .. } => Failure::bare(FRAME_BAD_SIZE),
             FrameFault::BadKind => Failure::bare(FRAME_BAD_KIND),
             FrameFault::BadNumber => Failure::bare(FRAME_BAD_NUMBER),
             FrameFault::BadPayload => Failure::bare(FRAME_BAD_PAYLOAD),

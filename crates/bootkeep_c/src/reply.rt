@@ -234,11 +234,11 @@ fn fault_number(fault: &FrameFault) -> u32
     ensures { result ≡ fault_number fault.now }
 {
     match fault {
-        FrameFault::Short => FRAME_SHORT,
+        FrameFault::Short { .. } => FRAME_SHORT,
         FrameFault::BadMagic => FRAME_BAD_MAGIC,
         FrameFault::BadVersion => FRAME_BAD_VERSION,
         FrameFault::TooLong => FRAME_TOO_LONG,
-        FrameFault::BadSize => FRAME_BAD_SIZE,
+        FrameFault::BadSize { .. } => FRAME_BAD_SIZE,
         FrameFault::BadKind => FRAME_BAD_KIND,
         FrameFault::BadNumber => FRAME_BAD_NUMBER,
         FrameFault::BadPayload => FRAME_BAD_PAYLOAD,
@@ -253,11 +253,11 @@ fn fault_of_option(fault: &FrameFault) -> Refusal
 {
     match fault {
         FrameFault::Option(why) => told_of(Failure::from(*why)),
-        FrameFault::Short
+        FrameFault::Short { .. }
         | FrameFault::BadMagic
         | FrameFault::BadVersion
         | FrameFault::TooLong
-        | FrameFault::BadSize
+        | FrameFault::BadSize { .. }
         | FrameFault::BadKind
         | FrameFault::BadNumber
         | FrameFault::BadPayload

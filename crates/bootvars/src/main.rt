@@ -2,12 +2,14 @@
 //! and the frames of requests. All of it is in the libraries `var_commands`, `efibootmgr_runs` and `trial_changes`.
 #![tactic(auto)]
 
-use boot_trials::Outcome;
+use boot_texts::TrialView;
+use boot_trials::{Outcome, TrialTarget};
 use machine_changes::ChangeOptions;
 use messages::Failure;
 use std::process::ExitCode;
 use std::rt::{Clock, Env, Files};
-use trial_changes::{TrialForm, begin_trial, confirm_trial, end_trial};
+use trial_changes::{TrialForm, begin_trial, confirm_trial, end_trial, trial_view};
+use uefi_vars::Vars;
 use var_commands::{OtherProgram, Trials};
 use wanted_changes::MachineWords;
 use whole_files::OutputFile;
@@ -30,10 +32,10 @@ impl<R: Files<File: OutputFile> + Clock + Input + Print + Eprint + AllocGlobal> 
         &self,
         rt: &R,
         options: &ChangeOptions<'_>,
-        entry: u16,
+        target: TrialTarget<'_>,
         json: bool,
     ) -> Result<(), Failure> {
-        begin_trial(rt, options, entry, form_of(json))
+        begin_trial(rt, options, target, form_of(json))
     }
 
     fn confirm(
@@ -47,6 +49,15 @@ impl<R: Files<File: OutputFile> + Clock + Input + Print + Eprint + AllocGlobal> 
 
     fn end(&self, rt: &R, machine: &MachineWords<'_>, json: bool) -> Result<(), Failure> {
         end_trial(rt, machine, form_of(json))
+    }
+
+    fn view(
+        &self,
+        rt: &R,
+        machine: &MachineWords<'_>,
+        vars: &Vars,
+    ) -> Result<Option<TrialView>, Failure> {
+        trial_view(rt, machine, vars)
     }
 }
 

@@ -1,2 +1,3 @@
 -- Lemmas.
 mod Searches
+mod Disks

@@ -3,3 +3,4 @@ pub mod FilePath
 pub mod DeviceLinks
 pub mod Search
 pub mod Device
+pub mod Disk

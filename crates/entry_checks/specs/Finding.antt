@@ -9,12 +9,14 @@ use Rattle.entry_checks.specs.declared.finding.Finding.TheVariants as finding
 use Rattle.entry_checks.specs.declared.finding.Weight.{Weight}
 use Rattle.entry_checks.specs.declared.finding.Weight.TheVariants.{Fault, Remark, Unseen}
 
--- where an entry leads: it is wrong if the partition or the file isn't there
+-- where an entry leads: it is wrong if the partition or the file isn't there; a disk may be there though the system doesn't tell
+-- that it is
 abbrev pub weight_of_lead : Lead → Weight
 weight_of_lead lead.File = Remark
 weight_of_lead lead.NoFile = Fault
 weight_of_lead lead.Folder = Fault
 weight_of_lead lead.NoPartition = Fault
+weight_of_lead lead.NoFileOnDisk = Fault
 weight_of_lead _ = Unseen
 
 -- the file of an entry: it is wrong if firmware or its Secure Boot doesn't start it, or firmware goes wrong
@@ -56,6 +58,12 @@ kind_of_lead lead.Network = codes "network"
 kind_of_lead lead.Firmware = codes "firmware"
 kind_of_lead lead.Legacy = codes "legacy"
 kind_of_lead lead.Disk = codes "disk"
+kind_of_lead lead.WholeDisk = codes "whole_disk"
+kind_of_lead lead.NoDisk = codes "no_disk"
+kind_of_lead lead.SeveralDisks = codes "several_disks"
+kind_of_lead lead.NoFileOnDisk = codes "no_file_on_disk"
+kind_of_lead lead.SeveralFiles = codes "several_files"
+kind_of_lead lead.PartUnseen = codes "part_unseen"
 kind_of_lead lead.Device = codes "device"
 
 abbrev pub kind_of_image : ImageState → List ℕ

@@ -125,6 +125,30 @@ impl Lead {
                 "disk",
                 "not looked at: firmware seeks its own file name on a disk, and the path doesn't tell which one that is",
             ),
+            Lead::WholeDisk => unseen(
+                "whole_disk",
+                "not looked at: firmware seeks its own file name on its disk",
+            ),
+            Lead::NoDisk => unseen(
+                "no_disk",
+                "not looked at: no disk of this machine is known to be where its path leads",
+            ),
+            Lead::SeveralDisks => unseen(
+                "several_disks",
+                "not looked at: several disks are where its path leads, and firmware may take any",
+            ),
+            Lead::NoFileOnDisk => fault(
+                "no_file_on_disk",
+                "no partition of its disk has the file that firmware seeks",
+            ),
+            Lead::SeveralFiles => unseen(
+                "several_files",
+                "not looked at: several partitions of its disk have its file, and firmware may take any",
+            ),
+            Lead::PartUnseen => unseen(
+                "part_unseen",
+                "not looked at: its file may be on a part of its disk that isn't mounted, or can't be read",
+            ),
             Lead::Device => unseen("device", "not looked at: it leads to a device"),
         }
     }

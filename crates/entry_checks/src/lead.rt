@@ -35,8 +35,21 @@ pub enum Lead {
     Firmware,
     /// The path is one for the BIOS of before UEFI.
     Legacy,
-    /// The path leads to a disk, and names neither a partition nor a file there.
+    /// The path leads to a disk, and names neither a partition nor a file there; and it isn't sought.
     Disk,
+    /// The path leads to a disk of this machine, and it isn't known which file firmware seeks there.
+    WholeDisk,
+    /// The path leads to a disk, and no disk of this machine is known to be there.
+    NoDisk,
+    /// The path leads to a disk, and several disks of this machine are there.
+    SeveralDisks,
+    /// The path leads to a disk of this machine, and no partition of it has the file that firmware seeks.
+    NoFileOnDisk,
+    /// The path leads to a disk of this machine, and several partitions of it have the file that firmware seeks.
+    SeveralFiles,
+    /// The path leads to a disk of this machine, and a partition of it that couldn't be looked at may have the file that
+    /// firmware seeks.
+    PartUnseen,
     /// The path leads to something else.
     Device,
 }

@@ -3,7 +3,7 @@
 ghost use Rattle.std.specs.Prelude.{◌≡◌};
 ghost use Rattle.std.specs.List.{list_any};
 ghost use Rattle.std.specs.Option.{option_map, option_copied};
-ghost use Rattle.entry_checks.specs.Target.{parts_of, target_of, target_of_nodes, partition_of, behind, lead_of, lead_of_first, lead_of_last, is_network, is_firmware, is_legacy, is_disk};
+ghost use Rattle.entry_checks.specs.Target.{parts_of, target_of, target_of_nodes, partition_of, behind, without_partition, is_sought, lead_of, lead_of_first, lead_of_last, is_network, is_firmware, is_legacy, is_disk};
 
 use crate::lead::Lead;
 use uefi_path::{FileNode, HardDriveNode, Node, Path};
@@ -24,6 +24,8 @@ pub enum Target<'a> {
     File(&'a HardDriveNode, &'a FileNode),
     /// To a partition, of which firmware chooses the file (UEFI 2.10, 3.5.1.1).
     Partition(&'a HardDriveNode),
+    /// To a disk, by these nodes: firmware chooses a partition of it too (3.5.1.1).
+    Disk(&'a [Node]),
     /// To something that isn't looked at.
     Unseen(Lead),
 }
@@ -50,7 +52,7 @@ fn target_of_nodes(nodes: &[Node]) -> Target<'_>
         }
         rest = others;
     }
-    Target::Unseen(lead(nodes))
+    without_partition(nodes)
 }
 
 /// The partition that a node is, if it is one.
@@ -74,7 +76,28 @@ fn behind<'a>(partition: &'a HardDriveNode, nodes: &'a [Node]) -> Target<'a>
     }
 }
 
-/// Where a path of these nodes leads, none of which is a partition.
+/// Where a path of these nodes leads, none of which is a partition: to a disk that can be sought, or to something that
+/// isn't looked at.
+fn without_partition(nodes: &[Node]) -> Target<'_>
+    ensures { parts_of result ≡ without_partition nodes.now }
+{
+    match lead(nodes) {
+        Lead::Disk if is_sought(nodes.last()) => Target::Disk(nodes),
+        found => Target::Unseen(found),
+    }
+}
+
+/// Whether a path that ends with this node leads to a disk that is sought by its path: one on SATA, NVM Express or USB.
+fn is_sought(last: Option<&Node>) -> bool
+    ensures { result ≡ is_sought (option_copied last.entry) }
+{
+    matches!(
+        last,
+        Some(Node::Sata { .. } | Node::Nvme { .. } | Node::Usb { .. })
+    )
+}
+
+/// Where a path of these nodes leads, none of which is a partition, if it leads to no disk that is sought.
 fn lead(nodes: &[Node]) -> Lead
     ensures { result ≡ lead_of nodes.now }
 {

@@ -21,7 +21,7 @@ use whole_files::OutputFile;
 pub(crate) struct Identity {
     /// Its name.
     pub(crate) name: MachineName,
-    /// What earlier versions called it, where that was something else.
+    /// What earlier versions called it, if that differs from its name.
     pub(crate) former: Vec<String>,
     /// Why what should name it can't be read, if that is so.
     pub(crate) unread: Option<io::Error>,

@@ -17,4 +17,4 @@ pub use failure::Failure;
 pub use notes::{DamageWords, Quoted, SHOWN_MAX, Shortened, note, print, shown};
 pub use other_files::{NoOption, OtherKind};
 pub use reason::Reason;
-pub use words::{IsLeftOut, IsThere, NoSuch, Unreadable, WrongWord};
+pub use words::{IsIgnored, IsThere, NoSuch, Unreadable, WrongWord};

@@ -37,18 +37,18 @@ impl<N: Display, Y: Display> Display for Unreadable<N, Y> {
     }
 }
 
-/// That what is called so is left out, and why.
+/// That what is called so is ignored, and why.
 #[derive(Clone, Copy)]
-pub struct IsLeftOut<N, Y> {
+pub struct IsIgnored<N, Y> {
     /// What it is called.
     pub name: N,
-    /// Why it is left out.
+    /// Why it is ignored.
     pub why: Y,
 }
 
-impl<N: Display, Y: Display> Display for IsLeftOut<N, Y> {
+impl<N: Display, Y: Display> Display for IsIgnored<N, Y> {
     fn fmt<W: fmt::Write>(&self, f: &mut fmt::Formatter<W>) -> fmt::Result {
-        write!(f, "{} is left out: {}", self.name, self.why)
+        write!(f, "{} is ignored: {}", self.name, self.why)
     }
 }
 

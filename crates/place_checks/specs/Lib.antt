@@ -2,3 +2,4 @@
 pub mod Look
 pub mod SecureBoot
 pub mod Verdict
+pub mod WholeDisk

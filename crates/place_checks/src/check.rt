@@ -6,7 +6,7 @@ use crate::checked::check_vars;
 use crate::machine::Machine;
 use crate::place::read_with_source;
 use crate::view::view_of;
-use boot_texts::{check_json, check_report};
+use boot_texts::{TellsTrial, check_json, check_report};
 use messages::{Failure, print};
 use std::rt::Files;
 
@@ -32,21 +32,22 @@ pub enum Verdict {
 }
 
 /// Prints what is found of the boot entries of a place and of BootOrder and BootNext, first of those that the next boot
-/// tries, in its order, and tells whether what it tries first can be started.
+/// tries, in its order, and of the start on trial, and tells whether what the next boot tries first can be started.
 ///
 /// # Errors
 ///
 /// [`Failure::Read`] if the place, or what the system tells of its disks, can't be read; [`Failure::Refused`] if it is
 /// no place, or what the system tells isn't as it tells it; [`Failure::Write`] and [`Failure::Closed`] if the answer
 /// can't be printed; and [`Failure::Memory`] if memory was refused.
-pub fn check_place<R: Files + Input + Print + Eprint + AllocGlobal>(
+pub fn check_place<R: Files + Input + Print + Eprint + AllocGlobal, T: TellsTrial>(
     rt: &R,
     words: &CheckWords<'_>,
+    trials: &T,
 ) -> Result<Verdict, Failure> {
     let alloc = rt.alloc();
     let place = read_with_source(rt, words.place)?;
     let checked = check_vars(Machine::new(rt, words.root, place.source), &place.vars)?;
-    let view = view_of(alloc, &checked)?;
+    let view = view_of(alloc, &checked, trials.told(&place.vars)?)?;
     let text = if words.json {
         check_json(alloc, &view)?
     } else {

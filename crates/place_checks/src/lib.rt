@@ -11,6 +11,7 @@
 mod buffer;
 mod check;
 mod checked;
+mod disk;
 mod entry;
 mod image;
 mod loader;
@@ -19,6 +20,7 @@ mod place;
 mod secure_boot;
 mod stored_secure_boot;
 mod view;
+mod whole_disk;
 
 pub use check::{CheckWords, Verdict, check_place};
 pub use loader::{LoaderNote, note_of_file, note_of_path};

@@ -8,7 +8,7 @@ use crate::place::Source;
 use crate::secure_boot::{SeenSecureBoot, read_secure_boot};
 use crate::stored_secure_boot::stored_secure_boot;
 use disk_files::{
-    PartitionSearch, SeenMounts, SeenPartitions, find_partition, machine_mounts,
+    PartitionSearch, SeenDisks, SeenMounts, SeenPartitions, find_partition, machine_mounts,
     machine_partitions, mounted_folders,
 };
 use entry_checks::{Lead, Processor, Target, name_among, processor_of};
@@ -26,7 +26,7 @@ use whole_files::{RegularFile, read_regular};
 const SEPARATOR: char = '\\';
 
 /// The name of the file that firmware for x86-64 seeks on a partition (UEFI 2.10, 3.5.1.1).
-const DEFAULT_FILE: &str = "\\EFI\\BOOT\\BOOTX64.EFI";
+pub(crate) const DEFAULT_FILE: &str = "\\EFI\\BOOT\\BOOTX64.EFI";
 
 /// Where Linux tells for which processor it is made.
 const ARCH: &str = "/proc/sys/kernel/arch";
@@ -38,14 +38,14 @@ const BITS: &str = "/sys/firmware/efi/fw_platform_size";
 const TOLD_MAX: usize = 64;
 
 /// The path of all that a file system has.
-const ROOT: &str = "/";
+pub(crate) const ROOT: &str = "/";
 
 /// The machine whose root a folder stands for, or this one. What it tells is read once, when it is first needed.
 #[derive(Drop)]
 pub(crate) struct Machine<'a, R> {
     pub(crate) rt: &'a R,
     /// The path of the folder, or nothing.
-    root: &'a str,
+    pub(crate) root: &'a str,
     /// Where the variables of its firmware are.
     source: Source<'a>,
     /// Its firmware's processor, once that is read.
@@ -54,6 +54,8 @@ pub(crate) struct Machine<'a, R> {
     secure_boot: Option<SeenSecureBoot>,
     /// Its partitions, once they are read.
     partitions: Option<SeenPartitions>,
+    /// Its disks, once they are read.
+    pub(crate) disks: Option<SeenDisks>,
     /// What is mounted, once that is read.
     mounts: Option<SeenMounts>,
     /// What is known of the files that were looked at, by their paths: each is read once.
@@ -105,7 +107,7 @@ impl Seen {
     }
 
     /// Where a path leads, by the file or the folder at this path.
-    fn at(alloc: Global, lead: Lead, path: &str) -> Result<Seen, AllocError>
+    pub(crate) fn at(alloc: Global, lead: Lead, path: &str) -> Result<Seen, AllocError>
         ensures { IfOk result (λ seen. seen.lead ≡ lead) }
     {
         Ok(Seen {
@@ -128,6 +130,7 @@ impl<'a, R: Files + AllocGlobal> Machine<'a, R> {
             processor: None,
             secure_boot: None,
             partitions: None,
+            disks: None,
             mounts: None,
             images: BTreeMap::new(rt.alloc()),
             buffer: Vec::new(rt.alloc()),
@@ -135,7 +138,7 @@ impl<'a, R: Files + AllocGlobal> Machine<'a, R> {
     }
 
     /// The processor of the firmware that has the variables.
-    fn processor(&mut self) -> Result<Processor, AllocError> {
+    pub(crate) fn processor(&mut self) -> Result<Processor, AllocError> {
         if let Some(processor) = self.processor {
             return Ok(processor);
         }
@@ -206,7 +209,7 @@ impl<'a, R: Files + AllocGlobal> Machine<'a, R> {
     }
 
     /// What is mounted.
-    fn mounts(&mut self) -> Result<&SeenMounts, Failure> {
+    pub(crate) fn mounts(&mut self) -> Result<&SeenMounts, Failure> {
         if self.mounts.is_none() {
             self.mounts = Some(machine_mounts(self.rt, self.root)?);
         }
@@ -226,6 +229,7 @@ impl<'a, R: Files + AllocGlobal> Machine<'a, R> {
                 self.look_at_file(partition, &name)
             }
             Target::Partition(partition) => self.look_at_partition(partition),
+            Target::Disk(path) => self.look_at_disk(path),
             Target::Unseen(lead) => Ok(Seen::bare(self.rt.alloc(), lead)),
         }
     }
@@ -292,7 +296,7 @@ impl<'a, R: Files + AllocGlobal> Machine<'a, R> {
     }
 
     /// Looks whether a file of this name is in the file system that is mounted at a folder.
-    fn look_in_folder(&mut self, folder: String, name: &str) -> Result<Seen, Failure>
+    pub(crate) fn look_in_folder(&mut self, folder: String, name: &str) -> Result<Seen, Failure>
         ensures { IfOk result (λ seen. OfFile seen.lead) }
     {
         let alloc = self.rt.alloc();
@@ -362,8 +366,8 @@ fn without_partition(alloc: Global, found: PartitionSearch<'_>) -> Result<Seen, 
 {
     match found {
         PartitionSearch::Several(one, other) => {
-            let names = format!(in alloc; "/dev/{} and /dev/{}", one.name, other.name)?;
-            Seen::at(alloc, Lead::Several, &names)
+            let devices = both_devices(alloc, &one.name, &other.name)?;
+            Seen::at(alloc, Lead::Several, &devices)
         }
         PartitionSearch::Untold => Ok(Seen::bare(alloc, Lead::Untold)),
         PartitionSearch::Unsigned => Ok(Seen::bare(alloc, Lead::Unsigned)),
@@ -371,6 +375,11 @@ fn without_partition(alloc: Global, found: PartitionSearch<'_>) -> Result<Seen, 
             Ok(Seen::bare(alloc, Lead::NoPartition))
         }
     }
+}
+
+/// The paths of the devices of these names.
+pub(crate) fn both_devices(alloc: Global, one: &str, other: &str) -> Result<String, AllocError> {
+    format!(in alloc; "/dev/{one} and /dev/{other}")
 }
 
 /// What a name leads to among these, which are in a folder.

@@ -2,12 +2,16 @@
 
 use crate::checked::{Checked, Found};
 use crate::entry::LookedEntry;
-use boot_texts::{CheckView, Detail, EntryView, FindingView, NextView, OrderView};
+use boot_texts::{CheckView, Detail, EntryView, FindingView, NextView, OrderView, TrialView};
 use entry_checks::{Finding, NextFinding, OrderFindings, State, Weight};
 use std::alloc::{AllocError, Global};
 
-/// What is found, as it is shown. This fails only when out of memory.
-pub(crate) fn view_of(alloc: Global, checked: &Checked) -> Result<CheckView<'_>, AllocError> {
+/// What is found, as it is shown, and the start on trial, if one is known. This fails only when out of memory.
+pub(crate) fn view_of(
+    alloc: Global,
+    checked: &Checked,
+    trial: Option<TrialView>,
+) -> Result<CheckView<'_>, AllocError> {
     let mut entries = Vec::with_capacity(alloc, checked.entries.len())?;
     for (entry, found) in checked.entries.iter().zip(&checked.found) {
         entries.push(entry_view(alloc, entry, found)?)?;
@@ -18,6 +22,7 @@ pub(crate) fn view_of(alloc: Global, checked: &Checked) -> Result<CheckView<'_>,
         entries,
         order: order_view(checked),
         next: next_view(checked.next),
+        trial,
     })
 }
 

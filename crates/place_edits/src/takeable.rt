@@ -59,7 +59,7 @@ pub(crate) fn remark_missing(
             remarks.push(
                 name,
                 format!(in alloc;
-                    "{entry} is left out, which firmware refuses: it is no load option: {reason}"
+                    "{entry} is ignored, since firmware refuses it: it is no load option: {reason}"
                 )?,
             )?;
         }

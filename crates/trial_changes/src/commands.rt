@@ -5,7 +5,7 @@ use crate::telling::{TrialForm, no_trial};
 use crate::trial_file::stored_trial;
 use crate::wanted_confirm::WantedConfirm;
 use crate::wanted_try::WantedTry;
-use boot_trials::Outcome;
+use boot_trials::{Outcome, TrialTarget};
 use machine_changes::{
     ChangeOptions, PlaceKind, boot_id, change_machine, kind_of_place, lock_folder,
 };
@@ -15,7 +15,7 @@ use std::rt::{Clock, Files};
 use wanted_changes::MachineWords;
 use whole_files::OutputFile;
 
-/// Begins a trial of the entry of this number, and prints that.
+/// Begins a trial of this, and prints that.
 ///
 /// # Errors
 ///
@@ -24,7 +24,7 @@ use whole_files::OutputFile;
 pub fn begin_trial<R: Files<File: OutputFile> + Clock + Input + Print + Eprint + AllocGlobal>(
     rt: &R,
     options: &ChangeOptions<'_>,
-    entry: u16,
+    target: TrialTarget<'_>,
     form: TrialForm,
 ) -> Result<(), Failure> {
     check_place(rt, options.machine.place)?;
@@ -32,7 +32,7 @@ pub fn begin_trial<R: Files<File: OutputFile> + Clock + Input + Print + Eprint +
     let wanted = WantedTry {
         rt,
         machine: options.machine,
-        entry,
+        target,
         start: &start,
         form,
     };

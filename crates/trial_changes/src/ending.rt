@@ -1,7 +1,8 @@
 //! Trials that are ended without a change.
 
-use crate::telling::{ShownTrial, Standing, TrialForm, no_trial, trial_line};
+use crate::telling::{TrialForm, no_trial, told_trial};
 use crate::trial_file::{forget_trial, stored_trial};
+use boot_texts::{TrialStanding, TrialView};
 use messages::Failure;
 use std::rt::Files;
 
@@ -20,12 +21,12 @@ pub(crate) fn end_stored<R: Files + AllocGlobal>(
     let Some(kept) = kept_trial(rt, state)? else {
         return Ok(no_trial(alloc, form)?);
     };
-    let shown = ShownTrial {
-        standing: Standing::Ended,
+    let trial = TrialView {
+        standing: TrialStanding::Ended,
         entry: kept.entry,
         current: None,
     };
-    let text = trial_line(alloc, form, shown)?;
+    let text = told_trial(alloc, form, trial)?;
     forget_trial(rt, state)?;
     Ok(text)
 }

@@ -5,10 +5,11 @@ ghost use Rattle.boot_journal.specs.Cause.{IfRefused};
 ghost use Rattle.trial_changes.specs.Faults.{IsConfirmRefusal};
 ghost use Rattle.trial_changes.specs.Following.{IsFollowing};
 
-use crate::telling::{ShownTrial, Standing, TrialForm, no_trial, trial_text};
+use crate::telling::{TrialForm, no_trial, standing_of, trial_text};
 use crate::trial_file::{forget_trial, store_stage, stored_trial};
 use boot_edits::{Edit, EditRunFault};
 use boot_journal::{BootId, CallError, Run};
+use boot_texts::TrialView;
 use boot_trials::{ConfirmRun, Outcome, Stage, Trial, boot_current};
 use messages::{Failure, note};
 use place_edits::{EditForm, WantedEdit, from_edit_run};
@@ -103,8 +104,8 @@ impl<R: Files<File: OutputFile> + Eprint + AllocGlobal> Wanted for WantedConfirm
         let text = match confirmation {
             None => no_trial(alloc, self.form)?,
             Some(Confirmation { trial, outcome }) => {
-                let shown = ShownTrial {
-                    standing: Standing::Came(*outcome),
+                let shown = TrialView {
+                    standing: standing_of(*outcome),
                     entry: Some(trial.entry()),
                     current: boot_current(change.from),
                 };

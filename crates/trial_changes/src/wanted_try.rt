@@ -1,27 +1,28 @@
 //! Trials that are to begin.
 
-use crate::telling::{ShownTrial, Standing, TrialForm, trial_text};
+use crate::telling::{TrialForm, trial_text};
 use crate::trial_file::{forget_trial, store_trial, stored_trial};
 use boot_edits::{Edit, EditAnswer, EditRunFault};
 use boot_journal::{BootId, CallError, Run};
-use boot_trials::{Trial, TryRun};
+use boot_texts::{TrialStanding, TrialView};
+use boot_trials::{BeginRun, BegunTrial, TrialTarget};
 use messages::{Failure, note};
 use place_edits::{EditForm, WantedEdit, from_edit_run};
 use std::alloc::Global;
 use std::rt::Files;
 use uefi_vars::{EntryName, Vars};
-use wanted_changes::{MachineWords, Seen, SetChange, Told, Wanted};
+use wanted_changes::{MachineWords, Remarks, Seen, SetChange, Told, Wanted};
 use whole_files::OutputFile;
 
-/// A trial that is to begin of a machine's entry. It is kept in the state folder before BootNext is set.
+/// A trial that is to begin of a machine's entry. It is kept in the state folder before a variable is changed.
 #[derive(Drop)]
 pub struct WantedTry<'a, 'w, R> {
     /// What reaches the files.
     pub rt: &'a R,
     /// The machine.
     pub machine: MachineWords<'w>,
-    /// The number of the entry.
-    pub entry: u16,
+    /// What is tried.
+    pub target: TrialTarget<'w>,
     /// The identity of the machine's start.
     pub start: &'a BootId,
     /// How it is told.
@@ -40,32 +41,69 @@ pub enum TryFault {
 }
 
 impl<R> WantedTry<'_, '_, R> {
-    /// The change of BootNext.
+    /// The edit by which the trial begins, or which comes before it.
     fn edit(&self) -> WantedEdit<'_> {
+        self.edit_of(match self.target {
+            TrialTarget::There(entry) => Edit::Next(Some(entry)),
+            TrialTarget::Added(addition) => Edit::Add(addition),
+        })
+    }
+
+    /// What standard error is told of the edits that begin the trial.
+    fn remarks(
+        &self,
+        alloc: Global,
+        seen: &Seen<'_>,
+        change: SetChange<'_>,
+        begun: &BegunTrial,
+    ) -> Result<Remarks, Failure> {
+        let entry = begun.trial.entry();
+        let (edit, answer) = match begun.added {
+            Some(EditAnswer::Added(number)) => (self.edit(), EditAnswer::Added(number)),
+            _ => (self.edit_of(Edit::Next(Some(entry))), EditAnswer::Done),
+        };
+        let Told {
+            text: _,
+            mut remarks,
+        } = edit.tell(alloc, seen, change, &answer)?;
+        if let Some(EditAnswer::Present(_)) = begun.added {
+            let name = EntryName(entry);
+            let text = format!(in alloc;
+                "{name} has this description and these paths already, and is tried as it is: --again adds another one"
+            )?;
+            remarks.push(self.machine.place, text)?;
+        }
+        Ok(remarks)
+    }
+
+    /// This edit, wanted of the machine.
+    fn edit_of<'b>(&'b self, edit: Edit<'b>) -> WantedEdit<'b> {
         WantedEdit {
             place: self.machine.place,
-            edit: Edit::Next(Some(self.entry)),
+            edit,
             form: EditForm::Lines,
         }
     }
 }
 
 impl<R: Files<File: OutputFile> + Eprint + AllocGlobal> Wanted for WantedTry<'_, '_, R> {
-    ghost use Rattle.boot_trials.specs.Run.{IsTry};
+    ghost use Rattle.boot_trials.specs.Adding.{IsBegun};
     ghost use Rattle.trial_changes.specs.Faults.{IsTryRefusal};
 
-    type Answer = Trial;
+    type Answer = BegunTrial;
 
     type Fault = TryFault;
 
     type Refusal = Failure;
 
-    ghost leads = { λ wanted seen from to trial. IsTry wanted.entry wanted.start.now from to trial };
+    ghost leads = { λ wanted seen from to begun. IsBegun wanted.target wanted.start.now from to begun };
 
-    ghost refuses = { λ wanted seen from fault. IsTryRefusal wanted.entry from fault };
+    ghost refuses = { λ wanted seen from fault. IsTryRefusal wanted.target from fault };
 
+    /// Refuses a change of an entry, of BootOrder or of BootNext that no set can hold.
     fn check(&self, alloc: Global, left_out: &[String]) -> Result<(), Failure> {
-        self.edit().check(alloc, left_out)
+        self.edit().check(alloc, left_out)?;
+        self.edit_of(Edit::Next(None)).check(alloc, left_out)
     }
 
     fn replaced(&self) -> Option<&Vars> {
@@ -81,15 +119,15 @@ impl<R: Files<File: OutputFile> + Eprint + AllocGlobal> Wanted for WantedTry<'_,
         alloc: Global,
         _seen: &Seen<'_>,
         vars: &Vars,
-    ) -> Result<(Vars, Trial), CallError<TryFault>> {
+    ) -> Result<(Vars, BegunTrial), CallError<TryFault>> {
         match stored_trial(self.rt, self.machine.state) {
             Ok(None) => {}
             Ok(Some(trial)) => return Err(CallError::Refused(TryFault::Kept(trial.entry()))),
             Err(Failure::Memory) => return Err(CallError::OutOfMemory),
             Err(failure) => return Err(CallError::Refused(TryFault::Failure(failure))),
         }
-        let run = TryRun {
-            entry: self.entry,
+        let run = BeginRun {
+            target: self.target,
             start: self.start,
         };
         match run.run(alloc, vars) {
@@ -104,16 +142,16 @@ impl<R: Files<File: OutputFile> + Eprint + AllocGlobal> Wanted for WantedTry<'_,
         alloc: Global,
         seen: &Seen<'_>,
         change: SetChange<'_>,
-        _trial: &Trial,
+        begun: &BegunTrial,
     ) -> Result<Told, Failure> {
-        let Told { text: _, remarks } = self.edit().tell(alloc, seen, change, &EditAnswer::Done)?;
-        let shown = ShownTrial {
-            standing: Standing::Begun,
-            entry: Some(self.entry),
+        let remarks = self.remarks(alloc, seen, change, begun)?;
+        let trial = TrialView {
+            standing: TrialStanding::Begun,
+            entry: Some(begun.trial.entry()),
             current: None,
         };
         Ok(Told {
-            text: trial_text(alloc, self.form, shown, change)?,
+            text: trial_text(alloc, self.form, trial, change)?,
             remarks,
         })
     }
@@ -136,8 +174,8 @@ impl<R: Files<File: OutputFile> + Eprint + AllocGlobal> Wanted for WantedTry<'_,
     }
 
     /// Keeps the trial. If that can't be, none is kept.
-    fn begin(&self, trial: &Trial) -> Result<(), Failure> {
-        let stored = store_trial(self.rt, self.machine.state, trial);
+    fn begin(&self, begun: &BegunTrial) -> Result<(), Failure> {
+        let stored = store_trial(self.rt, self.machine.state, &begun.trial);
         if stored.is_err() {
             self.take_back();
         }
@@ -158,5 +196,5 @@ impl<R: Files<File: OutputFile> + Eprint + AllocGlobal> Wanted for WantedTry<'_,
         }
     }
 
-    fn end(&self, _trial: &Trial) {}
+    fn end(&self, _begun: &BegunTrial) {}
 }

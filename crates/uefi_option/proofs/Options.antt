@@ -106,7 +106,7 @@ record HasPathFault (start len : ℕ) (rest : List ℕ) (f : OptionFault) : Type
 -- after a prefix that states this length comes this rest, and the fault is one of these
 abbrev Behind : ℕ → ℕ → List ℕ → OptionFault → Type 0
 Behind start len rest f =
-    ((f ≡ fault.ListPastEnd) × (length rest < len)) ⊎ (((f ≡ fault.EmptyList) × (len ≡ 0)) ⊎ HasPathFault start len rest f)
+    ((f ≡ fault.ListPastEnd len (length rest)) × (length rest < len)) ⊎ (((f ≡ fault.EmptyList) × (len ≡ 0)) ⊎ HasPathFault start len rest f)
 
 -- how many bytes a prefix with these units has
 abbrev start_of : List ℕ → ℕ
@@ -131,13 +131,13 @@ record IsOpen (input : List ℕ) : Type 0 where
 
 -- a first fault is one of three kinds
 abbrev Kinds : List ℕ → OptionFault → Type 0
-Kinds input f = ((length input < 6) × (f ≡ fault.Short)) ⊎ ((IsOpen input × (f ≡ fault.NoTerminator)) ⊎ IsBehind input f)
+Kinds input f = ((length input < 6) × (f ≡ fault.Short (length input))) ⊎ ((IsOpen input × (f ≡ fault.NoTerminator)) ⊎ IsBehind input f)
 
 front_len : (front : List ℕ) (len : ℕ) (is : IsFront front len) → length front ≡ start_of is.units
 front_len front len is = ap length is.is ∙ omega (arith, length-append (units_bytes is.units) (to_le_bytes w16 0))
 
 kind_of : (input : List ℕ) (f : OptionFault) → IsFirstFault input f → Kinds input f
-kind_of input fault.Short h = inl (h, refl)
+kind_of input (fault.Short found) h = inl (h.1, ap (λ (n : ℕ). fault.Short n) h.0)
 kind_of input fault.NoTerminator h =
     inr (inl (
       record {
@@ -152,14 +152,14 @@ kind_of input fault.NoTerminator h =
       },
       refl,
     ))
-kind_of input fault.ListPastEnd h =
+kind_of input (fault.ListPastEnd stated left) h =
     inr (inr (record {
       attributes = h.before.attributes;
-      len = h.len;
+      len = stated;
       units = h.before.units;
       rest = h.rest;
-      front = front_of input h.front h.len h.rest h.before h.parts;
-      behind = inl (refl, h.past);
+      front = front_of input h.front stated h.rest h.before h.parts;
+      behind = inl (ap (λ (n : ℕ). fault.ListPastEnd stated n) h.size, h.past);
     }))
 kind_of input fault.EmptyList h =
     inr (inr (record {

@@ -41,8 +41,8 @@ front_read bytes attributes len rest description behind bounds header split = re
       ∙ sym (append_assoc (header_bytes attributes len) (description ++ to_le_bytes w16 0) behind);
 }
 
-pub cut_list : (bytes front : List ℕ) (len : ℕ) (rest : List ℕ) → SplitsFront bytes front len rest → length rest < len → IsCutList bytes
-cut_list bytes front len rest split past = record { front = front; len = len; rest = rest; before = split.before; parts = split.parts; past = past }
+pub cut_list : (bytes front : List ℕ) (len : ℕ) (rest : List ℕ) → SplitsFront bytes front len rest → length rest < len → IsCutList bytes len (length rest)
+cut_list bytes front len rest split past = record { front = front; rest = rest; before = split.before; parts = split.parts; size = refl; past = past }
 
 pub empty_list : (bytes front : List ℕ) (len : ℕ) (rest : List ℕ) → SplitsFront bytes front len rest → len ≡ 0 → IsEmptyList bytes
 empty_list bytes front len rest split zero = record { front = front; rest = rest; before = subst (IsFront front) zero split.before; parts = split.parts }
@@ -81,9 +81,9 @@ list_fault_is bytes attributes description list optional start (fault.Path place
       first = h.first;
     }
 list_fault_is bytes attributes description list optional start fault.OutOfMemory split at h = absurd h
-list_fault_is bytes attributes description list optional start fault.Short split at h = absurd h
+list_fault_is bytes attributes description list optional start (fault.Short found) split at h = absurd h
 list_fault_is bytes attributes description list optional start fault.NoTerminator split at h = absurd h
-list_fault_is bytes attributes description list optional start fault.ListPastEnd split at h = absurd h
+list_fault_is bytes attributes description list optional start (fault.ListPastEnd stated left) split at h = absurd h
 list_fault_is bytes attributes description list optional start fault.EmptyList split at h = absurd h
 list_fault_is bytes attributes description list optional start fault.ZeroUnit split at h = absurd h
 list_fault_is bytes attributes description list optional start fault.ListTooLong split at h = absurd h
@@ -189,7 +189,7 @@ front_ends begins bytes attributes len units behind fits bounds nonzero parts =
       parts = parts ∙ sym (append_assoc (header_bytes attributes len) (description_bytes units) behind);
     } in
     elim (cases_lt (length behind) len) [
-      | inl past ↦ inr (fault.ListPastEnd, cut_list bytes front len behind split past)
+      | inl past ↦ inr (fault.ListPastEnd len (length behind), cut_list bytes front len behind split past)
       | inr within ↦ elim (cases_eq len 0) [
         | inl zero ↦ inr (fault.EmptyList, empty_list bytes front len behind split zero)
         | inr some ↦
@@ -226,4 +226,4 @@ header_ends begins bytes attributes len rest fits header =
 
 pub bytes_end : Begins → (bytes : List ℕ) → AllByRecursion IsByte bytes → Ends bytes
 bytes_end begins bytes fits =
-    elim (heads bytes fits) [ inl short ↦ inr (fault.Short, short) | inr header ↦ header_ends begins bytes header.0 header.1 header.2 fits header.3 ]
+    elim (heads bytes fits) [ inl short ↦ inr (fault.Short (length bytes), (refl, short)) | inr header ↦ header_ends begins bytes header.0 header.1 header.2 fits header.3 ]

@@ -33,14 +33,14 @@ pub record IsFront (front : List ℕ) (len : ℕ) : Type 0 where
   pub nonzero : AllByRecursion IsUnit units
   pub is : front ≡ header_bytes attributes len ++ description_bytes units
 
--- fewer bytes follow the description than the list is to have
-pub record IsCutList (input : List ℕ) : Type 0 where
+-- fewer bytes follow the description than the list is to have: this many are left, of those that are stated
+pub record IsCutList (input : List ℕ) (stated left : ℕ) : Type 0 where
   pub front : List ℕ
-  pub len : ℕ
   pub rest : List ℕ
-  pub before : IsFront front len
+  pub before : IsFront front stated
   pub parts : input ≡ front ++ rest
-  pub past : length rest < len
+  pub size : left ≡ length rest
+  pub past : length rest < stated
 
 -- the list is to have no byte
 pub record IsEmptyList (input : List ℕ) : Type 0 where
@@ -65,9 +65,9 @@ pub record IsFaultyList (input : List ℕ) (place : ℕ) (path_fault : PathFault
 
 -- The fault is the first of the input, by cases. The others are not faults of bytes.
 abbrev pub IsFirstFault : List ℕ → OptionFault → Type 0
-IsFirstFault input fault.Short = length input < 6
+IsFirstFault input (fault.Short found) = (found ≡ length input) × (length input < 6)
 IsFirstFault input fault.NoTerminator = IsUnclosed input
-IsFirstFault input fault.ListPastEnd = IsCutList input
+IsFirstFault input (fault.ListPastEnd stated left) = IsCutList input stated left
 IsFirstFault input fault.EmptyList = IsEmptyList input
 IsFirstFault input (fault.Path place path_fault) = IsFaultyList input place path_fault
 IsFirstFault input fault.ZeroUnit = ⊥

@@ -7,9 +7,9 @@ use Rattle.uefi_option.specs.declared.fault.OptionFault.{OptionFault}
 use Rattle.uefi_option.specs.declared.fault.OptionFault.TheVariants as fault
 
 abbrev pub option_fault_words : OptionFault → List ℕ
-option_fault_words fault.Short = codes "Short"
+option_fault_words (fault.Short found) = codes "Short"
 option_fault_words fault.NoTerminator = codes "NoTerminator"
-option_fault_words fault.ListPastEnd = codes "ListPastEnd"
+option_fault_words (fault.ListPastEnd stated left) = codes "ListPastEnd"
 option_fault_words fault.EmptyList = codes "EmptyList"
 option_fault_words (fault.Path place path_fault) =
     codes "Path " ++ (decimal place ++ (codes " " ++ path_fault_words path_fault))
@@ -19,9 +19,9 @@ option_fault_words fault.OutOfMemory = codes "OutOfMemory"
 
 -- where the fault is
 abbrev pub option_fault_place : OptionFault → Option ℕ
-option_fault_place fault.Short = None
+option_fault_place (fault.Short found) = None
 option_fault_place fault.NoTerminator = None
-option_fault_place fault.ListPastEnd = None
+option_fault_place (fault.ListPastEnd stated left) = None
 option_fault_place fault.EmptyList = None
 option_fault_place (fault.Path place _) = Some place
 option_fault_place fault.ZeroUnit = None

@@ -13,13 +13,21 @@ use uefi_path::{Path, PathFault};
 pub enum OptionFault {
     /// There are fewer bytes than the six of the attributes and of the length of the list.
     #[error("Short")]
-    Short,
+    Short {
+        /// How many bytes there are.
+        found: usize,
+    },
     /// No zero unit closes the description.
     #[error("NoTerminator")]
     NoTerminator,
     /// The list of paths has fewer bytes than the option states.
     #[error("ListPastEnd")]
-    ListPastEnd,
+    ListPastEnd {
+        /// How many bytes the option states.
+        stated: usize,
+        /// How many bytes follow its description.
+        left: usize,
+    },
     /// There is no path: the list has no byte, or the parts have none.
     #[error("EmptyList")]
     EmptyList,
@@ -61,9 +69,9 @@ impl OptionFault {
     {
         match self {
             OptionFault::Path(place, _) => Some(*place),
-            OptionFault::Short
+            OptionFault::Short { .. }
             | OptionFault::NoTerminator
-            | OptionFault::ListPastEnd
+            | OptionFault::ListPastEnd { .. }
             | OptionFault::EmptyList
             | OptionFault::ZeroUnit
             | OptionFault::ListTooLong
@@ -77,9 +85,9 @@ impl OptionFault {
         ensures { IfOk result (λ text. string_bytes text ≡ option_fault_words self.now) }
     {
         match self {
-            OptionFault::Short => String::from_str(alloc, "Short"),
+            OptionFault::Short { .. } => String::from_str(alloc, "Short"),
             OptionFault::NoTerminator => String::from_str(alloc, "NoTerminator"),
-            OptionFault::ListPastEnd => String::from_str(alloc, "ListPastEnd"),
+            OptionFault::ListPastEnd { .. } => String::from_str(alloc, "ListPastEnd"),
             OptionFault::EmptyList => String::from_str(alloc, "EmptyList"),
             OptionFault::Path(place, fault) => {
                 let words = fault.words(alloc)?;

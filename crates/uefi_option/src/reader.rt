@@ -60,13 +60,16 @@ fn split_option(bytes: &[u8]) -> Result<OptionView<'_>, OptionFault>
     ensures fault { IfErr result (λ fault. IsFirstFault bytes.now fault) }
 {
     let Some((attributes, len, rest)) = split_header(bytes) else {
-        return Err(OptionFault::Short);
+        return Err(OptionFault::Short { found: bytes.len() });
     };
     let Some((description, rest)) = split_units(rest) else {
         return Err(OptionFault::NoTerminator);
     };
     if len > rest.len() {
-        return Err(OptionFault::ListPastEnd);
+        return Err(OptionFault::ListPastEnd {
+            stated: len,
+            left: rest.len(),
+        });
     }
     if len == 0 {
         return Err(OptionFault::EmptyList);

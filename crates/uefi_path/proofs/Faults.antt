@@ -22,10 +22,10 @@ header_len rest kind sub len header =
 fault_by : ℕ → ℕ → ℕ → PathFault
 fault_by offset size len =
     cond (eqb size 0) (NoEnd offset)
-    (cond (ltb size 4) (ShortHeader offset)
-    (cond (ltb len 4) (BadLength offset) (cond (ltb size len) (PastEnd offset) (BadEnd offset))))
+    (cond (ltb size 4) (ShortHeader offset size)
+    (cond (ltb len 4) (BadLength offset) (cond (ltb size len) (PastEnd offset len size) (BadEnd offset))))
 
-by_short : (offset size len : ℕ) → 0 < size → size < 4 → fault_by offset size len ≡ ShortHeader offset
+by_short : (offset size len : ℕ) → 0 < size → size < 4 → fault_by offset size len ≡ ShortHeader offset size
 unfolding fault_by
 by_short offset size len some short = rw (ne_eqb size 0 (λ e. omega arith), lt-ltb size 4 short) refl
 
@@ -33,7 +33,7 @@ by_length : (offset size len : ℕ) → 4 ≤ size → len < 4 → fault_by offs
 unfolding fault_by
 by_length offset size len long below = rw (ne_eqb size 0 (λ e. omega arith), le-ltb size 4 long, lt-ltb len 4 below) refl
 
-by_past : (offset size len : ℕ) → 4 ≤ size → 4 ≤ len → size < len → fault_by offset size len ≡ PastEnd offset
+by_past : (offset size len : ℕ) → 4 ≤ size → 4 ≤ len → size < len → fault_by offset size len ≡ PastEnd offset len size
 unfolding fault_by
 by_past offset size len long least past = rw (ne_eqb size 0 (λ e. omega arith), le-ltb size 4 long, le-ltb len 4 least, lt-ltb size len past) refl
 
@@ -51,13 +51,16 @@ at_header offset rest kind sub len header = ap (fault_by offset (length rest)) (
 fault_is : (fault : PathFault) (offset : ℕ) (rest : List ℕ) → IsFaultAt fault offset rest → fault_at offset rest ≡ fault
 unfolding fault_at fault_by
 fault_is (NoEnd at) offset rest (at-is, empty) = rw (eq-eqb (length rest) 0 (ap length empty), at-is) refl
-fault_is (ShortHeader at) offset rest (at-is, some, short) = by_short offset (length rest) _ some short ∙ ap (λ (o : ℕ). ShortHeader o) (sym at-is)
+fault_is (ShortHeader at left) offset rest (at-is, left-is, some, short) =
+    by_short offset (length rest) _ some short ∙ ap (λ (o : ℕ). ShortHeader o (length rest)) (sym at-is)
+    ∙ ap (λ (n : ℕ). ShortHeader at n) (sym left-is)
 fault_is (BadLength at) offset rest (at-is, len, (kind, sub, header), below) =
     at_header offset rest kind sub len header ∙ by_length offset (length rest) len
     (header_len rest kind sub len header).1 below ∙ ap (λ (o : ℕ). BadLength o) (sym at-is)
-fault_is (PastEnd at) offset rest (at-is, len, (kind, sub, header), least, past) =
+fault_is (PastEnd at len left) offset rest (at-is, left-is, (kind, sub, header), least, past) =
     at_header offset rest kind sub len header ∙ by_past offset (length rest) len
-    (header_len rest kind sub len header).1 least past ∙ ap (λ (o : ℕ). PastEnd o) (sym at-is)
+    (header_len rest kind sub len header).1 least past ∙ ap (λ (o : ℕ). PastEnd o len (length rest)) (sym at-is)
+    ∙ ap (λ (n : ℕ). PastEnd at len n) (sym left-is)
 fault_is (BadEnd at) offset rest (at-is, sub, len, header, least, within, no_end) =
     at_header offset rest 127 sub len header ∙ by_end offset (length rest) len (header_len rest 127 sub len header).1
     least within ∙ ap (λ (o : ℕ). BadEnd o) (sym at-is)
@@ -78,13 +81,13 @@ fault_stops (NoEnd at) offset rest (at-is, empty) r behind inner e =
     let size : length rest ≡ 0 = ap length empty in
     let more : length rest ≡ 4 + (length r.body + length behind) = ap length e ∙ omega (arith, length-append r.body behind) in
     omega arith
-fault_stops (ShortHeader at) offset rest (at-is, some, short) r behind inner e =
+fault_stops (ShortHeader at left) offset rest (at-is, left-is, some, short) r behind inner e =
     let more : length rest ≡ 4 + (length r.body + length behind) = ap length e ∙ omega (arith, length-append r.body behind) in
     omega arith
 fault_stops (BadLength at) offset rest (at-is, len, (kind, sub, header), below) r behind inner e =
     let stated = row_header r behind rest kind sub len inner.row header e in
     omega (arith, stated.2)
-fault_stops (PastEnd at) offset rest (at-is, len, (kind, sub, header), least, past) r behind inner e =
+fault_stops (PastEnd at len left) offset rest (at-is, left-is, (kind, sub, header), least, past) r behind inner e =
     let stated = row_header r behind rest kind sub len inner.row header e in
     omega (arith, stated.2, stated.3)
 fault_stops (BadEnd at) offset rest (at-is, sub, len, header, least, within, no_end) r behind inner e =
@@ -101,13 +104,13 @@ no_fault_at_end (NoEnd at) offset rest behind (at-is, empty) e =
     let size : length rest ≡ 0 = ap length empty in
     let more : length rest ≡ 4 + length behind = ap length e ∙ omega arith in
     omega arith
-no_fault_at_end (ShortHeader at) offset rest behind (at-is, some, short) e =
+no_fault_at_end (ShortHeader at left) offset rest behind (at-is, left-is, some, short) e =
     let more : length rest ≡ 4 + length behind = ap length e ∙ omega arith in
     omega arith
 no_fault_at_end (BadLength at) offset rest behind (at-is, len, (kind, sub, header), below) e =
     let stated = row_header end_entire behind rest kind sub len entire_is_row header e in
     omega (arith, stated.2)
-no_fault_at_end (PastEnd at) offset rest behind (at-is, len, (kind, sub, header), least, past) e =
+no_fault_at_end (PastEnd at len left) offset rest behind (at-is, left-is, (kind, sub, header), least, past) e =
     let stated = row_header end_entire behind rest kind sub len entire_is_row header e in
     omega (arith, stated.2, stated.3)
 no_fault_at_end (BadEnd at) offset rest behind (at-is, sub, len, header, least, within, no_end) e =

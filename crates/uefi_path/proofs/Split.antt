@@ -112,9 +112,15 @@ splits_row bytes kind sub len node rest fits kind-fits sub-fits header is front 
 pub fault_of_header : (fault : PathFault) (bytes : List ℕ) (kind sub len offset : ℕ) → HasHeader bytes kind sub len →
     IsHeaderFault fault kind sub len (length bytes) offset → IsFaultAt fault offset bytes
 fault_of_header (NoEnd at) bytes kind sub len offset header h = absurd h
-fault_of_header (ShortHeader at) bytes kind sub len offset header h = absurd h
+fault_of_header (ShortHeader at left) bytes kind sub len offset header h = absurd h
 fault_of_header (BadLength at) bytes kind sub len offset header (at-is, below) = (at-is, len, (kind, sub, header), below)
-fault_of_header (PastEnd at) bytes kind sub len offset header (at-is, least, past) = (at-is, len, (kind, sub, header), least, past)
+fault_of_header (PastEnd at stated left) bytes kind sub len offset header (at-is, stated-is, left-is, least, past) = (
+  at-is,
+  left-is,
+  (kind, sub, subst (λ (n : ℕ). HasHeader bytes kind sub n) (sym stated-is) header),
+  subst (λ (n : ℕ). 4 ≤ n) (sym stated-is) least,
+  subst (λ (n : ℕ). length bytes < n) (sym stated-is) past,
+)
 fault_of_header (BadEnd at) bytes kind sub len offset header (at-is, kind-is, least, within, no_end) =
     (at-is, sub, len, rw kind-is at header, least, within, no_end)
 fault_of_header OutOfMemory bytes kind sub len offset header h = absurd h

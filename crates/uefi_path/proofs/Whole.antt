@@ -42,9 +42,9 @@ cut bytes kind sub len fits k s header is = (
 
 step : (offset : ℕ) (rest : List ℕ) → AllByRecursion IsByte rest → Step offset rest
 step offset [] fits = inl (NoEnd offset, (refl, refl))
-step offset (a ∷ []) fits = inl (ShortHeader offset, (refl, omega arith, omega arith))
-step offset (a ∷ b ∷ []) fits = inl (ShortHeader offset, (refl, omega arith, omega arith))
-step offset (a ∷ b ∷ c ∷ []) fits = inl (ShortHeader offset, (refl, omega arith, omega arith))
+step offset (a ∷ []) fits = inl (ShortHeader offset 1, (refl, refl, omega arith, omega arith))
+step offset (a ∷ b ∷ []) fits = inl (ShortHeader offset 2, (refl, refl, omega arith, omega arith))
+step offset (a ∷ b ∷ c ∷ []) fits = inl (ShortHeader offset 3, (refl, refl, omega arith, omega arith))
 step offset (a ∷ b ∷ c ∷ d ∷ t) fits =
     let rest = a ∷ b ∷ c ∷ d ∷ t in
     let len = from_le_bytes w16 (c ∷ d ∷ []) in
@@ -52,7 +52,7 @@ step offset (a ∷ b ∷ c ∷ d ∷ t) fits =
     elim (cases_lt len 4) [
       | inl short ↦ inl (BadLength offset, (refl, len, (a, b, header), short))
       | inr least ↦ elim (cases_lt (length rest) len) [
-        | inl past ↦ inl (PastEnd offset, (refl, len, (a, b, header), least, past))
+        | inl past ↦ inl (PastEnd offset len (length rest), (refl, refl, (a, b, header), least, past))
         | inr within ↦ elim (cases_eq a 127) [
           | inr other ↦ inr (cut rest a b len fits fits.0 fits.1.0 header (record { least = least; within = within; ends = λ e. absurd (other e) }))
           | inl ends ↦ elim (end_or b len) [

@@ -25,14 +25,16 @@ StatesLength rest len = (kind : ℕ) × (sub : ℕ) × HasHeader rest kind sub l
 abbrev pub IsEnd : ℕ → ℕ → Type 0
 IsEnd sub len = ((sub ≡ 0x01) ⊎ (sub ≡ 0xFF)) × (len ≡ 4)
 
--- No node is at this offset, with this rest of the input, and the fault says why.
+-- No node is at this offset, with this rest of the input, and the fault says why, with the bytes that are left if they are
+-- too few, and those that a header states.
 abbrev pub IsFaultAt : PathFault → ℕ → List ℕ → Type 0
 IsFaultAt (NoEnd at) offset rest = (at ≡ offset) × (rest ≡ [])
-IsFaultAt (ShortHeader at) offset rest = (at ≡ offset) × (0 < length rest) × (length rest < 4)
+IsFaultAt (ShortHeader at left) offset rest =
+    (at ≡ offset) × (left ≡ length rest) × (0 < length rest) × (length rest < 4)
 IsFaultAt (BadLength at) offset rest =
     (at ≡ offset) × (len : ℕ) × StatesLength rest len × (len < 4)
-IsFaultAt (PastEnd at) offset rest =
-    (at ≡ offset) × (len : ℕ) × StatesLength rest len × (4 ≤ len) × (length rest < len)
+IsFaultAt (PastEnd at len left) offset rest =
+    (at ≡ offset) × (left ≡ length rest) × StatesLength rest len × (4 ≤ len) × (length rest < len)
 IsFaultAt (BadEnd at) offset rest =
     (at ≡ offset) × (sub : ℕ) × (len : ℕ) × HasHeader rest 0x7F sub len
     × (4 ≤ len) × (len ≤ length rest) × (¬ IsEnd sub len)

@@ -104,8 +104,8 @@ pub record IsHeader (kind sub len remaining : ℕ) : Type 0 where
 -- the fault of such a header, at this offset
 abbrev pub IsHeaderFault : PathFault → ℕ → ℕ → ℕ → ℕ → ℕ → Type 0
 IsHeaderFault (BadLength at) kind sub len remaining offset = (at ≡ offset) × (len < 4)
-IsHeaderFault (PastEnd at) kind sub len remaining offset =
-    (at ≡ offset) × (4 ≤ len) × (remaining < len)
+IsHeaderFault (PastEnd at stated left) kind sub len remaining offset =
+    (at ≡ offset) × (stated ≡ len) × (left ≡ remaining) × (4 ≤ len) × (remaining < len)
 IsHeaderFault (BadEnd at) kind sub len remaining offset =
     (at ≡ offset) × (kind ≡ 0x7F) × (4 ≤ len) × (len ≤ remaining) × (¬ IsEnd sub len)
 IsHeaderFault _ kind sub len remaining offset = ⊥

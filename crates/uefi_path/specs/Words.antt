@@ -20,9 +20,9 @@ name_fault_words name.OutOfMemory = codes "OutOfMemory"
 
 abbrev pub path_fault_words : PathFault → List ℕ
 path_fault_words (path.NoEnd offset) = codes "NoEnd " ++ decimal offset
-path_fault_words (path.ShortHeader offset) = codes "ShortHeader " ++ decimal offset
+path_fault_words (path.ShortHeader offset left) = codes "ShortHeader " ++ decimal offset
 path_fault_words (path.BadLength offset) = codes "BadLength " ++ decimal offset
-path_fault_words (path.PastEnd offset) = codes "PastEnd " ++ decimal offset
+path_fault_words (path.PastEnd offset stated left) = codes "PastEnd " ++ decimal offset
 path_fault_words (path.BadEnd offset) = codes "BadEnd " ++ decimal offset
 path_fault_words path.OutOfMemory = codes "OutOfMemory"
 
@@ -34,8 +34,8 @@ name_fault_index name.OutOfMemory = None
 
 abbrev pub path_fault_offset : PathFault → Option ℕ
 path_fault_offset (path.NoEnd offset) = Some offset
-path_fault_offset (path.ShortHeader offset) = Some offset
+path_fault_offset (path.ShortHeader offset left) = Some offset
 path_fault_offset (path.BadLength offset) = Some offset
-path_fault_offset (path.PastEnd offset) = Some offset
+path_fault_offset (path.PastEnd offset stated left) = Some offset
 path_fault_offset (path.BadEnd offset) = Some offset
 path_fault_offset path.OutOfMemory = None

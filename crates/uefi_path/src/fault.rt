@@ -24,22 +24,34 @@ pub enum NodeFault {
     OutOfMemory,
 }
 
-/// Why bytes don't begin with a path. The number is the offset of the node with the fault, in bytes from the first byte
-/// of the path.
+/// Why bytes don't begin with a path. The offset, or the number, is that of the node with the fault, in bytes from the first
+/// byte of the path.
 #[derive(Clone, Copy, Debug, PartialEq, Eq, Hash, Error)]
 pub enum PathFault {
     /// No byte remains where a node must be.
     #[error("NoEnd {0}")]
     NoEnd(usize),
     /// One to three bytes remain, fewer than the header of a node has.
-    #[error("ShortHeader {0}")]
-    ShortHeader(usize),
+    #[error("ShortHeader {offset}")]
+    ShortHeader {
+        /// The offset of the node.
+        offset: usize,
+        /// How many bytes remain.
+        left: usize,
+    },
     /// The node states a length below 4, that of its header alone.
     #[error("BadLength {0}")]
     BadLength(usize),
     /// The node states more bytes than remain.
-    #[error("PastEnd {0}")]
-    PastEnd(usize),
+    #[error("PastEnd {offset}")]
+    PastEnd {
+        /// The offset of the node.
+        offset: usize,
+        /// How many bytes the node states, its header included.
+        stated: usize,
+        /// How many bytes remain.
+        left: usize,
+    },
     /// The node has type 0x7F and isn't an end node: its sub-type is neither 0x01 nor 0xFF, or its length isn't 4.
     #[error("BadEnd {0}")]
     BadEnd(usize),
@@ -88,9 +100,9 @@ impl PathFault {
     {
         match self {
             PathFault::NoEnd(offset)
-            | PathFault::ShortHeader(offset)
+            | PathFault::ShortHeader { offset, .. }
             | PathFault::BadLength(offset)
-            | PathFault::PastEnd(offset)
+            | PathFault::PastEnd { offset, .. }
             | PathFault::BadEnd(offset) => Some(*offset),
             PathFault::OutOfMemory => None,
         }
@@ -102,9 +114,9 @@ impl PathFault {
     {
         match self {
             PathFault::NoEnd(offset) => format!(in alloc; "NoEnd {offset}"),
-            PathFault::ShortHeader(offset) => format!(in alloc; "ShortHeader {offset}"),
+            PathFault::ShortHeader { offset, .. } => format!(in alloc; "ShortHeader {offset}"),
             PathFault::BadLength(offset) => format!(in alloc; "BadLength {offset}"),
-            PathFault::PastEnd(offset) => format!(in alloc; "PastEnd {offset}"),
+            PathFault::PastEnd { offset, .. } => format!(in alloc; "PastEnd {offset}"),
             PathFault::BadEnd(offset) => format!(in alloc; "BadEnd {offset}"),
             PathFault::OutOfMemory => String::from_str(alloc, "OutOfMemory"),
         }

@@ -42,7 +42,11 @@ fn check_header(
         return Err(PathFault::BadLength(offset));
     }
     if len > remaining {
-        return Err(PathFault::PastEnd(offset));
+        return Err(PathFault::PastEnd {
+            offset,
+            stated: len,
+            left: remaining,
+        });
     }
     if kind == END && !is_end_node(sub, len) {
         return Err(PathFault::BadEnd(offset));
@@ -61,7 +65,12 @@ fn split_node(bytes: &[u8], offset: usize) -> Result<(NodeView<'_>, &[u8]), Path
         [kind, sub, low, high, ..] => {
             (*kind, *sub, usize::from(u16::from_le_bytes([*low, *high])))
         }
-        _ => return Err(PathFault::ShortHeader(offset)),
+        _ => {
+            return Err(PathFault::ShortHeader {
+                offset,
+                left: bytes.len(),
+            });
+        }
     };
     check_header(kind, sub, len, bytes.len(), offset)?;
     let (node, rest) = bytes.split_at(len);

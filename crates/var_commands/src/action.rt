@@ -25,6 +25,8 @@ pub enum Action<'a> {
         place: &'a str,
         /// How they are shown.
         form: Form,
+        /// What keeps its start on trial.
+        kept: KeptWords<'a>,
     },
     /// To show for how long the boot manager of a place waits.
     ShowTimeout {
@@ -34,7 +36,12 @@ pub enum Action<'a> {
         form: Form,
     },
     /// To tell which boot entries of a place can be started.
-    Check(CheckWords<'a>),
+    Check {
+        /// What is checked.
+        words: CheckWords<'a>,
+        /// What keeps its start on trial.
+        kept: KeptWords<'a>,
+    },
     /// To show how the boot variables of two places differ.
     Diff {
         /// The first place.
@@ -111,6 +118,15 @@ pub enum Form {
     Text,
     /// As JSON for a program.
     Json,
+}
+
+/// The words that say what keeps a machine's start on trial, for a command that only tells of it.
+#[derive(Clone, Copy)]
+pub struct KeptWords<'a> {
+    /// The path of the state folder, if one is named.
+    pub state: Option<&'a str>,
+    /// The identity of the machine's start, if one is given.
+    pub boot_id: Option<&'a str>,
 }
 
 /// The words of `write`.
@@ -206,6 +222,8 @@ pub struct AddWords<'a> {
     pub position: Position,
     /// Whether it is added although the same one is there.
     pub again: bool,
+    /// Whether it is put on trial.
+    pub tried: bool,
 }
 
 /// The words that say a load option.

@@ -2,7 +2,9 @@
 
 use crate::action::{AddWords, ChangeWords, EntryChange, Form};
 use crate::making::{entries_of, entry_of, option_of_words, seconds_of};
+use crate::trials::Trials;
 use boot_edits::{Addition, Edit, NewOrder};
+use boot_trials::TrialTarget;
 use machine_changes::{ChangeOptions, StateUse, change_machine, kind_of_place};
 use messages::Failure;
 use place_edits::{EditForm, WantedEdit};
@@ -17,10 +19,11 @@ use whole_files::OutputFile;
 /// [`Failure::Words`] if a word isn't what it is to be, and those of [`change_machine`].
 pub(crate) fn change_entries<
     R: Files<File: OutputFile> + Clock + Input + Print + Eprint + AllocGlobal,
->(rt: &R, words: &ChangeWords<'_>, command: &[String]) -> Result<(), Failure> {
+    T: Trials<R>,
+>(rt: &R, trials: &T, words: &ChangeWords<'_>, command: &[String]) -> Result<(), Failure> {
     let alloc = rt.alloc();
     match words.change {
-        EntryChange::Add(add) => add_entry(rt, words, &add, command),
+        EntryChange::Add(add) => add_entry(rt, trials, words, &add, command),
         EntryChange::Remove(entries) => {
             change(
                 rt,
@@ -83,9 +86,13 @@ pub(crate) fn change_entries<
     }
 }
 
-/// Adds the entry that the words say.
-fn add_entry<R: Files<File: OutputFile> + Clock + Input + Print + Eprint + AllocGlobal>(
+/// Adds the entry that the words say, and begins its trial, if it is to be tried.
+fn add_entry<
+    R: Files<File: OutputFile> + Clock + Input + Print + Eprint + AllocGlobal,
+    T: Trials<R>,
+>(
     rt: &R,
+    trials: &T,
     words: &ChangeWords<'_>,
     add: &AddWords<'_>,
     command: &[String],
@@ -101,7 +108,22 @@ fn add_entry<R: Files<File: OutputFile> + Clock + Input + Print + Eprint + Alloc
         position: add.position,
         again: add.again,
     };
+    if add.tried {
+        let json = matches!(words.form, Form::Json);
+        let target = TrialTarget::Added(addition);
+        return trials.begin(rt, &options_of(words, command), target, json);
+    }
     change(rt, words, Edit::Add(addition), command)
+}
+
+/// How the change is to be made.
+fn options_of<'a>(words: &ChangeWords<'a>, command: &'a [String]) -> ChangeOptions<'a> {
+    ChangeOptions {
+        machine: words.machine,
+        command: Some(command),
+        dry_run: words.dry_run,
+        state: StateUse::Made,
+    }
 }
 
 /// Makes the change, and prints it.
@@ -112,12 +134,7 @@ fn change<R: Files<File: OutputFile> + Clock + Input + Print + Eprint + AllocGlo
     command: &[String],
 ) -> Result<(), Failure> {
     let place = words.machine.place;
-    let options = ChangeOptions {
-        machine: words.machine,
-        command: Some(command),
-        dry_run: words.dry_run,
-        state: StateUse::Made,
-    };
+    let options = options_of(words, command);
     let wanted = WantedEdit {
         place,
         edit,

@@ -1,8 +1,9 @@
 //! The words of the command line, and what they ask for.
 
 use crate::action::{
-    Action, AddWords, AttributeWords, ChangeWords, EntryChange, Form, LoadOptionWords, LoaderWords,
-    OptionalWords, PathWords, RequestWords, SetWords, StartWords, TrialJob, TrialWords,
+    Action, AddWords, AttributeWords, ChangeWords, EntryChange, Form, KeptWords, LoadOptionWords,
+    LoaderWords, OptionalWords, PathWords, RequestWords, SetWords, StartWords, TrialJob,
+    TrialWords,
 };
 use crate::commands::program;
 use crate::updates::Job;
@@ -60,15 +61,27 @@ fn show_of<'a>(matches: &'a ArgMatches<'_>) -> Option<Action<'a>> {
     Some(Action::Show {
         place: matches.get_str("PLACE")?,
         form: form_of(matches),
+        kept: kept_of(matches),
     })
 }
 
 fn check_of<'a>(matches: &'a ArgMatches<'_>) -> Option<Action<'a>> {
-    Some(Action::Check(CheckWords {
-        place: matches.get_str("PLACE")?,
-        root: matches.get_str("root").unwrap_or(""),
-        json: matches.get_flag("json"),
-    }))
+    Some(Action::Check {
+        words: CheckWords {
+            place: matches.get_str("PLACE")?,
+            root: matches.get_str("root").unwrap_or(""),
+            json: matches.get_flag("json"),
+        },
+        kept: kept_of(matches),
+    })
+}
+
+/// What keeps the start on trial of a machine that is shown or checked.
+fn kept_of<'a>(matches: &'a ArgMatches<'_>) -> KeptWords<'a> {
+    KeptWords {
+        state: matches.get_str("state"),
+        boot_id: matches.get_str("boot-id"),
+    }
 }
 
 fn diff_of<'a>(matches: &'a ArgMatches<'_>) -> Option<Action<'a>> {
@@ -203,6 +216,7 @@ fn add_of<'a>(matches: &'a ArgMatches<'_>) -> Option<AddWords<'a>> {
         entry: matches.get_str("entry"),
         position,
         again: matches.get_flag("again"),
+        tried: matches.get_flag("try"),
     })
 }
 
@@ -300,7 +314,7 @@ fn attributes_of<'a>(matches: &'a ArgMatches<'_>) -> AttributeWords<'a> {
     match matches.get_str("attributes") {
         Some(number) => AttributeWords::Number(number),
         None => AttributeWords::Flags(Flags {
-            inactive: matches.get_flag("inactive"),
+            inactive: matches.get_flag("inactive") || matches.get_flag("try"),
             hidden: matches.get_flag("hidden"),
             app: matches.get_flag("app"),
             reconnect: matches.get_flag("reconnect"),

@@ -8,7 +8,7 @@ use crate::arg_rows::{
 use crate::entry_rows::{LIST_COMMANDS, ORDER_COMMANDS, SWITCH_COMMANDS};
 use crate::frame_rows::{FRAME, REQUESTS};
 use crate::table::{ArgKind, ArgRow, CommandRow, GroupRow, add_commands, command};
-use crate::trial_rows::TRIAL_COMMANDS;
+use crate::trial_rows::{KEPT, KEPT_START, TRIAL_COMMANDS};
 use crate::update_rows::UPDATE_COMMANDS;
 use clap::Command;
 use std::alloc::{AllocError, Global};
@@ -101,6 +101,8 @@ static CHECK_COMMANDS: [CommandRow; 1] = [CommandRow {
             needs: &[],
             ..ROOT
         },
+        KEPT,
+        KEPT_START,
     ],
     ..CommandRow::EMPTY
 }];
@@ -130,7 +132,7 @@ static PLACE_COMMANDS: [CommandRow; 4] = [
         name: "show",
         about: "Shows the boot entries, their order and what the next boot tries",
         after_help: "Example:\n  bootvars show OVMF_VARS.fd",
-        args: &[PLACE, JSON],
+        args: &[PLACE, JSON, KEPT, KEPT_START],
         ..CommandRow::EMPTY
     },
     CommandRow {
@@ -208,6 +210,12 @@ static ADD_COMMANDS: [CommandRow; 1] = [CommandRow {
         ArgRow {
             name: "again",
             help: "Adds it although the same entry is there",
+            ..ArgRow::FLAG
+        },
+        ArgRow {
+            name: "try",
+            help: "Puts it on trial: inactive and last, it is tried once by the next start, and `confirm` keeps it if the machine came up by it",
+            excludes: &["first", "no-order", "attributes"],
             ..ArgRow::FLAG
         },
         INACTIVE,

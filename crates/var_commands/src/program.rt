@@ -4,11 +4,11 @@ ghost use Rattle.std.specs.Prelude.{◌≡◌, MatchResult};
 ghost use Rattle.var_commands.specs.Ending.{ending_status};
 ghost use Rattle.messages.specs.Failure.{status_of};
 
-use crate::action::{Action, Form};
+use crate::action::{Action, Form, KeptWords};
 use crate::changing::change_entries;
 use crate::command_line::{action_of, read_words};
 use crate::making::{entry_of, explain, make_frame, make_option};
-use crate::trials::{Trials, run_trial};
+use crate::trials::{KeptTrial, Trials, run_trial, told_machine};
 use crate::undo_list::list_changes;
 use crate::undoing::undo_change;
 use crate::updates::{UpdateWords, update};
@@ -225,14 +225,14 @@ where
             out,
             boot_only,
         } => done(make_set(rt, place, out, boot_only)),
-        Action::Show { place, form } => done(show(rt, place, form)),
+        Action::Show { place, form, kept } => done(show(rt, trials, place, form, kept)),
         Action::ShowTimeout { place, form } => done(show_timeout(rt, place, form)),
-        Action::Check(words) => check(rt, &words),
+        Action::Check { words, kept } => check(rt, trials, &words, kept),
         Action::Diff { from, to, form } => diff(rt, from, to, form),
         Action::Get { place, entry, out } => {
             done(get_entry(rt, place, entry_of(rt.alloc(), entry)?, out))
         }
-        Action::Change(change) => done(change_entries(rt, &change, words)),
+        Action::Change(change) => done(change_entries(rt, trials, &change, words)),
         Action::Trial(trial) => run_trial(rt, trials, &trial, words).map(ending_of_trial),
         Action::Undo(words) => undo_change(rt, &words).map(ending_of),
         Action::ListChanges { machine, form } => {
@@ -246,6 +246,7 @@ where
         } => {
             update_place(
                 rt,
+                trials,
                 &UpdateWords {
                     machine,
                     expected,
@@ -293,11 +294,11 @@ fn ending_of_trial(came: Option<Outcome>) -> Ending {
 }
 
 /// Updates a machine.
-fn update_place<R: Files<File: OutputFile> + Clock + Input + Print + Eprint + AllocGlobal>(
-    rt: &R,
-    words: &UpdateWords<'_>,
-) -> Result<Ending, Failure> {
-    match update(rt, words) {
+fn update_place<
+    R: Files<File: OutputFile> + Clock + Input + Print + Eprint + AllocGlobal,
+    T: Trials<R>,
+>(rt: &R, trials: &T, words: &UpdateWords<'_>) -> Result<Ending, Failure> {
+    match update(rt, trials, words) {
         Ok(Ended::AllDone) => Ok(Ending::Done),
         Ok(Ended::NotAll) => Ok(Ending::NotAll),
         Ok(Ended::Unmet) => Ok(Ending::Unmet),
@@ -369,16 +370,22 @@ fn keep_boot_variables(alloc: Global, vars: &mut Vars) -> Result<(), AllocError>
     vars.make(changes)
 }
 
-/// Prints the boot variables of a place.
-fn show<R: Files + Input + Print + Eprint + AllocGlobal>(
+/// Prints the boot variables of a place, and what there is to tell of its start on trial.
+fn show<R: Files + Input + Print + Eprint + AllocGlobal, T: Trials<R>>(
     rt: &R,
+    trials: &T,
     place: &str,
     form: Form,
+    kept: KeptWords<'_>,
 ) -> Result<(), Failure> {
     let vars = read_place(rt, place)?;
+    let trial = match told_machine(rt, place, kept) {
+        Some(machine) => trials.view(rt, &machine, &vars)?,
+        None => None,
+    };
     let text = match form {
-        Form::Text => vars_report(rt.alloc(), &vars)?,
-        Form::Json => vars_json(rt.alloc(), &vars)?,
+        Form::Text => vars_report(rt.alloc(), &vars, trial)?,
+        Form::Json => vars_json(rt.alloc(), &vars, trial)?,
     };
     print(rt, text.as_bytes())
 }
@@ -398,11 +405,18 @@ fn show_timeout<R: Files + Input + Print + Eprint + AllocGlobal>(
 }
 
 /// Prints which boot entries of a place can be started.
-fn check<R: Files + Input + Print + Eprint + AllocGlobal>(
+fn check<R: Files + Input + Print + Eprint + AllocGlobal, T: Trials<R>>(
     rt: &R,
+    trials: &T,
     words: &CheckWords<'_>,
+    kept: KeptWords<'_>,
 ) -> Result<Ending, Failure> {
-    match check_place(rt, words)? {
+    let kept = KeptTrial {
+        rt,
+        trials,
+        machine: told_machine(rt, words.place, kept),
+    };
+    match check_place(rt, words, &kept)? {
         Verdict::Fine => Ok(Ending::Done),
         Verdict::Wrong => Ok(Ending::Wrong),
     }

@@ -15,6 +15,18 @@ const TRIAL_STATE: ArgRow = ArgRow {
     ..STATE
 };
 
+/// The folder with the trial, of a command that only tells of it.
+pub(crate) const KEPT: ArgRow = ArgRow {
+    help: "The folder that keeps a start on trial; of this system's own variables /var/lib/bootkeep",
+    ..STATE
+};
+
+/// The identity of a start, for a command that only tells of a trial.
+pub(crate) const KEPT_START: ArgRow = ArgRow {
+    help: "The identity of the machine's start, in place of that which Linux tells, by which a start on trial is judged",
+    ..BOOT_ID
+};
+
 /// The commands that begin trials and make what follows from them.
 pub(crate) static TRIAL_COMMANDS: [CommandRow; 2] = [
     CommandRow {

@@ -1,16 +1,24 @@
-//! The commands of starts on trial.
+//! The commands of starts on trial, and what others tell of one.
 
-use crate::action::{Form, TrialJob, TrialWords};
+use crate::action::{Form, KeptWords, TrialJob, TrialWords};
 use crate::making::entry_of;
-use boot_trials::Outcome;
+use boot_history::DEFAULT_STATE;
+use boot_texts::{TellsTrial, TrialView};
+use boot_trials::{Outcome, TrialTarget};
 use machine_changes::{ChangeOptions, StateUse};
 use messages::Failure;
+use std::rt::Files;
+use uefi_vars::Vars;
+use var_places::is_folder;
 use wanted_changes::MachineWords;
+
+/// The folder in which Linux shows the variables of its own firmware.
+const OWN_VARIABLES: &str = "/sys/firmware/efi/efivars";
 
 /// What begins starts on trial, makes what follows from them, and ends them. Each call prints what is told of that, as lines or
 /// as JSON.
 pub trait Trials<R> {
-    /// Begins a trial of the entry of this number.
+    /// Begins a trial of this.
     ///
     /// # Errors
     ///
@@ -19,7 +27,7 @@ pub trait Trials<R> {
         &self,
         rt: &R,
         options: &ChangeOptions<'_>,
-        entry: u16,
+        target: TrialTarget<'_>,
         json: bool,
     ) -> Result<(), Failure>;
 
@@ -41,6 +49,63 @@ pub trait Trials<R> {
     ///
     /// Why it can't be ended.
     fn end(&self, rt: &R, machine: &MachineWords<'_>, json: bool) -> Result<(), Failure>;
+
+    /// What there is to tell of the trial that is kept, if one is, with these variables, which have no attributes.
+    ///
+    /// # Errors
+    ///
+    /// [`Failure::Memory`] if memory was refused.
+    fn view(
+        &self,
+        rt: &R,
+        machine: &MachineWords<'_>,
+        vars: &Vars,
+    ) -> Result<Option<TrialView>, Failure>;
+}
+
+/// What tells of the trial of a machine, if that is to be told.
+#[derive(Drop)]
+pub(crate) struct KeptTrial<'a, R, T> {
+    /// What reaches the files.
+    pub(crate) rt: &'a R,
+    /// What knows of trials.
+    pub(crate) trials: &'a T,
+    /// The machine, or nothing if nothing is to be told.
+    pub(crate) machine: Option<MachineWords<'a>>,
+}
+
+impl<R, T: Trials<R>> TellsTrial for KeptTrial<'_, R, T> {
+    fn told(&self, vars: &Vars) -> Result<Option<TrialView>, Failure> {
+        match &self.machine {
+            Some(machine) => self.trials.view(self.rt, machine, vars),
+            None => Ok(None),
+        }
+    }
+}
+
+/// The machine at this place, whose start on trial is told: one whose state folder is named, or the own one, if the place is a
+/// folder.
+pub(crate) fn told_machine<'a, R: Files + AllocGlobal>(
+    rt: &R,
+    place: &'a str,
+    kept: KeptWords<'a>,
+) -> Option<MachineWords<'a>> {
+    let state = match kept.state {
+        Some(state) => state,
+        None if place == OWN_VARIABLES => DEFAULT_STATE,
+        None => return None,
+    };
+    if !is_folder(rt, place).unwrap_or(false) {
+        return None;
+    }
+    Some(MachineWords {
+        state,
+        place,
+        boot_id: kept.boot_id,
+        machine: None,
+        adopt: false,
+        force: false,
+    })
 }
 
 /// Begins a trial, makes what follows from it or ends it, as the words ask for. Gives what came of the trial, if that was asked
@@ -58,9 +123,9 @@ pub(crate) fn run_trial<R: AllocGlobal, T: Trials<R>>(
     let json = matches!(words.form, Form::Json);
     match words.job {
         TrialJob::Begin(entry) => {
-            let entry = entry_of(rt.alloc(), entry)?;
+            let target = TrialTarget::There(entry_of(rt.alloc(), entry)?);
             let options = options_of(words, command, StateUse::Made);
-            trials.begin(rt, &options, entry, json)?;
+            trials.begin(rt, &options, target, json)?;
             Ok(None)
         }
         TrialJob::Confirm => {

@@ -1,12 +1,14 @@
 //! The command `update`.
 
 use crate::refusals::print_refusal;
+use crate::trials::{KeptTrial, Trials};
+use boot_journal::BootId;
 use boot_requests::InputFormat;
 use boot_updates::{
     Answered, Ended, NotMade, Printing, ReplyForm, Script, WantedRequests, ending, read_events,
 };
 use machine_changes::{
-    ChangeOptions, PlaceKind, StateUse, ToldAnswer, change_machine, settle_machine,
+    ChangeOptions, PlaceKind, StateUse, ToldAnswer, boot_id, change_machine, settle_machine,
 };
 use messages::{Failure, Quoted, WrongWord};
 use request_preconditions::{Precondition, PreconditionFault, read_precondition};
@@ -68,11 +70,11 @@ pub(crate) enum Job<'a> {
 /// [`Failure::TakenBack`] if a change was refused, and the update hasn't happened; [`Failure::Unsettled`] if it couldn't be
 /// taken back either; [`Failure::Write`] also if the replies can't be printed, and the update has happened;
 /// [`Failure::Memory`] if memory was refused.
-pub(crate) fn update<R: Files<File: OutputFile> + Clock + Input + Print + Eprint + AllocGlobal>(
-    rt: &R,
-    words: &UpdateWords<'_>,
-) -> Result<Ended, Failure> {
-    match do_job(rt, words) {
+pub(crate) fn update<
+    R: Files<File: OutputFile> + Clock + Input + Print + Eprint + AllocGlobal,
+    T: Trials<R>,
+>(rt: &R, trials: &T, words: &UpdateWords<'_>) -> Result<Ended, Failure> {
+    match do_job(rt, trials, words) {
         Ok(Some(answered)) => Ok(ending(&answered.give(rt)?)),
         Ok(None) => Ok(Ended::AllDone),
         Err(not_made) => {
@@ -96,8 +98,9 @@ impl Job<'_> {
 }
 
 /// Does the job, as of [`update`], and tells nothing: that is given, unless it is only to do what is left of earlier updates.
-fn do_job<R: Files<File: OutputFile> + Clock + Input + Print + Eprint + AllocGlobal>(
+fn do_job<R: Files<File: OutputFile> + Clock + Input + Print + Eprint + AllocGlobal, T: Trials<R>>(
     rt: &R,
+    trials: &T,
     words: &UpdateWords<'_>,
 ) -> Result<Option<ToldAnswer<Answered>>, NotMade> {
     match words.job {
@@ -118,16 +121,16 @@ fn do_job<R: Files<File: OutputFile> + Clock + Input + Print + Eprint + AllocGlo
             } else {
                 Printing::Replies(form)
             };
-            Ok(Some(run_script(rt, words, &script, printing)?))
+            Ok(Some(run_script(rt, trials, words, &script, printing)?))
         }
         Job::Next => {
             let script = Script::empty(rt.alloc());
-            Ok(Some(run_script(rt, words, &script, Printing::Next)?))
+            Ok(Some(run_script(rt, trials, words, &script, Printing::Next)?))
         }
         Job::Look => {
             let script = Script::empty(rt.alloc());
             let printing = Printing::Replies(ReplyForm::Look);
-            Ok(Some(run_script(rt, words, &script, printing)?))
+            Ok(Some(run_script(rt, trials, words, &script, printing)?))
         }
         Job::Settle => {
             settle_machine(rt, &words.machine)?;
@@ -137,8 +140,12 @@ fn do_job<R: Files<File: OutputFile> + Clock + Input + Print + Eprint + AllocGlo
 }
 
 /// Runs the script over the place, or looks what it would do.
-fn run_script<R: Files<File: OutputFile> + Clock + Input + Print + Eprint + AllocGlobal>(
+fn run_script<
+    R: Files<File: OutputFile> + Clock + Input + Print + Eprint + AllocGlobal,
+    T: Trials<R>,
+>(
     rt: &R,
+    trials: &T,
     words: &UpdateWords<'_>,
     script: &Script<'_>,
     printing: Printing,
@@ -156,13 +163,45 @@ fn run_script<R: Files<File: OutputFile> + Clock + Input + Print + Eprint + Allo
         PlaceKind::VariableFile
     };
     let preconditions = preconditions_of(rt.alloc(), words.expected)?;
+    let start = match printing {
+        Printing::Replies(ReplyForm::Look) => told_start(rt, &words.machine, kind)?,
+        _ => None,
+    };
+    let trials = KeptTrial {
+        rt,
+        trials,
+        machine: match kind {
+            PlaceKind::Folder => Some(words.machine),
+            PlaceKind::VariableFile | PlaceKind::Set => None,
+        },
+    };
     let wanted = WantedRequests {
         place,
         script,
         preconditions: &preconditions,
         printing,
+        start: start.as_ref().map(BootId::as_str),
+        trials: &trials,
     };
     change_machine(rt, &options, kind, &wanted)
+}
+
+/// The identity of the machine's start that a look tells: none if it isn't given and the system doesn't tell it.
+///
+/// # Errors
+///
+/// [`Failure::Words`] if one is given and isn't one, and [`Failure::Memory`] if memory was refused.
+fn told_start<R: Files + AllocGlobal>(
+    rt: &R,
+    machine: &MachineWords<'_>,
+    kind: PlaceKind,
+) -> Result<Option<BootId>, Failure> {
+    match boot_id(rt, machine, matches!(kind, PlaceKind::Folder)) {
+        Ok(start) => Ok(Some(start)),
+        Err(Failure::Memory) => Err(Failure::Memory),
+        Err(failure) if machine.boot_id.is_some() => Err(failure),
+        Err(_) => Ok(None),
+    }
 }
 
 /// What these words expect.

@@ -5,7 +5,7 @@ use crate::folder::LeftOut;
 use crate::input::STANDARD;
 use crate::place_vars::PlaceVars;
 use crate::reasons::{damage_words, set_reason, store_reason};
-use messages::{Failure, IsLeftOut, Reason, Shortened, note};
+use messages::{Failure, IsIgnored, Reason, Shortened, note};
 use std::alloc::{AllocError, Global};
 use std::fs;
 use std::io::{self, ErrorKind};
@@ -111,7 +111,7 @@ pub fn variable_file<R: Eprint + AllocGlobal>(
     };
     if found.vars.remove(KEEP_STATE) {
         found.attributes.remove(KEEP_STATE);
-        let left_out = IsLeftOut {
+        let left_out = IsIgnored {
             name: KEEP_STATE,
             why: LeftOut::KeepState,
         };
@@ -133,7 +133,7 @@ fn tell_left_out<R: Eprint + AllocGlobal>(
         let variable = record_name(alloc, record)?;
         let shown = Shortened(variable.as_str());
         let why = why_left_out(record);
-        note(rt, name, IsLeftOut { name: shown, why });
+        note(rt, name, IsIgnored { name: shown, why });
         if is_boot_record(record, &variable) {
             boot_names.push(variable)?;
         }

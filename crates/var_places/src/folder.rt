@@ -11,7 +11,7 @@ ghost use Rattle.var_places.specs.declared.folder.LeftOut.{LeftOut};
 
 use crate::mounts::is_on_efivarfs;
 use crate::place_vars::PlaceVars;
-use messages::{Failure, IsLeftOut, Quoted, Reason, Shortened, note};
+use messages::{Failure, IsIgnored, Quoted, Reason, Shortened, note};
 use std::alloc::{AllocError, Global};
 use std::collections::BTreeMap;
 use std::fs;
@@ -88,7 +88,7 @@ fn file_names<R: Files + Eprint + AllocGlobal>(rt: &R, path: &str) -> Result<Vec
         match entry {
             Ok(entry) => names.push(String::from_str(alloc, entry.file_name())?)?,
             Err(error) if error.kind() == ErrorKind::InvalidFilename => {
-                note(rt, path, "a file is left out: its name isn't UTF-8");
+                note(rt, path, "a file is ignored: its name isn't UTF-8");
             }
             Err(error) => return Err(from_read(error)),
         }
@@ -153,7 +153,7 @@ fn add_variable<R: Files + Eprint + AllocGlobal>(
     if let Some(why) = keep(&mut folder.found, name, bytes.as_slice())? {
         folder.found.leave_out(alloc, name)?;
         let file = Quoted(file);
-        note(rt, path, IsLeftOut { name: file, why });
+        note(rt, path, IsIgnored { name: file, why });
     }
     Ok(())
 }

@@ -1,22 +1,42 @@
 """Device paths, load options, sets of boot variables, numbered requests over them, and files that firmware starts.
 
-The calls are those of the library for C, ``bootkeep.h``: what each accepts and refuses is proved. Bytes go in,
-and bytes, texts and values come out::
+Values are read of bytes, which ``bytes`` gives again, and are never changed: :class:`DevicePath`, :class:`LoadOption`,
+:class:`BootVariables`::
 
     >>> import bootkeep
-    >>> bootkeep.path_text(bytes.fromhex("02010c00d041030a000000007fff0400"))
-    'PciRoot(0x0)'
-    >>> bootkeep.path_text(b"")
+    >>> data = bytes.fromhex("02010c00d041030a000000007fff0400")
+    >>> path = bootkeep.DevicePath.from_bytes(data)
+    >>> print(path)
+    PciRoot(0x0)
+    >>> bytes(path) == data
+    True
+    >>> option = bootkeep.LoadOption("Mine", [path])
+    >>> variables = bootkeep.BootVariables({"Boot0005": option, "BootOrder": b"\\5\\0"})
+    >>> print(variables.plan)
+    plan next - normal 0005
+    >>> for entry in variables.entries:
+    ...     print(entry)
+    Boot0005 normal Mine PciRoot(0x0)
+
+Requests change a set by a keeper, and :class:`SetFile` keeps a file by them::
+
+    >>> with bootkeep.Keeper(variables) as keeper:
+    ...     print(keeper.request(bootkeep.AddFirst(option)))
+    ...     print(keeper.variables.plan)
+    applied Done 0000 1
+    plan next - normal 0000 0005
+
+What isn't what it has to be is refused by :class:`Refused`, with the fault and its place. Python's own ``MemoryError`` is
+raised where memory is refused, and ``KeyError`` where a set has no variable of a name::
+
+    >>> bootkeep.DevicePath.from_bytes(b"")
     Traceback (most recent call last):
         ...
     bootkeep.Refused: PATH_NO_END at 0
 
-What isn't what it has to be is refused by :class:`Refused`, with the number and the place of the fault. Python's own
-``MemoryError`` is raised where memory is refused, and ``KeyError`` where a set has no variable of a name.
-
-The calls of ``bootkeep.h`` that have no keeper have their names here, without ``bootkeep_``, and return what
-they tell; but :func:`option_parts` has the description too, as a text and as a line, and :func:`library_version` is
-``bootkeep_version``.
+The calls are those of the library for C, ``bootkeep.h``: what each accepts and refuses is proved. Those that have no
+keeper have their names here too, without ``bootkeep_``, take bytes, and return what they tell; but :func:`option_parts`
+has the description too, as a text and as a line, and :func:`library_version` is ``bootkeep_version``.
 
 The shared library is found by the environment's ``BOOTKEEP_LIBRARY``, beside this file, or where the system looks for
 ``libbootkeep.so.1``; ``tools/build-c FOLDER`` makes it, and a wheel of this package has it.
@@ -24,17 +44,33 @@ The shared library is found by the environment's ``BOOTKEEP_LIBRARY``, beside th
 
 from __future__ import annotations
 
-from ._faults import BytesLeft, Closed, Error, Refused, outcome_word, refusal_word, status_word
-from ._images import ImageFault, SignatureList, image_check, image_digest, signature_lists
-from ._keepers import Keeper, Reply, frame_make, run
+from ._faults import (
+    BytesLeft,
+    Closed,
+    Error,
+    Refused,
+    outcome_word,
+    refusal_word,
+    status_word,
+)
+from ._files import SetFile
+from ._images import (
+    ImageFault,
+    SignatureList,
+    image_check,
+    image_digest,
+    signature_lists,
+)
+from ._keepers import Keeper, Reply, run
 from ._library import library_version
 from ._numbers import (
+    Attributes,
     ChangeKind,
     DATA_MAX,
     Effect,
     EntryState,
     FRAME_MAX,
-    Kind,
+    Fault,
     LIST_MAX,
     NAME_MAX,
     OPTION_ACTIVE,
@@ -46,13 +82,23 @@ from ._numbers import (
     ORDER_MAX,
     Outcome,
     ReplyKind,
-    Request,
+    RequestKind,
     Stage,
     VERSION,
     WORD_MAX,
 )
-from ._options import LoadOption, option_make, option_make_units, option_parts
+from ._numbers import Fault as Kind
+from ._numbers import RequestKind as Request
+from ._options import (
+    LoadOption,
+    OptionParts,
+    option_make,
+    option_make_units,
+    option_parts,
+)
 from ._paths import (
+    DevicePath,
+    Node,
     path_check,
     path_names,
     path_names_and_len,
@@ -61,9 +107,24 @@ from ._paths import (
     path_text_and_len,
     text_path,
 )
+from ._requests import (
+    Add,
+    AddFirst,
+    AddFree,
+    BootRequest,
+    First,
+    Next,
+    Order,
+    Remove,
+    Replace,
+    frame_make,
+    frames,
+)
 from ._sets import (
     AtRisk,
+    BootVariables,
     Change,
+    Entry,
     NamedEntry,
     Plan,
     set_at_risk,
@@ -77,6 +138,7 @@ from ._sets import (
     set_remove,
     set_variables,
 )
+from ._values import EntryNumber, is_entry_name
 
 __all__ = [
     "DATA_MAX",
@@ -92,32 +154,53 @@ __all__ = [
     "ORDER_MAX",
     "VERSION",
     "WORD_MAX",
+    "Add",
+    "AddFirst",
+    "AddFree",
     "AtRisk",
+    "Attributes",
+    "BootRequest",
+    "BootVariables",
     "BytesLeft",
     "Change",
     "ChangeKind",
     "Closed",
+    "DevicePath",
     "Effect",
+    "Entry",
+    "EntryNumber",
     "EntryState",
     "Error",
+    "Fault",
+    "First",
     "ImageFault",
     "Keeper",
     "Kind",
     "LoadOption",
     "NamedEntry",
+    "Next",
+    "Node",
+    "OptionParts",
+    "Order",
     "Outcome",
     "Plan",
     "Refused",
+    "Remove",
+    "Replace",
     "Reply",
     "ReplyKind",
     "Request",
+    "RequestKind",
+    "SetFile",
     "SignatureList",
     "Stage",
     "__version__",
     "check_path",
     "entries_at_risk",
     "frame_make",
+    "frames",
     "image_check",
+    "is_entry_name",
     "image_digest",
     "library_version",
     "option",
@@ -152,7 +235,7 @@ __all__ = [
 #: The version of this package.
 __version__ = "0.2.0"
 
-# The names of before, for one version.
+# The names of before, for one version, as Kind and Request are.
 plan, entries_at_risk, check_path = set_plan, set_at_risk, path_check
 option = option_parts
 

@@ -4,7 +4,7 @@ from __future__ import annotations
 
 import ctypes
 from ctypes import byref, c_size_t, c_uint16, c_uint32
-from typing import Any, Callable, Optional, Sequence, Tuple, Union
+from typing import Any, Callable, Optional, Sequence, SupportsBytes, Tuple, Union
 
 from ._faults import failure
 from ._library import RawRefusal
@@ -16,11 +16,16 @@ Bytes = Union[bytes, bytearray, memoryview]
 ROOM = 512
 
 
-def bytes_in(data: Bytes) -> Tuple[bytes, int]:
-    """The two arguments of C for these bytes."""
+def bytes_in(data: Union[Bytes, SupportsBytes]) -> Tuple[bytes, int]:
+    """The two arguments of C for these bytes, or for those of a value of this package."""
     if isinstance(data, str):
         raise TypeError("bytes are wanted, not a text")
-    held = data if isinstance(data, bytes) else bytes(memoryview(data))
+    if isinstance(data, bytes):
+        held = data
+    elif isinstance(data, SupportsBytes):
+        held = bytes(data)
+    else:
+        held = bytes(memoryview(data))
     return held, len(held)
 
 

@@ -8,7 +8,7 @@ from ctypes import byref, c_size_t
 from typing import Any, Callable, Optional, Tuple
 
 from ._library import RawRefusal, library
-from ._numbers import CLOSED, DONE, NO_KIND, NO_MEMORY, NO_PLACE, REFUSED, WORD_MAX, Kind, known
+from ._numbers import CLOSED, DONE, NO_KIND, NO_MEMORY, NO_PLACE, REFUSED, WORD_MAX, Fault
 
 
 def _word(call: Callable[..., int], number: int) -> Optional[str]:
@@ -75,7 +75,7 @@ class BytesLeft(Error, ValueError):
 class Refused(Error, ValueError):
     """What was handed in isn't what it has to be.
 
-    ``kind`` is the number of the fault, a :class:`Kind` if this module knows it, and ``place`` is where, or ``None``.
+    ``kind`` is the fault, and ``place`` is where it is, or ``None``.
     ``inner_kind`` and ``inner_place`` are those of the fault within, if there is one. Places count bytes, also in a
     text, whose bytes are those of its UTF-8.
     """
@@ -87,9 +87,9 @@ class Refused(Error, ValueError):
         inner_kind: Optional[int] = None,
         inner_place: Optional[int] = None,
     ) -> None:
-        self.kind = known(Kind, kind)
+        self.kind = Fault(kind)
         self.place = place
-        self.inner_kind = None if inner_kind is None else known(Kind, inner_kind)
+        self.inner_kind = None if inner_kind is None else Fault(inner_kind)
         self.inner_place = inner_place
         words = _words(self.kind, place)
         if self.inner_kind is not None:
@@ -108,8 +108,8 @@ class Refused(Error, ValueError):
         return hash(self.__reduce__())
 
 
-def _words(kind: int, place: Optional[int]) -> str:
-    name = kind.name if isinstance(kind, Kind) else fault_word(kind)
+def _words(kind: Fault, place: Optional[int]) -> str:
+    name = kind.name if kind.is_known else fault_word(kind)
     return name if place is None else f"{name} at {place}"
 
 

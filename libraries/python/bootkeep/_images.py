@@ -9,21 +9,21 @@ from typing import Optional, Tuple
 from ._buffers import Bytes, bytes_in, bytes_of, items_of
 from ._faults import failure, refused
 from ._library import RawList, RawRefusal, library
-from ._numbers import DONE, REFUSED, Effect, Stage, known
+from ._numbers import DONE, REFUSED, Effect, Fault, Stage
 
 
 @dataclass(frozen=True)
 class ImageFault:
     """The first thing that isn't in an image as firmware wants it."""
 
-    #: The number of the fault, a :class:`Kind` ``IMAGE_..`` if this module knows it.
-    kind: int
+    #: The fault: ``IMAGE_..``.
+    kind: Fault
     #: Where it is: the offset of the field that has it, or of a section's header.
     place: int
-    #: Which part of firmware finds it, a :class:`Stage` if this module knows it.
-    stage: int
-    #: What comes of it, an :class:`Effect` if this module knows it.
-    effect: int
+    #: Which part of firmware finds it.
+    stage: Stage
+    #: What comes of it.
+    effect: Effect
 
 
 def image_check(image: Bytes) -> Optional[ImageFault]:
@@ -38,7 +38,7 @@ def image_check(image: Bytes) -> Optional[ImageFault]:
     if status != REFUSED:
         raise failure(status, refusal)
     kind = refused(refusal).kind
-    return ImageFault(kind, refusal.place, known(Stage, stage.value), known(Effect, effect.value))
+    return ImageFault(kind, refusal.place, Stage(stage.value), Effect(effect.value))
 
 
 def image_digest(image: Bytes) -> bytes:

@@ -2,8 +2,8 @@
 
 from __future__ import annotations
 
-from enum import IntEnum
-from typing import Type
+from enum import IntEnum, IntFlag
+from typing import Any, Optional, Tuple
 
 #: The version of the interface that this module is for.
 VERSION = 1
@@ -39,111 +39,257 @@ OPTION_CATEGORY_BOOT = 0x00000000
 OPTION_CATEGORY_APP = 0x00000100
 
 
-class Kind(IntEnum):
-    """The number of a fault. ``bootkeep.h`` says what each means, and none is ever given out again."""
+class Attributes(IntFlag):
+    """The attributes of a load option, all 32 bits as they are stored: those that have no name here too."""
 
+    #: The boot manager tries the option by itself.
+    ACTIVE = 0x00000001
+    #: All drivers are connected again after the option's driver is loaded.
+    FORCE_RECONNECT = 0x00000002
+    #: A menu leaves the option out.
+    HIDDEN = 0x00000008
+    #: The category of an application that a person starts. That of what the boot manager tries is 0.
+    CATEGORY_APP = 0x00000100
+
+    @property
+    def category(self) -> int:
+        """The bits of LOAD_OPTION_CATEGORY, where they are in the attributes."""
+        return int(self) & OPTION_CATEGORY
+
+    def __invert__(self) -> Attributes:
+        """All 32 bits the other way: some Pythons would drop those that have no name."""
+        return Attributes(int(self) ^ 0xFFFFFFFF)
+
+
+class Numbers(IntEnum):
+    """Numbers that the library tells. One of a later library, which this module doesn't know, is a member too, by a name
+    of its number."""
+
+    @classmethod
+    def _missing_(cls, value: object) -> Optional[Numbers]:
+        if not isinstance(value, int):
+            return None
+        unknown = int.__new__(cls, value)
+        unknown._name_, unknown._value_ = f"UNKNOWN_{value:#x}", value
+        return unknown
+
+    @property
+    def is_known(self) -> bool:
+        """Whether this module knows the number."""
+        return self._name_ in type(self).__members__
+
+    def __reduce_ex__(self, protocol: Any) -> Tuple[Any, ...]:
+        return type(self), (int(self),)
+
+
+class Fault(Numbers):
+    """The number of a fault. None is ever given out again."""
+
+    #: No byte remains where a node must be.
     PATH_NO_END = 0x0101
+    #: One to three bytes remain, fewer than the header of a node has.
     PATH_SHORT_HEADER = 0x0102
+    #: The node states a length below 4, that of its header alone.
     PATH_BAD_LENGTH = 0x0103
+    #: The node states more bytes than remain.
     PATH_PAST_END = 0x0104
+    #: The node has type 0x7F and isn't an end node.
     PATH_BAD_END = 0x0105
+    #: What is at this place isn't a segment.
     TEXT_BAD_SEGMENT = 0x0201
+    #: The argument at this place must be a number and isn't a number's text.
     TEXT_BAD_NUMBER = 0x0202
+    #: The argument at this place is out of its range.
     TEXT_OUT_OF_RANGE = 0x0203
+    #: The segment at this place is a `Path` of type 0x7F, that of the end nodes.
     TEXT_BAD_END = 0x0204
+    #: The text isn't UTF-8 from this place on. This comes before any other fault of a text.
     TEXT_NOT_UTF8 = 0x0205
+    #: No node has the name at this place. This and the three after it are of texts with names of
+    #: nodes alone.
     TEXT_UNKNOWN_NAME = 0x0206
+    #: The argument at this place isn't what the node has there.
     TEXT_BAD_ARGUMENT = 0x0207
+    #: At this place the segment ends before it has all its arguments, or has one more.
     TEXT_BAD_COUNT = 0x0208
+    #: What the arguments of the segment at this place say is no data of its node.
     TEXT_BAD_DATA = 0x0209
+    #: There are fewer bytes than the six of the attributes and of the length of the list.
     OPTION_SHORT = 0x0301
+    #: No zero unit closes the description.
     OPTION_NO_TERMINATOR = 0x0302
+    #: The list of paths has fewer bytes than the option states.
     OPTION_LIST_PAST_END = 0x0303
+    #: The list of paths has no byte.
     OPTION_EMPTY_LIST = 0x0304
+    #: What begins at this place isn't a device path: the fault within is that path's.
     OPTION_PATH = 0x0305
+    #: A character of the description is zero.
     OPTION_ZERO_UNIT = 0x0306
+    #: The paths have more bytes than the list of an option can have, 65,535.
     OPTION_LIST_TOO_LONG = 0x0307
+    #: The description isn't UTF-8 from this place of it on.
     OPTION_NOT_UTF8 = 0x0308
+    #: Half of a pair of units stands alone in the description, which is no text.
     OPTION_NOT_UTF16 = 0x0309
+    #: The file doesn't begin with the four bytes `BVS1`.
     SET_BAD_MAGIC = 0x0401
+    #: The file ends within the record.
     SET_TRUNCATED = 0x0402
+    #: The name isn't one to 64 characters from 0x21 to 0x7E.
     SET_BAD_NAME = 0x0403
+    #: The data is to have no byte, or more than 1,048,576.
     SET_BAD_DATA = 0x0404
+    #: The name isn't above that of the record before, by bytes.
     SET_NOT_RISING = 0x0405
+    #: The bytes of BootOrder are odd in number, or more than two for each of 65,536 entries.
     VARS_BAD_ORDER = 0x0501
+    #: BootNext has another number of bytes than two.
     VARS_BAD_NEXT = 0x0502
+    #: The bytes of BootKeepState aren't ones that a keeper stores. Only keepers and runs look at it.
     VARS_BAD_STATE = 0x0503
+    #: The name isn't one to 64 characters from 0x21 to 0x7E.
     PUT_BAD_NAME = 0x0601
+    #: There is no data. A variable without data is deleted, and never stored.
     PUT_EMPTY_DATA = 0x0602
+    #: The data has more than 1,048,576 bytes.
     PUT_DATA_TOO_LONG = 0x0603
+    #: A header doesn't begin with 0x42 0x51.
     STREAM_BAD_MAGIC = 0x0701
+    #: The version of a header is none of 1 to 3.
     STREAM_BAD_VERSION = 0x0702
+    #: A payload is to have more bytes than a frame can have.
     STREAM_TOO_LONG = 0x0703
+    #: The last frame isn't whole. The place is how many bytes of it are there.
     STREAM_REST = 0x0704
+    #: There are fewer bytes than the twelve before the payload.
     FRAME_SHORT = 0x0801
+    #: The bytes don't begin with 0x42 0x51.
     FRAME_BAD_MAGIC = 0x0802
+    #: The version is none of 1 to 3.
     FRAME_BAD_VERSION = 0x0803
+    #: The payload has more bytes than a frame can have.
     FRAME_TOO_LONG = 0x0804
+    #: There are fewer or more bytes than the twelve and those of the payload.
     FRAME_BAD_SIZE = 0x0805
+    #: No kind of request has this number.
     FRAME_BAD_KIND = 0x0806
+    #: The number is 0xffffffff, which no request has.
     FRAME_BAD_NUMBER = 0x0807
+    #: The payload doesn't have the bytes that a request of its kind has.
     FRAME_BAD_PAYLOAD = 0x0808
+    #: The payload's load option isn't one. Only replies have this number.
     FRAME_OPTION = 0x0809
+    #: The file has no bytes.
     IMAGE_EMPTY = 0x0901
+    #: The file ends in its DOS header.
     IMAGE_SHORT_DOS_HEADER = 0x0902
+    #: The file doesn't begin with MZ.
     IMAGE_DOS_SIGNATURE = 0x0903
+    #: There are no 264 bytes from e_lfanew on, as many as headers with 16 data directories have.
     IMAGE_PE_PLACE = 0x0904
+    #: There is no PE signature where e_lfanew says.
     IMAGE_PE_SIGNATURE = 0x0905
+    #: Magic is neither that of PE32 nor that of PE32+.
     IMAGE_MAGIC = 0x0906
+    #: The image is no EFI application.
     IMAGE_SUBSYSTEM = 0x0907
+    #: There are more data directories than the format has.
     IMAGE_DIRECTORY_COUNT = 0x0908
+    #: The optional header isn't as long as one with so many data directories.
     IMAGE_OPTIONAL_HEADER_SIZE = 0x0909
+    #: The image has no room for its section table and one header more.
     IMAGE_IMAGE_SIZE = 0x090A
+    #: The headers have no room for the section table.
     IMAGE_HEADERS_SIZE = 0x090B
+    #: The headers don't end in the image.
     IMAGE_HEADERS_BEYOND_IMAGE = 0x090C
+    #: The file ends in the headers.
     IMAGE_HEADERS_BEYOND_FILE = 0x090D
+    #: The file ends before the certificate table does.
     IMAGE_CERTIFICATES_BEYOND_FILE = 0x090E
+    #: The machine isn't one that firmware knows.
     IMAGE_MACHINE = 0x090F
+    #: A section lies in the headers, in the file or in memory.
     IMAGE_SECTION_IN_HEADERS = 0x0910
+    #: The file ends before a section does.
     IMAGE_SECTION_BEYOND_FILE = 0x0911
+    #: The debug directory is at an offset of more than four bytes.
     IMAGE_DEBUG_PLACE = 0x0912
+    #: The file ends in an entry of the debug directory.
     IMAGE_DEBUG_BEYOND_FILE = 0x0913
+    #: CodeView data are in no section: firmware loads them after the sections.
     IMAGE_UNMAPPED_CODE_VIEW = 0x0914
+    #: The image is one for ARM64.
     IMAGE_ARM64 = 0x0915
+    #: The image takes more memory than is taken for granted, 512 MiB.
     IMAGE_MEMORY = 0x0916
+    #: The relocations are stripped, and the image's address is in the first page of memory.
     IMAGE_FIXED_BASE = 0x0917
+    #: The relocations are stripped: the memory at the image's address has to be free.
     IMAGE_RELOCATIONS_STRIPPED = 0x0918
+    #: Sections are aligned to nothing.
     IMAGE_SECTION_ALIGNMENT = 0x0919
+    #: A section isn't in the image.
     IMAGE_SECTION_BEYOND_IMAGE = 0x091A
+    #: A section is written after the image's memory.
     IMAGE_SECTION_BEYOND_MEMORY = 0x091B
+    #: A section without bytes in the file is written over the section table.
     IMAGE_SECTION_OVER_TABLE = 0x091C
+    #: The directory of relocations is the first after those that there are, and isn't in the
+    #: headers.
     IMAGE_RELOCATIONS_NOT_LOADED = 0x091D
+    #: The relocations end after the last address of four bytes.
     IMAGE_RELOCATIONS_OVERFLOW = 0x091E
+    #: The relocations aren't in the image.
     IMAGE_RELOCATIONS_BEYOND_IMAGE = 0x091F
+    #: The image is one for IA32, which is loaded and not started.
     IMAGE_IA32 = 0x0920
+    #: The image is EFI byte code, which needs an interpreter.
     IMAGE_BYTE_CODE = 0x0921
+    #: The image's entry point isn't in it.
     IMAGE_ENTRY_POINT = 0x0922
+    #: Headers and sections have more bytes than the file. This and the next one are of digests
+    #: alone.
     IMAGE_OVERLAP = 0x0923
+    #: The certificate table has more bytes than are left of the file after the headers and sections.
     IMAGE_CERTIFICATES_OVERLAP = 0x0924
+    #: The bytes end in the 28 before the list's header.
     LISTS_CUT_HEADER = 0x0A01
+    #: The list has fewer bytes than its headers, or more than there are.
     LISTS_BAD_LIST_SIZE = 0x0A02
+    #: A signature has fewer than 16 bytes, or the signatures aren't whole.
     LISTS_BAD_SIGNATURE_SIZE = 0x0A03
+    #: The debug entry of CodeView data isn't in the image.
     IMAGE_CODE_VIEW_ENTRY_BEYOND_IMAGE = 0x0B01
+    #: The debug entry of CodeView data isn't in one section, or the headers, once they are in
+    #: memory.
     IMAGE_CODE_VIEW_ENTRY_NOT_LOADED = 0x0B02
+    #: CodeView data aren't in the image.
     IMAGE_CODE_VIEW_BEYOND_IMAGE = 0x0B03
+    #: CodeView data aren't in one section, or the headers, once they are in memory.
     IMAGE_CODE_VIEW_NOT_LOADED = 0x0B04
+    #: CodeView data have fewer bytes than data with their signature.
     IMAGE_CODE_VIEW_SIZE = 0x0B05
+    #: What the loader reads of the resources isn't in one section, or the headers.
     IMAGE_RESOURCES_NOT_LOADED = 0x0B06
+    #: A directory, a name or the data of a resource begin after the resources.
     IMAGE_RESOURCE_BEYOND_RESOURCES = 0x0B07
+    #: The entries of a directory of resources end after the resources.
     IMAGE_RESOURCE_DIRECTORY_SIZE = 0x0B08
+    #: A block of relocations isn't in one section, or the headers.
     IMAGE_RELOCATION_BLOCK_NOT_LOADED = 0x0B09
+    #: A block of relocations has no bytes, or more than are left of the relocations.
     IMAGE_RELOCATION_BLOCK_SIZE = 0x0B0A
+    #: A block of relocations is of a page that isn't in the image.
     IMAGE_RELOCATION_BLOCK_ADDRESS = 0x0B0B
+    #: A relocation is of an address that isn't in the image.
     IMAGE_RELOCATION_BEYOND_IMAGE = 0x0B0C
+    #: A relocation is of a type that firmware doesn't know.
     IMAGE_RELOCATION_UNKNOWN_TYPE = 0x0B0D
 
 
-class Request(IntEnum):
+class RequestKind(IntEnum):
     """What a request is to do: ``docs/requests.md`` has what comes of each."""
 
     #: To store an option under a number that is free, and to append that to BootOrder.
@@ -164,35 +310,53 @@ class Request(IntEnum):
     FIRST = 8
 
 
-class ReplyKind(IntEnum):
+class ReplyKind(Numbers):
     """What the reply to an event is."""
 
+    #: What was delivered isn't a frame.
     MALFORMED = 1
+    #: The request was applied before, with this outcome.
     REPEAT = 2
+    #: The request was applied before, and its outcome isn't kept any more.
     OLD = 3
+    #: The number is too far ahead of the next one.
     AHEAD = 4
+    #: Another request of this number waits.
     CONFLICT = 5
+    #: The request waits for those before it.
     WAITING = 6
+    #: The request was applied, with this outcome.
     APPLIED = 7
+    #: A plan is prepared.
     PREPARED = 8
+    #: A plan was prepared before, and stays.
     ALREADY_PREPARED = 9
+    #: The plan that was prepared.
     PLAN = 10
+    #: No plan is prepared.
     NOTHING_PREPARED = 11
+    #: What waited and what was prepared is forgotten.
     RESTARTED = 12
 
 
-class Outcome(IntEnum):
+class Outcome(Numbers):
     """What came of a request."""
 
+    #: It was carried out.
     DONE = 1
+    #: The entry to add is there already.
     EXISTS = 2
+    #: The entry isn't there.
     MISSING = 3
+    #: The order has a number twice.
     ORDER_REPEATS = 4
+    #: The order has a number without an entry.
     ORDER_UNKNOWN = 5
+    #: Each number has an entry already.
     NO_FREE = 6
 
 
-class EntryState(IntEnum):
+class EntryState(Numbers):
     """What a boot makes of an entry that BootOrder names."""
 
     #: It is tried.
@@ -207,7 +371,7 @@ class EntryState(IntEnum):
     OTHER_CATEGORY = 4
 
 
-class ChangeKind(IntEnum):
+class ChangeKind(Numbers):
     """What becomes of a variable."""
 
     #: It is new.
@@ -218,7 +382,7 @@ class ChangeKind(IntEnum):
     REMOVED = 3
 
 
-class Stage(IntEnum):
+class Stage(Numbers):
     """Which part of firmware finds a fault of an image."""
 
     #: The boot manager, for which there is no such file then.
@@ -229,7 +393,7 @@ class Stage(IntEnum):
     START = 2
 
 
-class Effect(IntEnum):
+class Effect(Numbers):
     """What comes of a fault of an image."""
 
     #: Firmware doesn't start the file.
@@ -238,11 +402,3 @@ class Effect(IntEnum):
     UNSAFE = 1
     #: The file's bytes don't tell whether it starts: the machine decides.
     UNDECIDED = 2
-
-
-def known(numbers: Type[IntEnum], number: int) -> int:
-    """The member of this number, or the number if this module doesn't know it."""
-    try:
-        return numbers(number)
-    except ValueError:
-        return number

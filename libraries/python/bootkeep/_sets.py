@@ -8,7 +8,7 @@ from __future__ import annotations
 
 from ctypes import byref, c_size_t, c_uint32
 from dataclasses import dataclass
-from typing import Dict, Optional, Tuple
+from typing import Dict, Iterator, Mapping, Optional, Tuple, Union
 
 from ._buffers import (
     Bytes,
@@ -20,7 +20,7 @@ from ._buffers import (
     numbers_of,
     utf8,
 )
-from ._faults import number_in
+from ._faults import Refused, number_in
 from ._library import RawChange, RawNamed, RawRefusal, RawVariable, library
 from ._numbers import (
     NO_ENTRY,
@@ -29,8 +29,12 @@ from ._numbers import (
     VARIABLE_TIMEOUT,
     ChangeKind,
     EntryState,
-    known,
 )
+from ._options import LoadOption
+from ._values import EntryNumber, Value, is_entry_name
+
+#: The bytes of a set without a variable.
+EMPTY = b"BVS1"
 
 
 @dataclass(frozen=True)
@@ -38,15 +42,28 @@ class Plan:
     """What a boot would try (UEFI 2.10, 3.3)."""
 
     #: The number of BootNext's entry, which is tried first, or ``None``.
-    next: Optional[int]
+    next: Optional[EntryNumber]
     #: The numbers of the normal entries of BootOrder, in its order.
-    normal: Tuple[int, ...]
+    normal: Tuple[EntryNumber, ...]
+
+    @property
+    def tried(self) -> Tuple[EntryNumber, ...]:
+        """All of these numbers, in the order in which a boot tries them."""
+        return self.normal if self.next is None else (self.next, *self.normal)
 
     def __str__(self) -> str:
-        first = "-" if self.next is None else f"{self.next:04X}"
-        return (
-            f"plan next {first} normal {' '.join(f'{number:04X}' for number in self.normal) or '-'}"
-        )
+        first = "-" if self.next is None else str(self.next)
+        return f"plan next {first} normal {' '.join(map(str, self.normal)) or '-'}"
+
+
+def entry_numbers(numbers: Tuple[int, ...]) -> Tuple[EntryNumber, ...]:
+    """These numbers as those of entries."""
+    return tuple(map(EntryNumber, numbers))
+
+
+def entry_or_none(number: int) -> Optional[EntryNumber]:
+    """The number of an entry, unless it stands for none."""
+    return None if number == NO_ENTRY else EntryNumber(number)
 
 
 def set_plan(variables: Bytes) -> Plan:
@@ -56,7 +73,7 @@ def set_plan(variables: Bytes) -> Plan:
     normal = numbers_of(
         lambda *out: library.bootkeep_set_plan(*given, *out, byref(first), byref(refusal)), refusal
     )
-    return Plan(None if first.value == NO_ENTRY else first.value, normal)
+    return Plan(entry_or_none(first.value), entry_numbers(normal))
 
 
 @dataclass(frozen=True)
@@ -64,18 +81,20 @@ class AtRisk:
     """The entries that a start of firmware may write over or delete, by their numbers, which rise."""
 
     #: Those that neither BootOrder nor BootNext names: firmware may write over them.
-    unnamed: Tuple[int, ...]
+    unnamed: Tuple[EntryNumber, ...]
     #: Those of BootOrder that are no load option: firmware may delete them.
-    undecodable: Tuple[int, ...]
+    undecodable: Tuple[EntryNumber, ...]
 
 
 def set_at_risk(variables: Bytes) -> AtRisk:
     """The entries of a set file, all its bytes, that a start of firmware may write over or delete. ``Refused`` as of
     :func:`set_plan`."""
     unnamed, refusal, given = c_size_t(), RawRefusal(), bytes_in(variables)
-    numbers = numbers_of(
-        lambda *out: library.bootkeep_set_at_risk(*given, *out, byref(unnamed), byref(refusal)),
-        refusal,
+    numbers = entry_numbers(
+        numbers_of(
+            lambda *out: library.bootkeep_set_at_risk(*given, *out, byref(unnamed), byref(refusal)),
+            refusal,
+        )
     )
     return AtRisk(numbers[: unnamed.value], numbers[unnamed.value :])
 
@@ -127,23 +146,21 @@ def set_variables(variables: Bytes) -> Dict[str, bytes]:
     }
 
 
-def set_lowest_free(variables: Bytes) -> Optional[int]:
+def set_lowest_free(variables: Bytes) -> Optional[EntryNumber]:
     """The lowest number under which a set file, all its bytes, has no entry; ``None`` if all are taken."""
     refusal = RawRefusal()
     given = bytes_in(variables)
     number = number_of(
         lambda out: library.bootkeep_set_lowest_free(*given, out, byref(refusal)), refusal
     )
-    return None if number == NO_ENTRY else number
+    return entry_or_none(number)
 
 
-def set_entry(variables: Bytes, number: int) -> int:
-    """What a boot makes of an entry that BootOrder names: why its number isn't in the plan, or that it is, by an
-    :class:`EntryState` if this module knows it. That of BootNext isn't if it is absent or undecodable.
-    """
+def set_entry(variables: Bytes, number: int) -> EntryState:
+    """What a boot makes of an entry that BootOrder names: why its number isn't in the plan, or that it is. That of BootNext
+    isn't if it is absent or undecodable."""
     refusal, given = RawRefusal(), (*bytes_in(variables), number_in(number, 16))
-    return known(
-        EntryState,
+    return EntryState(
         number_of(lambda out: library.bootkeep_set_entry(*given, out, byref(refusal)), refusal),
     )
 
@@ -155,9 +172,9 @@ class NamedEntry:
     #: ``BootNext`` or ``BootOrder``.
     variable: str
     #: The number.
-    number: int
-    #: What a boot makes of the entry: an :class:`EntryState` if this module knows it.
-    state: int
+    number: EntryNumber
+    #: What a boot makes of the entry.
+    state: EntryState
 
 
 def set_named(variables: Bytes) -> Tuple[NamedEntry, ...]:
@@ -168,7 +185,7 @@ def set_named(variables: Bytes) -> Tuple[NamedEntry, ...]:
         RawNamed, lambda *out: library.bootkeep_set_named(*given, *out, byref(refusal)), refusal
     )
     return tuple(
-        NamedEntry(_variable_name(one.variable), one.number, known(EntryState, one.state))
+        NamedEntry(_variable_name(one.variable), EntryNumber(one.number), EntryState(one.state))
         for one in named
     )
 
@@ -180,8 +197,12 @@ class Change:
     #: The name of the variable: ``Boot####``, ``BootOrder`` or ``BootNext``. Of another variable, which a later library
     #: may tell, it is a text that is the name of none: ``variable 0x00010003``.
     name: str
-    #: What becomes of it: a :class:`ChangeKind` if this module knows it.
-    kind: int
+    #: What becomes of it.
+    kind: ChangeKind
+    #: Its data before, or ``None`` if there was no such variable.
+    before: Optional[bytes] = None
+    #: Its data after, or ``None`` if there is no such variable then.
+    after: Optional[bytes] = None
 
 
 def set_changes(before: Bytes, after: Bytes) -> Tuple[Change, ...]:
@@ -192,10 +213,9 @@ def set_changes(before: Bytes, after: Bytes) -> Tuple[Change, ...]:
     changes = items_of(
         RawChange, lambda *out: library.bootkeep_set_changes(*given, *out, byref(refusal)), refusal
     )
-    return tuple(
-        Change(_variable_name(change.variable), known(ChangeKind, change.kind))
-        for change in changes
-    )
+    old, new = set_variables(before), set_variables(after)
+    names = ((_variable_name(change.variable), ChangeKind(change.kind)) for change in changes)
+    return tuple(Change(name, kind, old.get(name), new.get(name)) for name, kind in names)
 
 
 def _variable_name(number: int) -> str:
@@ -204,3 +224,153 @@ def _variable_name(number: int) -> str:
         return f"Boot{number:04X}"
     names = {VARIABLE_ORDER: "BootOrder", VARIABLE_NEXT: "BootNext", VARIABLE_TIMEOUT: "Timeout"}
     return names.get(number, f"variable {number:#010x}")
+
+
+@dataclass(frozen=True)
+class Entry:
+    """An entry of a set: a variable Boot####."""
+
+    #: Its number.
+    number: EntryNumber
+    #: Its data.
+    data: bytes
+    #: What a boot makes of it if BootOrder names it.
+    state: EntryState
+    #: The load option that its data is, or ``None``.
+    option: Optional[LoadOption]
+    #: Why its data is no load option, or ``None``.
+    fault: Optional[Refused]
+    #: Its first place in BootOrder, from 0, or ``None`` if that doesn't name it.
+    order_place: Optional[int]
+    #: Whether BootNext names it.
+    is_next: bool
+
+    @property
+    def is_in_order(self) -> bool:
+        """Whether BootOrder names it."""
+        return self.order_place is not None
+
+    def __str__(self) -> str:
+        state = self.state.name.lower().replace("_", " ")
+        return f"{self.number.name} {state} {self.fault or self.option}"
+
+
+class BootVariables(Value, Mapping[str, bytes]):
+    """A set of variables, by their names, as a set file has it::
+
+        variables = BootVariables.from_bytes(Path("set").read_bytes())
+        for entry in variables.entries:
+            print(entry)
+
+    It is a mapping from names to data, in the order of the names, and equals another set alone, and no ``dict``. Each
+    set goes both ways, to the byte: ``bytes(BootVariables.from_bytes(data)) == data``.
+    """
+
+    __slots__ = ("_by_name",)
+
+    _by_name: Dict[str, bytes]
+
+    def __init__(self, variables: Optional[Mapping[str, Union[LoadOption, Bytes]]] = None) -> None:
+        """The set of these variables, in any order, or one without any. ``Refused`` has a kind ``PUT_..``."""
+        data = EMPTY
+        for name, held in (variables or {}).items():
+            data = set_put(data, name, bytes_in(held)[0])
+        self._fill(data)
+
+    @classmethod
+    def from_bytes(cls, data: Bytes) -> BootVariables:
+        """The set that the bytes are, all of them. ``Refused`` has a kind ``SET_..`` and the place of the record with the
+        fault."""
+        variables = cls.__new__(cls)
+        variables._fill(bytes_in(data)[0])
+        return variables
+
+    def _fill(self, data: bytes) -> None:
+        self._set(_data=data, _by_name=set_variables(data))
+
+    def __getitem__(self, name: str) -> bytes:
+        return self._by_name[name]
+
+    def __iter__(self) -> Iterator[str]:
+        return iter(self._by_name)
+
+    def __len__(self) -> int:
+        return len(self._by_name)
+
+    def __repr__(self) -> str:
+        return f"BootVariables({self._by_name!r})"
+
+    @property
+    def plan(self) -> Plan:
+        """What a boot would try. ``Refused`` has ``VARS_BAD_ORDER`` or ``VARS_BAD_NEXT``."""
+        return set_plan(self._data)
+
+    @property
+    def at_risk(self) -> AtRisk:
+        """The entries that a start of firmware may write over or delete. ``Refused`` as of :attr:`plan`."""
+        return set_at_risk(self._data)
+
+    @property
+    def named(self) -> Tuple[NamedEntry, ...]:
+        """What BootNext and then BootOrder name, also where there is no such entry. ``Refused`` as of :attr:`plan`."""
+        return set_named(self._data)
+
+    @property
+    def order(self) -> Tuple[EntryNumber, ...]:
+        """The numbers of BootOrder, none if there is no such variable. ``Refused`` as of :attr:`plan`."""
+        return tuple(one.number for one in self.named if one.variable == "BootOrder")
+
+    @property
+    def next(self) -> Optional[EntryNumber]:
+        """The number of BootNext, if it is there. ``Refused`` as of :attr:`plan`."""
+        return next((one.number for one in self.named if one.variable == "BootNext"), None)
+
+    @property
+    def lowest_free(self) -> Optional[EntryNumber]:
+        """The lowest number without an entry; ``None`` if all are taken."""
+        return set_lowest_free(self._data)
+
+    @property
+    def entries(self) -> Tuple[Entry, ...]:
+        """The entries, whose numbers rise. ``Refused`` as of :attr:`plan`."""
+        order, following = self.order, self.next
+        places = dict(reversed([(number, place) for place, number in enumerate(order)]))
+        return tuple(
+            self._entry(EntryNumber.from_name(name), data, places, following)
+            for name, data in self.items()
+            if is_entry_name(name)
+        )
+
+    def _entry(
+        self,
+        number: EntryNumber,
+        data: bytes,
+        places: Mapping[EntryNumber, int],
+        following: Optional[EntryNumber],
+    ) -> Entry:
+        """An entry, with the places of numbers in BootOrder, and what BootNext names."""
+        option, fault = None, None
+        try:
+            option = LoadOption.from_bytes(data)
+        except Refused as why:
+            fault = why
+        state = set_entry(self._data, number)
+        return Entry(number, data, state, option, fault, places.get(number), number == following)
+
+    def option(self, number: int) -> LoadOption:
+        """The load option of an entry. ``KeyError`` if there is no such entry; ``Refused`` as of
+        :meth:`LoadOption.from_bytes` if its data is none; ``OverflowError`` of a number with more than 16 bits.
+        """
+        return LoadOption.from_bytes(self[EntryNumber(number).name])
+
+    def with_variable(self, name: str, data: Union[LoadOption, Bytes]) -> BootVariables:
+        """The set with this data for the variable of this name. ``Refused`` has a kind ``PUT_..``."""
+        return BootVariables.from_bytes(set_put(self._data, name, bytes_in(data)[0]))
+
+    def without(self, name: str) -> BootVariables:
+        """The set without the variable of this name; ``KeyError`` if it has none."""
+        return BootVariables.from_bytes(set_remove(self._data, name))
+
+    def changes_to(self, other: BootVariables) -> Tuple[Change, ...]:
+        """The changes that lead from here to the boot manager's variables of another set, as of :func:`set_changes`."""
+        return set_changes(self._data, bytes(other))

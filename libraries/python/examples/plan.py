@@ -6,26 +6,14 @@ plan.py SET
 import sys
 from pathlib import Path
 
-import bootkeep
+from bootkeep import BootVariables
 
-
-def show(variables: bytes) -> None:
-    plan = bootkeep.set_plan(variables)
-    first = [] if plan.next is None else [(plan.next, "next")]
-    for number, when in [*first, *((number, "normal") for number in plan.normal)]:
-        name = f"Boot{number:04X}"
-        option = bootkeep.option_parts(bootkeep.set_get(variables, name))
-        print(name, when, option.description_line)
-
-
-def main() -> None:
-    if len(sys.argv) != 2:
-        sys.exit("plan.py: the word is missing that names a set file")
-    try:
-        show(Path(sys.argv[1]).read_bytes())
-    except (OSError, bootkeep.Refused) as error:
-        sys.exit(f"plan.py: {error}")
-
-
-if __name__ == "__main__":
-    main()
+try:
+    variables = BootVariables.from_bytes(Path(sys.argv[1]).read_bytes())
+    plan = variables.plan
+    if plan.next is not None:
+        print(plan.next.name, "next", variables.option(plan.next).description_line)
+    for number in plan.normal:
+        print(number.name, "normal", variables.option(number).description_line)
+except (IndexError, OSError, ValueError) as error:
+    sys.exit(f"plan.py: {error}")

@@ -19,7 +19,7 @@ from pathlib import Path
 from typing import Any, Callable, List, Optional
 
 import bootkeep
-from bootkeep import Kind, Outcome, ReplyKind, Request, _sets
+from bootkeep import Fault, Outcome, ReplyKind, RequestKind, _sets
 
 ROOT = Path(__file__).resolve().parents[3]
 SET = (ROOT / "docs/examples/set").read_bytes()
@@ -57,7 +57,7 @@ def frames(stream: bytes) -> List[bytes]:
 
 def removal(number: int) -> bytes:
     """A request that does nothing, since there is no such entry."""
-    return bootkeep.frame_make(number, Request.REMOVE, entry=0xFFFF)
+    return bootkeep.frame_make(number, RequestKind.REMOVE, entry=0xFFFF)
 
 
 class Values(unittest.TestCase):
@@ -155,17 +155,17 @@ class Values(unittest.TestCase):
         self.assertEqual(
             found,
             bootkeep.ImageFault(
-                bootkeep.Kind.IMAGE_EMPTY, 0, bootkeep.Stage.BOOT_MANAGER, bootkeep.Effect.REFUSED
+                bootkeep.Fault.IMAGE_EMPTY, 0, bootkeep.Stage.BOOT_MANAGER, bootkeep.Effect.REFUSED
             ),
         )
         self.assertIsNone(bootkeep.image_check(IMAGE))
         cut = bootkeep.image_check(IMAGE[:-1])
         assert cut is not None
-        self.assertEqual((cut.kind, cut.place), (bootkeep.Kind.IMAGE_SECTION_BEYOND_FILE, 0x170))
+        self.assertEqual((cut.kind, cut.place), (bootkeep.Fault.IMAGE_SECTION_BEYOND_FILE, 0x170))
         self.assertEqual((cut.stage, cut.effect), (bootkeep.Stage.LOADER, bootkeep.Effect.REFUSED))
         beyond = bootkeep.image_check(IMAGE[:0x68] + b"\0\x30" + IMAGE[0x6A:])
         assert beyond is not None
-        self.assertEqual((beyond.kind, beyond.place), (bootkeep.Kind.IMAGE_ENTRY_POINT, 0x68))
+        self.assertEqual((beyond.kind, beyond.place), (bootkeep.Fault.IMAGE_ENTRY_POINT, 0x68))
         self.assertEqual(
             (beyond.stage, beyond.effect), (bootkeep.Stage.START, bootkeep.Effect.UNSAFE)
         )
@@ -176,7 +176,7 @@ class Values(unittest.TestCase):
         self.assertEqual(bootkeep.image_digest(IMAGE), hashlib.sha256(digested).digest())
         with self.assertRaises(bootkeep.Refused) as told:
             bootkeep.image_digest(b"MZ")
-        self.assertEqual(told.exception.kind, bootkeep.Kind.IMAGE_SHORT_DOS_HEADER)
+        self.assertEqual(told.exception.kind, bootkeep.Fault.IMAGE_SHORT_DOS_HEADER)
 
     def test_signature_lists_are_found(self) -> None:
         kind, owner = bytes(range(16)), b"\1" * 16
@@ -193,7 +193,7 @@ class Values(unittest.TestCase):
             bootkeep.signature_lists(data + b"0")
         self.assertEqual(
             (told.exception.kind, told.exception.place),
-            (bootkeep.Kind.LISTS_CUT_HEADER, len(data)),
+            (bootkeep.Fault.LISTS_CUT_HEADER, len(data)),
         )
 
     def test_changes_have_names(self) -> None:
@@ -256,22 +256,22 @@ class Faults(unittest.TestCase):
     def test_a_refusal_has_its_place(self) -> None:
         why = self.refused(bootkeep.path_check, PATH[:-4])
         self.assertEqual(
-            (why.kind, why.place, str(why)), (Kind.PATH_NO_END, 18, "PATH_NO_END at 18")
+            (why.kind, why.place, str(why)), (Fault.PATH_NO_END, 18, "PATH_NO_END at 18")
         )
         self.assertIsInstance(why, ValueError)
 
     def test_a_refusal_has_the_fault_within(self) -> None:
         why = self.refused(bootkeep.option_parts, b"\1\0\0\0\1\0\0\0\x7f")
-        self.assertEqual((why.kind, why.place), (Kind.OPTION_PATH, 8))
-        self.assertEqual((why.inner_kind, why.inner_place), (Kind.PATH_SHORT_HEADER, 0))
+        self.assertEqual((why.kind, why.place), (Fault.OPTION_PATH, 8))
+        self.assertEqual((why.inner_kind, why.inner_place), (Fault.PATH_SHORT_HEADER, 0))
         self.assertEqual(str(why), "OPTION_PATH at 8: PATH_SHORT_HEADER at 0")
 
     def test_faults_of_names_have_their_places(self) -> None:
         kinds = {
-            "Scsi(0x1,0x2)/Scssi(0x1,0x2)": (Kind.TEXT_UNKNOWN_NAME, 14),
-            "Scsi(0x1,pun)": (Kind.TEXT_BAD_ARGUMENT, 9),
-            "Scsi(0x1)": (Kind.TEXT_BAD_COUNT, 8),
-            "Scsi": (Kind.TEXT_BAD_SEGMENT, 0),
+            "Scsi(0x1,0x2)/Scssi(0x1,0x2)": (Fault.TEXT_UNKNOWN_NAME, 14),
+            "Scsi(0x1,pun)": (Fault.TEXT_BAD_ARGUMENT, 9),
+            "Scsi(0x1)": (Fault.TEXT_BAD_COUNT, 8),
+            "Scsi": (Fault.TEXT_BAD_SEGMENT, 0),
         }
         for text, (kind, place) in kinds.items():
             why = self.refused(bootkeep.path_parse, text)
@@ -280,13 +280,13 @@ class Faults(unittest.TestCase):
     def test_a_unit_has_two_bytes(self) -> None:
         self.assertRaises(ValueError, bootkeep.option_make_units, 1, b"abc", [PATH])
         why = self.refused(bootkeep.option_make_units, 1, b"a\0\0\0", [PATH])
-        self.assertEqual((why.kind, why.place), (Kind.OPTION_ZERO_UNIT, None))
+        self.assertEqual((why.kind, why.place), (Fault.OPTION_ZERO_UNIT, None))
         why = self.refused(bootkeep.option_make_units, 1, b"", [])
-        self.assertEqual(why.kind, Kind.OPTION_EMPTY_LIST)
+        self.assertEqual(why.kind, Fault.OPTION_EMPTY_LIST)
 
     def test_a_surrogate_is_no_text(self) -> None:
         why = self.refused(bootkeep.path_parse, "ö\ud800")
-        self.assertEqual((why.kind, why.place), (Kind.TEXT_NOT_UTF8, 2))
+        self.assertEqual((why.kind, why.place), (Fault.TEXT_NOT_UTF8, 2))
 
     def test_a_refusal_goes_to_another_process(self) -> None:
         why = self.refused(bootkeep.option_parts, b"\1\0\0\0\1\0\0\0\x7f")
@@ -309,24 +309,24 @@ class Faults(unittest.TestCase):
     def test_numbers_have_their_bits(self) -> None:
         self.assertRaises(OverflowError, bootkeep.set_entry, SET, 0x10000)
         self.assertRaises(OverflowError, bootkeep.option_make, -1, "", [PATH])
-        self.assertRaises(OverflowError, bootkeep.frame_make, 0, Request.ORDER, order=[0x10000])
-        self.assertRaises(OverflowError, bootkeep.frame_make, 0, Request.REMOVE, entry=0x10000)
+        self.assertRaises(OverflowError, bootkeep.frame_make, 0, RequestKind.ORDER, order=[0x10000])
+        self.assertRaises(OverflowError, bootkeep.frame_make, 0, RequestKind.REMOVE, entry=0x10000)
         fraction: Any = 1.5
         self.assertRaises(TypeError, bootkeep.set_entry, SET, fraction)
 
     def test_a_request_has_the_parts_of_its_kind_alone(self) -> None:
         parts = {"entry": 0, "option": bootkeep.option_make(1, "", [PATH]), "order": [0]}
         takes = {
-            Request.ADD: {"entry", "option"},
-            Request.REPLACE: {"entry", "option"},
-            Request.REMOVE: {"entry"},
-            Request.ORDER: {"order"},
-            Request.NEXT: {"entry"},
-            Request.ADD_FREE: {"option"},
-            Request.ADD_FIRST: {"option"},
-            Request.FIRST: {"entry"},
+            RequestKind.ADD: {"entry", "option"},
+            RequestKind.REPLACE: {"entry", "option"},
+            RequestKind.REMOVE: {"entry"},
+            RequestKind.ORDER: {"order"},
+            RequestKind.NEXT: {"entry"},
+            RequestKind.ADD_FREE: {"option"},
+            RequestKind.ADD_FIRST: {"option"},
+            RequestKind.FIRST: {"entry"},
         }
-        self.assertEqual(set(takes), set(Request))
+        self.assertEqual(set(takes), set(RequestKind))
         for kind, wanted in takes.items():
             for count in range(len(parts) + 1):
                 for names in itertools.combinations(parts, count):
@@ -338,22 +338,24 @@ class Faults(unittest.TestCase):
                             self.assertRaises(TypeError, bootkeep.frame_make, 7, kind, **given)
 
     def test_a_request_says_which_part_is_missing(self) -> None:
-        with self.assertRaisesRegex(TypeError, r"Request\.REMOVE needs the argument entry"):
-            bootkeep.frame_make(0, Request.REMOVE)
-        with self.assertRaisesRegex(TypeError, r"Request\.NEXT doesn't take the argument option"):
-            bootkeep.frame_make(0, Request.NEXT, entry=1, option=b"")
+        with self.assertRaisesRegex(TypeError, r"RequestKind\.REMOVE needs the argument entry"):
+            bootkeep.frame_make(0, RequestKind.REMOVE)
+        with self.assertRaisesRegex(
+            TypeError, r"RequestKind\.NEXT doesn't take the argument option"
+        ):
+            bootkeep.frame_make(0, RequestKind.NEXT, entry=1, option=b"")
 
     def test_the_number_and_the_kind_are_not_exchanged(self) -> None:
         make: Any = bootkeep.frame_make
-        for words in ((Request.ADD, 3), (3, 3), (Request.ADD, Request.REMOVE), (3, 77)):
+        for words in ((RequestKind.ADD, 3), (3, 3), (RequestKind.ADD, RequestKind.REMOVE), (3, 77)):
             self.assertRaises(TypeError, make, *words, entry=1)
-        self.assertRaises(TypeError, make, 0, Request.REMOVE, 1)
+        self.assertRaises(TypeError, make, 0, RequestKind.REMOVE, 1)
 
     def test_an_order_is_numbers(self) -> None:
-        self.assertEqual(len(bootkeep.frame_make(0, Request.ORDER, order=[])), HEADER)
+        self.assertEqual(len(bootkeep.frame_make(0, RequestKind.ORDER, order=[])), HEADER)
         for order in (b"\1\0", bytearray(b"\1\0"), memoryview(b"\1\0"), "01"):
             given: Any = order
-            self.assertRaises(TypeError, bootkeep.frame_make, 0, Request.ORDER, order=given)
+            self.assertRaises(TypeError, bootkeep.frame_make, 0, RequestKind.ORDER, order=given)
 
     def test_one_path_is_not_a_list_of_paths(self) -> None:
         for path in (TEXT, PATH, bytearray(PATH), memoryview(PATH)):
@@ -379,13 +381,13 @@ class Keepers(unittest.TestCase):
     def test_replies_are_values(self) -> None:
         option = bootkeep.option_make(1, "Mine", [PATH])
         with bootkeep.Keeper(SET) as keeper:
-            added = keeper.deliver(bootkeep.frame_make(0, Request.ADD_FREE, option=option))
+            added = keeper.deliver(bootkeep.frame_make(0, RequestKind.ADD_FREE, option=option))
             self.assertEqual((added.kind, added.outcome), (ReplyKind.APPLIED, Outcome.DONE))
             self.assertEqual((added.entry, added.next_number), (bootkeep.set_lowest_free(SET), 1))
             self.assertEqual(str(keeper.deliver(removal(2))), "waiting 1")
             malformed = keeper.deliver(b"")
             self.assertEqual(
-                (malformed.kind, malformed.fault), (ReplyKind.MALFORMED, Kind.FRAME_SHORT)
+                (malformed.kind, malformed.fault), (ReplyKind.MALFORMED, Fault.FRAME_SHORT)
             )
             self.assertEqual(keeper.next_number, 1)
             self.assertEqual(str(keeper.restart()), "restarted 1")
@@ -394,10 +396,10 @@ class Keepers(unittest.TestCase):
         option = bootkeep.option_make(1, "Mine", [PATH])
         *others, last = bootkeep.set_plan(SET).normal
         with bootkeep.Keeper(SET) as keeper:
-            added = keeper.deliver(bootkeep.frame_make(0, Request.ADD_FIRST, option=option))
+            added = keeper.deliver(bootkeep.frame_make(0, RequestKind.ADD_FIRST, option=option))
             self.assertEqual((added.outcome, added.next_number), (Outcome.DONE, 1))
             self.assertEqual(added.entry, bootkeep.set_lowest_free(SET))
-            first = keeper.deliver(bootkeep.frame_make(1, Request.FIRST, entry=last))
+            first = keeper.deliver(bootkeep.frame_make(1, RequestKind.FIRST, entry=last))
             self.assertEqual(str(first), "applied Done 2")
             normal = bootkeep.set_plan(keeper.set).normal
             self.assertEqual(normal, (last, added.entry, *others))

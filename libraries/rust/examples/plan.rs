@@ -1,16 +1,14 @@
-//! Shows the plan of a set that comes from standard input, and the description of each entry.
+//! Shows what a boot would try with the variables of a set that comes from standard input, and all of its entries.
 
-use bootkeep::{option, set};
+use bootkeep::set;
 use std::io::{self, Read};
 
 fn main() -> Result<(), Box<dyn std::error::Error>> {
     let mut variables = Vec::new();
     io::stdin().read_to_end(&mut variables)?;
-    let plan = set::plan(&variables)?;
-    println!("{plan}");
-    for number in plan.normal {
-        let entry = set::get(&variables, &format!("Boot{number:04X}"))?;
-        println!("{}", option::description_line(&entry)?);
+    println!("{}", set::plan(&variables)?);
+    for entry in set::entries(&variables)? {
+        println!("{entry}");
     }
     Ok(())
 }

@@ -1,46 +1,169 @@
 //! Frames of numbered requests.
 
-use crate::error::Error;
+use crate::entry::EntryNumber;
+use crate::error::{Error, Fault, Refusal};
 use crate::library;
 use crate::numbers::*;
+use crate::option::LoadOption;
+use std::fmt;
+use std::io::{self, Read};
 
-/// What a frame asks for. A load option is given by its bytes.
-#[derive(Clone, Copy, Debug, PartialEq, Eq)]
+/// What a frame asks for.
+#[derive(Clone, Copy, Debug, PartialEq, Eq, Hash)]
 pub enum Request<'a> {
     /// To store the option under a number that is free, and to append that to BootOrder.
-    Add(u16, &'a [u8]),
+    Add(EntryNumber, &'a LoadOption),
     /// To store the option in the place of an entry.
-    Replace(u16, &'a [u8]),
+    Replace(EntryNumber, &'a LoadOption),
     /// To take out an entry, its number from BootOrder, and a BootNext that names it.
-    Remove(u16),
+    Remove(EntryNumber),
     /// To set BootOrder.
-    Order(&'a [u16]),
+    Order(&'a [EntryNumber]),
     /// To set BootNext.
-    Next(u16),
+    Next(EntryNumber),
     /// To store the option under the lowest free number, and to append that to BootOrder.
-    AddFree(&'a [u8]),
+    AddFree(&'a LoadOption),
     /// To store the option under the lowest free number, and to put that in front of BootOrder.
-    AddFirst(&'a [u8]),
+    AddFirst(&'a LoadOption),
     /// To put an entry in front of BootOrder.
-    First(u16),
+    First(EntryNumber),
 }
 
 /// The frame of the request with this number.
 ///
 /// # Errors
 ///
-/// A fault `Option..` of the load option; otherwise [`FrameTooLong`](crate::Fault::FrameTooLong), or
-/// [`FrameBadNumber`](crate::Fault::FrameBadNumber) of [`NO_NUMBER`]; [`Error::NoMemory`].
+/// [`FrameTooLong`](Fault::FrameTooLong), or [`FrameBadNumber`](Fault::FrameBadNumber) of [`NO_NUMBER`];
+/// [`Error::NoMemory`].
 pub fn make(number: u32, request: Request<'_>) -> Result<Vec<u8>, Error> {
-    let (kind, entry, option, order): (u32, u16, &[u8], &[u16]) = match request {
-        Request::Add(entry, option) => (REQUEST_ADD, entry, option, &[]),
-        Request::Replace(entry, option) => (REQUEST_REPLACE, entry, option, &[]),
-        Request::Remove(entry) => (REQUEST_REMOVE, entry, &[], &[]),
-        Request::Order(order) => (REQUEST_ORDER, 0, &[], order),
-        Request::Next(entry) => (REQUEST_NEXT, entry, &[], &[]),
-        Request::AddFree(option) => (REQUEST_ADD_FREE, 0, option, &[]),
-        Request::AddFirst(option) => (REQUEST_ADD_FIRST, 0, option, &[]),
-        Request::First(entry) => (REQUEST_FIRST, entry, &[], &[]),
+    let of_entry = |kind, entry: EntryNumber| library::frame_make(number, kind, entry.0, &[], &[]);
+    let of_option = |kind, entry: EntryNumber, option: &LoadOption| {
+        library::frame_make(number, kind, entry.0, option.as_ref(), &[])
     };
-    library::frame_make(number, kind, entry, option, order)
+    match request {
+        Request::Add(entry, option) => of_option(REQUEST_ADD, entry, option),
+        Request::Replace(entry, option) => of_option(REQUEST_REPLACE, entry, option),
+        Request::Remove(entry) => of_entry(REQUEST_REMOVE, entry),
+        Request::Order(order) => {
+            let numbers: Vec<u16> = order.iter().map(|entry| entry.0).collect();
+            library::frame_make(number, REQUEST_ORDER, 0, &[], &numbers)
+        }
+        Request::Next(entry) => of_entry(REQUEST_NEXT, entry),
+        Request::AddFree(option) => of_option(REQUEST_ADD_FREE, EntryNumber(0), option),
+        Request::AddFirst(option) => of_option(REQUEST_ADD_FIRST, EntryNumber(0), option),
+        Request::First(entry) => of_entry(REQUEST_FIRST, entry),
+    }
+}
+
+/// A frame begins with a header: two bytes that are always these, the version, the kind, the number, and in four bytes how
+/// many bytes the payload after it has.
+const HEADER: usize = 12;
+const MAGIC: [u8; 2] = [0x42, 0x51];
+
+/// Why a stream gives no further frame.
+#[derive(Debug)]
+#[non_exhaustive]
+pub enum StreamFault {
+    /// It can't be read.
+    Io(io::Error),
+    /// Of a header after which nothing more can be cut [`StreamBadMagic`](Fault::StreamBadMagic),
+    /// [`StreamBadVersion`](Fault::StreamBadVersion) or [`StreamTooLong`](Fault::StreamTooLong);
+    /// [`StreamRest`](Fault::StreamRest) if the stream ends in a frame.
+    Refused(Refusal),
+}
+
+impl fmt::Display for StreamFault {
+    fn fmt(&self, formatter: &mut fmt::Formatter<'_>) -> fmt::Result {
+        match self {
+            StreamFault::Io(error) => error.fmt(formatter),
+            StreamFault::Refused(refusal) => refusal.fmt(formatter),
+        }
+    }
+}
+
+impl std::error::Error for StreamFault {}
+
+/// The frames of a stream, each as soon as it is read, up to the stream's end or its first fault. Whether each is a
+/// request is told by the reply to it.
+///
+/// ```
+/// use bootkeep::frame::{self, Request};
+/// use bootkeep::EntryNumber;
+///
+/// # fn main() -> Result<(), Box<dyn std::error::Error>> {
+/// let one = frame::make(0, Request::First(EntryNumber(3)))?;
+/// let stream = one.repeat(2);
+/// let found: Result<Vec<_>, _> = frame::read(&stream[..]).collect();
+/// assert_eq!(found?, [one.clone(), one]);
+/// # Ok(())
+/// # }
+/// ```
+pub fn read<R: Read>(stream: R) -> Frames<R> {
+    Frames { stream, is_ended: false }
+}
+
+/// What [`read`] gives.
+#[derive(Debug)]
+pub struct Frames<R> {
+    stream: R,
+    is_ended: bool,
+}
+
+impl<R: Read> Iterator for Frames<R> {
+    type Item = Result<Vec<u8>, StreamFault>;
+
+    fn next(&mut self) -> Option<Result<Vec<u8>, StreamFault>> {
+        if self.is_ended {
+            return None;
+        }
+        let next = self.cut().transpose();
+        self.is_ended = !matches!(next, Some(Ok(_)));
+        next
+    }
+}
+
+impl<R: Read> Frames<R> {
+    /// The next frame, unless the stream ends before it.
+    fn cut(&mut self) -> Result<Option<Vec<u8>>, StreamFault> {
+        let mut frame = Vec::new();
+        self.fill(&mut frame, HEADER)?;
+        if frame.is_empty() {
+            return Ok(None);
+        }
+        let len = HEADER + payload_len(&frame).map_err(StreamFault::Refused)?;
+        self.fill(&mut frame, len)?;
+        if frame.len() < len {
+            return Err(StreamFault::Refused(fault_of(Fault::StreamRest, Some(frame.len()))));
+        }
+        Ok(Some(frame))
+    }
+
+    /// Reads until the frame has so many bytes, or the stream ends.
+    fn fill(&mut self, frame: &mut Vec<u8>, len: usize) -> Result<(), StreamFault> {
+        let wanted = (len - frame.len()) as u64;
+        self.stream.by_ref().take(wanted).read_to_end(frame).map_err(StreamFault::Io)?;
+        Ok(())
+    }
+}
+
+/// How many bytes the payload behind a header has.
+fn payload_len(header: &[u8]) -> Result<usize, Refusal> {
+    if header.len() < HEADER {
+        return Err(fault_of(Fault::StreamRest, Some(header.len())));
+    }
+    if header[..2] != MAGIC {
+        return Err(fault_of(Fault::StreamBadMagic, None));
+    }
+    if !(1..=3).contains(&header[2]) {
+        return Err(fault_of(Fault::StreamBadVersion, None));
+    }
+    let len = header[8..HEADER].iter().rev().fold(0, |len, byte| len << 8 | usize::from(*byte));
+    if len > FRAME_MAX - HEADER {
+        return Err(fault_of(Fault::StreamTooLong, None));
+    }
+    Ok(len)
+}
+
+fn fault_of(fault: Fault, place: Option<usize>) -> Refusal {
+    Refusal { fault, place, within: None }
 }

@@ -34,6 +34,7 @@ pub enum Effect {
 
 /// The first thing that isn't in an image as firmware wants it.
 #[derive(Clone, Copy, Debug, PartialEq, Eq)]
+#[non_exhaustive]
 pub struct ImageFault {
     /// The fault `Image..`, at the field that has it, or at a section's header.
     pub refusal: Refusal,
@@ -45,6 +46,7 @@ pub struct ImageFault {
 
 /// A list of db, dbx or KEK (UEFI 2.10, 32.4.1), where it is in the data.
 #[derive(Clone, Copy, Debug, PartialEq, Eq)]
+#[non_exhaustive]
 pub struct SignatureList<'a> {
     /// Where it begins.
     pub place: usize,

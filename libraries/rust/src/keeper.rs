@@ -1,6 +1,8 @@
 //! Keepers of the boot entries of a machine.
 
+use crate::entry::EntryNumber;
 use crate::error::{Error, Fault, Refusal};
+use crate::frame::{self, Request};
 use crate::library::{Event, Handle, RawReply, WordOf};
 use crate::numbers::*;
 use crate::set::{entry_number, Plan};
@@ -43,19 +45,24 @@ impl fmt::Display for Outcome {
 #[allow(missing_docs)]
 pub enum Reply {
     /// What was delivered isn't a frame, for this, and its option isn't one, for that.
+    #[non_exhaustive]
     Malformed { fault: Fault, option: Option<Refusal> },
     /// The request was applied before.
-    Repeat { outcome: Outcome, entry: Option<u16> },
+    #[non_exhaustive]
+    Repeat { outcome: Outcome, entry: Option<EntryNumber> },
     /// The request was applied before, and its outcome isn't kept any more.
     Old,
     /// The number is too far ahead of the next one.
+    #[non_exhaustive]
     Ahead { next_number: u32 },
     /// Another request of this number waits.
     Conflict,
     /// The request waits for those before it.
+    #[non_exhaustive]
     Waiting { next_number: u32 },
     /// The request was applied.
-    Applied { outcome: Outcome, entry: Option<u16>, next_number: u32 },
+    #[non_exhaustive]
+    Applied { outcome: Outcome, entry: Option<EntryNumber>, next_number: u32 },
     /// A plan of this many options is prepared.
     Prepared(usize),
     /// A plan was prepared before, and stays.
@@ -65,6 +72,7 @@ pub enum Reply {
     /// No plan is prepared.
     NothingPrepared,
     /// What waited and what was prepared is forgotten.
+    #[non_exhaustive]
     Restarted { next_number: u32 },
     /// A reply that this crate doesn't know.
     Other(u32),
@@ -85,7 +93,7 @@ impl Reply {
             REPLY_APPLIED => Reply::Applied { outcome, entry, next_number },
             REPLY_PREPARED => Reply::Prepared(told.count),
             REPLY_ALREADY_PREPARED => Reply::AlreadyPrepared,
-            REPLY_PLAN => Reply::Plan(Plan { next: entry_number(told.plan_next), normal: numbers }),
+            REPLY_PLAN => Reply::Plan(Plan::of(told.plan_next, numbers)),
             REPLY_NOTHING_PREPARED => Reply::NothingPrepared,
             REPLY_RESTARTED => Reply::Restarted { next_number },
             other => Reply::Other(other),
@@ -121,10 +129,10 @@ impl fmt::Display for Reply {
     }
 }
 
-fn write_outcome(formatter: &mut fmt::Formatter<'_>, outcome: Outcome, entry: Option<u16>) -> fmt::Result {
+fn write_outcome(formatter: &mut fmt::Formatter<'_>, outcome: Outcome, entry: Option<EntryNumber>) -> fmt::Result {
     write!(formatter, "{outcome}")?;
     match entry {
-        Some(entry) => write!(formatter, " {entry:04X}"),
+        Some(entry) => write!(formatter, " {entry}"),
         None => Ok(()),
     }
 }
@@ -187,6 +195,16 @@ impl Keeper {
     /// [`Error::NoMemory`], as of each event.
     pub fn deliver(&mut self, frame: &[u8]) -> Result<Reply, Error> {
         self.event(&Event::Deliver(frame))
+    }
+
+    /// The request is delivered with the number of the one that is to be applied next.
+    ///
+    /// # Errors
+    ///
+    /// Those of [`frame::make`].
+    pub fn request(&mut self, request: Request<'_>) -> Result<Reply, Error> {
+        let number = self.next_number()?;
+        self.deliver(&frame::make(number, request)?)
     }
 
     /// A boot is prepared: its plan is made, and BootNext is deleted.

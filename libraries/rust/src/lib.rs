@@ -2,42 +2,46 @@
 //! `bootkeep.h` declares, whose calls are proved. Each call returns for every input, and refuses what isn't
 //! what it has to be, with the number and the place of its first fault.
 //!
-//! The plan of a set:
+//! Values are read of bytes, which they give again: [`DevicePath`], [`LoadOption`]. Sets are bytes, which the calls of
+//! [`set`] read and make:
 //!
 //! ```
+//! use bootkeep::{option, set, DevicePath, EntryNumber, LoadOption};
+//!
 //! # fn main() -> Result<(), Box<dyn std::error::Error>> {
-//! let set = std::fs::read("../../docs/examples/set")?;
-//! let plan = bootkeep::set::plan(&set)?;
-//! println!("{plan}");
-//! for number in plan.normal {
-//!     let option = bootkeep::set::get(&set, &format!("Boot{number:04X}"))?;
-//!     println!("{}", bootkeep::option::description_line(&option)?);
+//! let path: DevicePath = r"PciRoot(0x0)/Pci(0x1,0x0)/\EFI\a.efi".parse()?;
+//! let option = LoadOption::new(option::ACTIVE, "Mine", &[path], b"")?;
+//! let variables = set::put(set::EMPTY, &EntryNumber(5).name(), option.as_ref())?;
+//! let variables = set::put(&variables, "BootOrder", &[5, 0])?;
+//! assert_eq!(set::plan(&variables)?.to_string(), "plan next - normal 0005");
+//! for entry in set::entries(&variables)? {
+//!     assert_eq!(entry.to_string(), r"Boot0005 normal Mine PciRoot(0x0)/Pci(0x1,0x0)/File(\EFI\a.efi)");
 //! }
 //! # Ok(())
 //! # }
 //! ```
 //!
-//! A keeper applies numbered requests, and tells what came of each:
+//! A keeper applies numbered requests, and tells what came of each; a [`SetFile`] stores it besides:
 //!
 //! ```
-//! use bootkeep::frame::{self, Request};
-//! use bootkeep::Keeper;
+//! use bootkeep::frame::Request;
+//! use bootkeep::{set, EntryNumber, Keeper};
 //!
-//! # fn main() -> Result<(), Box<dyn std::error::Error>> {
-//! let mut keeper = Keeper::open(&std::fs::read("../../docs/examples/set")?)?;
-//! let reply = keeper.deliver(&frame::make(0, Request::Next(0x0001))?)?;
+//! # fn main() -> Result<(), bootkeep::Error> {
+//! let mut keeper = Keeper::open(&set::put(set::EMPTY, "Boot0001", b"any")?)?;
+//! let reply = keeper.request(Request::Next(EntryNumber(1)))?;
 //! assert_eq!(reply.to_string(), "applied Done 1");
-//! assert_eq!(bootkeep::set::plan(&keeper.set()?)?.next, Some(0x0001));
+//! assert_eq!(set::get(&keeper.set()?, "BootNext")?, [1, 0]);
 //! # Ok(())
 //! # }
 //! ```
 //!
-//! What isn't a path is refused:
+//! What isn't what it has to be is refused, with the fault and its place:
 //!
 //! ```
-//! use bootkeep::{Error, Fault};
+//! use bootkeep::{DevicePath, Error, Fault};
 //!
-//! match bootkeep::path::check(b"") {
+//! match DevicePath::try_from(&b""[..]) {
 //!     Err(Error::Refused(why)) => assert_eq!((why.fault, why.place), (Fault::PathNoEnd, Some(0))),
 //!     other => panic!("{other:?}"),
 //! }
@@ -46,7 +50,9 @@
 #![deny(unsafe_code)]
 #![warn(missing_docs)]
 
+mod entry;
 mod error;
+mod file;
 pub mod frame;
 pub mod image;
 mod keeper;
@@ -57,9 +63,13 @@ pub mod option;
 pub mod path;
 pub mod set;
 
+pub use entry::{BadEntryNumber, EntryNumber};
 pub use error::{Error, Fault, Refusal};
+pub use file::{FileError, SetFile};
 pub use keeper::{Keeper, Outcome, Reply};
 pub use numbers::{DATA_MAX, FRAME_MAX, LIST_MAX, NAME_MAX, NO_NUMBER, ORDER_MAX, VERSION, WORD_MAX};
+pub use option::LoadOption;
+pub use path::{DevicePath, Node, NodeFault};
 
 /// The version of the interface that the library has.
 pub fn version() -> u32 {

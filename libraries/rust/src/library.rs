@@ -1,8 +1,12 @@
-//! The calls of `bootkeep.h`, each once, as safe functions. All that is unsafe is here.
+//! The calls of `bootkeep.h`, each once, and two of the system, as safe functions. All that is unsafe is here.
 
 use crate::error::{Error, Refusal};
 use crate::numbers::{ABSENT, CLOSED, DONE, NAME_MAX, NO_MEMORY, NO_ROOM, REFUSED};
+use std::fs::File;
+use std::io;
 use std::mem::size_of;
+use std::os::raw::{c_int, c_uint};
+use std::os::unix::io::AsRawFd;
 use std::ptr;
 
 /// How many bytes or numbers a first call has room for if nothing tells how many there will be.
@@ -518,5 +522,38 @@ impl Drop for Handle {
         let keeper: *mut RawKeeper = &mut *self.raw;
         // It may be closed already, if it couldn't be opened.
         let _status = unsafe { bootkeep_keeper_close(keeper) };
+    }
+}
+
+extern "C" {
+    fn flock(file: c_int, operation: c_int) -> c_int;
+    fn fchown(file: c_int, user: c_uint, group: c_uint) -> c_int;
+}
+
+/// The operation of an exclusive lock.
+const LOCK_EX: c_int = 2;
+
+/// Locks a file or a folder until it is closed. It waits for a lock that another program has.
+pub(crate) fn lock(file: &File) -> io::Result<()> {
+    loop {
+        // The descriptor is open as long as the file is borrowed.
+        match done(unsafe { flock(file.as_raw_fd(), LOCK_EX) }) {
+            Err(error) if error.kind() == io::ErrorKind::Interrupted => {}
+            other => return other,
+        }
+    }
+}
+
+/// Gives a file to a user and a group.
+pub(crate) fn give(file: &File, user: u32, group: u32) -> io::Result<()> {
+    done(unsafe { fchown(file.as_raw_fd(), user, group) })
+}
+
+/// The error of a call of the system that failed.
+fn done(status: c_int) -> io::Result<()> {
+    if status == 0 {
+        Ok(())
+    } else {
+        Err(io::Error::last_os_error())
     }
 }

@@ -1,7 +1,10 @@
 //! Load options (UEFI 2.10, 3.1.3).
 
-use crate::error::Error;
-use crate::library;
+use crate::error::{Error, Fault, Refusal};
+use crate::library::{self, RawParts};
+use crate::path::DevicePath;
+use std::fmt;
+use std::hash::{Hash, Hasher};
 
 /// The option is active: the boot manager tries it by itself.
 pub const ACTIVE: u32 = 0x0000_0001;
@@ -18,6 +21,7 @@ pub const CATEGORY_APP: u32 = 0x0000_0100;
 
 /// The parts of a load option, where they are in its bytes.
 #[derive(Clone, Copy, Debug, PartialEq, Eq)]
+#[non_exhaustive]
 pub struct Parts<'a> {
     /// The attributes, all 32 bits.
     pub attributes: u32,
@@ -59,13 +63,17 @@ impl<'a> Parts<'a> {
 /// [`OptionListPastEnd`](crate::Fault::OptionListPastEnd), [`OptionEmptyList`](crate::Fault::OptionEmptyList), or
 /// [`OptionPath`](crate::Fault::OptionPath), at its place in the bytes, with the path's fault within.
 pub fn parts(bytes: &[u8]) -> Result<Parts<'_>, Error> {
-    let parts = library::option_parts(bytes)?;
-    Ok(Parts {
-        attributes: parts.attributes,
-        description: &bytes[parts.description..parts.description + parts.description_len],
-        list: &bytes[parts.list..parts.list + parts.list_len],
-        optional: &bytes[parts.optional..parts.optional + parts.optional_len],
-    })
+    Ok(parts_at(bytes, &library::option_parts(bytes)?))
+}
+
+/// The parts that are at these places of the bytes.
+fn parts_at<'a>(bytes: &'a [u8], places: &RawParts) -> Parts<'a> {
+    Parts {
+        attributes: places.attributes,
+        description: &bytes[places.description..places.description + places.description_len],
+        list: &bytes[places.list..places.list + places.list_len],
+        optional: &bytes[places.optional..places.optional + places.optional_len],
+    }
 }
 
 /// The description of the load option that the bytes are, of which [`make`] makes the same one. All characters are as
@@ -108,4 +116,196 @@ pub fn make(attributes: u32, description: &str, list: &[u8], optional: &[u8]) ->
 /// Those of [`make`].
 pub fn make_units(attributes: u32, units: &[u16], list: &[u8], optional: &[u8]) -> Result<Vec<u8>, Error> {
     library::option_make_units(attributes, units, list, optional)
+}
+
+/// A load option (UEFI 2.10, 3.1.3): its bytes, by which it is compared and hashed. Each goes both ways, to the byte.
+///
+/// As a text it is its description, as one line of ASCII, and its paths:
+///
+/// ```
+/// use bootkeep::{option, DevicePath, LoadOption};
+///
+/// # fn main() -> Result<(), bootkeep::Error> {
+/// let path: DevicePath = "PciRoot(0x0)/Pci(0x1,0x0)".parse()?;
+/// let option = LoadOption::new(option::ACTIVE, "Mine", &[path], b"")?;
+/// assert_eq!(option.to_string(), "Mine PciRoot(0x0)/Pci(0x1,0x0)");
+/// assert_eq!(LoadOption::try_from(option.as_ref()), Ok(option));
+/// # Ok(())
+/// # }
+/// ```
+#[derive(Clone)]
+pub struct LoadOption {
+    bytes: Vec<u8>,
+    places: RawParts,
+}
+
+impl LoadOption {
+    /// The load option of these parts.
+    ///
+    /// # Errors
+    ///
+    /// [`OptionZeroUnit`](Fault::OptionZeroUnit), [`OptionEmptyList`](Fault::OptionEmptyList) or
+    /// [`OptionListTooLong`](Fault::OptionListTooLong), in this order; [`Error::NoMemory`].
+    pub fn new(attributes: u32, description: &str, paths: &[DevicePath], optional: &[u8]) -> Result<LoadOption, Error> {
+        LoadOption::try_from(make(attributes, description, &list_of(paths), optional)?)
+    }
+
+    /// The same of the units of a description, whether or not they are a text, and without the zero unit that closes it.
+    ///
+    /// # Errors
+    ///
+    /// Those of [`new`](LoadOption::new).
+    pub fn from_units(
+        attributes: u32,
+        units: &[u16],
+        paths: &[DevicePath],
+        optional: &[u8],
+    ) -> Result<LoadOption, Error> {
+        LoadOption::try_from(make_units(attributes, units, &list_of(paths), optional)?)
+    }
+
+    /// The parts, where they are in the bytes.
+    pub fn parts(&self) -> Parts<'_> {
+        parts_at(&self.bytes, &self.places)
+    }
+
+    /// The attributes, all 32 bits as they are stored.
+    pub fn attributes(&self) -> u32 {
+        self.places.attributes
+    }
+
+    /// The description, all of its characters as they are, also those that a terminal acts on; `None` if its units are no
+    /// text, as half of a pair stands alone.
+    ///
+    /// # Errors
+    ///
+    /// [`Error::NoMemory`].
+    pub fn description(&self) -> Result<Option<String>, Error> {
+        match description(&self.bytes) {
+            Ok(text) => Ok(Some(text)),
+            Err(Error::Refused(Refusal { fault: Fault::OptionNotUtf16, .. })) => Ok(None),
+            Err(error) => Err(error),
+        }
+    }
+
+    /// The description as one line of ASCII, for a terminal or a log: units that don't print are shown by their numbers.
+    ///
+    /// # Errors
+    ///
+    /// [`Error::NoMemory`].
+    pub fn description_line(&self) -> Result<String, Error> {
+        description_line(&self.bytes)
+    }
+
+    /// The device paths, of which there is one at least.
+    pub fn paths(&self) -> Vec<DevicePath> {
+        // The list of an option is one of paths.
+        DevicePath::list(self.parts().list).unwrap_or_default()
+    }
+
+    /// Whether the option has LOAD_OPTION_ACTIVE.
+    pub fn is_active(&self) -> bool {
+        self.attributes() & ACTIVE != 0
+    }
+
+    /// Whether the boot manager tries the option by itself: it is active, and of the category of the normal boot.
+    pub fn is_normal(&self) -> bool {
+        self.is_active() && self.attributes() & CATEGORY == CATEGORY_BOOT
+    }
+
+    /// The option with these attributes.
+    ///
+    /// # Errors
+    ///
+    /// [`Error::NoMemory`].
+    pub fn with_attributes(&self, attributes: u32) -> Result<LoadOption, Error> {
+        LoadOption::from_units(attributes, &self.parts().units(), &self.paths(), self.parts().optional)
+    }
+
+    /// The option with this description.
+    ///
+    /// # Errors
+    ///
+    /// [`OptionZeroUnit`](Fault::OptionZeroUnit); [`Error::NoMemory`].
+    pub fn with_description(&self, description: &str) -> Result<LoadOption, Error> {
+        LoadOption::new(self.attributes(), description, &self.paths(), self.parts().optional)
+    }
+
+    /// The option with these device paths.
+    ///
+    /// # Errors
+    ///
+    /// [`OptionEmptyList`](Fault::OptionEmptyList) or [`OptionListTooLong`](Fault::OptionListTooLong);
+    /// [`Error::NoMemory`].
+    pub fn with_paths(&self, paths: &[DevicePath]) -> Result<LoadOption, Error> {
+        LoadOption::from_units(self.attributes(), &self.parts().units(), paths, self.parts().optional)
+    }
+
+    /// The bytes of the option.
+    pub fn into_bytes(self) -> Vec<u8> {
+        self.bytes
+    }
+}
+
+fn list_of(paths: &[DevicePath]) -> Vec<u8> {
+    paths.iter().flat_map(AsRef::<[u8]>::as_ref).copied().collect()
+}
+
+impl TryFrom<Vec<u8>> for LoadOption {
+    type Error = Error;
+
+    /// The load option that the bytes are, all of them: faults as of [`parts`].
+    fn try_from(bytes: Vec<u8>) -> Result<LoadOption, Error> {
+        let places = library::option_parts(&bytes)?;
+        Ok(LoadOption { bytes, places })
+    }
+}
+
+impl TryFrom<&[u8]> for LoadOption {
+    type Error = Error;
+
+    /// As of a `Vec`.
+    fn try_from(bytes: &[u8]) -> Result<LoadOption, Error> {
+        LoadOption::try_from(bytes.to_vec())
+    }
+}
+
+impl AsRef<[u8]> for LoadOption {
+    fn as_ref(&self) -> &[u8] {
+        &self.bytes
+    }
+}
+
+impl From<LoadOption> for Vec<u8> {
+    fn from(option: LoadOption) -> Vec<u8> {
+        option.bytes
+    }
+}
+
+impl PartialEq for LoadOption {
+    fn eq(&self, other: &LoadOption) -> bool {
+        self.bytes == other.bytes
+    }
+}
+
+impl Eq for LoadOption {}
+
+impl Hash for LoadOption {
+    fn hash<H: Hasher>(&self, state: &mut H) {
+        self.bytes.hash(state);
+    }
+}
+
+impl fmt::Display for LoadOption {
+    /// Its description and its paths. It fails if memory is refused.
+    fn fmt(&self, formatter: &mut fmt::Formatter<'_>) -> fmt::Result {
+        formatter.write_str(&self.description_line().map_err(|_| fmt::Error)?)?;
+        self.paths().iter().try_for_each(|path| write!(formatter, " {path}"))
+    }
+}
+
+impl fmt::Debug for LoadOption {
+    fn fmt(&self, formatter: &mut fmt::Formatter<'_>) -> fmt::Result {
+        write!(formatter, "LoadOption({:#010x} {self})", self.attributes())
+    }
 }

@@ -3,40 +3,59 @@
 //! Each call refuses bytes that are no set: by a fault `Set..`, at the record that has it. It may answer
 //! [`Error::NoMemory`] in place of any other answer.
 
-use crate::error::Error;
+use crate::entry::EntryNumber;
+use crate::error::{Error, Refusal};
 use crate::library::{self, RawNamed};
 use crate::numbers::*;
+use crate::option::LoadOption;
+use std::collections::HashMap;
 use std::fmt;
+
+/// A set without a variable.
+pub const EMPTY: &[u8] = b"BVS1";
 
 /// What a boot would try (UEFI 2.10, 3.3).
 #[derive(Clone, Debug, PartialEq, Eq)]
+#[non_exhaustive]
 pub struct Plan {
     /// The number of BootNext's entry, which is tried first.
-    pub next: Option<u16>,
+    pub next: Option<EntryNumber>,
     /// The numbers of the normal entries of BootOrder, in its order.
-    pub normal: Vec<u16>,
+    pub normal: Vec<EntryNumber>,
+}
+
+impl Plan {
+    pub(crate) fn of(next: u32, normal: Vec<u16>) -> Plan {
+        Plan { next: entry_number(next), normal: entry_numbers(normal) }
+    }
+
+    /// All of these numbers, in the order in which a boot tries them.
+    pub fn tried(&self) -> impl Iterator<Item = EntryNumber> + '_ {
+        self.next.into_iter().chain(self.normal.iter().copied())
+    }
 }
 
 impl fmt::Display for Plan {
     fn fmt(&self, formatter: &mut fmt::Formatter<'_>) -> fmt::Result {
         match self.next {
-            Some(number) => write!(formatter, "plan next {number:04X} normal")?,
+            Some(number) => write!(formatter, "plan next {number} normal")?,
             None => formatter.write_str("plan next - normal")?,
         }
         if self.normal.is_empty() {
             formatter.write_str(" -")?;
         }
-        self.normal.iter().try_for_each(|number| write!(formatter, " {number:04X}"))
+        self.normal.iter().try_for_each(|number| write!(formatter, " {number}"))
     }
 }
 
 /// The entries that a start of firmware may write over or delete, by their numbers, which rise.
 #[derive(Clone, Debug, PartialEq, Eq)]
+#[non_exhaustive]
 pub struct AtRisk {
     /// Those that neither BootOrder nor BootNext names.
-    pub unnamed: Vec<u16>,
+    pub unnamed: Vec<EntryNumber>,
     /// Those of BootOrder that are no load option.
-    pub undecodable: Vec<u16>,
+    pub undecodable: Vec<EntryNumber>,
 }
 
 /// What a boot makes of an entry that BootOrder names.
@@ -57,6 +76,33 @@ pub enum EntryState {
     Other(u32),
 }
 
+impl fmt::Display for EntryState {
+    fn fmt(&self, formatter: &mut fmt::Formatter<'_>) -> fmt::Result {
+        formatter.write_str(match self {
+            EntryState::Normal => "normal",
+            EntryState::Absent => "absent",
+            EntryState::Undecodable => "undecodable",
+            EntryState::Inactive => "inactive",
+            EntryState::OtherCategory => "other category",
+            EntryState::Other(number) => return write!(formatter, "state {number}"),
+        })
+    }
+}
+
+/// A change of one variable of the boot manager.
+#[derive(Clone, Copy, Debug, PartialEq, Eq)]
+#[non_exhaustive]
+pub struct Change<'a> {
+    /// The variable.
+    pub variable: BootVariable,
+    /// What becomes of it.
+    pub kind: ChangeKind,
+    /// Its data before, if there was such a variable.
+    pub before: Option<&'a [u8]>,
+    /// Its data after, if there is such a variable then.
+    pub after: Option<&'a [u8]>,
+}
+
 impl EntryState {
     fn of(number: u32) -> EntryState {
         match number {
@@ -72,11 +118,12 @@ impl EntryState {
 
 /// A number that BootNext or BootOrder names, and what a boot makes of its entry.
 #[derive(Clone, Copy, Debug, PartialEq, Eq)]
+#[non_exhaustive]
 pub struct NamedEntry {
     /// [`BootVariable::Next`] or [`BootVariable::Order`].
     pub variable: BootVariable,
     /// The number.
-    pub number: u16,
+    pub number: EntryNumber,
     /// What a boot makes of the entry.
     pub state: EntryState,
 }
@@ -86,7 +133,7 @@ pub struct NamedEntry {
 #[non_exhaustive]
 pub enum BootVariable {
     /// Boot####.
-    Entry(u16),
+    Entry(EntryNumber),
     /// BootOrder.
     Order,
     /// BootNext.
@@ -100,7 +147,7 @@ pub enum BootVariable {
 impl fmt::Display for BootVariable {
     fn fmt(&self, formatter: &mut fmt::Formatter<'_>) -> fmt::Result {
         match self {
-            BootVariable::Entry(number) => write!(formatter, "Boot{number:04X}"),
+            BootVariable::Entry(number) => write!(formatter, "Boot{number}"),
             BootVariable::Order => formatter.write_str("BootOrder"),
             BootVariable::Next => formatter.write_str("BootNext"),
             BootVariable::Timeout => formatter.write_str("Timeout"),
@@ -123,8 +170,12 @@ pub enum ChangeKind {
     Other(u32),
 }
 
-pub(crate) fn entry_number(number: u32) -> Option<u16> {
-    u16::try_from(number).ok()
+pub(crate) fn entry_number(number: u32) -> Option<EntryNumber> {
+    u16::try_from(number).ok().map(EntryNumber)
+}
+
+fn entry_numbers(numbers: Vec<u16>) -> Vec<EntryNumber> {
+    numbers.into_iter().map(EntryNumber).collect()
 }
 
 /// What a boot would try with the variables of the set (UEFI 2.10, 3.3).
@@ -135,7 +186,7 @@ pub(crate) fn entry_number(number: u32) -> Option<u16> {
 /// calls here.
 pub fn plan(set: &[u8]) -> Result<Plan, Error> {
     let (normal, next) = library::set_plan(set)?;
-    Ok(Plan { next: entry_number(next), normal })
+    Ok(Plan::of(next, normal))
 }
 
 /// The entries of the set that a start of firmware may write over or delete. edk2 was seen to do both; the standard
@@ -147,7 +198,7 @@ pub fn plan(set: &[u8]) -> Result<Plan, Error> {
 pub fn at_risk(set: &[u8]) -> Result<AtRisk, Error> {
     let (mut unnamed, count) = library::set_at_risk(set)?;
     let undecodable = unnamed.split_off(count);
-    Ok(AtRisk { unnamed, undecodable })
+    Ok(AtRisk { unnamed: entry_numbers(unnamed), undecodable: entry_numbers(undecodable) })
 }
 
 /// The data of the variable of this name.
@@ -189,7 +240,7 @@ pub fn variables(set: &[u8]) -> Result<impl ExactSizeIterator<Item = (&str, &[u8
 }
 
 /// The lowest number under which the set has no entry, if there is one.
-pub fn lowest_free(set: &[u8]) -> Result<Option<u16>, Error> {
+pub fn lowest_free(set: &[u8]) -> Result<Option<EntryNumber>, Error> {
     let number = library::set_lowest_free(set)?;
     debug_assert!(number <= NO_ENTRY);
     Ok(entry_number(number))
@@ -207,13 +258,80 @@ pub fn named(set: &[u8]) -> Result<Vec<NamedEntry>, Error> {
 
 fn named_entry(told: &RawNamed) -> NamedEntry {
     // No number of an entry has more than 16 bits.
-    NamedEntry { variable: variable(told.variable), number: told.number as u16, state: EntryState::of(told.state) }
+    let number = EntryNumber(told.number as u16);
+    NamedEntry { variable: variable(told.variable), number, state: EntryState::of(told.state) }
 }
 
 /// What a boot makes of the entry of this number if BootOrder names it: why it isn't in the plan, or that it is.
 /// BootNext's isn't if it is absent or undecodable.
-pub fn entry(set: &[u8], number: u16) -> Result<EntryState, Error> {
-    library::set_entry(set, number).map(EntryState::of)
+pub fn entry(set: &[u8], number: EntryNumber) -> Result<EntryState, Error> {
+    library::set_entry(set, number.0).map(EntryState::of)
+}
+
+/// The load option of the entry of this number.
+///
+/// # Errors
+///
+/// [`Error::Absent`] if there is no such entry, and a fault `Option..` of data that are none, besides those of all calls
+/// here.
+pub fn option(set: &[u8], number: EntryNumber) -> Result<LoadOption, Error> {
+    LoadOption::try_from(get(set, &number.name())?)
+}
+
+/// An entry of a set: a variable Boot####.
+#[derive(Clone, Debug, PartialEq, Eq)]
+#[non_exhaustive]
+pub struct Entry<'a> {
+    /// Its number.
+    pub number: EntryNumber,
+    /// Its data.
+    pub data: &'a [u8],
+    /// The load option that its data is, or why it is none.
+    pub option: Result<LoadOption, Refusal>,
+    /// What a boot makes of it if BootOrder names it.
+    pub state: EntryState,
+    /// Its first place in BootOrder, from 0, if that names it.
+    pub order_place: Option<usize>,
+    /// Whether BootNext names it.
+    pub is_next: bool,
+}
+
+impl fmt::Display for Entry<'_> {
+    fn fmt(&self, formatter: &mut fmt::Formatter<'_>) -> fmt::Result {
+        write!(formatter, "Boot{} {} ", self.number, self.state)?;
+        match &self.option {
+            Ok(option) => option.fmt(formatter),
+            Err(refusal) => refusal.fmt(formatter),
+        }
+    }
+}
+
+/// The entries of the set, whose numbers rise.
+///
+/// # Errors
+///
+/// Those of [`plan`].
+pub fn entries(set: &[u8]) -> Result<Vec<Entry<'_>>, Error> {
+    let named = named(set)?;
+    let next = named.iter().find(|one| one.variable == BootVariable::Next).map(|one| one.number);
+    let order = named.iter().filter(|one| one.variable == BootVariable::Order);
+    let mut places = HashMap::new();
+    for (place, one) in order.enumerate() {
+        places.entry(one.number).or_insert(place);
+    }
+    let mut entries = Vec::new();
+    for (name, data) in variables(set)? {
+        if let Ok(number) = EntryNumber::from_name(name) {
+            let option = match LoadOption::try_from(data) {
+                Ok(option) => Ok(option),
+                Err(Error::Refused(refusal)) => Err(refusal),
+                Err(error) => return Err(error),
+            };
+            let (state, order_place) = (entry(set, number)?, places.get(&number).copied());
+            entries.push(Entry { number, data, option, state, order_place, is_next: next == Some(number) });
+        }
+    }
+    Ok(entries)
 }
 
 /// The changes that lead from one set to the boot manager's variables of another, in an order in which a machine can
@@ -223,9 +341,18 @@ pub fn entry(set: &[u8], number: u16) -> Result<EntryState, Error> {
 /// # Errors
 ///
 /// The fault of `from`, otherwise that of `to`.
-pub fn changes(from: &[u8], to: &[u8]) -> Result<Vec<(BootVariable, ChangeKind)>, Error> {
+pub fn changes<'a>(from: &'a [u8], to: &'a [u8]) -> Result<Vec<Change<'a>>, Error> {
     let changes = library::set_changes(from, to)?;
-    Ok(changes.iter().map(|change| (variable(change.variable), kind(change.kind))).collect())
+    let (old, new): (HashMap<_, _>, HashMap<_, _>) = (variables(from)?.collect(), variables(to)?.collect());
+    Ok(changes
+        .iter()
+        .map(|change| {
+            let variable = variable(change.variable);
+            let name = variable.to_string();
+            let (before, after) = (old.get(&name[..]).copied(), new.get(&name[..]).copied());
+            Change { variable, kind: kind(change.kind), before, after }
+        })
+        .collect())
 }
 
 fn variable(number: u32) -> BootVariable {

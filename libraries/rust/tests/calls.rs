@@ -3,15 +3,16 @@
 use bootkeep::frame::{self, Request};
 use bootkeep::image::{self, Effect, Stage};
 use bootkeep::set::{BootVariable, ChangeKind, EntryState};
-use bootkeep::{option, path, set, Error, Fault, Keeper, Outcome, Reply};
+use bootkeep::{option, path, set, DevicePath, EntryNumber, Error, Fault, Keeper, LoadOption, Outcome, Reply};
 use std::collections::HashSet;
 
 const SET: &[u8] = include_bytes!("../../../docs/examples/set");
 const STREAM: &[u8] = include_bytes!("../../../docs/examples/stream");
 const TEXT: &str = r"HD(1,GPT,5C1E6A3B-7D2F-4A8C-9B1E-2F3A4B5C6D7E,0x800,0x100000)/\EFI\a.efi";
 
-fn new_option() -> Vec<u8> {
-    option::make(option::ACTIVE, "Bööt", &path::parse(TEXT).unwrap(), b"\x01").unwrap()
+fn new_option() -> LoadOption {
+    let path: DevicePath = TEXT.parse().unwrap();
+    LoadOption::new(option::ACTIVE, "Bööt", &[path], b"\x01").unwrap()
 }
 
 #[test]
@@ -52,8 +53,9 @@ fn signature_lists_are_found() {
 
 #[test]
 fn an_option_has_its_parts_again() {
-    let bytes = new_option();
-    let parts = option::parts(&bytes).unwrap();
+    let option = new_option();
+    let parts = option::parts(option.as_ref()).unwrap();
+    assert_eq!(parts, option.parts());
     assert_eq!((parts.attributes, parts.optional), (1, &b"\x01"[..]));
     assert_eq!(parts.paths().unwrap(), [&path::parse(TEXT).unwrap()[..]]);
     assert_eq!(option::make(1, "a\0", parts.list, b"").unwrap_err(), refused(Fault::OptionZeroUnit));
@@ -70,7 +72,7 @@ fn a_description_goes_both_ways() {
         assert_eq!(parts.units(), text.encode_utf16().collect::<Vec<_>>());
         assert_eq!(option::make(parts.attributes, &option::description(&made).unwrap(), parts.list, b"x"), Ok(made));
     }
-    assert_eq!(option::description_line(&new_option()).unwrap(), r"B\00f6\00f6t");
+    assert_eq!(option::description_line(new_option().as_ref()).unwrap(), r"B\00f6\00f6t");
 }
 
 #[test]
@@ -134,12 +136,15 @@ fn an_entry_is_put_first() {
     let (after, _) = bootkeep::run(SET, &frame).unwrap();
     let after = set::remove(&after, "BootKeepState").unwrap();
     let order = set::get(&after, "BootOrder").unwrap();
-    assert_eq!(order.chunks(2).filter(|one| *one == number.to_le_bytes()).count(), 1);
+    assert_eq!(order.chunks(2).filter(|one| *one == number.0.to_le_bytes()).count(), 1);
     assert_eq!(set::plan(&after).unwrap().normal[0], number);
     assert_eq!(set::entry(&after, number), Ok(EntryState::Normal));
-    let added = (BootVariable::Entry(number), ChangeKind::Added);
     // BootOrder has this number in front already, though there is no such entry before.
-    assert_eq!(set::changes(SET, &after), Ok(vec![added]));
+    let changes = set::changes(SET, &after).unwrap();
+    assert_eq!(changes.len(), 1);
+    assert_eq!((changes[0].variable, changes[0].kind), (BootVariable::Entry(number), ChangeKind::Added));
+    assert_eq!((changes[0].before, changes[0].after), (None, Some(new_option().as_ref())));
+    assert_eq!(set::option(&after, number), Ok(new_option()));
     assert_eq!(set::entry(SET, number), Ok(EntryState::Absent));
     assert_eq!(set::get(SET, "Nothing"), Err(Error::Absent));
 }
@@ -158,23 +163,24 @@ fn a_keeper_comes_to_what_a_run_comes_to() {
     let option = new_option();
     let frames = [
         frame::make(0, Request::AddFree(&option)).unwrap(),
-        frame::make(1, Request::Remove(0xFFFF)).unwrap(),
-        frame::make(2, Request::First(0xFFFF)).unwrap(),
+        frame::make(1, Request::Remove(EntryNumber(0xFFFF))).unwrap(),
+        frame::make(2, Request::First(EntryNumber(0xFFFF))).unwrap(),
         frame::make(4, Request::Order(&[])).unwrap(),
     ];
     let mut keeper = Keeper::open(SET).unwrap();
     let free = set::lowest_free(SET).unwrap();
     let replies: Vec<_> = frames.iter().map(|frame| keeper.deliver(frame).unwrap()).collect();
-    let expected = [
-        Reply::Applied { outcome: Outcome::Done, entry: free, next_number: 1 },
-        Reply::Applied { outcome: Outcome::Missing, entry: None, next_number: 2 },
-        Reply::Applied { outcome: Outcome::Missing, entry: None, next_number: 3 },
-        Reply::Waiting { next_number: 3 },
-    ];
-    assert_eq!(replies, expected);
+    match &replies[0] {
+        Reply::Applied { outcome, entry, next_number, .. } => {
+            assert_eq!((*outcome, *entry, *next_number), (Outcome::Done, free, 1));
+        }
+        other => panic!("{other:?}"),
+    }
+    let others: Vec<_> = replies[1..].iter().map(Reply::to_string).collect();
+    assert_eq!(others, ["applied Missing 2", "applied Missing 3", "waiting 3"]);
     assert_eq!(keeper.set().unwrap(), bootkeep::run(SET, &frames.concat()).unwrap().0);
-    let malformed = Reply::Malformed { fault: Fault::FrameShort, option: None };
-    assert_eq!(keeper.deliver(b"").unwrap(), malformed);
+    let malformed = keeper.deliver(b"").unwrap();
+    assert!(matches!(malformed, Reply::Malformed { fault: Fault::FrameShort, option: None, .. }));
     assert_eq!(malformed.to_string(), "malformed Short");
     assert_eq!(keeper.next_number(), Ok(3));
 }
@@ -187,7 +193,7 @@ fn a_request_puts_an_entry_first() {
         [frame::make(0, Request::AddFirst(&new_option())).unwrap(), frame::make(1, Request::First(last)).unwrap()];
     let (after, lines) = bootkeep::run(SET, &frames.concat()).unwrap();
     let number = set::lowest_free(SET).unwrap().unwrap();
-    assert_eq!(lines, format!("applied Done {number:04X} 1\napplied Done 2\n"));
+    assert_eq!(lines, format!("applied Done {number} 1\napplied Done 2\n"));
     assert_eq!(set::plan(&after).unwrap().normal, [vec![last, number], others].concat());
 }
 

@@ -98,7 +98,7 @@ Steps c =
     Step (c.magic ≡ magic) fault.BadMagic
     (Step (IsVersion c.version) fault.BadVersion
     (Step (c.len ≤ payload_max) fault.TooLong
-    (Step (length c.payload ≡ c.len) fault.BadSize
+    (Step (length c.payload ≡ c.len) (fault.BadSize c.len (length c.payload))
     (Step (IsKind c.version c.kind) fault.BadKind
     (Step (c.number ≢ no_number) fault.BadNumber
     (Step (HasBadPayload c → ⊥) fault.BadPayload (HasOptionFault c)))))))
@@ -106,14 +106,17 @@ Steps c =
 -- ---- the first fault, by these tests
 
 abbrev pub ByTests : List ℕ → FrameFault → Type 0
-ByTests input f = ((length input < 12) × (f ≡ fault.Short)) ⊎ ((c : Raw) × IsRaw input c × Steps c f)
+ByTests input f = ((length input < 12) × (f ≡ fault.Short (length input))) ⊎ ((c : Raw) × IsRaw input c × Steps c f)
 
 pub by_tests : (input : List ℕ) (f : FrameFault) → IsFirstFault input f → ByTests input f
-by_tests input fault.Short h = inl (h, refl)
+by_tests input (fault.Short found) h = inl (h.1, ap (λ (n : ℕ). fault.Short n) h.0)
 by_tests input fault.BadMagic h = inr (h.raw, h.is, inl (h.here, refl))
 by_tests input fault.BadVersion h = inr (h.raw, h.is, inr (h.here.0, inl (h.here.1, refl)))
 by_tests input fault.TooLong h = inr (h.raw, h.is, inr (h.here.0.0, inr (h.here.0.1, inl (λ within. omega (arith, within, h.here.1), refl))))
-by_tests input fault.BadSize h = inr (h.raw, h.is, inr (h.here.0.0, inr (h.here.0.1, inr (h.here.1, inl (h.here.2, refl)))))
+by_tests input (fault.BadSize stated found) h =
+    let sizes = ap (λ (n : ℕ). fault.BadSize n found) h.here.1 ∙ ap (λ (n : ℕ). fault.BadSize h.raw.len n) h.here.2 in
+    let fails = h.here.0 in
+    inr (h.raw, h.is, inr (fails.0.0, inr (fails.0.1, inr (fails.1, inl (fails.2, sizes)))))
 by_tests input fault.BadKind h =
     let size = h.here.0 in inr (h.raw, h.is, inr (size.0.0, inr (size.0.1, inr (size.1, inr (size.2, inl (h.here.1, refl))))))
 by_tests input fault.BadNumber h =

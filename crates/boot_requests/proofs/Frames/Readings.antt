@@ -231,7 +231,7 @@ header_ends numbers ends bytes c h =
         | inl version_is ↦ elim (cases_lt payload_max c.len) [
           | inl long ↦ inr (fault.TooLong, record { raw = c; is = h.is; here = ((magic_is, version_is), long) })
           | inr within ↦ elim (cases_eq (length c.payload) c.len) [
-            | inr other ↦ inr (fault.BadSize, record { raw = c; is = h.is; here = ((magic_is, version_is), within, other) })
+            | inr other ↦ inr (fault.BadSize c.len (length c.payload), record { raw = c; is = h.is; here = (((magic_is, version_is), within, other), refl, refl) })
             | inl size ↦ elim (kind_or_not c.version c.kind) [
               | inr other ↦ inr (fault.BadKind, record { raw = c; is = h.is; here = (((magic_is, version_is), within, size), other) })
               | inl kind ↦ elim (cases_eq c.number no_number) [
@@ -246,7 +246,7 @@ header_ends numbers ends bytes c h =
 
 pub bytes_end : NumbersEnd → OptionEnds → (bytes : List ℕ) → AllByRecursion IsByte bytes → Ends bytes
 bytes_end numbers ends bytes fits =
-    elim (heads bytes fits) [ inl short ↦ inr (fault.Short, short) | inr header ↦ header_ends numbers ends bytes header.0 header.1 ]
+    elim (heads bytes fits) [ inl short ↦ inr (fault.Short (length bytes), (refl, short)) | inr header ↦ header_ends numbers ends bytes header.0 header.1 ]
 
 -- ---- what the reader answers
 

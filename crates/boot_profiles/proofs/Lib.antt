@@ -1,0 +1,9 @@
+pub mod Numbers
+pub mod Descriptions
+pub mod Bytes
+pub mod SingleEntries
+pub mod Lists
+pub mod Refusals
+pub mod Orders
+pub mod Profiles
+pub mod Outcomes

@@ -1,0 +1,6 @@
+use Rattle.boot_profiles.proofs.Refusals.{order_refused}
+use Rattle.boot_profiles.proofs.applying.after_entries.Goals as goal
+
+pub returns-in-Err-clause-refused : goal.returns-in-Err-clause-refused
+returns-in-Err-clause-refused c =
+    order_refused c.args.profile.now c.args.vars.now c.args.between.now c.requires c.in-Err.error c.in-Err.ensures.refused

@@ -1,0 +1,79 @@
+"""How the goals of the jobs that aren't done were reached as time went on."""
+
+from __future__ import annotations
+
+from itertools import accumulate
+from typing import Dict, List, NamedTuple, Optional, Tuple
+
+from .ledger import Ledger
+
+STEPS = 120
+"""How many steps there are from the first job to now."""
+
+
+class Progress(NamedTuple):
+    """How many goals were asked for, were reached and had failed at the end of each step, from one time to another; and
+    whether something is left to be done."""
+
+    began: float
+    ended: float
+    is_open: bool
+    asked: List[int]
+    reached: List[int]
+    failed: List[int]
+
+
+class Span(NamedTuple):
+    """A time in which jobs were gone after."""
+
+    began: float
+    ended: float
+
+    def step(self, when: float) -> int:
+        """In which step something was. What a clock that was set back says was before is in the first one."""
+        passed = STEPS * (when - self.began) / (self.ended - self.began)
+        return min(max(0, int(passed)), STEPS - 1)
+
+
+def read_progress(ledger: Ledger, now: float) -> Optional[Progress]:
+    """How it went with the jobs that aren't done, up to now, or if all are, with the last one; nothing without a job."""
+    jobs, is_open = _jobs(ledger)
+    if not jobs:
+        return None
+    goals = f"FROM goal JOIN job ON job.id = goal.job WHERE job IN ({','.join(map(str, jobs))})"
+    first, last = ledger.one(f"SELECT MIN(made), MAX(ended) {goals} AND state != 'cancelled'")
+    if first is None:
+        return None
+    ended = now if is_open else float(last or now)
+    span = Span(float(first), max(ended, float(first) + 1))
+    counts = {
+        "asked": f"SELECT made, COUNT(*) {goals} AND state != 'cancelled' GROUP BY made",
+        "reached": _ended_query(goals, "reached"),
+        "failed": _ended_query(goals, "failed"),
+    }
+    found = {name: _sums(ledger, query, span) for name, query in counts.items()}
+    return Progress(span.began, span.ended, is_open, **found)
+
+
+def _jobs(ledger: Ledger) -> Tuple[List[int], bool]:
+    """The jobs that aren't done, or else the last one, and whether something is left to be done of them."""
+    query = (
+        "SELECT job, SUM(state = 'open') FROM goal WHERE state IN ('open', 'failed') GROUP BY job"
+    )
+    left: Dict[int, int] = dict(ledger.db.execute(query))
+    if left:
+        return list(left), any(left.values())
+    (last,) = ledger.one("SELECT MAX(job) FROM goal")
+    return ([] if last is None else [int(last)]), False
+
+
+def _ended_query(goals: str, state: str) -> str:
+    return f"SELECT CAST(ended AS INTEGER), COUNT(*) {goals} AND state = '{state}' GROUP BY 1"
+
+
+def _sums(ledger: Ledger, query: str, span: Span) -> List[int]:
+    """How many there were up to the end of each step, by a query for times and how many."""
+    counts = [0] * STEPS
+    for when, count in ledger.db.execute(query):
+        counts[span.step(span.ended if when is None else when)] += count
+    return list(accumulate(counts))
