@@ -1,7 +1,10 @@
 -- Lemmas.
 pub mod Cuts
 pub mod Digits
+pub mod FirstUnits
+pub mod Joined
 pub mod Letters
+pub mod Listings
 pub mod Orders
 pub mod OrderWords
 pub mod Reading

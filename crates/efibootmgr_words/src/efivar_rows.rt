@@ -1,5 +1,9 @@
 //! The nodes that libefivar prints in another form than a person is shown by `uefi_names`.
 
+ghost use Rattle.std.specs.Prelude.{◌≡◌, []};
+ghost use Rattle.uefi_names.specs.Standard.{plain_group, plain_table, group_of};
+ghost use Rattle.efibootmgr_words.specs.EfivarRows.{hardware_rows, messaging_rows, media_rows, bios_boot_rows, efivar_table};
+
 use uefi_names::{
     DataLen, Field, Form, NodeGroup, NodeRow, NodeTable, Numeral, REST, Show, When, Word,
 };
@@ -109,23 +113,63 @@ static BIOS_BOOT: [NodeRow; 1] = [row!(
 )];
 
 /// The table of these nodes.
-pub(crate) fn efivar_table() -> NodeTable {
-    let none = rows_of(0, &[]);
+#[tactic(auto, unfolding(crate::specs::EfivarRows::efivar_table))]
+pub(crate) fn efivar_table() -> NodeTable
+    ensures { plain_table result ≡ efivar_table }
+{
     NodeTable {
         groups: [
-            rows_of(1, &HARDWARE),
-            rows_of(3, &MESSAGING),
-            rows_of(4, &MEDIA),
-            rows_of(5, &BIOS_BOOT),
-            none,
-            none,
-            none,
-            none,
+            hardware(),
+            messaging(),
+            media(),
+            bios_boot(),
+            none(),
+            none(),
+            none(),
+            none(),
         ],
     }
 }
 
-/// Rows of a type.
-fn rows_of(kind: u8, rows: &'static [NodeRow]) -> NodeGroup {
-    NodeGroup { kind, rows }
+fn hardware() -> NodeGroup
+    ensures { plain_group result ≡ group_of 1 hardware_rows }
+{
+    NodeGroup {
+        kind: 1,
+        rows: &HARDWARE,
+    }
+}
+
+fn messaging() -> NodeGroup
+    ensures { plain_group result ≡ group_of 3 messaging_rows }
+{
+    NodeGroup {
+        kind: 3,
+        rows: &MESSAGING,
+    }
+}
+
+fn media() -> NodeGroup
+    ensures { plain_group result ≡ group_of 4 media_rows }
+{
+    NodeGroup {
+        kind: 4,
+        rows: &MEDIA,
+    }
+}
+
+fn bios_boot() -> NodeGroup
+    ensures { plain_group result ≡ group_of 5 bios_boot_rows }
+{
+    NodeGroup {
+        kind: 5,
+        rows: &BIOS_BOOT,
+    }
+}
+
+/// A group without rows.
+fn none() -> NodeGroup
+    ensures { plain_group result ≡ group_of 0 [] }
+{
+    NodeGroup { kind: 0, rows: &[] }
 }

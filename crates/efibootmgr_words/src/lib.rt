@@ -20,6 +20,7 @@ mod help_text;
 mod lines;
 mod numbers;
 mod option_table;
+mod units;
 mod values;
 
 pub use asked_words::{Asked, EntryWords};

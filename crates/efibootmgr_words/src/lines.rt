@@ -1,21 +1,28 @@
 //! The lines that show a machine's boot variables.
 
-ghost use Rattle.std.specs.Prelude.{◌≡◌, ◌<◌, ◌∷◌, ◌++◌, [], ℕ, length, Some, IfSome, IfNone, OnOk};
+ghost use Rattle.std.specs.Prelude.{◌≡◌, ◌<◌, ◌∷◌, ◌++◌, [], ℕ, List, length, drop, Some, IfOk, IfSome, IfNone, OnOk};
 ghost use Rattle.std.specs.Int.{w16, from_le_bytes};
-ghost use Rattle.std.specs.FinMap.{get};
+ghost use Rattle.std.specs.FinMap.{get, entries};
 ghost use Rattle.std.specs.Option.{option_map};
 ghost use Rattle.std.specs.String.{string_bytes};
 ghost use Rattle.uefi_vars.specs.Name.{four_digits};
+ghost use Rattle.uefi_option.specs.LoadOption.{OptionParts};
+ghost use Rattle.uefi_option.specs.View.{ShowsOption};
 ghost use Rattle.efibootmgr_words.specs.Lines.{number_in, digits_line, seconds_line, number_lines, order_words, order_line};
+ghost use Rattle.efibootmgr_words.specs.Listing.{star_of, front_text, printable, printed, IsFirstPath, IsPartsText, IsOptionText, IsEntry, Appends, AppendsVariable, AppendsEntries, IsListing};
 
-use crate::efivar_path::{append_units, efivar_text};
+use crate::efivar_path::efivar_text;
+use crate::units::append_units;
 use std::alloc::{AllocError, Global};
-use uefi_option::{OptionFault, check_option, is_active};
-use uefi_path::{PathFault, read_path, read_units};
-use uefi_vars::{BOOT_NEXT, BOOT_ORDER, EntryName, TIMEOUT, Vars, entry_name, entry_number};
+use uefi_option::{OptionView, check_option, is_active};
+use uefi_path::{read_path, read_units};
+use uefi_vars::{BOOT_NEXT, BOOT_ORDER, TIMEOUT, Vars, entry_name, entry_number};
 
 /// The variable with the entry that was started, which firmware sets (UEFI 2.10, 3.3).
 const BOOT_CURRENT: &str = "BootCurrent";
+
+/// The bytes of an entry before its description: its attributes and the length of its list (UEFI 2.10, 3.1.3).
+const HEADER_LEN: usize = 6;
 
 /// What is listed.
 #[derive(Debug, Drop)]
@@ -30,19 +37,48 @@ pub struct Listing {
 /// as it has to be, and then each entry, with a star if it is active. If it is asked for, an entry's first path follows its
 /// description, behind a tab, and right behind the path its optional data, with a dot for each byte that doesn't print. An entry
 /// that is no load option is shown as far as it can be read. This fails only when out of memory.
-pub fn list_vars(alloc: Global, vars: &Vars, verbose: bool) -> Result<Listing, AllocError> {
+pub fn list_vars(alloc: Global, vars: &Vars, verbose: bool) -> Result<Listing, AllocError>
+    ensures { IfOk result (λ listing. IsListing verbose vars.now listing) }
+{
     let mut listing = Listing {
         text: String::new(alloc),
         faulty: Vec::new(alloc),
     };
     append_numbers(vars, &mut listing.text)?;
     append_order(vars.get(BOOT_ORDER), &mut listing.text)?;
-    for (name, data) in vars.iter() {
-        if let Some(number) = entry_number(name) {
-            append_entry(alloc, &mut listing, number, data, verbose)?;
-        }
-    }
+    append_entries(alloc, &mut listing, vars, verbose)?;
     Ok(listing)
+}
+
+/// Appends the lines of the entries among variables.
+fn append_entries(
+    alloc: Global,
+    listing: &mut Listing,
+    vars: &Vars,
+    verbose: bool,
+) -> Result<(), AllocError>
+    ensures { OnOk result (AppendsEntries verbose (entries vars.now) listing.old listing.new) }
+{
+    for (name, data) in vars.iter() {
+        append_variable(alloc, listing, name, data, verbose)?;
+    }
+    Ok(())
+}
+
+/// Appends the line of a variable, if it is an entry.
+fn append_variable(
+    alloc: Global,
+    listing: &mut Listing,
+    name: &str,
+    data: &[u8],
+    verbose: bool,
+) -> Result<(), AllocError>
+    ensures { OnOk result (AppendsVariable verbose (name.now, data.now) listing.old listing.new) }
+{
+    match entry_number(name) {
+        Some(number) => append_entry(alloc, listing, number, data, verbose),
+        None => Ok(()),
+    }
 }
 
 /// Appends the lines of the variables that are one number.
@@ -152,58 +188,114 @@ fn append_entry(
     number: u16,
     data: &[u8],
     verbose: bool,
-) -> Result<(), AllocError> {
-    let star = if is_active(attributes_of(data)) {
-        '*'
-    } else {
-        ' '
-    };
-    write!(listing.text, "{}{star} ", EntryName(number))?;
-    let units = read_units(alloc, data.get(6..).unwrap_or(&[]))?;
-    append_units(&units, &mut listing.text)?;
-    let is_faulty = match check_option(data) {
-        Ok(view) if verbose => {
-            append_path(alloc, view.list, &mut listing.text)?;
-            append_printable(view.optional, &mut listing.text)?;
-            false
-        }
-        Ok(_) => false,
-        Err(OptionFault::OutOfMemory) => return Err(AllocError),
-        Err(_) => true,
-    };
-    if is_faulty {
-        listing.faulty.push(number)?;
-    }
+) -> Result<(), AllocError>
+    ensures { OnOk result ((line : List ℕ) × (bad : List ℕ) × IsEntry verbose number data.now line bad
+        × Appends line bad listing.old listing.new) }
+{
+    append_front(alloc, number, data, &mut listing.text)?;
+    append_option(alloc, listing, number, data, verbose)?;
     listing.text.push('\n')
 }
 
-/// The attributes at the front of an entry (UEFI 2.10, 3.1.3), with zeros for bytes that aren't there.
-fn attributes_of(data: &[u8]) -> u32 {
-    match data {
-        [a, b, c, d, ..] => u32::from_le_bytes([*a, *b, *c, *d]),
-        [a, ..] => u32::from(*a),
-        [] => 0,
+/// Appends what follows the description of an entry, or notes its number if it is no load option.
+fn append_option(
+    alloc: Global,
+    listing: &mut Listing,
+    number: u16,
+    data: &[u8],
+    verbose: bool,
+) -> Result<(), AllocError>
+    ensures { OnOk result ((more : List ℕ) × (bad : List ℕ) × IsOptionText verbose number data.now more bad
+        × Appends more bad listing.old listing.new) }
+{
+    match check_option(data) {
+        Ok(view) => append_parts(alloc, &view, verbose, &mut listing.text),
+        Err(_) => Ok(listing.faulty.push(number)?),
     }
 }
 
-/// Appends a tab and the first path of a list.
-fn append_path(alloc: Global, list: &[u8], text: &mut String) -> Result<(), AllocError> {
+/// Appends the name of an entry, a star if it is active, and its description.
+fn append_front(
+    alloc: Global,
+    number: u16,
+    data: &[u8],
+    text: &mut String,
+) -> Result<(), AllocError>
+    ensures { OnOk result (string_bytes text.new ≡ string_bytes text.old ++ front_text number data.now) }
+{
+    text.push_str("Boot")?;
+    append_digits(number, text)?;
+    text.push(star_of(data))?;
+    text.push(' ')?;
+    let units = read_units(alloc, behind_header(data))?;
+    append_units(&units, text)
+}
+
+/// A star for the data of an active entry (UEFI 2.10, 3.1.3), otherwise a blank.
+fn star_of(data: &[u8]) -> char
+    ensures { result ≡ star_of data.now }
+{
+    match data.first() {
+        Some(flags) if is_active(u32::from(*flags)) => '*',
+        _ => ' ',
+    }
+}
+
+/// The bytes after the attributes of an entry and the length of its list.
+fn behind_header(data: &[u8]) -> &[u8]
+    ensures { result.now ≡ drop 6 data.now }
+{
+    if data.len() < HEADER_LEN {
+        return &[];
+    }
+    &data[HEADER_LEN..]
+}
+
+/// Appends a tab, the first path and the optional data of a load option, if they are asked for.
+fn append_parts(
+    alloc: Global,
+    view: &OptionView<'_>,
+    verbose: bool,
+    text: &mut String,
+) -> Result<(), AllocError>
+    ensures { OnOk result ((option : OptionParts) → ShowsOption view.now option →
+        (more : List ℕ) × IsPartsText verbose option more × (string_bytes text.new ≡ string_bytes text.old ++ more)) }
+{
+    if !verbose {
+        return Ok(());
+    }
+    append_path(alloc, view.list, text)?;
+    append_printable(view.optional, text)
+}
+
+/// Appends a tab and the first path of a list that has one.
+fn append_path(alloc: Global, list: &[u8], text: &mut String) -> Result<(), AllocError>
+    ensures { OnOk result ((path : List ℕ) × IsFirstPath list.now path × (string_bytes text.new ≡ string_bytes text.old ++ 9 ∷ path)) }
+{
     text.push('\t')?;
     match read_path(alloc, list) {
         Ok((path, _)) => text.push_str(&efivar_text(alloc, &path)?),
-        Err(PathFault::OutOfMemory) => Err(AllocError),
-        // A load option has a path.
-        Err(_) => Ok(()),
+        // A load option has a path, so memory was refused.
+        Err(_) => Err(AllocError),
     }
 }
 
 /// Appends bytes as the characters that they are in ASCII, and a dot for each that doesn't print.
-fn append_printable(bytes: &[u8], text: &mut String) -> Result<(), AllocError> {
+fn append_printable(bytes: &[u8], text: &mut String) -> Result<(), AllocError>
+    ensures { OnOk result (string_bytes text.new ≡ string_bytes text.old ++ printable bytes.now) }
+{
     for byte in bytes {
-        text.push(match byte {
-            b' '..=b'~' => char::from(*byte),
-            _ => '.',
-        })?;
+        text.push(printed(*byte))?;
     }
     Ok(())
+}
+
+/// A byte as the character that it is in ASCII, or a dot if that doesn't print.
+fn printed(byte: u8) -> char
+    ensures { result ≡ printed byte }
+{
+    match byte {
+        b' '..=b'~' => char::from(byte),
+        _ => '.',
+    }
 }
