@@ -1,1 +1,3 @@
 mod Each
+mod Faults
+mod Texts

@@ -1,6 +1,7 @@
 -- what public contracts cite
 pub mod Frame
 pub mod OptionOfWords
+pub mod OptionWordsFault
 -- of the crates below, what they cite
 pub use Rattle.uefi_path.specs.declared.node.Node
 pub use Rattle.uefi_option.specs.LoadOption

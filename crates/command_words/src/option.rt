@@ -1,13 +1,17 @@
 //! Load options of words.
 
-ghost use Rattle.std.specs.Prelude.{◌≡◌, flat_map, map, IfOk};
+ghost use Rattle.std.specs.Prelude.{◌≡◌, ◌≢◌, flat_map, map, IfOk, IfErr};
 ghost use Rattle.std.specs.Char.Escape.{encode_utf16};
+ghost use Rattle.std.specs.List.{list_any};
 ghost use Rattle.std.specs.Str.{chars};
 ghost use Rattle.uefi_path.specs.Units.{units_bytes};
 ghost use Rattle.uefi_option.specs.LoadOption.{OptionParts, SpellsOption};
 ghost use Rattle.uefi_names.specs.Standard.{standard_table};
 ghost use Rattle.uefi_names.specs.Reading.{IsNamedText};
-ghost use Rattle.command_words.specs.OptionOfWords.{bit_if, said_attributes, ArePathTexts, ArePaths, IsOptionOfWords};
+ghost use Rattle.command_words.specs.OptionOfWords.{bit_if, said_attributes, node_has_slash, has_slashes, IsPathText, ArePathTexts, ArePaths, IsOptionOfWords};
+ghost use Rattle.uefi_names.specs.declared.fault.NamedFault.TheVariants as named_fault;
+ghost use Rattle.command_words.specs.declared.option.OptionWordsFault.TheVariants as words_fault;
+ghost use Rattle.command_words.specs.OptionWordsFault.{of_option, of_description, StandsForNone, IsTextFault, IsTextsFault, IsOptionFault, IsWordsFault};
 
 use boot_texts::{
     DescriptionFault, FaultReason, append_text_units, description_units, named_reason, option_words,
@@ -95,18 +99,24 @@ pub enum OptionWordsFault {
 }
 
 impl From<AllocError> for OptionWordsFault {
+    ghost from_gives = { λ _ made. made ≡ words_fault.OutOfMemory };
+
     fn from(_refusal: AllocError) -> OptionWordsFault {
         OptionWordsFault::OutOfMemory
     }
 }
 
 impl<T: Drop> From<AllocFailed<T>> for OptionWordsFault {
+    ghost from_gives = { λ _ made. made ≡ words_fault.OutOfMemory };
+
     fn from(_refusal: AllocFailed<T>) -> OptionWordsFault {
         OptionWordsFault::OutOfMemory
     }
 }
 
 impl From<OptionFault> for OptionWordsFault {
+    ghost from_gives = { λ fault made. made ≡ of_option fault };
+
     fn from(fault: OptionFault) -> OptionWordsFault {
         match fault {
             OptionFault::OutOfMemory => OptionWordsFault::OutOfMemory,
@@ -116,6 +126,8 @@ impl From<OptionFault> for OptionWordsFault {
 }
 
 impl From<DescriptionFault> for OptionWordsFault {
+    ghost from_gives = { λ fault made. made ≡ of_description fault };
+
     fn from(fault: DescriptionFault) -> OptionWordsFault {
         match fault {
             DescriptionFault::OutOfMemory => OptionWordsFault::OutOfMemory,
@@ -156,8 +168,9 @@ fn bit_if(is_so: bool, bit: u32) -> u32
 /// have more than 65,535 bytes together. [`OptionWordsFault::OutOfMemory`] comes if memory was refused, also before
 /// these.
 pub fn option_bytes(alloc: Global, words: &OptionWords<'_>) -> Result<Vec<u8>, OptionWordsFault>
-    ensures { IfOk result (λ bytes.
+    ensures found { IfOk result (λ bytes.
         (option : OptionParts) × IsOptionOfWords words.now option × SpellsOption bytes.items option) }
+    ensures fault { IfErr result (λ f. f ≢ words_fault.OutOfMemory → IsWordsFault words.now f) }
 {
     match words.paths {
         OptionPaths::Texts(texts) => option_of(alloc, words, &read_paths(alloc, texts)?),
@@ -171,8 +184,9 @@ fn option_of(
     words: &OptionWords<'_>,
     paths: &[Path],
 ) -> Result<Vec<u8>, OptionWordsFault>
-    ensures { IfOk result (λ bytes. ArePaths words.now.paths paths.now →
+    ensures found { IfOk result (λ bytes. ArePaths words.now.paths paths.now →
         (option : OptionParts) × IsOptionOfWords words.now option × SpellsOption bytes.items option) }
+    ensures fault { IfErr result (λ f. f ≢ words_fault.OutOfMemory → IsOptionFault words.now.description.now paths.now f) }
 {
     let description = description_units(alloc, words.description)?;
     let option = make_option(alloc, words.attributes, &description, paths, words.optional)?;
@@ -210,7 +224,8 @@ pub fn single_backslashes(alloc: Global, text: &str) -> Result<Option<String>, A
 
 /// The paths that the texts stand for.
 fn read_paths(alloc: Global, texts: &[&str]) -> Result<Vec<Path>, OptionWordsFault>
-    ensures { IfOk result (λ paths. ArePathTexts (map (λ text. text.now) texts.now) paths.items) }
+    ensures found { IfOk result (λ paths. ArePathTexts (map (λ text. text.now) texts.now) paths.items) }
+    ensures fault { IfErr result (λ f. f ≢ words_fault.OutOfMemory → IsTextsFault (map (λ text. text.now) texts.now) f) }
 {
     let mut paths = Vec::with_capacity(alloc, texts.len())?;
     for text in texts {
@@ -222,7 +237,8 @@ fn read_paths(alloc: Global, texts: &[&str]) -> Result<Vec<Path>, OptionWordsFau
 
 /// The path that a text stands for, which is the one of this number.
 fn read_path(alloc: Global, text: &str, number: usize) -> Result<Path, OptionWordsFault>
-    ensures { IfOk result (λ path. IsNamedText standard_table text.now path) }
+    ensures found { IfOk result (λ path. IsPathText text.now path) }
+    ensures fault { IfErr result (λ f. f ≢ words_fault.OutOfMemory → IsTextFault text.now number f) }
 {
     if text.is_empty() {
         return Err(OptionWordsFault::EmptyPath(number));
@@ -230,21 +246,49 @@ fn read_path(alloc: Global, text: &str, number: usize) -> Result<Path, OptionWor
     match read_named_text(alloc, text) {
         Ok(path) if has_slashes(&path) => Err(OptionWordsFault::Slashes(number)),
         Ok(path) => Ok(path),
-        Err(NamedFault::OutOfMemory) => Err(OptionWordsFault::OutOfMemory),
         Err(fault) => Err(text_fault(alloc, text, number, fault)),
     }
 }
 
 /// Whether the name of a file in the path has slashes.
-fn has_slashes(path: &Path) -> bool {
-    path.nodes().any(|node| match node {
+fn has_slashes(path: &Path) -> bool
+    ensures { result ≡ has_slashes path.now }
+{
+    any_has_slash(path.instances())
+}
+
+/// Whether the name of a file in the instances has slashes.
+fn any_has_slash(instances: &[Vec<Node>]) -> bool
+    ensures { result ≡ list_any (λ nodes. list_any node_has_slash nodes.items) instances.now }
+{
+    instances.iter().any(has_slash)
+}
+
+/// Whether the name of a file in an instance has slashes.
+fn has_slash(nodes: &Vec<Node>) -> bool
+    ensures { result ≡ list_any node_has_slash nodes.now.items }
+{
+    nodes.iter().any(node_has_slash)
+}
+
+/// Whether a node is the name of a file with slashes.
+fn node_has_slash(node: &Node) -> bool
+    ensures { result ≡ node_has_slash node.now }
+{
+    match node {
         Node::FilePath(file) => file.units().contains(&u16::from(b'/')),
         _ => false,
-    })
+    }
 }
 
 /// What is told of a text with this fault, of the path of this number.
-fn text_fault(alloc: Global, text: &str, number: usize, fault: NamedFault) -> OptionWordsFault {
+fn text_fault(alloc: Global, text: &str, number: usize, fault: NamedFault) -> OptionWordsFault
+    ensures { (fault ≢ named_fault.OutOfMemory → StandsForNone text.now) → result ≢ words_fault.OutOfMemory →
+        IsTextFault text.now number result }
+{
+    if matches!(fault, NamedFault::OutOfMemory) {
+        return OptionWordsFault::OutOfMemory;
+    }
     if is_path_of_bytes(alloc, text) {
         return OptionWordsFault::PathOfBytes(number);
     }
