@@ -67,17 +67,57 @@ static int open_folder(const char *name)
     return open(dirname(copy), O_RDONLY | O_DIRECTORY | O_CLOEXEC);
 }
 
-int lock_folder(const char *name)
+/* Waits until no other program has locked an open file, and locks it. */
+static int lock(int file)
+{
+    while (flock(file, LOCK_EX) != 0)
+        if (errno != EINTR)
+            return -1;
+    return 0;
+}
+
+/* Locks the folder of a file, until the process ends. */
+static int lock_folder(const char *name)
 {
     int folder = open_folder(name);
 
-    while (folder >= 0 && flock(folder, LOCK_EX) != 0) {
-        if (errno == EINTR)
-            continue;
+    if (folder >= 0 && lock(folder) != 0) {
         close(folder);
         return -1;
     }
     return folder;
+}
+
+/* Whether the file of this name is the one that is open. Who had its lock may have replaced it. */
+static int is_same(int file, const char *name)
+{
+    struct stat open_file, there;
+
+    return fstat(file, &open_file) == 0 && lstat(name, &there) == 0 && open_file.st_dev == there.st_dev &&
+           open_file.st_ino == there.st_ino;
+}
+
+int lock_whole(const char *name)
+{
+    struct stat there;
+    int file;
+
+    if (lock_folder(name) < 0)
+        return -1;
+    for (;;) {
+        if (lstat(name, &there) != 0 || !S_ISREG(there.st_mode))
+            return -1;
+        file = open(name, O_RDONLY | O_NOFOLLOW | O_NONBLOCK | O_CLOEXEC);
+        if (file < 0)
+            return -1;
+        if (lock(file) != 0) {
+            close(file);
+            return -1;
+        }
+        if (is_same(file, name))
+            return file;
+        close(file);
+    }
 }
 
 /* Waits until the folder of a file has stored that the file is another one. */
@@ -115,21 +155,22 @@ static int make_other(const char *name, const char *other)
     return file;
 }
 
-int replace_whole(const char *name, const uint8_t *bytes, size_t len)
+int replace_whole(const char *name, const uint8_t *bytes, size_t len, int *locked)
 {
     char other[4096];
-    int file, failed;
+    int file;
 
     if (snprintf(other, sizeof other, "%s.new", name) >= (int)sizeof other)
         return -1;
     file = make_other(name, other);
     if (file < 0)
         return -1;
-    failed = write_whole(file, bytes, len) != 0;
-    failed = close(file) != 0 || failed;
-    if (failed || rename(other, name) != 0) {
+    if (lock(file) != 0 || write_whole(file, bytes, len) != 0 || rename(other, name) != 0) {
+        close(file);
         unlink(other);
         return -1;
     }
+    close(*locked);
+    *locked = file;
     return store_folder(name);
 }

@@ -1,14 +1,14 @@
 /*
  * Takes frames from standard input, one after the other, and keeps a set file by them: after each frame the file is
  * replaced, and only then is the reply printed. So whoever has read a reply knows that its request is stored, also if
- * the program is killed: the frames are then sent again. Programs over files of one folder wait for each other.
+ * the program is killed: the frames are then sent again. Programs over files of one folder wait for each other, and
+ * `bootkeep run` over the set file waits too.
  *
  *     keep SET <FRAMES
  */
 #include "files.h"
 
 #include <bootkeep.h>
-#include <stdbool.h>
 #include <stdio.h>
 #include <stdlib.h>
 
@@ -32,8 +32,8 @@ static long next_frame(void)
     return (long)(HEADER + len);
 }
 
-/* Stores the variables of the keeper. */
-static int store(struct bootkeep_keeper *keeper, const char *name)
+/* Stores the variables of the keeper in the file, which is locked. */
+static int store(struct bootkeep_keeper *keeper, const char *name, int *locked)
 {
     size_t len = 0;
     uint8_t *set = NULL, *grown;
@@ -46,13 +46,13 @@ static int store(struct bootkeep_keeper *keeper, const char *name)
             break;
         set = grown;
     }
-    failed = status != BOOTKEEP_DONE || replace_whole(name, set, len) != 0;
+    failed = status != BOOTKEEP_DONE || replace_whole(name, set, len, locked) != 0;
     free(set);
     return failed;
 }
 
 /* Delivers each frame. What was stored last stays if something fails. */
-static int keep(struct bootkeep_keeper *keeper, const char *name)
+static int keep(struct bootkeep_keeper *keeper, const char *name, int *locked)
 {
     size_t line_len;
     long len;
@@ -60,7 +60,7 @@ static int keep(struct bootkeep_keeper *keeper, const char *name)
     while ((len = next_frame()) > 0) {
         if (bootkeep_keeper_deliver(keeper, frame, (size_t)len, line, LINE, &line_len) != BOOTKEEP_DONE)
             return 1;
-        if (store(keeper, name) != 0)
+        if (store(keeper, name, locked) != 0)
             return 1;
         printf("%.*s\n", (int)line_len, (const char *)line);
         if (fflush(stdout) != 0)
@@ -74,12 +74,12 @@ int main(int count, char **words)
     struct bootkeep_keeper keeper = {0};
     struct bootkeep_refusal refusal;
     size_t set_len;
-    bool is_locked = count == 2 && lock_folder(words[1]) >= 0;
-    uint8_t *set = is_locked ? read_whole(words[1], &set_len) : NULL;
+    int locked = count == 2 ? lock_whole(words[1]) : -1;
+    uint8_t *set = locked >= 0 ? read_whole(words[1], &set_len) : NULL;
     int failed = 1;
 
     if (set != NULL && bootkeep_keeper_open(&keeper, set, set_len, &refusal) == BOOTKEEP_DONE)
-        failed = keep(&keeper, words[1]);
+        failed = keep(&keeper, words[1], &locked);
     bootkeep_keeper_close(&keeper);
     free(set);
     if (failed)

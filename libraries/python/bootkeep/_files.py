@@ -83,10 +83,10 @@ class SetFile:
             for frame in bootkeep.frames(sys.stdin.buffer):
                 print(kept.deliver(frame), flush=True)
 
-    From ``with`` on it has a lock on the file's folder, and one on the file, for which it waits: another program that keeps
-    files there, and ``bootkeep run`` over this one, wait until the end of ``with``. A reply is given once the variables after it are stored, BootKeepState among them: so whoever
-    has it knows that its request is stored, also if power fails. The file is replaced as a whole, with the rights and the
-    owner that it had.
+    From ``with`` on it has a lock on the file's folder, and one on the file, for which it waits: another program that
+    keeps files there, and ``bootkeep run`` over this one, wait until the end of ``with``. A reply is given once the
+    variables after it are stored, BootKeepState among them: so whoever has it knows that its request is stored, also if
+    power fails. The file is replaced as a whole, with the rights and the owner that it had.
 
     ``ValueError`` is of a path that leads to no regular file, as a link; ``OSError`` of what the system refuses; and
     ``Refused`` as of :class:`Keeper`. If the variables can't be stored, ``OSError`` is raised in the place of the reply,
