@@ -2,13 +2,25 @@
 
 from __future__ import annotations
 
+import json
 from itertools import accumulate
-from typing import Dict, List, NamedTuple, Optional, Tuple
+from typing import Dict, Iterable, List, NamedTuple, Optional, Set, Tuple
 
 from .ledger import Ledger
+from .remaining import Standing
 
 STEPS = 120
 """How many steps there are from the first job to now."""
+
+LEFT = """
+SELECT CASE WHEN trouble IS NOT NULL THEN 'trouble' WHEN wave > :begun THEN 'later' WHEN waits THEN 'waiting'
+        WHEN due > :now OR name IN (SELECT value FROM json_each(:silent)) THEN 'silent' ELSE 'left' END AS kind,
+    COUNT(*), SUM(goals)
+FROM (SELECT machine, COUNT(*) AS goals, MAX(note IS NOT NULL) AS waits FROM goal WHERE state = 'open' GROUP BY machine)
+    JOIN machine ON name = machine
+GROUP BY kind
+"""
+"""How many machines have something left to be done, and how many goals, by what holds for the machine."""
 
 
 class Progress(NamedTuple):
@@ -77,3 +89,35 @@ def _sums(ledger: Ledger, query: str, span: Span) -> List[int]:
     for when, count in ledger.db.execute(query):
         counts[span.step(span.ended if when is None else when)] += count
     return list(accumulate(counts))
+
+
+def read_open_jobs(ledger: Ledger) -> Set[int]:
+    """The jobs of which something is left to be done."""
+    return {
+        job for (job,) in ledger.db.execute("SELECT DISTINCT job FROM goal WHERE state = 'open'")
+    }
+
+
+def read_standing(
+    ledger: Ledger, jobs: Iterable[int], silent: Iterable[str], now: float
+) -> Standing:
+    """How it stands with jobs, by the machines that don't answer the sender that asks; those that are left for a while
+    don't either."""
+    query = (
+        f"SELECT state, COUNT(*) FROM goal WHERE job IN ({','.join(map(str, jobs))}) GROUP BY state"
+    )
+    goals: Dict[str, int] = dict(ledger.db.execute(query))
+    values = {"begun": ledger.begun_wave(), "now": now, "silent": json.dumps(list(silent))}
+    left = {kind: (machines, of) for kind, machines, of in ledger.db.execute(LEFT, values)}
+    none = (0, 0)
+    (trouble,) = ledger.one("SELECT COUNT(*) FROM machine WHERE trouble IS NOT NULL")
+    return Standing(
+        sum(goals.values()) - goals.get("cancelled", 0),
+        goals.get("reached", 0),
+        goals.get("failed", 0),
+        left.get("left", none)[1],
+        left.get("silent", none)[0],
+        left.get("waiting", none)[0],
+        left.get("later", none)[0],
+        int(trouble),
+    )

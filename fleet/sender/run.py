@@ -8,7 +8,6 @@ import os
 import random
 import secrets
 import sqlite3
-import sys
 import time
 from dataclasses import dataclass, field
 from typing import Callable, Dict, List, NamedTuple, Optional, Tuple, Union
@@ -27,6 +26,8 @@ from .answers import (
 from .courier import Came, Courier
 from .ledger import Ledger
 from .messages import Message, look
+from .report import Report
+from .telling import Teller
 
 LEASE = 15.0
 """For how many seconds a sender holds a machine, unless it prolongs that."""
@@ -45,7 +46,8 @@ SILENT_AFTER, SILENT_PAUSE = 20, 300.0
 that comes back says so."""
 
 MOST_SENT = 8
-"""After how many messages without an answer a machine is left for a while, if others may wait."""
+"""After how many messages without an answer a machine is left for a while, if others may wait; and is told to be one that
+doesn't answer."""
 
 MOST_REFUSALS = 5
 """After how many refusals in a row that ask to send again somebody has to look at the machine."""
@@ -88,6 +90,7 @@ class Sender:
     name: str
     first_pause: float = FIRST_PAUSE
     longest_pause: float = LONGEST_PAUSE
+    teller: Teller = field(default_factory=Teller)
     held: Dict[str, Held] = field(default_factory=dict)
     queue: List[Tuple[float, str]] = field(default_factory=list)
     counts: Counts = field(default_factory=Counts)
@@ -102,9 +105,11 @@ class Sender:
         ends = None if limit is None else time.monotonic() + limit
         with self.ledger.transaction():
             self.ledger.end_pauses()
+        report = Report(self.ledger, self.teller)
         try:
             while not is_stopped() and (ends is None or time.monotonic() < ends):
                 self.turn(self.courier.receive(BATCH))
+                report.tell(self._silent, time.monotonic(), time.time())
                 if until_done and not self.held:
                     if self.ledger.is_done():
                         return True
@@ -113,8 +118,13 @@ class Sender:
                         return False
             return self.ledger.is_done()
         finally:
+            report.end()
             with self.ledger.transaction():
                 self.ledger.leave_all(self.holder)
+
+    def _silent(self) -> List[str]:
+        """The machines that don't answer, as far as that is known."""
+        return [name for name, held in self.held.items() if held.sent >= MOST_SENT]
 
     def turn(self, came: List[Came]) -> None:
         """Takes what came, and sends what is due: after what it is of is stored. What is due goes by a clock that
@@ -155,11 +165,7 @@ class Sender:
         is_stopped = self.ledger.is_stopped()
         if is_stopped and not self.is_stopped:
             count = self.ledger.count_wave_troubles()
-            print(
-                f"bootfleet: {count} machines are in trouble: no other one is gone after",
-                file=sys.stderr,
-                flush=True,
-            )
+            self.teller.say(f"{count} machines are in trouble: no other one is gone after")
         self.is_stopped = is_stopped
 
     def _begin(self, name: str, message: Message, due: float) -> None:
@@ -271,7 +277,7 @@ class Sender:
         self.held.pop(name, None)
         if self.ledger.is_stopped():
             self.leased = -math.inf  # Nothing goes on: all that is held is let go at once.
-        print(f"bootfleet: {name}: {why}", file=sys.stderr, flush=True)
+        self.teller.say(f"{name}: {why}")
 
 
 def _answer_of(to: Optional[str], payload: bytes) -> Union[Answer, BadAnswer]:
