@@ -41,6 +41,9 @@ BATCH = 0.05
 FIRST_PAUSE, LONGEST_PAUSE, GROWTH = 1.0, 8.0, 1.4
 """After how many seconds a message is sent again for the first time, and at most, and how that grows."""
 
+REORDERED = 0.25
+"""By which part of the first pause a message may be answered before one that was sent earlier."""
+
 SILENT_AFTER, SILENT_PAUSE = 20, 300.0
 """After how many messages a machine counts as silent, so that the pauses grow again, and up to how many seconds. One
 that comes back says so."""
@@ -55,12 +58,15 @@ MOST_REFUSALS = 5
 
 @dataclass
 class Held:
-    """What a sender has of a machine that it holds."""
+    """What a sender has of a machine that it holds: what it is asked, when that is due to be sent, how often it was, and
+    when for the first time and the last."""
 
     message: Message
     due: float
     sent: int = 0
     refusals: int = 0
+    first: float = -math.inf
+    last: float = -math.inf
 
 
 class Said(NamedTuple):
@@ -95,6 +101,10 @@ class Sender:
     queue: List[Tuple[float, str]] = field(default_factory=list)
     counts: Counts = field(default_factory=Counts)
     leased: float = -math.inf
+    answered: float = -math.inf
+    """When an answer was taken last."""
+    answered_of: float = -math.inf
+    """When the latest message was sent for the first time that is answered."""
     is_stopped: bool = False
 
     def __post_init__(self) -> None:
@@ -179,14 +189,32 @@ class Sender:
             self.held.pop(name)
             self.ledger.leave(name, time.time() + random.uniform(1, 2) * self.longest_pause)
             return b""
+        if held.sent and self._may_be_answered(held, now):
+            held.due = now + self.first_pause * random.uniform(0.7, 1.3)
+            heapq.heappush(self.queue, (held.due, name))
+            return b""
         if held.sent and held.message.requests and not held.message.is_question:
             if not self.ledger.is_asked(name):  # Somebody gave it up meanwhile.
                 held.message = look()
         self.counts.again += held.sent > 0
         held.due = now + self._pause(held.sent) * random.uniform(0.7, 1.3)
+        held.first = held.first if held.sent else now
+        held.last = now
         held.sent += 1
         heapq.heappush(self.queue, (held.due, name))
         return held.message.payload
+
+    def _may_be_answered(self, held: Held, now: float) -> bool:
+        """Whether a message isn't lost as far as that is known: answers keep coming, and all that came are to messages
+        that were sent before it, or hardly later. So the broker, the machines or this sender have more to do than they
+        get done, and to send again would make it more."""
+        is_later = self.answered_of > held.last + REORDERED * self.first_pause
+        return now - self.answered < self.first_pause and not is_later
+
+    def _note_answer(self, held: Held, now: float) -> None:
+        """A message is answered: those that were sent long before it and aren't are lost."""
+        self.answered = now
+        self.answered_of = max(self.answered_of, held.first)
 
     def _pause(self, sent: int) -> float:
         """How long to wait for an answer after so many messages before this one."""
@@ -234,6 +262,7 @@ class Sender:
             self._refused(said.name, held, answer.refusal)
         else:
             self.counts.taken += 1
+            self._note_answer(held, now)
             taken = machines.take(self.ledger, said.name, answer, held.message)
             if taken.trouble is not None:
                 self._stopped(said.name, taken.trouble)
