@@ -3,6 +3,7 @@
 from __future__ import annotations
 
 import json
+from collections import Counter
 from itertools import accumulate
 from typing import Dict, Iterable, List, NamedTuple, Optional, Set, Tuple
 
@@ -11,16 +12,6 @@ from .remaining import Standing
 
 STEPS = 120
 """How many steps there are from the first job to now."""
-
-LEFT = """
-SELECT CASE WHEN trouble IS NOT NULL THEN 'trouble' WHEN wave > :begun THEN 'later' WHEN waits THEN 'waiting'
-        WHEN due > :now OR name IN (SELECT value FROM json_each(:silent)) THEN 'silent' ELSE 'left' END AS kind,
-    COUNT(*), SUM(goals)
-FROM (SELECT machine, COUNT(*) AS goals, MAX(note IS NOT NULL) AS waits FROM goal WHERE state = 'open' GROUP BY machine)
-    JOIN machine ON name = machine
-GROUP BY kind
-"""
-"""How many machines have something left to be done, and how many goals, by what holds for the machine."""
 
 
 class Progress(NamedTuple):
@@ -101,23 +92,45 @@ def read_open_jobs(ledger: Ledger) -> Set[int]:
 def read_standing(
     ledger: Ledger, jobs: Iterable[int], silent: Iterable[str], now: float
 ) -> Standing:
-    """How it stands with jobs, by the machines that don't answer the sender that asks; those that are left for a while
-    don't either."""
+    """How it stands with jobs, all that aren't done among them, by the machines that don't answer the sender that asks;
+    those that are left for a while don't either."""
     query = (
         f"SELECT state, COUNT(*) FROM goal WHERE job IN ({','.join(map(str, jobs))}) GROUP BY state"
     )
     goals: Dict[str, int] = dict(ledger.db.execute(query))
-    values = {"begun": ledger.begun_wave(), "now": now, "silent": json.dumps(list(silent))}
-    left = {kind: (machines, of) for kind, machines, of in ledger.db.execute(LEFT, values)}
-    none = (0, 0)
-    (trouble,) = ledger.one("SELECT COUNT(*) FROM machine WHERE trouble IS NOT NULL")
+    held_up = _held_up(ledger, silent, now)
+    query = "SELECT machine, COUNT(*) FROM goal WHERE state = 'open' AND machine IN (SELECT value FROM json_each(?))"
+    names = (json.dumps(list(held_up)),)
+    left: Dict[str, int] = dict(ledger.db.execute(f"{query} GROUP BY machine", names))
+    machines = Counter(held_up[name] for name in left)
     return Standing(
         sum(goals.values()) - goals.get("cancelled", 0),
         goals.get("reached", 0),
         goals.get("failed", 0),
-        left.get("left", none)[1],
-        left.get("silent", none)[0],
-        left.get("waiting", none)[0],
-        left.get("later", none)[0],
-        int(trouble),
+        goals.get("open", 0) - sum(left.values()),
+        machines["silent"],
+        machines["waiting"],
+        machines["later"],
+        sum(kind == "trouble" for kind in held_up.values()),
     )
+
+
+def _held_up(ledger: Ledger, silent: Iterable[str], now: float) -> Dict[str, str]:
+    """The machines that aren't gone on with, as most are, and why."""
+    later = -1 if ledger.waves() is None else ledger.begun_wave()
+    query = "SELECT DISTINCT machine FROM goal WHERE state = 'open' AND note IS NOT NULL"
+    kinds: Dict[str, Iterable[str]] = {
+        "trouble": _names(ledger, "SELECT name FROM machine WHERE trouble IS NOT NULL"),
+        "later": _names(ledger, "SELECT name FROM machine WHERE wave > ?", later),
+        "waiting": _names(ledger, query),
+        "silent": [*silent, *_names(ledger, "SELECT name FROM machine WHERE due > ?", now)],
+    }
+    held_up: Dict[str, str] = {}
+    for kind, names in kinds.items():
+        for name in names:
+            held_up.setdefault(name, kind)
+    return held_up
+
+
+def _names(ledger: Ledger, query: str, *values: object) -> List[str]:
+    return [name for (name,) in ledger.db.execute(query, values)]

@@ -3,6 +3,8 @@ then, unless it is the same as before."""
 
 from __future__ import annotations
 
+import math
+import time
 from collections import deque
 from typing import Callable, Deque, List, Optional, Set
 
@@ -14,6 +16,9 @@ from .telling import Teller
 LOOK_EVERY, LINE_EVERY = 2.0, 60.0
 """After how many seconds it is looked anew how far it is, and a line is written where there is no terminal."""
 
+SELDOM = 100
+"""How many times as long as a look took nobody looks after it, so that it costs little however many machines there are."""
+
 
 class Report:
     """Tells now and then how far a sender is."""
@@ -23,16 +28,18 @@ class Report:
         self.jobs: Set[int] = set()
         self.moments: Deque[Moment] = deque()
         self.later = 0
-        self.looked = self.told = -WINDOW
+        self.told = -WINDOW
+        self.due = -math.inf
         self.line = ""
 
     def tell(self, silent: Callable[[], List[str]], now: float, day: float) -> None:
         """Tells how far it is if it is time for that, by the machines that don't answer, a clock that nobody sets, and
         the time of day."""
-        if now < self.looked + LOOK_EVERY:
+        if now < self.due:
             return
-        self.looked = now
+        began = time.thread_time()
         standing = self._look(silent(), now, day)
+        self.due = now + max(LOOK_EVERY, SELDOM * (time.thread_time() - began))
         if standing is None:
             self.teller.show("")
             self.told = now

@@ -6,7 +6,7 @@ import json
 import random
 import time
 from collections import deque
-from typing import Deque, List
+from typing import Any, Deque, Dict, List
 
 import pytest
 from conftest import add, goal
@@ -63,7 +63,7 @@ def reply(payload: bytes) -> bytes:
     """What a machine with one entry answers."""
     entry = {"entry": "0001", "kind": "undecodable", "data": "00"}
     shown = {"entries": [entry], "order": ["0001"], "next": None}
-    held = {"next": 0, "journal": None, "unmet": None, "replies": [], "show": shown}
+    held: Dict[str, Any] = {"next": 0, "journal": None, "unmet": None, "replies": [], "show": shown}
     return json.dumps({"to": digest(payload), "status": 0, **held}).encode()
 
 

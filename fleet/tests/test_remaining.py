@@ -72,7 +72,8 @@ STEADY = moments((0, 0), (10, 50), (20, 100))
 )
 def test_what_is_known(standing: Standing, seen: Sequence[Moment], found: Estimate) -> None:
     told = estimate(standing, seen)
-    assert (told.known, told.seconds) == (found.known, pytest.approx(found.seconds))
+    assert told.known == found.known
+    assert told.seconds == pytest.approx(found.seconds)
 
 
 @pytest.mark.parametrize(
@@ -315,9 +316,8 @@ def test_a_sender_tells_how_far_it_is(ledger: Ledger, machine: Folder) -> None:
 
 
 def test_machines_that_do_not_answer_are_told(ledger: Ledger, machine: Folder) -> None:
-    sender = Sender(ledger, Hand({"m1": machine}), "sender", 0.001, 0.002)
-    courier = sender.courier
-    assert isinstance(courier, Hand)
+    courier = Hand({"m1": machine})
+    sender = Sender(ledger, courier, "sender", 0.001, 0.002)
     courier.requests = lambda _number, _payload: []
     add(ledger, goal("first", "new"))
     assert not sender.run(True, None, lambda: len(courier.sent) >= MOST_SENT - 1)
