@@ -44,6 +44,11 @@ allow_anonymous false
 """
 """Where simulated machines connect, each with an identity of its own and all by one certificate."""
 
+PLAIN_LISTENER = """
+listener {port} 127.0.0.1
+"""
+"""Where they connect without TLS."""
+
 
 class Took(NamedTuple):
     """What a sender, a ledger and a broker took: seconds of a processor, and bytes."""
@@ -74,9 +79,9 @@ class TooLong(Exception):
 class Scale:
     """A broker and a ledger in a folder, and what runs over them."""
 
-    def __init__(self, work: Path, seed: int) -> None:
+    def __init__(self, work: Path, seed: int, is_plain: bool) -> None:
         work.mkdir()
-        self.work, self.seed = work, seed
+        self.work, self.seed, self.is_plain = work, seed, is_plain
         self.processes = Processes(work)
         self.port, self.machines_port = free_port(), free_port()
         self.certs, self.ledger = work / "certs", work / "ledger"
@@ -99,13 +104,25 @@ class Scale:
         self.bootfleet("init", self.ledger, "--broker", f"localhost:{self.port}", "--certs", certs)
         self.bootfleet("enroll", MACHINES)
         self.bootfleet("forget", "--yes", MACHINES)
-        with (certs / "acl").open("a") as acl:
-            acl.write(f"\nuser {MACHINES}\ntopic readwrite bootkeep/#\n")
-        with (certs / "mosquitto.conf").open("a") as configuration:
-            configuration.write(LISTENER.format(port=self.machines_port, folder=certs))
+        self._let_machines()
         configured = str(certs / "mosquitto.conf")
         self.processes.start("broker", ["/usr/sbin/mosquitto", "-c", configured])
         time.sleep(1)
+
+    def _let_machines(self) -> None:
+        """Lets simulated machines connect. Whoever has no certificate is nobody to the broker, and comes by their listener
+        alone."""
+        acl, configuration = self.certs / "acl", self.certs / "mosquitto.conf"
+        rights, configured = acl.read_text(), configuration.read_text()
+        if self.is_plain:
+            rights = f"topic readwrite bootkeep/#\n{rights}"
+            configured = configured.replace("allow_anonymous false", "allow_anonymous true")
+            configured += PLAIN_LISTENER.format(port=self.machines_port)
+        else:
+            rights += f"\nuser {MACHINES}\ntopic readwrite bootkeep/#\n"
+            configured += LISTENER.format(port=self.machines_port, folder=self.certs)
+        acl.write_text(rights)
+        configuration.write_text(configured)
 
     def add_goals(self, count: int) -> Dict[str, bytes]:
         """Takes machines in, and makes the goals of each. The options of these."""
@@ -129,7 +146,7 @@ class Scale:
         for first in range(0, count, MOST_IN_PROCESS):
             plan = {
                 "port": self.machines_port,
-                "certs": str(self.certs / MACHINES),
+                "certs": None if self.is_plain else str(self.certs / MACHINES),
                 "first": first,
                 "last": min(count, first + MOST_IN_PROCESS),
                 "seed": self.seed,
@@ -215,10 +232,10 @@ class Scale:
         return self.processes.end()
 
 
-def fixed(work: Path, seconds: float) -> "tuple[Took, float]":
+def fixed(work: Path, seconds: float, is_plain: bool) -> "tuple[Took, float]":
     """What is taken without a machine: by a sender that begins and ends, by a ledger and by a broker; and how many seconds
     of a processor a sender takes for each second in which nothing comes."""
-    scale = Scale(work, 0)
+    scale = Scale(work, 0, is_plain)
     try:
         scale.set_up()
         took, _, status = scale.bring(["--until-done"], 60)

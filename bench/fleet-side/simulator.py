@@ -17,7 +17,7 @@ import socket
 import ssl
 import sys
 import time
-from typing import Any, Callable, Dict, Iterator, List, NamedTuple, Tuple
+from typing import Any, Callable, Dict, Iterator, List, NamedTuple, Optional, Tuple
 
 from machines import Model, draw_variables
 from simulated import Machine
@@ -31,10 +31,11 @@ CONNECT, CONNECTED, PUBLISH, SUBSCRIBE, SUBSCRIBED = 0x10, 0x20, 0x30, 0x82, 0x9
 
 class Plan(NamedTuple):
     """What is to be simulated: the machines `first` to `last`, of which a part is off for some seconds, by messages of
-    which a part is lost, with options and goals, each a kind and the name of an option."""
+    which a part is lost, with options and goals, each a kind and the name of an option. Without certificates they are
+    connected without TLS."""
 
     port: int
-    certs: str
+    certs: Optional[str]
     first: int
     last: int
     seed: int
@@ -86,10 +87,11 @@ def cut_packets(held: bytearray) -> Iterator[Tuple[int, bytes]]:
 class Link:
     """A machine's connection to the broker."""
 
-    def __init__(self, context: ssl.SSLContext, port: int, name: str) -> None:
-        plain = socket.create_connection(("127.0.0.1", port), 60)
-        plain.setsockopt(socket.IPPROTO_TCP, socket.TCP_NODELAY, 1)
-        self.socket = context.wrap_socket(plain, server_hostname="localhost")
+    def __init__(self, context: Optional[ssl.SSLContext], port: int, name: str) -> None:
+        self.socket = socket.create_connection(("127.0.0.1", port), 60)
+        self.socket.setsockopt(socket.IPPROTO_TCP, socket.TCP_NODELAY, 1)
+        if context is not None:
+            self.socket = context.wrap_socket(self.socket, server_hostname="localhost")
         self.held, self.name = bytearray(), name
         # Nothing is kept of an earlier connection, and the broker waits for no sign of life.
         self.socket.sendall(packet(CONNECT, text("MQTT") + b"\4\2\0\0" + text(name)))
@@ -121,7 +123,7 @@ class Link:
         try:
             while True:
                 self._fill()
-        except ssl.SSLWantReadError:
+        except (ssl.SSLWantReadError, BlockingIOError):
             pass
         messages = []
         for first, body in cut_packets(self.held):
@@ -136,6 +138,13 @@ class Link:
 
     def close(self) -> None:
         self.socket.close()
+
+
+def context_of(certs: str) -> ssl.SSLContext:
+    """By what a machine is connected whose certificate is in this folder."""
+    made = ssl.create_default_context(cafile=f"{certs}/ca.pem")
+    made.load_cert_chain(f"{certs}/own.pem", f"{certs}/own.key")
+    return made
 
 
 class Simulator:
@@ -153,8 +162,7 @@ class Simulator:
         self.due: List[Tuple[float, int, Callable[[str], None], str]] = []
         self.serial = itertools.count()
         self.poll = select.epoll()
-        self.context = ssl.create_default_context(cafile=f"{plan.certs}/ca.pem")
-        self.context.load_cert_chain(f"{plan.certs}/own.pem", f"{plan.certs}/own.key")
+        self.context = None if plan.certs is None else context_of(plan.certs)
         for number in range(plan.first, plan.last):
             self._make(name_of(number))
         names = list(self.machines)

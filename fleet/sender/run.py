@@ -38,6 +38,10 @@ MOST_HELD = 4096
 BATCH = 0.05
 """For how many seconds replies are gathered before what they lead to is stored."""
 
+MOST_QUIET = 20
+"""For how many turns without an answer it may still be that answers keep coming. It isn't so many seconds, as turns take
+longer where everything does."""
+
 FIRST_PAUSE, LONGEST_PAUSE, GROWTH = 1.0, 8.0, 1.4
 """After how many seconds a message is sent again for the first time, and at most, and how that grows."""
 
@@ -101,8 +105,8 @@ class Sender:
     queue: List[Tuple[float, str]] = field(default_factory=list)
     counts: Counts = field(default_factory=Counts)
     leased: float = -math.inf
-    answered: float = -math.inf
-    """When an answer was taken last."""
+    quiet_turns: int = MOST_QUIET
+    """How many turns ago an answer was taken."""
     answered_of: float = -math.inf
     """When the latest message was sent for the first time that is answered."""
     is_stopped: bool = False
@@ -141,6 +145,7 @@ class Sender:
         nobody sets; the ledger, which others read too, has the time of day."""
         said = self._read(came)
         now = time.monotonic()
+        self.quiet_turns += 1
         out: List[Tuple[str, bytes]] = []
         with self.ledger.transaction():
             if now - self.leased > LEASE / 3:
@@ -189,7 +194,7 @@ class Sender:
             self.held.pop(name)
             self.ledger.leave(name, time.time() + random.uniform(1, 2) * self.longest_pause)
             return b""
-        if held.sent and self._may_be_answered(held, now):
+        if held.sent and self._may_be_answered(held):
             held.due = now + self.first_pause * random.uniform(0.7, 1.3)
             heapq.heappush(self.queue, (held.due, name))
             return b""
@@ -204,16 +209,16 @@ class Sender:
         heapq.heappush(self.queue, (held.due, name))
         return held.message.payload
 
-    def _may_be_answered(self, held: Held, now: float) -> bool:
+    def _may_be_answered(self, held: Held) -> bool:
         """Whether a message isn't lost as far as that is known: answers keep coming, and all that came are to messages
         that were sent before it, or hardly later. So the broker, the machines or this sender have more to do than they
         get done, and to send again would make it more."""
         is_later = self.answered_of > held.last + REORDERED * self.first_pause
-        return now - self.answered < self.first_pause and not is_later
+        return self.quiet_turns < MOST_QUIET and not is_later
 
-    def _note_answer(self, held: Held, now: float) -> None:
+    def _note_answer(self, held: Held) -> None:
         """A message is answered: those that were sent long before it and aren't are lost."""
-        self.answered = now
+        self.quiet_turns = 0
         self.answered_of = max(self.answered_of, held.first)
 
     def _pause(self, sent: int) -> float:
@@ -262,7 +267,7 @@ class Sender:
             self._refused(said.name, held, answer.refusal)
         else:
             self.counts.taken += 1
-            self._note_answer(held, now)
+            self._note_answer(held)
             taken = machines.take(self.ledger, said.name, answer, held.message)
             if taken.trouble is not None:
                 self._stopped(said.name, taken.trouble)

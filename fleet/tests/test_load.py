@@ -15,7 +15,7 @@ from sender.answers import digest
 from sender.courier import Came
 from sender.ledger import Ledger
 from sender.messages import look
-from sender.run import Held, Sender
+from sender.run import MOST_QUIET, Held, Sender
 
 COUNT = 200
 
@@ -103,18 +103,23 @@ def test_what_is_lost_is_sent_again_also_then(ledger: Ledger, clock: Clock, rate
 
 
 @pytest.mark.parametrize(
-    "last, answered, answered_of, may_be",
+    "quiet_turns, answered_of, may_be",
     [
-        (10.0, 10.9, 9.9, True),
-        (10.0, 10.9, 10.2, True),  # One that was sent hardly later is answered.
-        (10.0, 10.9, 10.3, False),  # One that was sent later is answered.
-        (10.0, 9.5, 9.4, False),  # No answer came since a while: nobody is at work.
-        (10.0, float("-inf"), float("-inf"), False),
+        (0, 9.9, True),
+        (MOST_QUIET - 1, 9.9, True),
+        (MOST_QUIET, 9.9, False),  # Nobody is at work.
+        (0, 10.2, True),  # One that was sent hardly later is answered.
+        (0, 10.3, False),  # One that was sent later is answered.
     ],
 )
-def test_whether_a_message_is_lost(
-    ledger: Ledger, last: float, answered: float, answered_of: float, may_be: bool
+def test_whether_a_message_may_be_answered(
+    ledger: Ledger, quiet_turns: int, answered_of: float, may_be: bool
 ) -> None:
     sender = Sender(ledger, Slow(Clock(), 1, 0), "sender")
-    sender.answered, sender.answered_of = answered, answered_of
-    assert sender._may_be_answered(Held(look(), 11.0, 1, last=last), 11.0) == may_be
+    sender.quiet_turns, sender.answered_of = quiet_turns, answered_of
+    assert sender._may_be_answered(Held(look(), 11.0, 1, last=10.0)) == may_be
+
+
+def test_nothing_may_be_answered_at_first(ledger: Ledger) -> None:
+    sender = Sender(ledger, Slow(Clock(), 1, 0), "sender")
+    assert not sender._may_be_answered(Held(look(), 11.0, 1, last=10.0))
