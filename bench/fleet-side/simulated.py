@@ -22,6 +22,12 @@ from machines import Model, model_of  # noqa: E402
 HEADER = 12
 """How many bytes a frame has before its payload."""
 
+STATE = "BootKeepState"
+"""The variable of a keeper, which a machine has in its journal."""
+
+NOT_DONE, UNMET = 6, 9
+"""The statuses of `bootvars` if a reply says that something wasn't done, and if something isn't as it is expected."""
+
 OUTCOMES = {"ORDER_REPEATS": "OrderRepeats", "ORDER_UNKNOWN": "OrderUnknown", "NO_FREE": "NoFree"}
 """The words of outcomes of two words."""
 
@@ -51,14 +57,9 @@ class Machine:
 
     def __init__(self, variables: Mapping[str, bytes], draw: random.Random) -> None:
         self.keeper = bootkeep.Keeper(bytes(bootkeep.BootVariables(variables)))
-        self.identity = f"{draw.getrandbits(128):032x}"
+        self.journal = f"{draw.getrandbits(128):032x}"
         self.start = f"{draw.getrandbits(64):016x}"
         self.applied: Dict[int, bytes] = {}
-
-    @property
-    def journal(self) -> Optional[str]:
-        """The identity of the journal, which is there once something was applied."""
-        return self.identity if self.applied else None
 
     def model(self) -> Model:
         """What the machine is like now."""
@@ -83,6 +84,7 @@ class Machine:
             variables = dict(self.keeper.variables)
         held = {
             **told,
+            "status": status_of(replies) if unmet is None else UNMET,
             "version": 1,
             "next": self.keeper.next_number,
             "journal": self.journal,
@@ -106,7 +108,7 @@ class Machine:
     def _found(self, name: str, variables: Mapping[str, bytes]) -> str:
         """What is so, as the word that expects that."""
         if name == "journal":
-            return f"journal={self.journal or 'none'}"
+            return f"journal={self.journal}"
         if name == "next":
             return f"next={self.keeper.next_number}"
         if name == "order":
@@ -123,7 +125,6 @@ class Machine:
             self.applied[number] = seen
         is_repeat = reply.kind == bootkeep.ReplyKind.REPEAT
         return {
-            "version": 1,
             "line": None,
             "request": number,
             "reply": reply.kind.name.lower().replace("_", "-"),
@@ -131,8 +132,18 @@ class Machine:
             "same": self.applied.get(number) == seen if is_repeat else None,
             "entry": None if reply.entry is None else f"{int(reply.entry):04X}",
             "next": self.keeper.next_number,
+            "followers": [],
+            "fault": None,
             "reason": None if reply.fault is None else str(reply.fault),
+            "options": None,
+            "plan": None,
+            "journal": self.journal,
         }
+
+
+def status_of(replies: List[Dict[str, Any]]) -> int:
+    is_done = all(it["outcome"] == "Done" and it["same"] is not False for it in replies)
+    return 0 if is_done else NOT_DONE
 
 
 def outcome_word(outcome: bootkeep.Outcome) -> str:
@@ -161,14 +172,14 @@ def shown(variables: Mapping[str, bytes]) -> Dict[str, Any]:
         for number in sorted(model.entries)
     ]
     return {
-        "version": 1,
-        "variables": len(variables),
+        "variables": len(variables) - (STATE in variables),
         "entries": entries,
         "order": [f"{it:04X}" for it in model.order],
         "next": None if model.next is None else f"{model.next:04X}",
         "current": None,
-        "timeout": 5,
+        "timeout": int.from_bytes(variables["Timeout"], "little"),
         "faults": [],
+        "others": [{"name": "Timeout", "length": len(variables["Timeout"])}],
     }
 
 

@@ -146,13 +146,16 @@ class Sender:
         said = self._read(came)
         now = time.monotonic()
         self.quiet_turns += 1
+        is_renewed = now - self.leased <= LEASE / 3
+        if is_renewed and not said and not self._is_due(now):
+            return
         out: List[Tuple[str, bytes]] = []
         with self.ledger.transaction():
-            if now - self.leased > LEASE / 3:
+            if not is_renewed:
                 self._renew(now)
             for one in said:
                 self._take(one, now)
-            while self.queue and self.queue[0][0] <= now:
+            while self._is_due(now):
                 name = heapq.heappop(self.queue)[1]
                 held = self.held.get(name)
                 if held is not None and held.due <= now:
@@ -161,6 +164,10 @@ class Sender:
             if payload:
                 self.courier.send(name, payload)
                 self.counts.out += 1
+
+    def _is_due(self, now: float) -> bool:
+        """Whether something may be due to be sent."""
+        return bool(self.queue) and self.queue[0][0] <= now
 
     def _renew(self, now: float) -> None:
         """Takes the leases of machines that have something to be done, and loses those that others took meanwhile."""

@@ -6,7 +6,7 @@ import json
 import random
 import time
 from collections import deque
-from typing import Any, Deque, Dict, List
+from typing import Any, ContextManager, Deque, Dict, List
 
 import pytest
 from conftest import add, goal
@@ -15,7 +15,7 @@ from sender.answers import digest
 from sender.courier import Came
 from sender.ledger import Ledger
 from sender.messages import look
-from sender.run import MOST_QUIET, Held, Sender
+from sender.run import LEASE, MOST_QUIET, Held, Sender
 
 COUNT = 200
 
@@ -123,3 +123,26 @@ def test_whether_a_message_may_be_answered(
 def test_nothing_may_be_answered_at_first(ledger: Ledger) -> None:
     sender = Sender(ledger, Slow(Clock(), 1, 0), "sender")
     assert not sender._may_be_answered(Held(look(), 11.0, 1, last=10.0))
+
+
+def test_a_turn_without_anything_to_do_leaves_the_ledger_alone(
+    ledger: Ledger, clock: Clock, monkeypatch: pytest.MonkeyPatch
+) -> None:
+    sender = Sender(ledger, Slow(clock, 100, 0), "sender")
+    sender.turn([])
+    opened: List[float] = []
+    transaction = ledger.transaction
+
+    def counted() -> ContextManager[None]:
+        opened.append(clock.now)
+        return transaction()
+
+    monkeypatch.setattr(ledger, "transaction", counted)
+    for _ in range(10):
+        clock.now += STEP
+        sender.turn([])
+    assert opened == []
+    sender.turn([Came("m1", b"{}")])
+    clock.now += LEASE
+    sender.turn([])
+    assert opened == [clock.now - LEASE, clock.now]
