@@ -4,6 +4,7 @@ from __future__ import annotations
 
 import json
 import os
+import sqlite3
 import subprocess
 import sys
 import time
@@ -245,7 +246,19 @@ def fixed(work: Path, seconds: float, is_plain: bool) -> "tuple[Took, float]":
     if status or other_status:
         raise RuntimeError(f"a sender without machines has the status {status or other_status}")
     idle = max(0.0, longer.sender_seconds - took.sender_seconds) / seconds
-    return took, idle
+    return took._replace(ledger_bytes=without_rows(scale.ledger)), idle
+
+
+def without_rows(ledger: Path) -> int:
+    """How many bytes of an empty ledger aren't for machines: a table or an index of these has one page, which is filled
+    before there is another."""
+    db = sqlite3.connect(str(ledger))
+    (size,) = db.execute("PRAGMA page_size").fetchone()
+    (pages,) = db.execute("PRAGMA page_count").fetchone()
+    query = "SELECT COUNT(*) FROM sqlite_master WHERE rootpage > 0 AND tbl_name IN ('machine', 'goal', 'request')"
+    (of_machines,) = db.execute(query).fetchone()
+    db.close()
+    return int(size) * (int(pages) - int(of_machines))
 
 
 def sent_messages(said: str) -> Optional[int]:

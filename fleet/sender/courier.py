@@ -22,7 +22,7 @@ MOST_WAITING, MOST_BYTES = 65_536, 1 << 26
 MOST_OF_ONE = 4
 """How many of them may be one machine's, so that none keeps the others out."""
 
-BATCH_MOST, BATCH_BYTES = 1000, 1 << 23
+BATCH_MOST, BATCH_BYTES = 250, 1 << 23
 """How many replies are taken at once, and of how many bytes, if they are more than one."""
 
 
