@@ -36,7 +36,8 @@ class Figure(NamedTuple):
         return float(run["above_fixed"][self.key]) / int(run["machines"]) * self.factor
 
     def told(self, run: Dict[str, Any]) -> str:
-        return f"{self.of_machine(run):.3g}"
+        value = self.of_machine(run)
+        return f"{value:,.0f}" if value >= 100 else f"{value:.3g}"
 
 
 FIGURES = (
