@@ -8,17 +8,16 @@ from xml.sax.saxutils import escape
 MOST_TIMES = 1.2
 """How many times as much as of the fewest machines a machine may take of the most."""
 
-WIDTH, HEIGHT, GAP, TOP, BOTTOM = 164, 190, 8, 62, 24
-"""The size of a figure's part of the picture, and what is left free of it."""
+WIDTH, HEIGHT, GAP, TOP, BOTTOM = 164, 230, 8, 46, 66
+"""The size of a figure's part of the picture, and what is left free of bars above and below in it."""
 
 STYLE = """
 svg { font: 12px system-ui, sans-serif; }
 .back { fill: #fcfcfb; } .name { fill: #0b0b0b; font-weight: 600; } .text { fill: #52514e; } .value { fill: #0b0b0b; }
-.bar { fill: #2a78d6; } .base { stroke: #8a8983; } .most { stroke: #b3261e; stroke-dasharray: 4 3; }
-.red { fill: #b3261e; }
+.bar { fill: #2a78d6; } .base { stroke: #8a8983; } .most { stroke: #b3261e; stroke-dasharray: 4 3; stroke-width: 1.5; }
 @media (prefers-color-scheme: dark) {
 .back { fill: #1a1a19; } .name { fill: #ffffff; } .text { fill: #c3c2b7; } .value { fill: #ffffff; }
-.bar { fill: #3987e5; } .base { stroke: #8a8983; } .most { stroke: #ff8a80; } .red { fill: #ff8a80; }
+.bar { fill: #3987e5; } .most { stroke: #ff8a80; }
 }
 """
 
@@ -74,7 +73,10 @@ def picture(runs: List[Dict[str, Any]]) -> str:
     return (
         f'<svg xmlns="http://www.w3.org/2000/svg" viewBox="0 0 {width} {HEIGHT}" role="img"'
         f' aria-label="{escape(_described(runs))}">\n<style>{STYLE}</style>\n'
-        f'<rect class="back" width="{width}" height="{HEIGHT}"/>\n{parts}</svg>\n'
+        f'<rect class="back" width="{width}" height="{HEIGHT}"/>\n{parts}'
+        f'<path class="most" d="M{GAP} {HEIGHT - 14}h24"/>'
+        f'<text class="text" x="{GAP + 32}" y="{HEIGHT - 10}">{MOST_TIMES} times what it is with'
+        f' {runs[0]["machines"]:,} machines</text>\n</svg>\n'
     )
 
 
@@ -105,13 +107,12 @@ def _part(figure: Figure, runs: List[Dict[str, Any]]) -> str:
         left = f"{at * step + 5:.1f}"
         out += [
             f'<rect class="bar" x="{left}" y="{floor - high:.1f}" width="{step - 10:.1f}" height="{high:.1f}"/>',
-            f'<text class="text" x="{middle:.1f}" y="{HEIGHT - 8}" text-anchor="middle">{run["machines"]:,}</text>',
-            f'<text class="value" x="{middle:.1f}" y="{floor - high - 4:.1f}" text-anchor="middle">{figure.told(run)}</text>',
+            f'<text class="text" x="{middle:.1f}" y="{floor + 16}" text-anchor="middle">{run["machines"]:,}</text>',
+            f'<text class="value" x="{middle:.1f}" y="{floor + 32}" text-anchor="middle">{figure.told(run)}</text>',
         ]
     limit = floor - most * scale
     out += [
         f'<path class="base" d="M0 {floor}H{WIDTH - 2 * GAP}"/>',
         f'<path class="most" d="M0 {limit:.1f}H{WIDTH - 2 * GAP}"/>',
-        f'<text class="red" x="{WIDTH - 2 * GAP}" y="{limit - 4:.1f}" text-anchor="end">{MOST_TIMES} times</text>',
     ]
     return "".join(out)
