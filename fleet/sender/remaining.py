@@ -7,7 +7,7 @@ from __future__ import annotations
 
 import math
 from enum import Enum
-from typing import List, NamedTuple, Sequence
+from typing import NamedTuple, Sequence
 
 WINDOW = 300.0
 """For how many seconds what was reached counts."""
@@ -97,34 +97,41 @@ def duration(seconds: float) -> str:
 
 
 def words(standing: Standing, found: Estimate) -> str:
-    """How far it is, and how long it will take, on one line."""
-    told = [f"{standing.reached:,} of {standing.asked:,} goals reached", *_machines(standing)]
-    return f"{', '.join(told)}: {_time(standing, found)}"
+    """How far it is, and how long it will take, on one line: what matters most first, as a terminal may cut it off."""
+    told = f"{standing.reached:,} of {standing.asked:,} goals reached: {_time(found)}"
+    held_up = _held_up(standing)
+    if held_up:
+        told += f"{BETWEEN.get(found.known, '; ')}{held_up}"
+    return f"{told}; {_machines(standing.trouble)} in trouble" if standing.trouble else told
 
 
-def _machines(standing: Standing) -> List[str]:
-    """How many machines there are for which something else holds than for most."""
+BETWEEN = {Known.ABOUT: ", not counting ", Known.WAITING: ": "}
+"""What stands before the machines that aren't gone on with."""
+
+
+def _held_up(standing: Standing) -> str:
+    """The machines that have something left to be done, and aren't gone on with as most are."""
     counts = (
-        (standing.trouble, "in trouble"),
         (standing.silent, "not answering"),
         (standing.waiting, "waiting for a start"),
         (standing.later, "in later waves"),
     )
-    told = [f"{count:,} {what}" for count, what in counts if count]
-    if told:
-        count, _, what = told[0].partition(" ")
-        told[0] = f"{count} machine{'' if count == '1' else 's'} {what}"
-    return told
+    told = [(count, what) for count, what in counts if count]
+    first = [f"{_machines(count)} {what}" for count, what in told[:1]]
+    return ", ".join(first + [f"{count:,} {what}" for count, what in told[1:]])
 
 
-def _time(standing: Standing, found: Estimate) -> str:
+def _machines(count: int) -> str:
+    return f"{count:,} machine{'' if count == 1 else 's'}"
+
+
+def _time(found: Estimate) -> str:
     if found.known == Known.DONE:
         return "nothing else is left to be done"
     if found.known == Known.ABOUT:
-        others = standing.silent or standing.waiting or standing.later
-        return f"about {duration(found.seconds)} left{' for the others' if others else ''}"
+        return f"about {duration(found.seconds)} left"
     if found.known == Known.TOO_FEW:
         return "too few for an estimate"
     if found.known == Known.STALLED:
         return f"no estimate, as none was reached for {duration(found.seconds)}"
-    return "no estimate, as nobody knows when these go on"
+    return "no estimate while all that is left waits"

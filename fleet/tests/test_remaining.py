@@ -107,10 +107,15 @@ def test_times_are_told_no_more_exactly_than_they_are_known(seconds: float, told
         (
             Standing(3000, 1204, 2, 1700, silent=12, trouble=1),
             Estimate(Known.ABOUT, 25),
-            "1,204 of 3,000 goals reached, 1 machine in trouble, 12 not answering:"
-            " about 30 seconds left for the others",
+            "1,204 of 3,000 goals reached: about 30 seconds left, not counting 12 machines not answering;"
+            " 1 machine in trouble",
         ),
         (HALF, Estimate(Known.TOO_FEW), "100 of 200 goals reached: too few for an estimate"),
+        (
+            HALF._replace(silent=1),
+            Estimate(Known.TOO_FEW),
+            "100 of 200 goals reached: too few for an estimate; 1 machine not answering",
+        ),
         (
             HALF,
             Estimate(Known.STALLED, 130),
@@ -119,13 +124,13 @@ def test_times_are_told_no_more_exactly_than_they_are_known(seconds: float, told
         (
             HALF._replace(left=0, silent=2, waiting=1, later=1000),
             Estimate(Known.WAITING),
-            "100 of 200 goals reached, 2 machines not answering, 1 waiting for a start, 1,000 in later waves:"
-            " no estimate, as nobody knows when these go on",
+            "100 of 200 goals reached: no estimate while all that is left waits: 2 machines not answering,"
+            " 1 waiting for a start, 1,000 in later waves",
         ),
         (
             HALF._replace(left=0, trouble=2),
             Estimate(Known.DONE),
-            "100 of 200 goals reached, 2 machines in trouble: nothing else is left to be done",
+            "100 of 200 goals reached: nothing else is left to be done; 2 machines in trouble",
         ),
     ],
 )
@@ -224,7 +229,7 @@ def test_a_terminal_has_one_line_that_is_written_over(ledger: Ledger, terminal: 
     report.teller.say("m1: why")
     assert terminal.take() == f"{CLEAR}bootfleet: m1: why\n{told}"
     tell(report, 10, ["m1", "m2"])
-    assert "2 machines not answering: no estimate" in terminal.take()
+    assert "no estimate while all that is left waits: 2 machines" in terminal.take()
     report.end()
     assert terminal.take() == CLEAR
 
