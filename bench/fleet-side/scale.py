@@ -73,7 +73,7 @@ class Outcome(NamedTuple):
     said: str
 
 
-class TooLong(Exception):
+class TooLong(RuntimeError):
     """It takes too long."""
 
 
