@@ -5,6 +5,7 @@ from __future__ import annotations
 import json
 import os
 import sqlite3
+import statistics
 import subprocess
 import sys
 import time
@@ -30,6 +31,9 @@ GOALS = [("first", "a"), ("remove", "b")]
 
 MOST_IN_PROCESS = 2500
 """How many machines one process simulates at most."""
+
+TURNS = 5
+"""How often a sender begins and ends without a machine: what lies in the middle counts."""
 
 MACHINES = "machines"
 """The name in the certificate of the simulated machines."""
@@ -239,13 +243,17 @@ def fixed(work: Path, seconds: float, is_plain: bool) -> "tuple[Took, float]":
     scale = Scale(work, 0, is_plain)
     try:
         scale.set_up()
-        took, _, status = scale.bring(["--until-done"], 60)
-        longer, _, other_status = scale.bring(["--limit", str(seconds)], seconds + 60)
+        runs = [scale.bring(["--until-done"], 60) for _ in range(TURNS)]
+        runs.append(scale.bring(["--limit", str(seconds)], seconds + 60))
     finally:
         scale.end()
-    if status or other_status:
-        raise RuntimeError(f"a sender without machines has the status {status or other_status}")
-    idle = max(0.0, longer.sender_seconds - took.sender_seconds) / seconds
+    if any(status for _, _, status in runs):
+        raise RuntimeError("a sender without machines doesn't come to its end")
+    *short, longer = (took for took, _, _ in runs)
+    begins = statistics.median(took.sender_seconds for took in short)
+    memory = statistics.median_low(took.sender_memory for took in short)
+    took = short[-1]._replace(sender_seconds=begins, sender_memory=memory)
+    idle = max(0.0, longer.sender_seconds - begins) / seconds
     return took._replace(ledger_bytes=without_rows(scale.ledger)), idle
 
 
