@@ -1,14 +1,18 @@
-"""Machines of `bench/fleet`: folders as Linux shows variables, and the model of what is to become of them."""
+"""Machines of `bench/fleet` and `bench/fleet-scale`: their variables, and the model of what is to become of them."""
 
 from __future__ import annotations
 
 import random
+import re
 import struct
 from pathlib import Path
-from typing import Dict, List, NamedTuple, Optional
+from typing import Dict, List, Mapping, NamedTuple, Optional
 
 VENDOR = "8be4df61-93ca-11d2-aa0d-00e098032b8c"
 ATTRIBUTES = b"\7\0\0\0"
+
+NAME = re.compile("Boot[0-9A-F]{4}")
+"""The name of an entry's variable."""
 
 
 class Model:
@@ -66,30 +70,52 @@ class Model:
             self.order = [other for other in self.order if other != number]
             self.next = None if self.next == number else self.next
 
+    def reach(self, kind: str, option: bytes) -> int:
+        """Makes a goal at once. How many requests it takes."""
+        there = self._there(option)
+        number = self._one_of(there) if there else None
+        if kind == "remove":
+            self.remove(option)
+            return len(there)
+        if kind == "first":
+            takes = int(number is None or self.order[:1] != [number])
+            self.first(option)
+            return takes
+        takes = int(number is None) + int(number is None or self.next != number)
+        self.next_once(option)
+        return takes
+
     def has_twice(self) -> bool:
         return len(set(self.entries.values())) != len(self.entries)
 
 
-def read_machine(place: Path) -> Model:
-    """What a folder has."""
+def model_of(variables: Mapping[str, bytes]) -> Model:
+    """What variables are as plain values, by their data."""
     entries: Dict[int, bytes] = {}
     order: List[int] = []
     following = None
-    for file in place.iterdir():
-        name, data = file.name.partition("-")[0], file.read_bytes()[len(ATTRIBUTES) :]
+    for name, data in variables.items():
         if name == "BootOrder":
             order = [number for (number,) in struct.iter_unpack("<H", data)]
         elif name == "BootNext":
             (following,) = struct.unpack("<H", data)
-        elif name.startswith("Boot"):
+        elif NAME.fullmatch(name):
             entries[int(name[4:], 16)] = data
     return Model(entries, order, following)
 
 
-def make_machine(place: Path, draw: random.Random, option: bytes, wanted: List[bytes]) -> None:
-    """Makes a machine at random: up to five entries, perhaps one that is wanted; an order that may name an entry which
-    isn't there, or one twice, and perhaps a BootNext."""
-    place.mkdir(parents=True)
+def read_machine(place: Path) -> Model:
+    """What a folder has."""
+    variables = {
+        file.name.partition("-")[0]: file.read_bytes()[len(ATTRIBUTES) :]
+        for file in place.iterdir()
+    }
+    return model_of(variables)
+
+
+def draw_variables(draw: random.Random, option: bytes, wanted: List[bytes]) -> Dict[str, bytes]:
+    """The variables of a machine at random: up to five entries, perhaps one that is wanted; an order that may name an
+    entry which isn't there, or one twice, and perhaps a BootNext."""
     numbers = draw.sample(range(7), draw.randrange(1, 6))
     entries = {number: option + bytes([number, draw.randrange(256)]) for number in numbers}
     if draw.random() < 0.2:
@@ -104,7 +130,13 @@ def make_machine(place: Path, draw: random.Random, option: bytes, wanted: List[b
     values["Timeout"] = b"\5\0"
     if draw.random() < 0.3:
         values["BootNext"] = struct.pack("<H", numbers[0])
-    for name, data in values.items():
+    return values
+
+
+def make_machine(place: Path, draw: random.Random, option: bytes, wanted: List[bytes]) -> None:
+    """Makes a machine at random in a folder."""
+    place.mkdir(parents=True)
+    for name, data in draw_variables(draw, option, wanted).items():
         (place / f"{name}-{VENDOR}").write_bytes(ATTRIBUTES + data)
 
 

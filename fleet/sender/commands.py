@@ -25,6 +25,7 @@ from .goals import Goal
 from .ledger import Doubt, Ledger
 from .run import Sender
 from .store import LedgerError
+from .telling import Teller
 
 LEDGER = "/var/lib/bootfleet/ledger"
 
@@ -155,7 +156,12 @@ def _add_machines(made: argparse.ArgumentParser) -> None:
 
 
 def _add_running(commands: "argparse._SubParsersAction[argparse.ArgumentParser]") -> None:
-    run = _add(commands, "run", do_run, "sends, until it is ended")
+    run = _add(
+        commands,
+        "run",
+        do_run,
+        "sends, until it is ended, and tells on standard error how far it is",
+    )
     run.add_argument(
         "--until-done", action="store_true", help="or until nothing is left to be done"
     )
@@ -333,18 +339,18 @@ def do_run(options: argparse.Namespace) -> int:
     stopped: List[int] = []
     for number in (signal.SIGTERM, signal.SIGINT):
         signal.signal(number, lambda got, _: stopped.append(got))
-    courier = MqttCourier(_broker(ledger), _certs(ledger) / options.name, options.name)
-    sender = Sender(ledger, courier, options.name)
+    teller = Teller()
+    courier = MqttCourier(_broker(ledger), _certs(ledger) / options.name, options.name, teller)
+    sender = Sender(ledger, courier, options.name, teller=teller)
     try:
         is_done = sender.run(options.until_done, options.limit, lambda: bool(stopped))
     finally:
         courier.close()
         lock.close()
     counts = sender.counts
-    print(
-        f"bootfleet: sent {counts.out}, of them {counts.again} again; took {counts.taken} replies,"
-        f" passed over {counts.passed_over}",
-        file=sys.stderr,
+    teller.say(
+        f"sent {counts.out}, of them {counts.again} again; took {counts.taken} replies,"
+        f" passed over {counts.passed_over}"
     )
     if stopped and not options.until_done:
         return 0

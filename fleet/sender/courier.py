@@ -3,14 +3,15 @@
 from __future__ import annotations
 
 import ssl
-import sys
 import threading
 import time
 from collections import Counter, deque
 from pathlib import Path
-from typing import Any, Deque, List, NamedTuple, Protocol
+from typing import Any, Deque, List, NamedTuple, Optional, Protocol
 
 import paho.mqtt.client as mqtt
+
+from .telling import Teller
 
 PORT = 8883
 """The port of a broker that takes TLS alone."""
@@ -21,7 +22,7 @@ MOST_WAITING, MOST_BYTES = 65_536, 1 << 26
 MOST_OF_ONE = 4
 """How many of them may be one machine's, so that none keeps the others out."""
 
-BATCH_MOST, BATCH_BYTES = 1000, 1 << 23
+BATCH_MOST, BATCH_BYTES = 250, 1 << 23
 """How many replies are taken at once, and of how many bytes, if they are more than one."""
 
 
@@ -104,8 +105,9 @@ def split_broker(broker: str) -> "tuple[str, int]":
 class MqttCourier:
     """A courier over a broker, by TLS. It connects again whenever it has to."""
 
-    def __init__(self, broker: str, own: Path, name: str) -> None:
+    def __init__(self, broker: str, own: Path, name: str, teller: Optional[Teller] = None) -> None:
         self.waiting = Waiting()
+        self.teller = teller or Teller()
         self.client = new_client(name)
         try:
             self.client.tls_set(str(own / "ca.pem"), str(own / "own.pem"), str(own / "own.key"))
@@ -125,7 +127,7 @@ class MqttCourier:
         """Tells how the connection is, once until it is otherwise."""
         if what != self.said:
             self.said = what
-            print(f"bootfleet: {self.broker}: {what}", file=sys.stderr, flush=True)
+            self.teller.say(f"{self.broker}: {what}")
 
     def _thread_failed(self, failed: threading.ExceptHookArgs) -> None:
         """Keeps why the thread of the connection has ended: paho lets errors of TLS through."""

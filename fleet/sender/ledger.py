@@ -52,6 +52,11 @@ from .waves import Waves, draw
 
 HAS_WORK = """trouble IS NULL AND name IN
     (SELECT machine FROM goal WHERE state = 'open' UNION SELECT machine FROM request WHERE state = 'sent')"""
+"""Which machines have something left to be done."""
+
+IS_AT_WORK = """trouble IS NULL AND (EXISTS (SELECT 1 FROM goal WHERE machine = name AND state = 'open')
+    OR EXISTS (SELECT 1 FROM request WHERE machine = name AND state = 'sent'))"""
+"""The same, for queries over few of the machines."""
 
 HAS_BEGUN = "(wave IS NULL OR wave <= ?)"
 """Which machines are in no wave that comes later than this one."""
@@ -180,12 +185,12 @@ class Ledger(Requests):
         )
         begun = self.begun_wave()
         self.db.execute(
-            f"UPDATE machine SET until = ? WHERE holder = ? AND {HAS_WORK}", (until, holder)
+            f"UPDATE machine SET until = ? WHERE holder = ? AND {IS_AT_WORK}", (until, holder)
         )
         held = [
             name
             for (name,) in self.db.execute(
-                f"SELECT name FROM machine WHERE holder = ? AND {HAS_WORK} AND {HAS_BEGUN}",
+                f"SELECT name FROM machine WHERE holder = ? AND {IS_AT_WORK} AND {HAS_BEGUN}",
                 (holder, begun),
             )
         ]
@@ -258,7 +263,8 @@ class Ledger(Requests):
         """The last wave that has begun; -1 if so many machines are in trouble that nothing goes on."""
         if self.is_stopped():
             return -1
-        (wave,) = self.one(f"SELECT MIN(wave) FROM machine WHERE {HAS_WORK}")
+        query = f"SELECT MIN(wave) FROM machine WHERE wave IS NOT NULL AND {IS_AT_WORK}"
+        (wave,) = self.one(query)
         return 0 if wave is None else int(wave)
 
     def is_stopped(self) -> bool:

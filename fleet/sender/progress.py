@@ -2,10 +2,13 @@
 
 from __future__ import annotations
 
+import json
+from collections import Counter
 from itertools import accumulate
-from typing import Dict, List, NamedTuple, Optional, Tuple
+from typing import Dict, Iterable, List, NamedTuple, Optional, Set, Tuple
 
 from .ledger import Ledger
+from .remaining import Standing
 
 STEPS = 120
 """How many steps there are from the first job to now."""
@@ -77,3 +80,57 @@ def _sums(ledger: Ledger, query: str, span: Span) -> List[int]:
     for when, count in ledger.db.execute(query):
         counts[span.step(span.ended if when is None else when)] += count
     return list(accumulate(counts))
+
+
+def read_open_jobs(ledger: Ledger) -> Set[int]:
+    """The jobs of which something is left to be done."""
+    return {
+        job for (job,) in ledger.db.execute("SELECT DISTINCT job FROM goal WHERE state = 'open'")
+    }
+
+
+def read_standing(
+    ledger: Ledger, jobs: Iterable[int], silent: Iterable[str], now: float
+) -> Standing:
+    """How it stands with jobs, all that aren't done among them, by the machines that don't answer the sender that asks;
+    those that are left for a while don't either."""
+    query = (
+        f"SELECT state, COUNT(*) FROM goal WHERE job IN ({','.join(map(str, jobs))}) GROUP BY state"
+    )
+    goals: Dict[str, int] = dict(ledger.db.execute(query))
+    held_up = _held_up(ledger, silent, now)
+    query = "SELECT machine, COUNT(*) FROM goal WHERE state = 'open' AND machine IN (SELECT value FROM json_each(?))"
+    names = (json.dumps(list(held_up)),)
+    left: Dict[str, int] = dict(ledger.db.execute(f"{query} GROUP BY machine", names))
+    machines = Counter(held_up[name] for name in left)
+    return Standing(
+        sum(goals.values()) - goals.get("cancelled", 0),
+        goals.get("reached", 0),
+        goals.get("failed", 0),
+        goals.get("open", 0) - sum(left.values()),
+        machines["silent"],
+        machines["waiting"],
+        machines["later"],
+        sum(kind == "trouble" for kind in held_up.values()),
+    )
+
+
+def _held_up(ledger: Ledger, silent: Iterable[str], now: float) -> Dict[str, str]:
+    """The machines that aren't gone on with, as most are, and why."""
+    later = -1 if ledger.waves() is None else ledger.begun_wave()
+    query = "SELECT DISTINCT machine FROM goal WHERE state = 'open' AND note IS NOT NULL"
+    kinds: Dict[str, Iterable[str]] = {
+        "trouble": _names(ledger, "SELECT name FROM machine WHERE trouble IS NOT NULL"),
+        "later": _names(ledger, "SELECT name FROM machine WHERE wave > ?", later),
+        "waiting": _names(ledger, query),
+        "silent": [*silent, *_names(ledger, "SELECT name FROM machine WHERE due > ?", now)],
+    }
+    held_up: Dict[str, str] = {}
+    for kind, names in kinds.items():
+        for name in names:
+            held_up.setdefault(name, kind)
+    return held_up
+
+
+def _names(ledger: Ledger, query: str, *values: object) -> List[str]:
+    return [name for (name,) in ledger.db.execute(query, values)]

@@ -8,7 +8,6 @@ import os
 import random
 import secrets
 import sqlite3
-import sys
 import time
 from dataclasses import dataclass, field
 from typing import Callable, Dict, List, NamedTuple, Optional, Tuple, Union
@@ -27,6 +26,8 @@ from .answers import (
 from .courier import Came, Courier
 from .ledger import Ledger
 from .messages import Message, look
+from .report import Report
+from .telling import Teller
 
 LEASE = 15.0
 """For how many seconds a sender holds a machine, unless it prolongs that."""
@@ -37,15 +38,23 @@ MOST_HELD = 4096
 BATCH = 0.05
 """For how many seconds replies are gathered before what they lead to is stored."""
 
+MOST_QUIET = 20
+"""For how many turns without an answer it may still be that answers keep coming. It isn't so many seconds, as turns take
+longer where everything does."""
+
 FIRST_PAUSE, LONGEST_PAUSE, GROWTH = 1.0, 8.0, 1.4
 """After how many seconds a message is sent again for the first time, and at most, and how that grows."""
+
+REORDERED = 0.25
+"""By which part of the first pause a message may be answered before one that was sent earlier."""
 
 SILENT_AFTER, SILENT_PAUSE = 20, 300.0
 """After how many messages a machine counts as silent, so that the pauses grow again, and up to how many seconds. One
 that comes back says so."""
 
 MOST_SENT = 8
-"""After how many messages without an answer a machine is left for a while, if others may wait."""
+"""After how many messages without an answer a machine is left for a while, if others may wait; and is told to be one that
+doesn't answer."""
 
 MOST_REFUSALS = 5
 """After how many refusals in a row that ask to send again somebody has to look at the machine."""
@@ -53,12 +62,15 @@ MOST_REFUSALS = 5
 
 @dataclass
 class Held:
-    """What a sender has of a machine that it holds."""
+    """What a sender has of a machine that it holds: what it is asked, when that is due to be sent, how often it was, and
+    when for the first time and the last."""
 
     message: Message
     due: float
     sent: int = 0
     refusals: int = 0
+    first: float = -math.inf
+    last: float = -math.inf
 
 
 class Said(NamedTuple):
@@ -88,10 +100,15 @@ class Sender:
     name: str
     first_pause: float = FIRST_PAUSE
     longest_pause: float = LONGEST_PAUSE
+    teller: Teller = field(default_factory=Teller)
     held: Dict[str, Held] = field(default_factory=dict)
     queue: List[Tuple[float, str]] = field(default_factory=list)
     counts: Counts = field(default_factory=Counts)
     leased: float = -math.inf
+    quiet_turns: int = MOST_QUIET
+    """How many turns ago an answer was taken."""
+    answered_of: float = -math.inf
+    """When the latest message was sent for the first time that is answered."""
     is_stopped: bool = False
 
     def __post_init__(self) -> None:
@@ -102,9 +119,11 @@ class Sender:
         ends = None if limit is None else time.monotonic() + limit
         with self.ledger.transaction():
             self.ledger.end_pauses()
+        report = Report(self.ledger, self.teller)
         try:
             while not is_stopped() and (ends is None or time.monotonic() < ends):
                 self.turn(self.courier.receive(BATCH))
+                report.tell(self._silent, time.monotonic(), time.time())
                 if until_done and not self.held:
                     if self.ledger.is_done():
                         return True
@@ -113,21 +132,30 @@ class Sender:
                         return False
             return self.ledger.is_done()
         finally:
+            report.end()
             with self.ledger.transaction():
                 self.ledger.leave_all(self.holder)
+
+    def _silent(self) -> List[str]:
+        """The machines that don't answer, as far as that is known."""
+        return [name for name, held in self.held.items() if held.sent >= MOST_SENT]
 
     def turn(self, came: List[Came]) -> None:
         """Takes what came, and sends what is due: after what it is of is stored. What is due goes by a clock that
         nobody sets; the ledger, which others read too, has the time of day."""
         said = self._read(came)
         now = time.monotonic()
+        self.quiet_turns += 1
+        is_renewed = now - self.leased <= LEASE / 3
+        if is_renewed and not said and not self._is_due(now):
+            return
         out: List[Tuple[str, bytes]] = []
         with self.ledger.transaction():
-            if now - self.leased > LEASE / 3:
+            if not is_renewed:
                 self._renew(now)
             for one in said:
                 self._take(one, now)
-            while self.queue and self.queue[0][0] <= now:
+            while self._is_due(now):
                 name = heapq.heappop(self.queue)[1]
                 held = self.held.get(name)
                 if held is not None and held.due <= now:
@@ -136,6 +164,10 @@ class Sender:
             if payload:
                 self.courier.send(name, payload)
                 self.counts.out += 1
+
+    def _is_due(self, now: float) -> bool:
+        """Whether something may be due to be sent."""
+        return bool(self.queue) and self.queue[0][0] <= now
 
     def _renew(self, now: float) -> None:
         """Takes the leases of machines that have something to be done, and loses those that others took meanwhile."""
@@ -155,11 +187,7 @@ class Sender:
         is_stopped = self.ledger.is_stopped()
         if is_stopped and not self.is_stopped:
             count = self.ledger.count_wave_troubles()
-            print(
-                f"bootfleet: {count} machines are in trouble: no other one is gone after",
-                file=sys.stderr,
-                flush=True,
-            )
+            self.teller.say(f"{count} machines are in trouble: no other one is gone after")
         self.is_stopped = is_stopped
 
     def _begin(self, name: str, message: Message, due: float) -> None:
@@ -173,14 +201,32 @@ class Sender:
             self.held.pop(name)
             self.ledger.leave(name, time.time() + random.uniform(1, 2) * self.longest_pause)
             return b""
+        if held.sent and self._may_be_answered(held):
+            held.due = now + self.first_pause * random.uniform(0.7, 1.3)
+            heapq.heappush(self.queue, (held.due, name))
+            return b""
         if held.sent and held.message.requests and not held.message.is_question:
             if not self.ledger.is_asked(name):  # Somebody gave it up meanwhile.
                 held.message = look()
         self.counts.again += held.sent > 0
         held.due = now + self._pause(held.sent) * random.uniform(0.7, 1.3)
+        held.first = held.first if held.sent else now
+        held.last = now
         held.sent += 1
         heapq.heappush(self.queue, (held.due, name))
         return held.message.payload
+
+    def _may_be_answered(self, held: Held) -> bool:
+        """Whether a message isn't lost as far as that is known: answers keep coming, and all that came are to messages
+        that were sent before it, or hardly later. So the broker, the machines or this sender have more to do than they
+        get done, and to send again would make it more."""
+        is_later = self.answered_of > held.last + REORDERED * self.first_pause
+        return self.quiet_turns < MOST_QUIET and not is_later
+
+    def _note_answer(self, held: Held) -> None:
+        """A message is answered: those that were sent long before it and aren't are lost."""
+        self.quiet_turns = 0
+        self.answered_of = max(self.answered_of, held.first)
 
     def _pause(self, sent: int) -> float:
         """How long to wait for an answer after so many messages before this one."""
@@ -228,6 +274,7 @@ class Sender:
             self._refused(said.name, held, answer.refusal)
         else:
             self.counts.taken += 1
+            self._note_answer(held)
             taken = machines.take(self.ledger, said.name, answer, held.message)
             if taken.trouble is not None:
                 self._stopped(said.name, taken.trouble)
@@ -271,7 +318,7 @@ class Sender:
         self.held.pop(name, None)
         if self.ledger.is_stopped():
             self.leased = -math.inf  # Nothing goes on: all that is held is let go at once.
-        print(f"bootfleet: {name}: {why}", file=sys.stderr, flush=True)
+        self.teller.say(f"{name}: {why}")
 
 
 def _answer_of(to: Optional[str], payload: bytes) -> Union[Answer, BadAnswer]:
