@@ -127,8 +127,9 @@ def fleet_files(place: Place) -> FileTree:
     }.items():
         files.put(path, (ROOT / source).read_bytes())
     put_manual(files, place, "bootfleet.1")
-    page = (ROOT / "docs/fleet.md").read_bytes()
-    place.put_text(files, "share/doc/bootkeep-fleet/fleet.md", page)
+    page, picture = (ROOT / "docs" / name for name in ("fleet.md", "fleet-scale.svg"))
+    place.put_text(files, f"share/doc/bootkeep-fleet/{page.name}", page.read_bytes())
+    files.put(f"share/doc/bootkeep-fleet/{picture.name}", picture.read_bytes())
     return files
 
 
