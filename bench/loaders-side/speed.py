@@ -27,7 +27,7 @@ ENOUGH = 20
 """After how many seconds it isn't run again."""
 
 MOST = 0.050
-"""How many seconds more than before it may take, beside the digests that it makes."""
+"""How many seconds more than before it may take."""
 
 
 def grown(data: bytes, length: int) -> bytes:
@@ -71,23 +71,16 @@ def measure(machine: Machine, applications: Dict[str, bytes], lists: Lists) -> i
     return sum(is_longer(machine, entries, is_secure, lists) for is_secure in (False, True))
 
 
-def digest_time(machine: Machine, entries: List[Entry]) -> float:
-    """The fewest seconds that `sha256sum` takes to make a digest of each file."""
-    return best(["sha256sum", *(os.fspath(machine.partition / it.file) for it in entries)])
-
-
 def is_longer(machine: Machine, entries: List[Entry], is_secure: bool, lists: Lists) -> bool:
-    """Measures it in one way. With Secure Boot on each file's digest is made, since db and dbx have digests: what
-    `sha256sum` takes for the files is added to what is wanted."""
+    """Measures it in one way."""
     machine.set_variables(entries, 0x64000, is_secure, lists)
     before, words = os.environ.get("BOOTVARS_BEFORE"), machine.words("check")
     now = best(words)
     old = best([before, *words[1:]]) if before else best(machine.words("show"))
     beside = "the program of before" if before else "show, which looks at no file,"
     state, more = "on" if is_secure else "off", now - old
-    most = MOST + (digest_time(machine, entries) if is_secure else 0)
     print(
         f"time: Secure Boot {state}: check takes {now * 1000:.1f} ms, {beside} {old * 1000:.1f} ms: "
-        f"{more * 1000:.1f} ms more, at most {most * 1000:.0f} wanted"
+        f"{more * 1000:.1f} ms more, at most {MOST * 1000:.0f} wanted"
     )
-    return more > most
+    return more > MOST
