@@ -4,11 +4,10 @@
 ghost use Rattle.std.specs.Prelude.{◌≡◌, ◌∷◌, ◌++◌, ◌≤◌, length, flat_map, IfOk, IfSome, IfNone, OnOk};
 ghost use Rattle.std.specs.Str.{chars};
 ghost use Rattle.std.specs.String.{string_bytes};
-ghost use Rattle.uefi_names.specs.Shown.{pair_char};
 ghost use Rattle.boot_texts.specs.Json.{escape_letter, unit_escape, character_json, text_json, lone_json, units_inside, units_json};
 
 use std::alloc::AllocError;
-use uefi_names::is_hidden;
+use uefi_names::{is_hidden, pair_char};
 
 /// Appends a text.
 pub(crate) fn append_text(text: &str, json: &mut String) -> Result<(), AllocError>
@@ -82,16 +81,6 @@ fn pair_at(high: u16, after: &[u16]) -> Option<(char, &[u16])>
         Some(character) => Some((character, rest)),
         None => None,
     }
-}
-
-/// The character of a pair of units, if they are one.
-fn pair_char(high: u16, low: u16) -> Option<char>
-    ensures { result ≡ pair_char high low }
-{
-    if !(0xd800..0xdc00).contains(&high) || !(0xdc00..0xe000).contains(&low) {
-        return None;
-    }
-    char::from_u32(0x1_0000 + (u32::from(high) - 0xd800) * 0x400 + (u32::from(low) - 0xdc00))
 }
 
 /// Appends what is in a text for a unit that is in no pair.

@@ -59,8 +59,8 @@ fn append_entries(
 ) -> Result<(), AllocError>
     ensures { OnOk result (AppendsEntries verbose (entries vars.now) listing.old listing.new) }
 {
-    for (name, data) in vars.iter() {
-        append_variable(alloc, listing, name, data, verbose)?;
+    for (name, bytes) in vars.iter() {
+        append_variable(alloc, listing, name, bytes, verbose)?;
     }
     Ok(())
 }
@@ -70,13 +70,13 @@ fn append_variable(
     alloc: Global,
     listing: &mut Listing,
     name: &str,
-    data: &[u8],
+    bytes: &[u8],
     verbose: bool,
 ) -> Result<(), AllocError>
-    ensures { OnOk result (AppendsVariable verbose (name.now, data.now) listing.old listing.new) }
+    ensures { OnOk result (AppendsVariable verbose (name.now, bytes.now) listing.old listing.new) }
 {
     match entry_number(name) {
-        Some(number) => append_entry(alloc, listing, number, data, verbose),
+        Some(number) => append_entry(alloc, listing, number, bytes, verbose),
         None => Ok(()),
     }
 }
@@ -186,14 +186,14 @@ fn append_entry(
     alloc: Global,
     listing: &mut Listing,
     number: u16,
-    data: &[u8],
+    bytes: &[u8],
     verbose: bool,
 ) -> Result<(), AllocError>
-    ensures { OnOk result ((line : List ℕ) × (bad : List ℕ) × IsEntry verbose number data.now line bad
+    ensures { OnOk result ((line : List ℕ) × (bad : List ℕ) × IsEntry verbose number bytes.now line bad
         × Appends line bad listing.old listing.new) }
 {
-    append_front(alloc, number, data, &mut listing.text)?;
-    append_option(alloc, listing, number, data, verbose)?;
+    append_front(alloc, number, bytes, &mut listing.text)?;
+    append_option(alloc, listing, number, bytes, verbose)?;
     listing.text.push('\n')
 }
 
@@ -202,13 +202,13 @@ fn append_option(
     alloc: Global,
     listing: &mut Listing,
     number: u16,
-    data: &[u8],
+    bytes: &[u8],
     verbose: bool,
 ) -> Result<(), AllocError>
-    ensures { OnOk result ((more : List ℕ) × (bad : List ℕ) × IsOptionText verbose number data.now more bad
+    ensures { OnOk result ((more : List ℕ) × (bad : List ℕ) × IsOptionText verbose number bytes.now more bad
         × Appends more bad listing.old listing.new) }
 {
-    match check_option(data) {
+    match check_option(bytes) {
         Ok(view) => append_parts(alloc, &view, verbose, &mut listing.text),
         Err(_) => Ok(listing.faulty.push(number)?),
     }
@@ -218,37 +218,37 @@ fn append_option(
 fn append_front(
     alloc: Global,
     number: u16,
-    data: &[u8],
+    bytes: &[u8],
     text: &mut String,
 ) -> Result<(), AllocError>
-    ensures { OnOk result (string_bytes text.new ≡ string_bytes text.old ++ front_text number data.now) }
+    ensures { OnOk result (string_bytes text.new ≡ string_bytes text.old ++ front_text number bytes.now) }
 {
     text.push_str("Boot")?;
     append_digits(number, text)?;
-    text.push(star_of(data))?;
+    text.push(star_of(bytes))?;
     text.push(' ')?;
-    let units = read_units(alloc, behind_header(data))?;
+    let units = read_units(alloc, behind_header(bytes))?;
     append_units(&units, text)
 }
 
 /// A star for the data of an active entry (UEFI 2.10, 3.1.3), otherwise a blank.
-fn star_of(data: &[u8]) -> char
-    ensures { result ≡ star_of data.now }
+fn star_of(bytes: &[u8]) -> char
+    ensures { result ≡ star_of bytes.now }
 {
-    match data.first() {
+    match bytes.first() {
         Some(flags) if is_active(u32::from(*flags)) => '*',
         _ => ' ',
     }
 }
 
 /// The bytes after the attributes of an entry and the length of its list.
-fn behind_header(data: &[u8]) -> &[u8]
-    ensures { result.now ≡ drop 6 data.now }
+fn behind_header(bytes: &[u8]) -> &[u8]
+    ensures { result.now ≡ drop 6 bytes.now }
 {
-    if data.len() < HEADER_LEN {
+    if bytes.len() < HEADER_LEN {
         return &[];
     }
-    &data[HEADER_LEN..]
+    &bytes[HEADER_LEN..]
 }
 
 /// Appends a tab, the first path and the optional data of a load option, if they are asked for.

@@ -6,7 +6,7 @@ ghost use Rattle.uefi_names.specs.Shown.{pair_char};
 ghost use Rattle.efibootmgr_words.specs.Units.{has_pair, lone_text, units_text, first_text};
 
 use std::alloc::AllocError;
-use uefi_names::is_hidden;
+use uefi_names::{is_hidden, pair_char};
 use uefi_text::DigitsText;
 
 /// What the first units of a text are listed as.
@@ -72,16 +72,6 @@ fn split_low(high: u16, units: &[u16]) -> Option<(char, &[u16])>
         Some(character) => Some((character, after)),
         None => None,
     }
-}
-
-/// The character of a pair of units, if they are one.
-fn pair_char(high: u16, low: u16) -> Option<char>
-    ensures { result ≡ pair_char high low }
-{
-    if !(0xd800..0xdc00).contains(&high) || !(0xdc00..0xe000).contains(&low) {
-        return None;
-    }
-    char::from_u32(0x1_0000 + (u32::from(high) - 0xd800) * 0x400 + (u32::from(low) - 0xdc00))
 }
 
 /// What a unit is listed as that is in no pair.

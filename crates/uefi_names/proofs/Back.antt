@@ -14,7 +14,7 @@ use Rattle.uefi_path.specs.Path.{IsPath}
 use Rattle.uefi_text.specs.Bytes.{Each}
 use Rattle.uefi_text.specs.Segment.{comma, slash}
 use Rattle.uefi_text.specs.Node as means
-use Rattle.uefi_text.specs.Printed.{segment_of}
+use Rattle.uefi_text.specs.Printed.{segment_of, is_hd_or_file}
 use Rattle.uefi_text.specs.Path.{IsNodeText}
 use Rattle.uefi_text.proofs.Means.One.{BytesSpellOneNode}
 use Rattle.uefi_text.proofs.Means.Paths.{path_text_one}
@@ -25,7 +25,7 @@ use Rattle.uefi_names.specs.declared.table.Form.{Form}
 use Rattle.uefi_names.specs.Table.{fits, forms_for}
 use Rattle.uefi_names.specs.Shown.{form_text}
 use Rattle.uefi_names.specs.Cut.{is_whole_for, cut_named}
-use Rattle.uefi_names.specs.Named.{is_segment, is_row, is_read_back, text_in_forms, plain_segment, plain_text, named_node, named_instance, named_path}
+use Rattle.uefi_names.specs.Named.{is_segment, is_row, is_read_back, table_text, text_in_forms, plain_segment, plain_text, named_node, named_instance, named_path}
 use Rattle.uefi_names.specs.Reading.{segment_row, respelled, IsOneNode, IsAgain, IsExactSegment, IsNodeOf, IsNamedSegment, IsNamedText}
 use Rattle.uefi_names.proofs.Pieces.{IsSegmentText, whole_for, path_again}
 use Rattle.uefi_names.proofs.Exact.{exact_text, exact_named}
@@ -111,8 +111,17 @@ plain_stands law (nodes.VendorMedia a) valid = law (nodes.VendorMedia a) valid
 plain_stands law (nodes.FilePath a) valid = law (nodes.FilePath a) valid
 plain_stands law (nodes.Other a) valid = law (nodes.Other a) valid
 
+either_text : (table : NodeTable) (node : Node) (is_plain : Bool) (text : List ℕ) → IsTextOf table (plain_text node) node → IsTextOf table text node
+    → IsTextOf table (if is_plain then plain_text node else text) node
+either_text table node true text plain by_form = plain
+either_text table node false text plain by_form = by_form
+
 pub named_text_of : SegmentsStand → (table : NodeTable) (node : Node) → IsNode node → IsTextOf table (named_node table node) node
-named_text_of law table node valid = of_forms table node valid (plain_stands law node valid) (forms_for table (row_of node).kind (row_of node).sub)
+named_text_of law table node valid =
+    let is = plain_stands law node valid in
+    either_text table node (is_hd_or_file node) (unwrap_or (table_text table (row_of node)) (plain_text node))
+    (exactly table node is)
+    (of_forms table node valid is (forms_for table (row_of node).kind (row_of node).sub))
 
 -- ---- paths
 

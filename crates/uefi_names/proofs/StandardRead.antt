@@ -7,6 +7,7 @@ use Rattle.uefi_path.specs.declared.node.Node.{Node}
 use Rattle.uefi_path.specs.Node.{row_of}
 use Rattle.uefi_path.specs.Row.{Row}
 use Rattle.uefi_text.specs.Bytes.{Each}
+use Rattle.uefi_text.specs.Printed.{is_hd_or_file}
 use Rattle.uefi_text.specs.Segment.{comma, slash}
 use Rattle.uefi_text.specs.Reader.{◌>>=◌}
 use Rattle.uefi_names.specs.declared.table.NodeTable.{NodeTable}
@@ -233,7 +234,8 @@ table_text-same table r =
     ap (text_in_forms (plain_table table) r) (forms_for-same table r.kind r.sub) ∙ in_forms-same table r (forms_for table r.kind r.sub)
 
 node-same : (table : NodeTable) (node : Node) → named_node (plain_table table) node ≡ named_node table node
-node-same table node = ap (λ (text : Option (List ℕ)). unwrap_or text (plain_text node)) (table_text-same table (row_of node))
+node-same table node =
+    ap (λ (text : Option (List ℕ)). if is_hd_or_file node then plain_text node else unwrap_or text (plain_text node)) (table_text-same table (row_of node))
 
 path-same : (table : NodeTable) (path : List (List Node)) → named_path (plain_table table) path ≡ named_path table path
 path-same table path =

@@ -9,7 +9,7 @@ use Rattle.uefi_path.specs.Row.{Row}
 use Rattle.uefi_path.specs.Node.{row_of}
 use Rattle.uefi_path.specs.Equality.{row_eq}
 use Rattle.uefi_text.specs.Segment.{Segment, named, comma, slash, segment_text}
-use Rattle.uefi_text.specs.Printed.{segment_of, node_text}
+use Rattle.uefi_text.specs.Printed.{segment_of, node_text, is_hd_or_file}
 use Rattle.uefi_names.specs.declared.table.NodeTable.{NodeTable}
 use Rattle.uefi_names.specs.declared.table.Form.{Form}
 use Rattle.uefi_names.specs.Table.{fits, form_for, forms_for}
@@ -73,9 +73,11 @@ plain_segment node = segment_of node
 abbrev pub plain_text : Node → List ℕ
 plain_text node = segment_text (plain_segment node)
 
--- a node by its name if a form of the table has a text that is read as the node, otherwise without a form
+-- A node by its name if a form of the table has a text that is read as the node, otherwise without a form. No form of
+-- the standard has such a text for an `HD` or a `File`.
 abbrev pub named_node : NodeTable → Node → List ℕ
-named_node table node = unwrap_or (table_text table (row_of node)) (plain_text node)
+named_node table node =
+    if is_hd_or_file node then plain_text node else unwrap_or (table_text table (row_of node)) (plain_text node)
 
 abbrev pub named_instance : NodeTable → List Node → List ℕ
 named_instance table nodes = join_with_byte slash (map (named_node table) nodes)

@@ -25,4 +25,4 @@ pub use table::{
     Word,
 };
 pub use views::named_nodes_text;
-pub use whole::is_hidden;
+pub use whole::{is_hidden, pair_char};

@@ -17,7 +17,7 @@ use crate::table::{Form, NodeTable};
 use std::alloc::{AllocError, Global};
 use std::fmt::{self, Write};
 use uefi_path::{Node, Path, write_node};
-use uefi_text::NodeText;
+use uefi_text::{NodeText, is_hd_or_file};
 
 /// The bytes before a node's data: type, sub-type and length (UEFI 2.10, 10.3.1).
 const HEADER_LEN: usize = 4;
@@ -159,7 +159,8 @@ fn append_instance(
     Ok(())
 }
 
-/// Appends a node: by its name if the table has one and its text is read as the node, otherwise without a form.
+/// Appends a node: by its name if the table has one and its text is read as the node, otherwise without a form. No form
+/// of the standard has such a text for an `HD` or a `File`.
 pub(crate) fn append_node(
     alloc: Global,
     table: &NodeTable,
@@ -168,6 +169,9 @@ pub(crate) fn append_node(
 ) -> Result<(), AllocError>
     ensures { OnOk result (string_bytes text.new ≡ string_bytes text.old ++ named_node table.now node.now) }
 {
+    if is_hd_or_file(node) {
+        return append_plain(node, text);
+    }
     match table_text(alloc, table, node)? {
         Some(named) => text.push_str(&named),
         None => append_plain(node, text),

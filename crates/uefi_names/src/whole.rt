@@ -154,8 +154,8 @@ fn first_unit(bytes: &[u8]) -> Option<(u16, &[u8])>
     }
 }
 
-/// The character of a pair of units, if they are one.
-fn pair_char(high: u16, low: u16) -> Option<char>
+/// The character of two units of UTF-16, if they are a pair.
+pub fn pair_char(high: u16, low: u16) -> Option<char>
     ensures { result ≡ pair_char high low }
 {
     if !(0xd800..0xdc00).contains(&high) || !(0xdc00..0xe000).contains(&low) {

@@ -1,5 +1,5 @@
 -- The one printed text of a node and of a path.
-use Rattle.std.specs.Prelude.{ℕ, ◌/◌, ◌%◌, Bool, ◌==◌, ◌&&◌, not, nat_le, List, [], ◌∷◌, ◌++◌, map, take, drop}
+use Rattle.std.specs.Prelude.{ℕ, ◌/◌, ◌%◌, Bool, ◌==◌, ◌&&◌, ◌||◌, false, not, nat_le, List, [], ◌∷◌, ◌++◌, map, take, drop}
 use Rattle.std.specs.Prelude.{decimal, codes, if◌then◌else◌}
 use Rattle.std.specs.List.{list_all}
 use Rattle.std.specs.Int.{w16, w32, to_be_bytes, from_le_bytes}
@@ -111,6 +111,12 @@ segment_of (FilePath units) =
     if list_all (is_plain_from 0x20) units then named (codes "File") (units ∷ [])
     else generic_segment (row_of (FilePath units))
 segment_of (Other other) = generic_segment other
+
+-- the node's segment is an `HD` or a `File`
+abbrev pub is_hd_or_file : Node → Bool
+is_hd_or_file (HardDrive parts) = is_gpt parts || is_mbr parts
+is_hd_or_file (FilePath units) = list_all (is_plain_from 0x20) units
+is_hd_or_file node = false
 
 abbrev pub node_text : Node → List ℕ
 node_text node = segment_text (segment_of node)

@@ -20,7 +20,7 @@ mod segment;
 
 pub use fault::TextFault;
 pub use guid::{GuidText, guid_text, read_guid};
-pub use print_node::{Hid as HidText, NodeText};
+pub use print_node::{Hid as HidText, NodeText, is_hd_or_file};
 pub use print_parts::{Address as AddressText, Digits as DigitsText, Number as NumberText};
 pub use print_path::{PathText, path_text};
 pub use reader::read_text;

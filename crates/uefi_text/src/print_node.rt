@@ -10,7 +10,7 @@ ghost use Rattle.uefi_path.specs.Node.{row_of};
 ghost use Rattle.std.specs.Int.{w32, from_le_bytes};
 ghost use Rattle.uefi_text.specs.Guid.{guid_text};
 ghost use Rattle.uefi_text.specs.Segment.{segment_text};
-ghost use Rattle.uefi_text.specs.Printed.{segment_of, generic_segment, vendor_segment, acpi_segment, hid_text, is_plain_mac, is_plain_ipv4, is_plain_from, partition_segment, eight_digits, are_zero, is_gpt, is_mbr};
+ghost use Rattle.uefi_text.specs.Printed.{segment_of, generic_segment, vendor_segment, acpi_segment, hid_text, is_plain_mac, is_plain_ipv4, is_plain_from, partition_segment, eight_digits, are_zero, is_gpt, is_mbr, is_hd_or_file};
 
 use crate::guid::GuidText;
 use crate::print_parts::{
@@ -282,6 +282,18 @@ fn hard_drive<W: fmt::Write>(f: &mut fmt::Formatter<W>, node: &HardDriveNode) ->
         return mbr(f, node, MbrSignature([a, b, c, d]));
     }
     hard_drive_fields(f, node)
+}
+
+/// Whether [`NodeText`] writes the node as an `HD` or a `File`, and not as a `Path` with the digits of its data (UEFI
+/// 2.10, 10.3.5.1 and 10.3.5.4).
+pub fn is_hd_or_file(node: &Node) -> bool
+    ensures { result ≡ is_hd_or_file node.now }
+{
+    match node {
+        Node::HardDrive(parts) => is_gpt(parts) || is_mbr(parts),
+        Node::FilePath(file) => is_plain_name(file.units()),
+        _ => false,
+    }
 }
 
 /// Whether this is a partition of a GUID partition table, with a signature of that kind.

@@ -8,7 +8,7 @@ use Rattle.efibootmgr_words.proofs.lines.append_entries.Goals as goal
 pub loop-name-preserved : goal.loop-name-preserved
 loop-name-preserved c lines bad rest =
     let more =
-    goes_on c.args.verbose (c.in-Some.name.now, c.in-Some.data.now) _ _ c.loop-name.listing c.append_variable.new.listing lines bad
+    goes_on c.args.verbose (c.in-Some.name.now, c.in-Some.bytes.now) _ _ c.loop-name.listing c.append_variable.new.listing lines bad
     c.in-Some.ensures.steps c.in_ok-append_variable.ensures rest
     in
     let all = c.loop-name.invariant more.0 more.1 more.2 in
