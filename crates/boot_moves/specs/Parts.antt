@@ -20,3 +20,31 @@ pub record MovesParts (R : Type 0) : Type 0 where
 -- the same once this was told of what is asked for, if something is
 abbrev pub told_of : {R : Type 0} → Answer → MovesParts R → MovesParts R
 told_of answer m = record { begun = m.begun; trace = told_then m.trace m.asked answer; asked = None }
+
+-- ---- without what is run
+
+-- what the machine is called, what was there, the identity of its start, the moves that were told, and the one that is asked for
+pub record DialogueParts : Type 0 where
+  pub machine : List ℕ
+  pub first : Store
+  pub boot : List ℕ
+  pub trace : List Deed
+  pub asked : Option Act
+
+-- the same once this was told of what is asked for, if something is
+abbrev pub heard : Answer → DialogueParts → DialogueParts
+heard answer d = record {
+  machine = d.machine;
+  first = d.first;
+  boot = d.boot;
+  trace = told_then d.trace d.asked answer;
+  asked = None;
+}
+
+-- the same with what is run
+abbrev pub running : {R : Type 0} → R → DialogueParts → MovesParts R
+running run d = record {
+  begun = record { machine = d.machine; first = d.first; boot = d.boot; run = run };
+  trace = d.trace;
+  asked = d.asked;
+}

@@ -6,7 +6,7 @@
 //! nothing by itself. [`Moves::next`] says that a [`Move`] comes next, the caller makes it and tells by [`Moves::tell`] what
 //! became of it, an [`Answer`], and so on until [`Next::Ended`] has what the command answers. After a loss of power the
 //! caller throws it away, and begins a new one over what is there then; with [`Nothing`] as its run that does what is left
-//! to do, and no more.
+//! to do, and no more. [`Dialogue`] is the same without what is run, for a caller that keeps that.
 //!
 //! It is a replay. It keeps what the machine had at first, and the moves with their answers, the first one first. For the
 //! next move it runs the command from the start over a machine that answers each move as it was told, and that stops at
@@ -27,6 +27,7 @@
 //! - *Starts*: the identity is another one after each start of the machine, and the same until then.
 #![tactic(auto)]
 
+mod dialogue;
 mod journals;
 pub mod laws;
 mod moves;
@@ -36,6 +37,7 @@ mod replay;
 mod replaying;
 mod same;
 
-pub use moves::{Moves, Next};
+pub use dialogue::{Dialogue, Next};
+pub use moves::Moves;
 pub use nothing::Nothing;
 pub use parts::{Answer, Move};

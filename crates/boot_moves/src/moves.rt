@@ -1,70 +1,41 @@
 //! Commands, one move at a time.
 
-ghost use Rattle.std.specs.Prelude.{◌≡◌, ◌++◌, ◌∷◌, [], is_some, Some, None, IfOk, OnErr};
+ghost use Rattle.std.specs.Prelude.{◌≡◌, [], is_some, Some, None, IfOk, OnErr};
 ghost use Rattle.std.specs.Option.{option_map};
 ghost use Rattle.boot_moves.specs.Deeds.{Act, act_of, after_all};
 ghost use Rattle.boot_moves.specs.Ending.{AreOfCommand, LeadsTo, Ends, with_asked};
 ghost use Rattle.boot_moves.specs.Next.{IfMove, IfEnded};
 ghost use Rattle.boot_moves.specs.Parts.{told_of};
 
-use crate::parts::{Answer, Move, Told};
-use crate::replay::Kept;
-use crate::replaying::{Outcome, Start, replay};
-use boot_journal::{BootId, CommandError, Journal, MachineName, Run};
+use crate::dialogue::{Dialogue, Next};
+use crate::parts::{Answer, Move};
+use boot_journal::{BootId, Journal, MachineName, Run};
 use std::alloc::{AllocError, Global};
 use std::marker::Model;
 use uefi_vars::Vars;
 
-/// What comes next.
-#[derive(Debug, Drop)]
-pub enum Next<A, F> {
-    /// A move, [`Moves::asked`], of which the caller tells by [`Moves::tell`] what became.
-    Move,
-    /// Nothing more: the command answers this.
-    Ended(Result<A, CommandError<u32, F>>),
-}
-
 /// A command of [`boot_journal`] over a machine, one move at a time: see the library's head.
 #[derive(Debug, Drop)]
 pub struct Moves<R> {
-    alloc: Global,
-    machine: MachineName,
-    boot: BootId,
+    dialogue: Dialogue,
     run: R,
-    first: Kept,
-    /// The moves that were told. While one is asked for, there is room for it.
-    told: Vec<Told>,
-    asked: Option<Move>,
 }
 
 impl<R> Model for Moves<R> {
-    ghost use Rattle.std.specs.Prelude.{◌<◌, IfSome};
     ghost use Rattle.std.specs.Coded.{codes};
     ghost use Rattle.std.specs.FinMap.{code as map_code};
-    ghost use Rattle.std.specs.Option.{option_map};
-    ghost use Rattle.std.specs.Vec.{vec_len, vec_capacity};
-    ghost use Rattle.boot_moves.specs.Deeds.{act_of, deeds_of};
-    ghost use Rattle.boot_moves.specs.Kept.{store_of};
-    ghost use Rattle.boot_moves.specs.Parts.{MovesParts};
+    ghost use Rattle.boot_moves.specs.Parts.{MovesParts, running};
 
     ghost Value = { MovesParts R };
 
     ghost coded = { Prim.hlevel (codes, map_code) };
 
-    ghost view = { λ m. record {
-      begun = record { machine = m.machine; first = store_of m.first; boot = m.boot; run = m.run };
-      trace = deeds_of m.told.items;
-      asked = option_map act_of m.asked;
-    } };
-
-    ghost invariant = { λ m. IfSome m.asked (λ _. vec_len m.told < vec_capacity m.told) };
+    ghost view = { λ m. running m.run m.dialogue };
 }
 
 impl<R: Run + Copy> Moves<R> {
-    /// The command that runs this over the machine of this name, which has these variables and this journal. Those of the
-    /// boot manager are given with their attributes. A BootKeepState among the variables doesn't count: the journal has it.
-    /// The identity is that of the machine's start. That the journal is another machine's isn't noticed here:
-    /// [`read_journal`](boot_journal::read_journal) tells whose it is.
+    /// The command that runs this over the machine of this name, which has these variables and this journal, as
+    /// [`Dialogue::new`] takes them.
     pub fn new(
         alloc: Global,
         machine: MachineName,
@@ -80,13 +51,8 @@ impl<R: Run + Copy> Moves<R> {
         } }
     {
         Moves {
-            alloc,
-            machine,
-            boot,
+            dialogue: Dialogue::new(alloc, machine, vars, journal, boot),
             run,
-            first: Kept { vars, journal },
-            told: Vec::new(alloc),
-            asked: None,
         }
     }
 
@@ -94,22 +60,21 @@ impl<R: Run + Copy> Moves<R> {
     pub fn machine(&self) -> &MachineName
         ensures { result.now ≡ self.now.begun.machine }
     {
-        &self.machine
+        self.dialogue.machine()
     }
 
     /// The move that is asked for, if one is.
     pub fn asked(&self) -> Option<&Move>
         ensures { option_map (λ asked. act_of asked.now) result ≡ self.now.asked }
     {
-        self.asked.as_ref()
+        self.dialogue.asked()
     }
 
-    /// What comes next, by what was told so far. Asking again gives the same, as long as nothing more is told.
+    /// What comes next, as [`Dialogue::next`] says it. Asking again gives the same, as long as nothing more is told.
     ///
     /// # Errors
     ///
-    /// [`AllocError`] if memory was refused: nothing has happened, and the same call may be made again. A run that doesn't
-    /// lead to the same each time, as one that reads a cell, can't be told from that, and `next` then fails for ever.
+    /// [`AllocError`] as there.
     pub fn next(&mut self) -> Result<Next<R::Answer, R::Fault>, AllocError>
         // What was told stays, and what is asked for is the next move.
         ensures begun { self.new.begun ≡ self.old.begun }
@@ -126,22 +91,7 @@ impl<R: Run + Copy> Moves<R> {
         ensures moments { IfOk result (λ next. IfEnded next (λ ended. AreOfCommand (LeadsTo (R.leads self.old.begun.run))
             self.old.begun.boot self.old.begun.first self.old.trace)) }
     {
-        let start = Start {
-            machine: &self.machine,
-            first: &self.first,
-            told: &self.told,
-        };
-        match replay(self.alloc, start, self.run, &self.boot)? {
-            Outcome::Asks(asked) => {
-                self.told.reserve(1)?;
-                self.asked = Some(asked);
-                Ok(Next::Move)
-            }
-            Outcome::Ends(result) => {
-                self.asked = None;
-                Ok(Next::Ended(result))
-            }
-        }
+        self.dialogue.next(self.run)
     }
 
     /// Tells what became of the move that is asked for, which takes no memory. It says no, and nothing has happened, if none
@@ -150,12 +100,6 @@ impl<R: Run + Copy> Moves<R> {
         ensures told { self.new ≡ told_of answer self.old }
         ensures was { result ≡ is_some self.old.asked }
     {
-        match self.asked.take() {
-            Some(asked) => {
-                self.told.push_reserved(Told { asked, answer });
-                true
-            }
-            None => false,
-        }
+        self.dialogue.tell(answer)
     }
 }
