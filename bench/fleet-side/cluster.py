@@ -17,7 +17,7 @@ from processes import Processes
 SERVER = Path("/usr/lib/rabbitmq/bin/rabbitmq-server")
 CONTROL = Path("/usr/lib/rabbitmq/bin/rabbitmqctl")
 
-STARTED_WITHIN = 180
+STARTED_WITHIN = 600
 """For how many seconds a node may be starting."""
 
 NODES = 3

@@ -81,20 +81,7 @@ class Fleet:
 
     def set_up(self) -> None:
         """Makes certificates, brokers, the relay and the machines, and starts the agents."""
-        began = time.monotonic()
-        self.bootfleet(
-            "init", self.ledger, "--broker", f"localhost:{self.ports[0]}", "--certs", self.certs
-        )
-        self.bootfleet("enroll", *self.names, "x1", "x2", relays.NAME)
-        self.bootfleet("forget", "--yes", "x1", "x2", relays.NAME)
-        self.bootfleet("enroll-sender", OTHER_SENDER)
-        say(f"certificates of {len(self.names)} machines: {time.monotonic() - began:.1f} s")
-        with (self.certs / "acl").open("a") as acl:
-            acl.write(f"\nuser {relays.NAME}\ntopic readwrite bootkeep/#\n")
-        configuration = (self.certs / "mosquitto.conf").read_text()
-        first = f"listener {self.ports[0]} "
-        other = configuration.replace(first, f"listener {self.ports[1]} ")
-        (self.certs / "other.conf").write_text(other)
+        self.make_certificates("x1", "x2")
         for name in ("option", *"abcdefghij"):
             self.options[name] = make_option(self.work, name)
         for name in self.names:
@@ -106,6 +93,27 @@ class Fleet:
             )
             self.state(name).mkdir()
             self.models[name] = read_machine(self.place(name))
+        self.start_all()
+
+    def make_certificates(self, *others: str) -> None:
+        """Makes a ledger with all machines, certificates also of others that are none, and what two brokers read."""
+        began = time.monotonic()
+        self.bootfleet(
+            "init", self.ledger, "--broker", f"localhost:{self.ports[0]}", "--certs", self.certs
+        )
+        self.bootfleet("enroll", *self.names, *others, relays.NAME)
+        self.bootfleet("forget", "--yes", *others, relays.NAME)
+        self.bootfleet("enroll-sender", OTHER_SENDER)
+        say(f"certificates of {len(self.names)} machines: {time.monotonic() - began:.1f} s")
+        with (self.certs / "acl").open("a") as acl:
+            acl.write(f"\nuser {relays.NAME}\ntopic readwrite bootkeep/#\n")
+        configuration = (self.certs / "mosquitto.conf").read_text()
+        first = f"listener {self.ports[0]} "
+        other = configuration.replace(first, f"listener {self.ports[1]} ")
+        (self.certs / "other.conf").write_text(other)
+
+    def start_all(self) -> None:
+        """Starts the brokers, the relay between them, and the agents."""
         self.start_broker("near")
         self.start_broker("far")
         self.relay = relays.Relay(self.certs / relays.NAME, self.ports, self.seed)
@@ -187,10 +195,14 @@ class Fleet:
         say(f"{what}: {spent:.1f} s, messages {moved}" + (f", killed {kills}" if is_wild else ""))
         return spent
 
+    def killable(self) -> List[str]:
+        """The agents that may be killed."""
+        return self.names
+
     def kill_some(self, now: float, due: Dict[str, float], kills: Dict[str, int]) -> None:
         """Kills what is to be killed by now, and starts it again."""
         if now > due["agent"]:
-            name, is_alone = self.draw.choice(self.names), self.draw.random() < 0.5
+            name, is_alone = self.draw.choice(self.killable()), self.draw.random() < 0.5
             (self.processes.kill if is_alone else self.processes.kill_group)(name)
             kills["agents" if is_alone else "updates"] += 1
             self.start_agent(name)
@@ -220,6 +232,9 @@ class Fleet:
             not differ, f"{what}: {len(differ)} machines differ from the model: {differ[:5]}"
         )
         self.check(not twice, f"{what}: {len(twice)} machines have an entry twice: {twice[:5]}")
+        say(
+            f"{what}: {len(differ)} machines differ from the model, {len(twice)} have an entry twice"
+        )
 
     def calm_and_wild(self) -> None:
         self.relay.weather = FOUL
@@ -288,8 +303,14 @@ def free_port() -> int:
         return int(made.getsockname()[1])
 
 
+def description_of(name: str) -> str:
+    """The description of the option of a name."""
+    return name * 7
+
+
 def make_option(work: Path, name: str) -> bytes:
     out = work / f"option-{name}"
-    words = ["option", "--description", name * 7, "--path", PATH.format(name), "--out", str(out)]
+    words = ["option", "--description", description_of(name), "--path", PATH.format(name)]
+    words += ["--out", str(out)]
     subprocess.run([os.environ["BOOTVARS"], *words], check=True)
     return out.read_bytes()

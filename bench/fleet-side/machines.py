@@ -141,12 +141,15 @@ def make_machine(place: Path, draw: random.Random, option: bytes, wanted: List[b
 
 
 class Weather(NamedTuple):
-    """What becomes of messages: which part is lost, and doubled, and for how many seconds at most one is late."""
+    """What becomes of messages: which part is lost, and doubled, for how many seconds at most one is late, and with how
+    many of them one comes again that came long before."""
 
     lost: float
     doubled: float
     late: float
+    again: float = 0
 
 
 FAIR = Weather(0, 0, 0)
 FOUL = Weather(0.3, 0.2, 4)
+FOULEST = Weather(0.3, 0.2, 4, 0.1)

@@ -33,6 +33,7 @@ class Processes:
         self.folder = folder
         self.running: Dict[str, "subprocess.Popen[bytes]"] = {}
         self.groups: List[int] = []
+        self.former: Dict[str, List[int]] = {}
 
     def start(self, name: str, words: List[str]) -> "subprocess.Popen[bytes]":
         """Starts a program. It is killed if the bench is."""
@@ -46,6 +47,7 @@ class Processes:
             )
         self.running[name] = made
         self.groups.append(made.pid)
+        self.former.setdefault(name, []).append(made.pid)
         return made
 
     def log(self, name: str) -> str:
@@ -57,9 +59,30 @@ class Processes:
         self.running[name].wait()
 
     def kill_group(self, name: str) -> None:
-        """Kills a process with all that it has started."""
-        os.killpg(self.running[name].pid, signal.SIGKILL)
+        """Kills a process with all that it has started, as far as it hasn't ended."""
+        if is_there(self.running[name].pid):
+            os.killpg(self.running[name].pid, signal.SIGKILL)
         self.running[name].wait()
+
+    def await_quiet(self, name: str, seconds: float) -> bool:
+        """Waits for so long until nothing is at work that a process has started, nor what one before it by this name has.
+        Whether that is so."""
+        until = time.monotonic() + seconds
+        while self._is_at_work(name):
+            if time.monotonic() > until:
+                return False
+            time.sleep(0.01)
+        return True
+
+    def _is_at_work(self, name: str) -> bool:
+        groups = self.former.get(name, [])
+        if not groups:
+            return False
+        self.former[name] = [it for it in groups[:-1] if is_there(it)] + groups[-1:]
+        if len(self.former[name]) > 1:
+            return True
+        has_ended = self.running[name].poll() is not None
+        return is_there(groups[-1]) if has_ended else bool(children(groups[-1]))
 
     def spent(self, name: str) -> Spent:
         fields = self._stat(self.running[name].pid)
@@ -105,3 +128,30 @@ class Processes:
                 continue
             count += int(fields[2]) in groups and fields[0] != "Z"
         return count
+
+
+def is_there(group: int) -> bool:
+    """Whether there is a process in a group."""
+    try:
+        os.killpg(group, 0)
+    except ProcessLookupError:
+        return False
+    return True
+
+
+def children(pid: int) -> List[int]:
+    """The processes that one has started and that haven't ended."""
+    found = []
+    try:
+        for it in Path(f"/proc/{pid}/task").iterdir():
+            found += [int(child) for child in (it / "children").read_text().split()]
+    except OSError:
+        return []  # It has ended.
+    return [child for child in found if not has_ended(child)]
+
+
+def has_ended(pid: int) -> bool:
+    try:
+        return Path(f"/proc/{pid}/stat").read_text().rpartition(")")[2].split()[0] == "Z"
+    except OSError:
+        return True

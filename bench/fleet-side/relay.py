@@ -6,15 +6,34 @@ import heapq
 import random
 import threading
 import time
+from collections import deque
 from dataclasses import dataclass
 from pathlib import Path
-from typing import Any, Callable, List, NamedTuple, Tuple
+from typing import Any, Callable, Deque, List, NamedTuple, Tuple
 
 import paho.mqtt.client as mqtt
 
 from machines import FAIR
 
 NAME = "relay"
+
+MOST_PAST = 5000
+"""Of how many messages one may come again."""
+
+
+NAMES_ENTRY = (2, 3, 5, 8)
+"""The kinds of requests to a machine's own entries: Replace, Remove, Next and First begin with the number of one."""
+
+KIND_AT, PAYLOAD_AT = 3, 12
+"""Where the kind is in a frame, and where its payload begins (docs/formats.md)."""
+
+
+class Lost(NamedTuple):
+    """A request that was lost and will come again: when, to which machine, and which entry it is about."""
+
+    when: float
+    name: str
+    entry: int
 
 
 class Message(NamedTuple):
@@ -53,6 +72,7 @@ class Counts:
     replies: int = 0
     lost: int = 0
     doubled: int = 0
+    again: int = 0
 
 
 class Relay:
@@ -61,6 +81,8 @@ class Relay:
     def __init__(self, own: Path, ports: Tuple[int, int], seed: int) -> None:
         self.weather, self.counts, self.draw = FAIR, Counts(), random.Random(seed)
         self.late: List[Tuple[float, int, mqtt.Client, str, bytes]] = []
+        self.lost: Deque[Lost] = deque(maxlen=MOST_PAST)
+        self.past: Deque[Tuple[mqtt.Client, str, bytes]] = deque(maxlen=MOST_PAST)
         self.changed = threading.Condition()
         self.serial = 0
         self.to_sender = client(own, ports[0], NAME, self._request, "bootkeep/+/request")
@@ -78,21 +100,37 @@ class Relay:
         self._take(self.to_sender, *message)
 
     def _take(self, to: mqtt.Client, topic: str, payload: bytes) -> None:
-        """Lets a message be lost, or be late once or twice."""
-        lost, doubled, late = self.weather
+        """Lets a message be lost, or be late once or twice, and perhaps one come again."""
+        lost, doubled, late, again = self.weather
         copies = 0 if self.draw.random() < lost else 1 + (self.draw.random() < doubled)
         self.counts.lost += copies == 0
+        if copies == 0:
+            self._note_lost(topic, payload)
         self.counts.doubled += copies == 2
         if late == 0:
             to.publish(topic, payload, 0)
             return
+        passed_on = [(to, topic, payload)] * copies
+        if again:
+            self.past.append((to, topic, payload))
+            if self.draw.random() < again:
+                self.counts.again += 1
+                passed_on.append(self.draw.choice(self.past))
         with self.changed:
-            for _ in range(copies):
+            for one in passed_on:
                 most = late if self.draw.random() < 0.1 else 0.1
                 self.serial += 1
                 due = time.monotonic() + self.draw.random() * most
-                heapq.heappush(self.late, (due, self.serial, to, topic, payload))
+                heapq.heappush(self.late, (due, self.serial, *one))
             self.changed.notify()
+
+    def _note_lost(self, topic: str, payload: bytes) -> None:
+        """Notes a request that is about an entry, if it is one."""
+        _, name, kind = topic.split("/")
+        frames = payload.partition(b"\n")[2]
+        if kind == "request" and len(frames) > PAYLOAD_AT and frames[KIND_AT] in NAMES_ENTRY:
+            entry = int.from_bytes(frames[PAYLOAD_AT : PAYLOAD_AT + 2], "little")
+            self.lost.append(Lost(time.monotonic(), name, entry))
 
     def _pass_on(self) -> None:
         while True:
