@@ -2,7 +2,7 @@
 //! variables of a machine are listed (UEFI specification, version 2.10, chapter 3).
 //!
 //! [`run`] does what the words of a command line ask for, and returns the status to end with. The words and the lines are
-//! those of `efibootmgr_words`; docs/machines.md says what is done in another way than by `efibootmgr`.
+//! those of `efibootmgr_words`; docs/efibootmgr.md says what is done in another way than by `efibootmgr`.
 #![tactic(auto)]
 
 mod edit_of;

@@ -40,7 +40,7 @@ impl Tables {
 }
 
 /// The text of a path in the forms of libefivar 37 (UEFI 2.10, 10.6), but for nodes that it prints wrong: those are as
-/// `uefi_names` shows them, as docs/machines.md says. This fails only when out of memory.
+/// `uefi_names` shows them, as docs/efibootmgr.md says. This fails only when out of memory.
 pub fn efivar_text(alloc: Global, path: &Path) -> Result<String, AllocError>
     ensures { IfOk result (λ text. (own : NodeTable) × (standard : NodeTable) × AreTables own standard
         × (string_bytes text ≡ path_text own standard path.now)) }

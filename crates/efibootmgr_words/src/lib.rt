@@ -4,7 +4,7 @@
 //! [`options`] is that of `efibootmgr`. [`Asked::new`] tells what they ask for. What is wrong with them is a [`WordFault`],
 //! which names the word, and has the status that `efibootmgr` ends with. [`list_vars`] shows a machine's boot variables (UEFI
 //! specification, version 2.10, chapter 3), and [`efivar_text`] a device path (chapter 10), in the forms of version 17 of
-//! `efibootmgr` and version 37 of libefivar; docs/machines.md says where they differ. [`HELP`] and [`VERSION`] are what is
+//! `efibootmgr` and version 37 of libefivar; docs/efibootmgr.md says where they differ. [`HELP`] and [`VERSION`] are what is
 //! printed for those who ask for them.
 #![tactic(auto)]
 
