@@ -84,6 +84,7 @@ class Changelog(unittest.TestCase):
             "tools/build-c": r"^readonly VERSION=(\S+) ",
             "libraries/python/pyproject.toml": r'^version = "(.*)"$',
             "libraries/python/bootkeep/__init__.py": r'^__version__ = "(.*)"$',
+            "packaging/ansible/galaxy.yml": r"^version: (.*)$",
             "libraries/rust/Cargo.toml": r'^version = "(.*)"$',
             "docs/bootvars.schema.json": r'^  "title": "What bootvars (\S+) prints as JSON",$',
             "libraries/rust/Cargo.lock": r'^name = "bootkeep"\nversion = "(.*)"$',
@@ -256,6 +257,22 @@ class Places(unittest.TestCase):
         self.assertEqual(
             gzip.decompress(packed), (ROOT / "packaging/man" / "bootvars.1").read_bytes()
         )
+
+
+class Collection(unittest.TestCase):
+    """What is in the package for Ansible."""
+
+    def test_all_of_it_but_its_tests(self) -> None:
+        top = "share/ansible/collections/ansible_collections/bootkeep/boot/"
+        source = ROOT / "packaging/ansible"
+        names = {
+            str(it.relative_to(source))
+            for it in source.rglob("*")
+            if it.is_file() and not {"tests", "__pycache__"} & set(it.relative_to(source).parts)
+        }
+        found = package_files.collection_files().files
+        self.assertIn("plugins/modules/entries.py", names)
+        self.assertEqual(set(found), {top + it for it in names})
 
 
 class Fleet(unittest.TestCase):

@@ -18,7 +18,7 @@ ARCHIVE, HEADER = "libbootkeep.a", "bootkeep.h"
 SHARED, SHARED_NAMES = "libbootkeep.so.1.0.0", ("libbootkeep.so.1", "libbootkeep.so")
 
 PAGES = (
-    *("machines.md", "requests.md", "packages.md", "formats.md"),
+    *("machines.md", "efibootmgr.md", "apply.md", "requests.md", "packages.md", "formats.md"),
     *("promises.md", "definitions.md", "performance.md", "DECISIONS.md"),
 )
 """The pages for those who have the programs, and for those who want to know what to trust."""
@@ -130,6 +130,17 @@ def fleet_files(place: Place) -> FileTree:
     page, picture = (ROOT / "docs" / name for name in ("fleet.md", "fleet-scale.svg"))
     place.put_text(files, f"share/doc/bootkeep-fleet/{page.name}", page.read_bytes())
     files.put(f"share/doc/bootkeep-fleet/{picture.name}", picture.read_bytes())
+    return files
+
+
+def collection_files() -> FileTree:
+    """The collection for Ansible, where Debian's Ansible looks for collections."""
+    files = FileTree()
+    source, to = ROOT / "packaging/ansible", "share/ansible/collections/ansible_collections"
+    for name in ("galaxy.yml", "LICENSE", "README.md", "meta/runtime.yml"):
+        files.put(f"{to}/bootkeep/boot/{name}", (source / name).read_bytes())
+    for module in sorted(source.glob("plugins/*/*.py")):
+        files.put(f"{to}/bootkeep/boot/{module.relative_to(source)}", module.read_bytes())
     return files
 
 

@@ -42,6 +42,8 @@ AGENT = (
     "were when this was built:"
 )
 
+COLLECTION = AGENT.replace("the agent", "the collection")
+
 VERSION = re.compile(r"\d[A-Za-z0-9.+~]*")
 """A version as Debian has it, without a revision."""
 
@@ -174,10 +176,12 @@ def debian_contents(made: Made) -> Dict[str, Content]:
     shared = package_files.library_files(made, DEBIAN).below("usr")
     development = package_files.development_files(made, DEBIAN, examples).below("usr")
     agent = package_files.agent_files(DEBIAN).below("usr")
+    collection = package_files.collection_files().below("usr")
     fleet = package_files.fleet_files(DEBIAN).below("usr")
     programs, library = Proofs.of(*PROGRAMS), Proofs.of("bootkeep_c")
     of_programs, of_library = built_files(bootkeep), built_files(shared)
     return {
+        "ansible-collection-bootkeep-boot": Content(collection, programs, COLLECTION, of_programs),
         "bootkeep": Content(bootkeep, programs, BUILT, of_programs),
         "bootkeep-agent": Content(agent, programs, AGENT, of_programs),
         "bootkeep-fleet": Content(fleet, library, CALLED, of_library),

@@ -19,6 +19,7 @@ _bootvars() {
 "bootvars deactivate" | \
 "bootvars try" | \
 "bootvars confirm" | \
+"bootvars apply" | \
 "bootvars undo" | \
 "bootvars write" | \
 "bootvars update" | \
@@ -55,6 +56,8 @@ _bootvars() {
 "bootvars deactivate --state" | \
 "bootvars try --state" | \
 "bootvars confirm --state" | \
+"bootvars apply --root" | \
+"bootvars apply --state" | \
 "bootvars undo --state" | \
 "bootvars write --state" | \
 "bootvars update --state" | \
@@ -92,6 +95,8 @@ _bootvars() {
 "bootvars try --machine" | \
 "bootvars confirm --boot-id" | \
 "bootvars confirm --machine" | \
+"bootvars apply --boot-id" | \
+"bootvars apply --machine" | \
 "bootvars undo --boot-id" | \
 "bootvars undo --machine" | \
 "bootvars write --boot-id" | \
@@ -108,7 +113,7 @@ _bootvars() {
 "bootvars option --optional-text") return ;;
     esac
     case $command in
-        "bootvars") words="check read show diff get add remove first order next timeout activate deactivate try confirm undo write update option frame explain efibootmgr --help --version -h -V" ;;
+        "bootvars") words="check read show diff get add remove first order next timeout activate deactivate try confirm apply undo write update option frame explain efibootmgr --help --version -h -V" ;;
         "bootvars check") words="--json --root --state --boot-id --help --version -h -V" ;;
         "bootvars read") words="--out --boot-only --help --version -h -V" ;;
         "bootvars show") words="--json --state --boot-id --help --version -h -V" ;;
@@ -124,6 +129,7 @@ _bootvars() {
         "bootvars deactivate") words="--dry-run --json --state --boot-id --machine --adopt --force --help --version -h -V" ;;
         "bootvars try") words="--forget --dry-run --json --state --boot-id --machine --adopt --help --version -h -V" ;;
         "bootvars confirm") words="--dry-run --json --state --boot-id --machine --adopt --help --version -h -V" ;;
+        "bootvars apply") words="--of --dry-run --json --exit-code --root --state --boot-id --machine --adopt --force --help --version -h -V" ;;
         "bootvars undo") words="--list --dry-run --json --state --boot-id --machine --adopt --force --help --version -h -V" ;;
         "bootvars write") words="--dry-run --json --empty --state --boot-id --machine --force --help --version -h -V" ;;
         "bootvars update") words="--state --stream --dry-run --json --look --expect --next --settle --boot-id --machine --adopt --force --help --version -h -V" ;;

@@ -18,6 +18,7 @@ function __bootvars_at
 'bootvars deactivate' \
 'bootvars try' \
 'bootvars confirm' \
+'bootvars apply' \
 'bootvars undo' \
 'bootvars write' \
 'bootvars update' \
@@ -54,6 +55,7 @@ complete -c bootvars -n '__bootvars_at bootvars' -a activate -d 'Makes entries a
 complete -c bootvars -n '__bootvars_at bootvars' -a deactivate -d 'Makes entries inactive, so that no boot tries them by itself'
 complete -c bootvars -n '__bootvars_at bootvars' -a try -d 'Puts an entry on trial: the next start tries it once, and `confirm` keeps it if the machine came up by it'
 complete -c bootvars -n '__bootvars_at bootvars' -a confirm -d 'Keeps the entry that is on trial, if the machine came up by it'
+complete -c bootvars -n '__bootvars_at bootvars' -a apply -d 'Makes the boot entries, their order, BootNext and Timeout what a file says'
 complete -c bootvars -n '__bootvars_at bootvars' -a undo -d 'Brings back what was there before the last change'
 complete -c bootvars -n '__bootvars_at bootvars' -a write -d 'Makes the boot variables of a place those of a set'
 complete -c bootvars -n '__bootvars_at bootvars' -a update -d 'Runs requests over a machine'\''s boot variables, each exactly once'
@@ -198,6 +200,18 @@ complete -c bootvars -n '__bootvars_at bootvars confirm' -l machine -x -d 'What 
 complete -c bootvars -n '__bootvars_at bootvars confirm' -l adopt -d 'Takes over what another machine'\''s updates left in FOLDER, unless there is something left to do'
 complete -c bootvars -n '__bootvars_at bootvars confirm' -l help -s h -d 'Print help (see a summary with '\''-h'\'')'
 complete -c bootvars -n '__bootvars_at bootvars confirm' -l version -s V -d 'Print version'
+complete -c bootvars -n '__bootvars_at bootvars apply' -l of -d 'Prints the file that says what PLACE has now, and changes nothing'
+complete -c bootvars -n '__bootvars_at bootvars apply' -l dry-run -d 'Prints the changes and makes none'
+complete -c bootvars -n '__bootvars_at bootvars apply' -l json -d 'Prints JSON'
+complete -c bootvars -n '__bootvars_at bootvars apply' -l exit-code -d 'Ends with 12 if something is changed, or would be'
+complete -c bootvars -n '__bootvars_at bootvars apply' -l root -r -F -d 'The folder below which the system is whose files are loaders'
+complete -c bootvars -n '__bootvars_at bootvars apply' -l state -r -F -d 'The folder that keeps what is left to do and what was there before, in place of /var/lib/bootkeep'
+complete -c bootvars -n '__bootvars_at bootvars apply' -l boot-id -x -d 'The identity of the machine'\''s start, if an update of a variable file has something left to do'
+complete -c bootvars -n '__bootvars_at bootvars apply' -l machine -x -d 'What the machine is called, in place of its UUID or the path of PLACE'
+complete -c bootvars -n '__bootvars_at bootvars apply' -l adopt -d 'Takes over what another machine'\''s updates left in FOLDER, unless there is something left to do'
+complete -c bootvars -n '__bootvars_at bootvars apply' -l force -d 'Takes a loader that firmware doesn'\''t start, and writes a variable file that is damaged'
+complete -c bootvars -n '__bootvars_at bootvars apply' -l help -s h -d 'Print help (see a summary with '\''-h'\'')'
+complete -c bootvars -n '__bootvars_at bootvars apply' -l version -s V -d 'Print version'
 complete -c bootvars -n '__bootvars_at bootvars undo' -l list -d 'Lists the changes that can be undone, the newest first'
 complete -c bootvars -n '__bootvars_at bootvars undo' -l dry-run -d 'Prints the changes and makes none'
 complete -c bootvars -n '__bootvars_at bootvars undo' -l json -d 'Prints JSON'

@@ -1,20 +1,22 @@
 //! The command `bootvars`, which reads, compares and writes the UEFI boot variables of a machine, and makes load options
-//! and the frames of requests. All of it is in the libraries `var_commands`, `efibootmgr_runs` and `trial_changes`.
+//! and the frames of requests. All of it is in the libraries `var_commands`, `efibootmgr_runs`, `trial_changes` and
+//! `profile_changes`.
 #![tactic(auto)]
 
 use boot_texts::TrialView;
 use boot_trials::{Outcome, TrialTarget};
 use machine_changes::ChangeOptions;
 use messages::Failure;
+use profile_changes::{apply_profile, show_profile};
 use std::process::ExitCode;
 use std::rt::{Clock, Env, Files};
 use trial_changes::{TrialForm, begin_trial, confirm_trial, end_trial, trial_view};
 use uefi_vars::Vars;
-use var_commands::{OtherProgram, Trials};
+use var_commands::{OtherProgram, ProfileWords, Profiles, Trials};
 use wanted_changes::MachineWords;
 use whole_files::OutputFile;
 
-/// What is done for the words of `efibootmgr`, and for those of starts on trial.
+/// What is done for the words of `efibootmgr`, and for those of starts on trial and of profiles.
 #[derive(Clone, Copy)]
 struct Others;
 
@@ -58,6 +60,27 @@ impl<R: Files<File: OutputFile> + Clock + Input + Print + Eprint + AllocGlobal> 
         vars: &Vars,
     ) -> Result<Option<TrialView>, Failure> {
         trial_view(rt, machine, vars)
+    }
+}
+
+impl<R: Files<File: OutputFile> + Clock + Input + Print + Eprint + AllocGlobal> Profiles<R>
+    for Others {
+    fn apply(
+        &self,
+        rt: &R,
+        options: &ChangeOptions<'_>,
+        words: &ProfileWords<'_>,
+    ) -> Result<bool, Failure> {
+        let words = profile_changes::ProfileWords {
+            file: words.file,
+            root: words.root,
+            json: words.json,
+        };
+        apply_profile(rt, options, &words)
+    }
+
+    fn show(&self, rt: &R, place: &str) -> Result<(), Failure> {
+        show_profile(rt, place)
     }
 }
 

@@ -51,17 +51,17 @@ IsPathsFault (Texts texts) f = IsTextsFault (map (λ text. text.now) texts.now) 
 IsPathsFault (Paths paths) f = ⊥
 
 -- this description and these paths are those of no option
-abbrev pub IsPartsFault : List ℕ → List (List (List Node)) → OptionFault → Type 0
-IsPartsFault description paths option_fault.ZeroUnit = Contains description 0
-IsPartsFault description paths option_fault.EmptyList = (¬ Contains description 0) × (paths ≡ [])
-IsPartsFault description paths option_fault.ListTooLong = (¬ Contains description 0) × (list_max < length (list_bytes paths))
-IsPartsFault description paths _ = ⊥
+abbrev pub IsFaultOfParts : List ℕ → List (List (List Node)) → OptionFault → Type 0
+IsFaultOfParts description paths option_fault.ZeroUnit = Contains description 0
+IsFaultOfParts description paths option_fault.EmptyList = (¬ Contains description 0) × (paths ≡ [])
+IsFaultOfParts description paths option_fault.ListTooLong = (¬ Contains description 0) × (list_max < length (list_bytes paths))
+IsFaultOfParts description paths _ = ⊥
 
 -- the description or, if that is one, the option of it and of these paths has the fault
 abbrev pub IsOptionFault : List ℕ → List (List (List Node)) → OptionWordsFault → Type 0
 IsOptionFault text paths (fault.Description f) = IsDescriptionFault (chars text) f
 IsOptionFault text paths (fault.Option f) =
-    (description : List ℕ) × IsDescription (chars text) description × IsPartsFault description paths f
+    (description : List ℕ) × IsDescription (chars text) description × IsFaultOfParts description paths f
 IsOptionFault text paths _ = ⊥
 
 -- the words have the fault: one of their paths, or if these are there, the description or the option of all

@@ -235,6 +235,17 @@ fn read_paths(alloc: Global, texts: &[&str]) -> Result<Vec<Path>, OptionWordsFau
     Ok(paths)
 }
 
+/// The path that a text stands for, which is read as those of [`option_bytes`] are.
+///
+/// # Errors
+///
+/// As of [`option_bytes`], of which the path is the first.
+pub fn path_of_text(alloc: Global, text: &str) -> Result<Path, OptionWordsFault>
+    ensures { IfOk result (λ path. IsNamedText standard_table text.now path) }
+{
+    read_path(alloc, text, 1)
+}
+
 /// The path that a text stands for, which is the one of this number.
 fn read_path(alloc: Global, text: &str, number: usize) -> Result<Path, OptionWordsFault>
     ensures found { IfOk result (λ path. IsPathText text.now path) }

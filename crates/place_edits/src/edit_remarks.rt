@@ -92,7 +92,11 @@ fn remark_present(
 }
 
 /// Remarks what was there of a BootOrder or a BootNext that couldn't be read, and that is changed.
-fn remark_repairs(
+///
+/// # Errors
+///
+/// [`AllocError`] if memory was refused.
+pub fn remark_repairs(
     alloc: Global,
     remarks: &mut Remarks,
     place: &str,

@@ -10,7 +10,7 @@ use uefi_vars::EntryName;
 fn from_edit(alloc: Global, place: &str, fault: EditFault) -> Failure {
     match fault {
         EditFault::OutOfMemory => Failure::Memory,
-        fault => match format!(in alloc; "{}", FaultWords(fault)) {
+        fault => match format!(in alloc; "{}", EditFaultWords(fault)) {
             Ok(words) => Failure::from_run(alloc, place, words.as_str()),
             Err(AllocError) => Failure::Memory,
         },
@@ -27,9 +27,9 @@ pub fn from_edit_run(alloc: Global, place: &str, fault: EditRunFault) -> Failure
 
 /// A fault, with the entry that it is of.
 #[derive(Clone, Copy)]
-struct FaultWords(EditFault);
+pub struct EditFaultWords(pub EditFault);
 
-impl fmt::Display for FaultWords {
+impl fmt::Display for EditFaultWords {
     fn fmt<W: fmt::Write>(&self, f: &mut fmt::Formatter<W>) -> fmt::Result {
         match self.0 {
             EditFault::Taken(entry) => write!(f, "{}", IsThere(EntryName(entry))),

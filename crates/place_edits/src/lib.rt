@@ -3,8 +3,8 @@
 //!
 //! A [`WantedEdit`] is a change of `boot_edits`, a [`WantedSet`] makes the boot variables of a place those of a set, and a
 //! [`WantedUndo`] brings back what was there before the last change that is kept. Each says what it leads to, and what is told
-//! of that; `machine_changes` makes it so. [`from_edit_run`] tells why an edit isn't made, and
-//! [`get_entry`] gives the load option of an entry.
+//! of that; `machine_changes` makes it so. [`from_edit_run`] and [`EditFaultWords`] tell why an edit isn't made,
+//! [`remark_repairs`] what it repairs, and [`get_entry`] gives the load option of an entry.
 #![tactic(auto)]
 
 mod brought;
@@ -19,9 +19,10 @@ mod undo_run;
 mod unnamed;
 mod wanted_set;
 
+pub use edit_remarks::remark_repairs;
 pub use edits::{EditForm, WantedEdit};
 pub use entry::get_entry;
-pub use fault_words::from_edit_run;
+pub use fault_words::{EditFaultWords, from_edit_run};
 pub use takeable::Takeable;
 pub use undo::{UndoWords, WantedUndo};
 pub use undo_run::{ChangedSince, UndoFault, Undone};

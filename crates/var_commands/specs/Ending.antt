@@ -13,3 +13,4 @@ ending_status ending.NotAll = 6
 ending_status ending.Unmet = 9
 ending_status ending.TrialFailed = 10
 ending_status ending.TooEarly = 11
+ending_status ending.Changed = 12

@@ -62,6 +62,13 @@ pub enum Action<'a> {
     },
     /// To change boot entries of a place.
     Change(ChangeWords<'a>),
+    /// To make a place what a file says.
+    Apply(ApplyWords<'a>),
+    /// To print the file that says what a place has.
+    ShowProfile {
+        /// The place.
+        place: &'a str,
+    },
     /// To begin a start on trial, to make what follows from one, or to end it.
     Trial(TrialWords<'a>),
     /// To bring back what was there before the last change of a machine.
@@ -144,6 +151,30 @@ pub struct SetWords<'a> {
     pub form: Form,
     /// Whether a set without an entry is written.
     pub empty: bool,
+}
+
+/// The words of `apply`.
+#[derive(Clone, Copy)]
+pub struct ApplyWords<'a> {
+    /// The machine.
+    pub machine: MachineWords<'a>,
+    /// The file, and how what it changes is told.
+    pub profile: ProfileWords<'a>,
+    /// Whether nothing is changed, and what would be is shown.
+    pub dry_run: bool,
+    /// Whether the status tells that something is changed.
+    pub exit_code: bool,
+}
+
+/// The words that say a profile, and how what it changes is told.
+#[derive(Clone, Copy, Debug)]
+pub struct ProfileWords<'a> {
+    /// The path of the file.
+    pub file: &'a str,
+    /// The path of the folder that stands for the root of the system whose files are loaders, or nothing.
+    pub root: &'a str,
+    /// Whether JSON is printed.
+    pub json: bool,
 }
 
 /// The words of a start on trial.

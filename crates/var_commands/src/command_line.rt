@@ -1,9 +1,9 @@
 //! The words of the command line, and what they ask for.
 
 use crate::action::{
-    Action, AddWords, AttributeWords, ChangeWords, EntryChange, Form, KeptWords, LoadOptionWords,
-    LoaderWords, OptionalWords, PathWords, RequestWords, SetWords, StartWords, TrialJob,
-    TrialWords,
+    Action, AddWords, ApplyWords, AttributeWords, ChangeWords, EntryChange, Form, KeptWords,
+    LoadOptionWords, LoaderWords, OptionalWords, PathWords, ProfileWords, RequestWords, SetWords,
+    StartWords, TrialJob, TrialWords,
 };
 use crate::commands::program;
 use crate::updates::Job;
@@ -43,6 +43,7 @@ pub(crate) fn action_of<'a>(matches: &'a ArgMatches<'_>) -> Option<Action<'a>> {
         "explain" => explain_of(matches),
         "undo" => undo_of(matches),
         "timeout" => timeout_of(matches),
+        "apply" => apply_of(matches),
         "try" => trial_of(try_job(matches), matches),
         "confirm" => trial_of(TrialJob::Confirm, matches),
         _ => change_of(entry_change_of(name, matches)?, matches),
@@ -161,6 +162,23 @@ fn undo_of<'a>(matches: &'a ArgMatches<'_>) -> Option<Action<'a>> {
         force: machine.force,
         dry_run: matches.get_flag("dry-run"),
         json: matches!(form, Form::Json),
+    }))
+}
+
+fn apply_of<'a>(matches: &'a ArgMatches<'_>) -> Option<Action<'a>> {
+    let place = matches.get_str("PLACE")?;
+    if matches.get_flag("of") {
+        return Some(Action::ShowProfile { place });
+    }
+    Some(Action::Apply(ApplyWords {
+        machine: machine_of(matches)?,
+        profile: ProfileWords {
+            file: matches.get_str("FILE")?,
+            root: matches.get_str("root").unwrap_or(""),
+            json: matches.get_flag("json"),
+        },
+        dry_run: matches.get_flag("dry-run"),
+        exit_code: matches.get_flag("exit-code"),
     }))
 }
 

@@ -7,6 +7,7 @@ use crate::arg_rows::{
 };
 use crate::entry_rows::{LIST_COMMANDS, ORDER_COMMANDS, SWITCH_COMMANDS};
 use crate::frame_rows::{FRAME, REQUESTS};
+use crate::profile_rows::PROFILE_COMMANDS;
 use crate::table::{ArgKind, ArgRow, CommandRow, GroupRow, add_commands, command};
 use crate::trial_rows::{KEPT, KEPT_START, TRIAL_COMMANDS};
 use crate::update_rows::UPDATE_COMMANDS;
@@ -57,6 +58,7 @@ fn commands<'a>(alloc: Global) -> Result<Vec<Command<'a>>, AllocError> {
     add_commands(alloc, &mut commands, &ORDER_COMMANDS)?;
     add_commands(alloc, &mut commands, &SWITCH_COMMANDS)?;
     add_commands(alloc, &mut commands, &TRIAL_COMMANDS)?;
+    add_commands(alloc, &mut commands, &PROFILE_COMMANDS)?;
     add_commands(alloc, &mut commands, &UNDO_COMMANDS)?;
     add_commands(alloc, &mut commands, &WRITE_COMMANDS)?;
     add_commands(alloc, &mut commands, &UPDATE_COMMANDS)?;

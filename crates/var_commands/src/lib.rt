@@ -16,6 +16,8 @@ mod commands;
 mod entry_rows;
 mod frame_rows;
 mod making;
+mod profile_rows;
+mod profiles;
 mod program;
 mod refusals;
 mod table;
@@ -27,5 +29,7 @@ mod update_rows;
 mod updates;
 mod writing;
 
+pub use action::ProfileWords;
+pub use profiles::Profiles;
 pub use program::{OtherProgram, run};
 pub use trials::Trials;

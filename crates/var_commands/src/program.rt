@@ -8,6 +8,7 @@ use crate::action::{Action, Form, KeptWords};
 use crate::changing::change_entries;
 use crate::command_line::{action_of, read_words};
 use crate::making::{entry_of, explain, make_frame, make_option};
+use crate::profiles::{Profiles, apply_words};
 use crate::trials::{KeptTrial, Trials, run_trial, told_machine};
 use crate::undo_list::list_changes;
 use crate::undoing::undo_change;
@@ -47,12 +48,14 @@ pub(crate) enum Ending {
     TrialFailed,
     /// It was to confirm an entry, and the machine wasn't started since the trial began.
     TooEarly,
+    /// It was to tell whether it changed something, and it did, or would have.
+    Changed,
 }
 
 impl Ending {
     /// The status that the program ends with: 1 if two places differ or something is wrong with the first entry, 6 if not
     /// all requests were applied and carried out, 9 if none was run since something isn't as it was expected, 10 if a trial
-    /// failed, 11 if the machine wasn't started since it began, otherwise 0.
+    /// failed, 11 if the machine wasn't started since it began, 12 if something was changed and that is to be told, otherwise 0.
     fn status(self) -> u8
         ensures { result ≡ ending_status self }
     {
@@ -63,6 +66,7 @@ impl Ending {
             Ending::Unmet => 9,
             Ending::TrialFailed => 10,
             Ending::TooEarly => 11,
+            Ending::Changed => 12,
         }
     }
 }
@@ -70,14 +74,14 @@ impl Ending {
 /// Does what the words of the command line ask for, and returns the status to end with: 0, or 1 if two places were
 /// compared and differ or something is wrong with the first entry that was checked, 6 if requests were run and not all of
 /// them were applied and carried out, 9 if none was run since something isn't as it was expected, 10 if a start on trial failed, 11 if
-/// the machine wasn't started since the trial began; or, with a message on standard error, 1 if requests aren't run, 2 if the words are
+/// the machine wasn't started since the trial began, 12 if a file was applied that changes something, and that is to be told; or, with a message on standard error, 1 if requests aren't run, 2 if the words are
 /// wrong, 3 if a file or a variable can't be read or changed, 4 if memory was refused, 5 if an input is refused, 7 if
 /// another update is at work, and 8 if an update was neither made nor taken back; or 141, without a message, if nobody
 /// reads standard output any more. Words that begin with `efibootmgr` are that program's.
 pub fn run<R, O>(rt: &R, others: &O) -> u8
 where
     R: Env + Files<File: OutputFile> + Clock + Input + Print + Eprint + AllocGlobal,
-    O: OtherProgram<R> + Trials<R>,
+    O: OtherProgram<R> + Trials<R> + Profiles<R>,
 {
     match words(rt) {
         Ok(words) => match words.as_slice() {
@@ -122,15 +126,15 @@ fn tell<R: Eprint>(rt: &R, outcome: Result<Ending, Failure>) -> u8
 }
 
 /// Does what the words of the command line ask for, of which the first is the program's name.
-fn answer<R, T>(rt: &R, trials: &T, words: &[String]) -> Result<Ending, Failure>
+fn answer<R, T>(rt: &R, others: &T, words: &[String]) -> Result<Ending, Failure>
 where
     R: Files<File: OutputFile> + Clock + Input + Print + Eprint + AllocGlobal,
-    T: Trials<R>,
+    T: Trials<R> + Profiles<R>,
 {
     let alloc = rt.alloc();
     match read_words(alloc, words) {
         Ok(matches) => match action_of(&matches) {
-            Some(action) => act(rt, trials, action, words.get(1..).unwrap_or(&[])),
+            Some(action) => act(rt, others, action, words.get(1..).unwrap_or(&[])),
             None => Err(Failure::from_word(alloc, "no command is named")),
         },
         Err(error) => end_without_action(rt, words, &error),
@@ -214,10 +218,10 @@ fn without_controls(alloc: Global, message: &str) -> Result<String, AllocError> 
 }
 
 /// Does what is asked for by these words.
-fn act<R, T>(rt: &R, trials: &T, action: Action<'_>, words: &[String]) -> Result<Ending, Failure>
+fn act<R, T>(rt: &R, others: &T, action: Action<'_>, words: &[String]) -> Result<Ending, Failure>
 where
     R: Files<File: OutputFile> + Clock + Input + Print + Eprint + AllocGlobal,
-    T: Trials<R>,
+    T: Trials<R> + Profiles<R>,
 {
     match action {
         Action::Read {
@@ -225,15 +229,17 @@ where
             out,
             boot_only,
         } => done(make_set(rt, place, out, boot_only)),
-        Action::Show { place, form, kept } => done(show(rt, trials, place, form, kept)),
+        Action::Show { place, form, kept } => done(show(rt, others, place, form, kept)),
         Action::ShowTimeout { place, form } => done(show_timeout(rt, place, form)),
-        Action::Check { words, kept } => check(rt, trials, &words, kept),
+        Action::Check { words, kept } => check(rt, others, &words, kept),
         Action::Diff { from, to, form } => diff(rt, from, to, form),
         Action::Get { place, entry, out } => {
             done(get_entry(rt, place, entry_of(rt.alloc(), entry)?, out))
         }
-        Action::Change(change) => done(change_entries(rt, trials, &change, words)),
-        Action::Trial(trial) => run_trial(rt, trials, &trial, words).map(ending_of_trial),
+        Action::Change(change) => done(change_entries(rt, others, &change, words)),
+        Action::Apply(apply) => apply_words(rt, others, &apply, words).map(ending_of_change),
+        Action::ShowProfile { place } => done(others.show(rt, place)),
+        Action::Trial(trial) => run_trial(rt, others, &trial, words).map(ending_of_trial),
         Action::Undo(words) => undo_change(rt, &words).map(ending_of),
         Action::ListChanges { machine, form } => {
             done(list_changes(rt, &machine, matches!(form, Form::Json)))
@@ -246,7 +252,7 @@ where
         } => {
             update_place(
                 rt,
-                trials,
+                others,
                 &UpdateWords {
                     machine,
                     expected,
@@ -272,6 +278,15 @@ where
 /// The ending of what is done if nothing failed.
 fn done(outcome: Result<(), Failure>) -> Result<Ending, Failure> {
     outcome.map(|()| Ending::Done)
+}
+
+/// How the program ends if something was changed, and that is to be told.
+fn ending_of_change(is_told: bool) -> Ending {
+    if is_told {
+        Ending::Changed
+    } else {
+        Ending::Done
+    }
 }
 
 /// How the program ends after a change that leaves this.
