@@ -21,7 +21,7 @@ import subprocess
 import tempfile
 import time
 from pathlib import Path
-from typing import List
+from typing import List, Optional
 
 from .brokers import CRL, KINDS, Broker, Mosquitto, broker_of, replace
 from .endings import SOON, days_left, read_certificate
@@ -35,6 +35,10 @@ NAME = re.compile(r"[A-Za-z0-9][A-Za-z0-9._-]{0,62}")
 DAYS = 3650
 """For how many days a certificate is good."""
 
+BACKDATED = 24 * 3600
+"""How many seconds before now a certificate, or a list of revoked ones, begins to be good: whoever reads it may have a clock
+that is behind that of this host."""
+
 CURVE = ["-newkey", "ec", "-pkeyopt", "ec_paramgen_curve:P-256", "-nodes"]
 
 OLD = ".old"
@@ -43,7 +47,28 @@ OLD = ".old"
 FORGOTTEN = "forgotten"
 """The file in a machine's folder that says that it was forgotten."""
 
-FOR_CLIENT = ["extendedKeyUsage=clientAuth", "basicConstraints=critical,CA:FALSE"]
+FOR_AUTHORITY = ["basicConstraints=critical,CA:TRUE", "keyUsage=critical,keyCertSign,cRLSign"]
+
+FOR_CLIENT = ["basicConstraints=critical,CA:FALSE", "extendedKeyUsage=clientAuth"]
+
+FOR_SERVER = ["basicConstraints=critical,CA:FALSE", "extendedKeyUsage=serverAuth"]
+
+IDENTIFIERS = ["subjectKeyIdentifier=hash", "authorityKeyIdentifier=keyid"]
+
+ISSUING = """\
+[ca]
+default_ca = fleet
+[fleet]
+database = {folder}/issued
+new_certs_dir = {folder}
+default_md = sha256
+rand_serial = yes
+unique_subject = no
+policy = named
+[named]
+commonName = supplied
+"""
+"""What openssl reads to make a certificate."""
 
 REVOKING = """\
 [ca]
@@ -81,38 +106,74 @@ def make_authority(folder: Path) -> None:
 
 
 def _make_ca(folder: Path) -> None:
-    with tempfile.TemporaryDirectory(dir=folder) as made:
-        _openssl(
-            ["req", "-x509", *CURVE, "-subj", "/CN=bootfleet", "-days", str(2 * DAYS)]
-            + ["-addext", "basicConstraints=critical,CA:TRUE"]
-            + ["-addext", "keyUsage=critical,keyCertSign,cRLSign"]
-            + ["-keyout", f"{made}/ca.key", "-out", f"{made}/ca.pem"]
-        )
-        os.replace(f"{made}/ca.pem", folder / "ca.pem")
-        os.replace(f"{made}/ca.key", folder / "ca.key")
+    with tempfile.TemporaryDirectory(dir=folder) as new:
+        made = Path(new)
+        asked = _request(made, made / "ca.key", "bootfleet")
+        _sign(made, asked, "bootfleet", FOR_AUTHORITY, 2 * DAYS)
+        os.replace(made / "own.pem", folder / "ca.pem")
+        os.replace(made / "ca.key", folder / "ca.key")
 
 
 def make_certificate(folder: Path, name: str, addresses: str = "") -> Path:
     """Makes the folder of somebody with this name, unless there is a good one, and gives its path. A broker has its
     addresses in its certificate."""
-    made = folder / name
-    if _is_good(made):
-        return made
-    more = ["-addext", FOR_CLIENT[1]]
-    more += ["-addext", "extendedKeyUsage=serverAuth" if addresses else FOR_CLIENT[0]]
-    if addresses:
-        more += ["-addext", f"subjectAltName={addresses}"]
-    with tempfile.TemporaryDirectory(dir=folder) as new:
-        _openssl(
-            ["req", "-x509", *CURVE, "-subj", f"/CN={name}", "-days", str(DAYS), *more]
-            + ["-CA", str(folder / "ca.pem"), "-CAkey", str(folder / "ca.key")]
-            + ["-keyout", f"{new}/own.key", "-out", f"{new}/own.pem"]
-        )
-        shutil.copy(folder / "ca.pem", f"{new}/ca.pem")
-        os.chmod(new, 0o755)
-        os.rename(new, made)
-        Path(new).mkdir()  # For the end of the block, which removes it.
-    return made
+    if not _is_good(folder / name):
+        own = [*FOR_SERVER, f"subjectAltName={addresses}"] if addresses else FOR_CLIENT
+        _make_folder(folder, name, own, None)
+    return folder / name
+
+
+def _make_folder(folder: Path, name: str, extensions: List[str], asked: Optional[Path]) -> None:
+    """Makes the folder of somebody with this name: with a certificate for the key of a request, or for a new key, which is
+    in the folder then."""
+    with tempfile.TemporaryDirectory(dir=folder) as work, tempfile.TemporaryDirectory(
+        dir=folder
+    ) as new:
+        own, made = Path(new), Path(work)
+        asked = asked or _request(made, own / "own.key", name)
+        _sign(made, asked, name, extensions, DAYS, folder)
+        os.replace(made / "own.pem", own / "own.pem")
+        shutil.copy(folder / "ca.pem", own / "ca.pem")
+        os.chmod(own, 0o755)
+        os.rename(own, folder / name)
+        own.mkdir()  # For the end of the block, which removes it.
+
+
+def _request(work: Path, key: Path, name: str) -> Path:
+    """Makes a key, and a request for a certificate for it, and gives the path of that."""
+    asked = work / "request"
+    _openssl(
+        ["req", "-new", *CURVE, "-subj", f"/CN={name}", "-keyout", str(key), "-out", str(asked)]
+    )
+    return asked
+
+
+def _sign(
+    work: Path,
+    asked: Path,
+    name: str,
+    extensions: List[str],
+    days: int,
+    authority: Optional[Path] = None,
+) -> None:
+    """Makes `own.pem` in a folder for work, of which nothing is used later: a certificate with this name for the key of a
+    request, by the authority in this folder, or by the key itself, `ca.key` in the folder for work. All that is taken of the
+    request is the key."""
+    Path(work, "configuration").write_text(ISSUING.format(folder=work.resolve()), encoding="utf-8")
+    Path(work, "extensions").write_text("\n".join([*extensions, *IDENTIFIERS]), encoding="ascii")
+    Path(work, "issued").touch()
+    words = ["ca", "-batch", "-notext", "-config", f"{work}/configuration", "-in", str(asked)]
+    words += ["-subj", f"/CN={name}", "-startdate", _backdated(), "-days", str(days)]
+    words += ["-extfile", f"{work}/extensions", "-out", f"{work}/own.pem"]
+    if authority:
+        words += ["-cert", str(authority / "ca.pem"), "-keyfile", str(authority / "ca.key")]
+    else:
+        words += ["-selfsign", "-keyfile", f"{work}/ca.key"]
+    _openssl(words)
+
+
+def _backdated() -> str:
+    return time.strftime("%Y%m%d%H%M%SZ", time.gmtime(time.time() - BACKDATED))
 
 
 def make_broker(folder: Path, host: str, port: int, kind: str = Mosquitto.kind) -> Broker:
@@ -154,19 +215,7 @@ def sign_machine(folder: Path, name: str, broker: str, asked: Path) -> Path:
     made = folder / name
     if _is_good(made):
         raise CertificateError(f"{made}: it has a certificate: `revoke {name}` takes that away")
-    with tempfile.TemporaryDirectory(dir=folder) as new:
-        Path(new, "extensions").write_text("\n".join(FOR_CLIENT), encoding="ascii")
-        _openssl(
-            ["x509", "-req", "-in", str(asked), "-subj", f"/CN={name}", "-days", str(DAYS)]
-            + ["-CA", str(folder / "ca.pem"), "-CAkey", str(folder / "ca.key")]
-            + ["-set_serial", f"0x4{secrets.token_hex(15)}", "-extfile", f"{new}/extensions"]
-            + ["-out", f"{new}/own.pem"]
-        )
-        Path(new, "extensions").unlink()
-        shutil.copy(folder / "ca.pem", f"{new}/ca.pem")
-        os.chmod(new, 0o755)
-        os.rename(new, made)
-        Path(new).mkdir()  # For the end of the block, which removes it.
+    _make_folder(folder, name, FOR_CLIENT, asked)
     _write_agent(made, name, broker)
     return made
 
@@ -235,7 +284,7 @@ def _write_revoked(folder: Path) -> None:
         configuration = REVOKING.format(folder=folder.resolve(), days=2 * DAYS)
         Path(new, "configuration").write_text(configuration, encoding="utf-8")
         words = ["ca", "-gencrl", "-config", f"{new}/configuration", "-out", f"{new}/{CRL}"]
-        _openssl(words)
+        _openssl([*words, "-crl_lastupdate", _backdated()])
         os.replace(f"{new}/{CRL}", folder / CRL)
     broker_of(folder).revoked_changed()
 

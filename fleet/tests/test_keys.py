@@ -2,6 +2,7 @@
 
 from __future__ import annotations
 
+import calendar
 import json
 import re
 import subprocess
@@ -175,7 +176,7 @@ def test_a_key_that_the_machine_made_stays_there(fleet: Path) -> None:
 
 def test_a_request_that_is_none_is_refused(fleet: Path) -> None:
     (fleet / "csr").write_text("nonsense")
-    assert "openssl x509" in call(fleet, "enroll", "m3", "--request", fleet / "csr", code=3)
+    assert "openssl ca" in call(fleet, "enroll", "m3", "--request", fleet / "csr", code=3)
     told = call(fleet, "enroll", "m3", "m4", "--request", fleet / "csr", code=3)
     assert "a request is of one machine" in told
     assert not (fleet / "certs/m3").exists()
@@ -222,3 +223,17 @@ def test_certificates_are_read_as_openssl_reads_them(fleet: Path) -> None:
 def test_only_who_is_there_is_revoked(fleet: Path) -> None:
     with pytest.raises(CertificateError):
         certificates.revoke(fleet / "certs", certificates.BROKER)
+
+
+def test_a_clock_that_is_behind_takes_what_was_just_made(fleet: Path) -> None:
+    call(fleet, "enroll-sender", "other")
+    call(fleet, "revoke", "m2")
+    certs = fleet / "certs"
+    begins = [
+        openssl("x509", "-in", certs / name, "-noout", "-startdate")
+        for name in ("ca.pem", "broker/own.pem", "other/own.pem", "m1/own.pem")
+    ]
+    begins.append(openssl("crl", "-in", certs / "crl.pem", "-noout", "-lastupdate"))
+    for said in begins:
+        begun = time.strptime(said.split("=")[1].strip(), "%b %d %H:%M:%S %Y %Z")
+        assert time.time() - calendar.timegm(begun) >= 23 * 3600, said

@@ -12,7 +12,7 @@ from conftest import FLEET
 
 from sender.ledger import Ledger
 
-sys.path[:0] = [str(FLEET.parent / "bench/fleet-side")]
+sys.path[:0] = [str(FLEET.parent / it) for it in ("bench/fleet-side", "tools")]
 
 from machines import Model  # noqa: E402
 from picture import FIGURES, MOST_TIMES, picture, table, times  # noqa: E402
@@ -53,7 +53,7 @@ def test_bars_are_as_high_as_their_values() -> None:
     assert bars[6:8] == [0, 0]
     limit = next(it.get("d", "") for it in made.iter(f"{space}path") if it.get("class") == "most")
     base = next(it.get("d", "") for it in made.iter(f"{space}path") if it.get("class") == "base")
-    high, floor = (float(re.findall(r"M0 ([\d.]+)", it)[0]) for it in (limit, base))
+    high, floor = (float(re.findall(r"M[\d.]+ ([\d.]+)", it)[0]) for it in (limit, base))
     assert floor - high == pytest.approx(MOST_TIMES * bars[0], abs=0.2)
     assert "prefers-color-scheme: dark" in picture(RUNS)
 
