@@ -1,5 +1,5 @@
 """What the header for C declares, and what others declare of it by their own text: the package for Python, the crate for
-Rust, the manual, and the crate of this repository that has the calls."""
+Rust, manuals, and the crate of this repository that has the calls."""
 
 from __future__ import annotations
 
@@ -10,7 +10,6 @@ from typing import Callable, Dict, List, NamedTuple, Tuple
 
 ROOT = Path(__file__).resolve().parents[1]
 HEADER = ROOT / "libraries/c/include/bootkeep.h"
-MANUAL = ROOT / "packaging/man/bootkeep.3"
 PACKAGE = ROOT / "libraries/python/bootkeep"
 CRATE = ROOT / "crates/bootkeep_c/src"
 RUST = ROOT / "libraries/rust/src"
@@ -156,7 +155,7 @@ def header_calls(text: str) -> List[Call]:
 
 
 def manual_calls(text: str) -> List[Call]:
-    """The calls of the manual's synopsis."""
+    """The calls of the synopsis of a manual."""
     lines = text.replace(" \\\n", " ")
     found = re.findall(r"^\.Ft uint32_t\n\.F[no] (\w+)(.*(?:\n\.Fa .*)*)$", lines, re.MULTILINE)
     return [Call(name, _handed(",".join(re.findall('"(.*?)"', words)))) for name, words in found]
@@ -245,11 +244,17 @@ def rust_faults(text: str) -> Dict[str, int]:
 
 PACKAGE_PREFIXES = {
     "Attributes": "OPTION_",
+    "Became": "BECAME_",
     "ChangeKind": "CHANGE_",
+    "EditKind": "EDIT_",
+    "EditedKind": "EDITED_",
     "Effect": "EFFECT_",
+    "EndKind": "END_",
     "EntryState": "ENTRY_",
     "Fault": "",
+    "MoveKind": "MOVE_",
     "Outcome": "OUTCOME_",
+    "Position": "POSITION_",
     "ReplyKind": "REPLY_",
     "RequestKind": "REQUEST_",
     "Stage": "STAGE_",

@@ -1,17 +1,21 @@
-"""Tests that the header for C, the manual, the package for Python, the crate for Rust and the crate that has the calls
+"""Tests that the header for C, the manuals, the package for Python, the crate for Rust and the crate that has the calls
 declare the same structs, calls and numbers, by the text of each."""
 
 from __future__ import annotations
 
 import re
+import sys
 import unittest
+from pathlib import Path
 from typing import Dict, NamedTuple
 
-from declarations import (
+sys.path.insert(0, str(Path(__file__).resolve().parents[1] / "tools"))
+
+import call_manuals  # noqa: E402
+from declarations import (  # noqa: E402
     CRATE,
     CRATE_WIDTHS,
     HEADER,
-    MANUAL,
     PACKAGE,
     ROOT,
     RUST,
@@ -53,8 +57,12 @@ STRUCTS = {
     "bootkeep_signature_list": Names("RawList", "lists.rt", "ListPlaces"),
     "bootkeep_named": Names("RawNamed", "named.rt", "NamedEntry"),
     "bootkeep_change": Names("RawChange", "change.rt", "ChangeNumbers"),
+    "bootkeep_edit": Names("RawEdit", "edit.rt", "EditNumbers"),
+    "bootkeep_edited": Names("RawEdited", "edit.rt", "EditedNumbers"),
     "bootkeep_reply": Names("RawReply", "reply.rt", "ReplyNumbers"),
     "bootkeep_keeper": Names("RawKeeper", "handle.rt", "KeeperHandle"),
+    "bootkeep_moves": Names("RawMoves", "session_handle.rt", "MovesHandle"),
+    "bootkeep_moves_end": Names("RawEnd", "end.rt", "EndNumbers"),
 }
 
 # The calls that the crate for Rust leaves out: it has replies as values alone.
@@ -113,8 +121,9 @@ class Calls(unittest.TestCase):
     def test_no_declaration_of_the_header_is_passed_over(self) -> None:
         self.assertEqual(len(self.in_header), read(HEADER).count("\nuint32_t bootkeep_"))
 
-    def test_the_manual_has_the_calls_of_the_header(self) -> None:
-        self.assertEqual(manual_calls(read(MANUAL)), self.in_header)
+    def test_manuals_have_the_calls_of_the_header(self) -> None:
+        texts = [it.decode() for it in call_manuals.manuals().values()]
+        self.assertEqual([manual_calls(it) for it in texts], [[it] for it in self.in_header])
 
     def test_the_package_hands_over_what_the_header_says(self) -> None:
         self.assertEqual(package_calls(read(PACKAGE / "_library.py")), self.kinds)

@@ -6,6 +6,7 @@
  * `keeper` is handed a set and then events: `d` and the digits of a frame, `p`, `h` or `r`, or the same in upper case
  * for the reply as a value. It tells of a closed keeper, of one that is refused no bytes in the place of its set, and
  * is opened, both in memory that was filled with marks, of each event, and of the set and the next number in the end.
+ * `moves` is told of in machine.c.
  * An answer is `done` with what was given, `refused` with its four numbers, or `status` and its number.
  *
  * Each call is made with no room, with one too little, with each of its requests for memory refused in turn, with as
@@ -13,9 +14,10 @@
  * What differs is told on standard error, and the status is then 1. The program is linked with `--wrap=malloc
  * --wrap=realloc`. Under valgrind it also shows what is read past the end of what is handed in.
  */
+#include "calls.h"
+
 #include <bootkeep.h>
 #include <inttypes.h>
-#include <stdbool.h>
 #include <stdio.h>
 #include <stdlib.h>
 #include <string.h>
@@ -30,9 +32,8 @@ void *__real_realloc(void *block, size_t len);
 void *__wrap_malloc(size_t len);
 void *__wrap_realloc(void *block, size_t len);
 
-/* The number of the request that is to be refused, counted down; 0 if none is. */
-static unsigned long refuse_at;
-static bool was_refused;
+unsigned long refuse_at;
+bool was_refused;
 static int differ;
 static const char *now;
 
@@ -54,11 +55,6 @@ void *__wrap_realloc(void *block, size_t len)
     return refuse() ? NULL : __real_realloc(block, len);
 }
 
-struct bytes {
-    uint8_t *at;
-    size_t len;
-};
-
 /* What a call is handed, and what it tells. */
 struct call {
     const char *name;
@@ -71,16 +67,17 @@ struct call {
     struct bootkeep_option_parts parts;
     struct bootkeep_refusal refusal;
     struct bootkeep_reply reply;
+    struct bootkeep_edited edited;
     struct bootkeep_keeper *keeper;
 };
 
-static void complain(const char *what)
+void complain(const char *what)
 {
     fprintf(stderr, "%.60s: %s\n", now == NULL ? "-" : now, what);
     differ = 1;
 }
 
-static void *make(size_t len)
+void *make(size_t len)
 {
     void *made = __real_malloc(len > 0 ? len : 1);
     if (made == NULL)
@@ -104,13 +101,40 @@ static bool ends_with(const struct call *call, const char *end)
     return len > end_len && !strcmp(call->name + len - end_len, end);
 }
 
-/* The number of this many bytes at this place of what is given. */
-static uint32_t number_at(const struct call *call, int which, size_t place, size_t len)
+uint32_t number_of(struct bytes bytes, size_t place, size_t len)
 {
     uint32_t number = 0;
     for (size_t at = 0; at < len; at++)
-        number |= (uint32_t)call->given[which].at[place + at] << 8 * at;
+        number |= (uint32_t)bytes.at[place + at] << 8 * at;
     return number;
+}
+
+/* The number of this many bytes at this place of what is given. */
+static uint32_t number_at(const struct call *call, int which, size_t place, size_t len)
+{
+    return number_of(call->given[which], place, len);
+}
+
+struct bootkeep_edit edit_of(struct bytes numbers)
+{
+    return (struct bootkeep_edit){
+        .size = sizeof(struct bootkeep_edit),
+        .kind = number_of(numbers, 0, 4),
+        .number = number_of(numbers, 4, 4),
+        .position = number_of(numbers, 8, 4),
+        .again = number_of(numbers, 12, 4),
+        .stale = number_of(numbers, 16, 4),
+        .only = number_of(numbers, 20, 4),
+    };
+}
+
+/* Makes an edit of a set: of six numbers, those of entries, the bytes of an option, and the set. */
+static uint32_t once_edit(struct call *call)
+{
+    const struct bootkeep_edit edit = edit_of(call->given[0]);
+
+    return bootkeep_set_edit(&edit, (const uint16_t *)(const void *)call->given[1].at, call->given[1].len / 2, GIVEN(2),
+                             GIVEN(3), OUT(0), &call->edited, &call->refusal);
 }
 
 /* Makes a call on a set. */
@@ -248,6 +272,8 @@ static uint32_t once(struct call *call)
         return once_image(call);
     if (ends_with(call, "_word"))
         return once_word(call);
+    if (is(call, "set_edit"))
+        return once_edit(call);
     if (!strncmp(call->name, "set_", 4))
         return once_set(call);
     return strncmp(call->name, "keeper_", 7) ? once_other(call) : once_keeper(call);
@@ -290,6 +316,8 @@ static void compare_rest(const struct call *call, uint32_t status, const struct 
         complain("the parts are written");
     if (status != BOOTKEEP_DONE && memcmp(&before->reply, &call->reply, sizeof call->reply) != 0)
         complain("the reply is written");
+    if (status != BOOTKEEP_DONE && memcmp(&before->edited, &call->edited, sizeof call->edited) != 0)
+        complain("what came of an edit is written");
     if (status != BOOTKEEP_DONE && call->told.extra != UNTOLD)
         complain("a number is written");
     for (int at = 0; at < 2; at++) {
@@ -316,6 +344,8 @@ static uint32_t with_room(struct call *call, size_t first, size_t second)
     memset(&call->parts, MARK, sizeof call->parts);
     memset(&call->reply, MARK, sizeof call->reply);
     call->reply.size = sizeof call->reply;
+    memset(&call->edited, MARK, sizeof call->edited);
+    call->edited.size = sizeof call->edited;
     call->told.extra = UNTOLD;
     for (int at = 0; at < 2; at++) {
         call->told.out[at] = sizes[at] > 0 ? make(sizes[at] + GUARD) : NULL;
@@ -404,7 +434,7 @@ static uint32_t try_call(struct call *call)
     return try_memory(call, need, 0);
 }
 
-static void print_bytes(const uint8_t *bytes, size_t len)
+void print_bytes(const uint8_t *bytes, size_t len)
 {
     putchar(' ');
     if (len == 0)
@@ -424,6 +454,30 @@ static void say_reply(const struct bootkeep_reply *reply)
            option->inner_kind, option->place, option->inner_place);
     printf(" %" PRIu32 " %" PRIu32 " %" PRIu32 " %" PRIu32 " %zu", reply->outcome, reply->entry, reply->next_number,
            reply->plan_next, reply->count);
+}
+
+/* Says what came of an edit. */
+static void say_edited(const struct bootkeep_edited *edited)
+{
+    if (edited->size != sizeof *edited)
+        complain("the size of what came of an edit is written");
+    printf(" %" PRIu32 " %" PRIu32, edited->kind, edited->entry);
+}
+
+/* Makes an edit with too small a size of one of its structs, of which nothing is looked at then. */
+static void try_edit_sizes(void)
+{
+    struct bootkeep_edit edit = {.size = sizeof edit - 1, .kind = BOOTKEEP_EDIT_UNREPEAT};
+    struct bootkeep_edited edited = {.size = sizeof edited};
+    struct bootkeep_refusal refusal;
+    size_t len = 0;
+
+    if (bootkeep_set_edit(&edit, NULL, 0, NULL, 0, NULL, 0, NULL, 0, &len, &edited, &refusal) != BOOTKEEP_BAD_SIZE)
+        complain("an edit of too small a size is made");
+    edit.size = sizeof edit;
+    edited.size = sizeof edited - 1;
+    if (bootkeep_set_edit(&edit, NULL, 0, NULL, 0, NULL, 0, NULL, 0, &len, &edited, &refusal) != BOOTKEEP_BAD_SIZE)
+        complain("what came of an edit is told in too small a size");
 }
 
 /* Says what the call answered, and gives up its buffers. */
@@ -447,6 +501,8 @@ static void say(struct call *call, uint32_t status)
             printf(" %" PRIu64, call->told.extra);
         if (has_reply(call))
             say_reply(&call->reply);
+        if (is(call, "set_edit"))
+            say_edited(&call->edited);
     } else
         printf("status %" PRIu32, status);
     putchar('\n');
@@ -458,7 +514,7 @@ static unsigned digit(char character)
     return (unsigned)(character <= '9' ? character - '0' : character - 'a' + 10);
 }
 
-static struct bytes bytes_of(const char *digits)
+struct bytes bytes_of(const char *digits)
 {
     struct bytes bytes;
 
@@ -557,7 +613,13 @@ static void take_line(char *line)
         keep(words, count);
         return;
     }
+    if (!strcmp(words[0], "moves")) {
+        command_machine(words, count);
+        return;
+    }
     call.name = words[0];
+    if (is(&call, "set_edit"))
+        try_edit_sizes();
     for (size_t at = 0; at < 4; at++)
         call.given[at] = bytes_of(at + 1 < count ? words[at + 1] : "-");
     status = try_call(&call);

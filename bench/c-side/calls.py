@@ -3,8 +3,9 @@ answer, as calls.c does by the header."""
 
 from __future__ import annotations
 
+import contextlib
 import sys
-from typing import Callable, Dict, Iterable, Optional, Union
+from typing import Callable, Dict, Iterable, List, Optional, Union
 
 import bootkeep
 
@@ -12,6 +13,10 @@ NO_PLACE = 2**64 - 1
 ABSENT, CLOSED = 3, 5
 NO_ENTRY = 0x10000
 NO_NUMBER = 2**32 - 1
+
+#: What the answer to a move is, by its number in a line, but for the power that fails.
+ANSWERS = [bootkeep.Became.DONE, bootkeep.Became.REFUSED, bootkeep.Became.PERHAPS]
+CUT = 3
 
 
 def digits(data: bytes) -> str:
@@ -176,6 +181,36 @@ def set_changes(before: bytes, after: bytes) -> str:
     return digits(changes)
 
 
+def edit_of(numbers: bytes, entries: bytes, option: bytes) -> bootkeep.Edit:
+    """The edit of these numbers. Which kinds and positions there are the module's types say, so that others are answered
+    here."""
+    kind, number, position, again, stale, only = numbers_in(numbers, 4)
+    if kind not in list(bootkeep.EditKind):
+        raise bootkeep.Refused(bootkeep.Fault.UNEDITED_BAD_KIND)
+    kinds = bootkeep.EditKind
+    if number > NO_ENTRY and kind in (kinds.ADD, kinds.NEXT, kinds.TIMEOUT):
+        raise bootkeep.Refused(bootkeep.Fault.UNEDITED_BAD_NUMBER)
+    if position not in list(bootkeep.Position):
+        if kind == kinds.ADD:
+            raise bootkeep.Refused(bootkeep.Fault.UNEDITED_BAD_POSITION)
+        position = 0
+    return bootkeep.Edit(
+        kinds(kind),
+        numbers_in(entries, 2),
+        option,
+        None if number >= NO_ENTRY else number,
+        bootkeep.Position(position),
+        bool(again),
+        bool(stale),
+        bool(only),
+    )
+
+
+def set_edit(numbers: bytes, entries: bytes, option: bytes, data: bytes) -> str:
+    edited = bootkeep.set_edit(data, edit_of(numbers, entries, option))
+    return f"{digits(edited.data)} {int(edited.kind)} {entry_or_none(edited.entry)}"
+
+
 def image_check(data: bytes) -> str:
     fault = bootkeep.image_check(data)
     if fault is not None:
@@ -226,6 +261,7 @@ CALLS: Dict[str, Callable[..., str]] = {
     "set_entry": set_entry,
     "set_changes": set_changes,
     "set_at_risk": set_at_risk,
+    "set_edit": set_edit,
     "set_get": lambda data, name: digits(bootkeep.set_get(data, text_of(name))),
     "set_put": lambda data, name, value: digits(bootkeep.set_put(data, text_of(name), value)),
     "set_remove": lambda data, name: digits(bootkeep.set_remove(data, text_of(name))),
@@ -281,11 +317,73 @@ def keep(words: list[str]) -> None:
         print(f"done {keeper.next_number}")
 
 
+class Machine:
+    """A machine in memory, over which commands are run as machine.c says."""
+
+    def __init__(self, data: bytes) -> None:
+        self.set, self.journal = data, b""
+
+    def make(self, move: bootkeep.Move) -> None:
+        """Makes a move."""
+        if move.kind == bootkeep.MoveKind.JOURNAL:
+            self.journal = move.data or b""
+        elif move.kind == bootkeep.MoveKind.DELETE:
+            with contextlib.suppress(KeyError):
+                self.set = bootkeep.set_remove(self.set, move.name or "")
+        else:
+            self.set = bootkeep.set_put(self.set, move.name or "", move.data or b"")
+
+    def run(self, wanted: Union[bytes, bootkeep.Edit, None], answers: Iterable[int]) -> str:
+        """How a command ended, or that it was cut."""
+        state = bootkeep.MachineState(b"machine", b"start", self.set, self.journal)
+        left, reason = iter(answers), 7
+        with bootkeep.Moves(state, wanted) as moves:
+            while True:
+                move = moves.next()
+                if move is None:
+                    return f"done {end_numbers(moves.end)}"
+                answer = next(left, 0)
+                if answer == CUT:
+                    return "cut"
+                became = ANSWERS[answer]
+                if became != bootkeep.Became.REFUSED:
+                    self.make(move)
+                moves.tell(became, 0 if became == bootkeep.Became.DONE else reason)
+                if became != bootkeep.Became.DONE:
+                    reason = 8
+
+
+def end_numbers(end: bootkeep.End) -> str:
+    """How a command ended, and the kinds of its replies."""
+    numbers = [end.kind, end.reason, end.second_reason, end.fault or 0, end.edited]
+    kinds = "".join(f" {int(reply.kind)}" for reply in end.replies)
+    return f"{' '.join(str(int(number)) for number in numbers)} {entry_or_none(end.entry)}{kinds}"
+
+
+def command_machine(words: List[str]) -> None:
+    """Runs a command over a machine, settles what it has left, and says what is there in the end."""
+    variables, answers, kind, *parts = words
+    machine = Machine(data_of(variables))
+    try:
+        wanted: Union[bytes, bootkeep.Edit, None] = None
+        if kind == "f":
+            wanted = data_of(parts[0])
+        elif kind == "e":
+            wanted = edit_of(*map(data_of, parts))
+        print(machine.run(wanted, data_of(answers)))
+    except bootkeep.Refused as error:
+        print(refusal(error))
+    machine.run(None, ())
+    print(f"done {digits(machine.set)} {digits(machine.journal)}")
+
+
 def main() -> None:
     for line in sys.stdin:
         name, *words = line.split()
         if name == "keeper":
             keep(words)
+        elif name == "moves":
+            command_machine(words)
         else:
             print(answer(lambda: CALLS[name](*map(data_of, words))))
 

@@ -3,9 +3,10 @@
 //! request that there isn't and a keeper that is closed, is answered here.
 
 use bootkeep::frame::Request;
-use bootkeep::set::{BootVariable, ChangeKind, EntryState, Plan};
+use bootkeep::set::{Addition, BootVariable, ChangeKind, Edit, EditOutcome, EntryState, NewOrder, Plan, Position};
 use bootkeep::{
-    frame, image, option, path, set, EntryNumber, Error, Fault, Keeper, LoadOption, Outcome, Refusal, Reply,
+    frame, image, option, path, set, Became, End, EntryNumber, Error, Fault, Keeper, LoadOption, MachineState, Move,
+    Moves, Outcome, Refusal, Reply,
 };
 use std::io::{self, BufRead};
 
@@ -23,6 +24,8 @@ fn main() {
         let words: Vec<&str> = words.collect();
         if name == "keeper" {
             keep(&words);
+        } else if name == "moves" {
+            command_machine(&words);
         } else {
             let given: Vec<Vec<u8>> = words.iter().map(|word| bytes_of(word)).collect();
             println!("{}", said(made(name, &given)));
@@ -110,6 +113,7 @@ fn made(name: &str, given: &[Vec<u8>]) -> Result<String, Error> {
             option::make(number(first), description, &given[2], &given[3]).map(|bytes| digits(&bytes))
         }
         "frame_make" => frame_make(first, &given[1], &given[2]),
+        "set_edit" => set_edit(first, &given[1], &given[2], &given[3]),
         "image_check" => match image::check(first)? {
             Some(fault) => Err(Error::Refused(fault.refusal)),
             None => Ok(String::new()),
@@ -192,6 +196,157 @@ fn frame_make(numbers: &[u8], option: &[u8], order: &[u8]) -> Result<String, Err
         8 => make(Request::First(entry)),
         _ => refused(Fault::FrameBadKind, None),
     }
+}
+
+/// The set after an edit.
+fn set_edit(numbers: &[u8], entries: &[u8], option: &[u8], data: &[u8]) -> Result<String, Error> {
+    // Of a set that is none, the fault comes before that of the option.
+    set::variables(data).map(drop)?;
+    with_edit(numbers, entries, option, |edit| edited(set::edit(data, edit)?))
+}
+
+/// What came of an edit, as calls.c says it.
+fn edited(edited: set::Edited) -> Result<String, Error> {
+    let (kind, entry) = outcome_numbers(edited.outcome);
+    Ok(format!("{} {kind} {entry}", digits(&edited.set)))
+}
+
+fn outcome_numbers(outcome: EditOutcome) -> (u32, u32) {
+    match outcome {
+        EditOutcome::Done => (0, NO_ENTRY),
+        EditOutcome::Added(entry) => (1, entry.0.into()),
+        EditOutcome::Present(entry) => (2, entry.0.into()),
+        other => panic!("{other:?}"),
+    }
+}
+
+/// What is made of the edit of these numbers. What the crate's types leave no room for is answered here, and so is an
+/// option that is none.
+fn with_edit<T>(
+    numbers: &[u8],
+    entries: &[u8],
+    option: &[u8],
+    make: impl FnOnce(Edit<'_>) -> Result<T, Error>,
+) -> Result<T, Error> {
+    let entries: Vec<EntryNumber> = entries.chunks(2).map(entry_of).collect();
+    let at = |place: usize| number(&numbers[4 * place..4 * place + 4]);
+    let entry = || match at(1) {
+        NO_ENTRY => Ok(None),
+        number => u16::try_from(number).map(Some).or_else(|_| refused(Fault::UneditedBadNumber, None)),
+    };
+    let added;
+    make(match at(0) {
+        1 => {
+            let number = entry()?.map(EntryNumber);
+            let position = match at(2) {
+                0 => Position::Last,
+                1 => Position::First,
+                2 => Position::None,
+                _ => return refused(Fault::UneditedBadPosition, None),
+            };
+            added = LoadOption::try_from(option)?;
+            Edit::Add(Addition { option: &added, number, position, again: at(3) != 0 })
+        }
+        2 => Edit::Remove(&entries),
+        3 => Edit::First(&entries),
+        4 => Edit::Order(NewOrder { numbers: &entries, only: at(5) != 0, stale: at(4) != 0 }),
+        5 => Edit::Unrepeat,
+        6 => Edit::Next(entry()?.map(EntryNumber)),
+        7 => Edit::Timeout(entry()?),
+        8 => Edit::Activate(&entries),
+        9 => Edit::Deactivate(&entries),
+        _ => return refused(Fault::UneditedBadKind, None),
+    })
+}
+
+/// A machine in memory, over which commands are run as machine.c says.
+struct Machine {
+    set: Vec<u8>,
+    journal: Vec<u8>,
+}
+
+/// What a command runs.
+enum Wanted<'a> {
+    Nothing,
+    Frames(&'a [u8]),
+    Edit(Edit<'a>),
+}
+
+impl Machine {
+    fn make(&mut self, asked: Move) -> Result<(), Error> {
+        match asked {
+            Move::Set { name, data } => self.set = set::put(&self.set, &name, &data)?,
+            Move::Delete { name } => match set::remove(&self.set, &name) {
+                Err(Error::Absent) => (),
+                removed => self.set = removed?,
+            },
+            Move::Journal(bytes) => self.journal = bytes,
+            other => panic!("{other:?}"),
+        }
+        Ok(())
+    }
+
+    /// How a command ended, or that it was cut.
+    fn run(&mut self, wanted: Wanted<'_>, answers: &[u8]) -> Result<String, Error> {
+        let Machine { set: variables, journal } = Machine { set: self.set.clone(), journal: self.journal.clone() };
+        let state = MachineState { machine: b"machine", start: b"start", variables: &variables, journal: &journal };
+        let mut moves = match wanted {
+            Wanted::Nothing => Moves::settle(state)?,
+            Wanted::Frames(stream) => Moves::requests(state, stream)?,
+            Wanted::Edit(edit) => Moves::edit(state, edit)?,
+        };
+        let mut answers = answers.iter().copied();
+        let mut reason = 7;
+        while let Some(asked) = moves.next_move()? {
+            let (is_made, became) = match answers.next().unwrap_or(0) {
+                0 => (true, Became::Done),
+                1 => (false, Became::Refused(reason)),
+                2 => (true, Became::Perhaps(reason)),
+                _ => return Ok("cut".to_owned()),
+            };
+            if is_made {
+                self.make(asked)?;
+            }
+            moves.tell(became)?;
+            if became != Became::Done {
+                reason = 8;
+            }
+        }
+        Ok(format!("done {}", end_numbers(moves.end()?)))
+    }
+}
+
+/// How a command ended, and the kinds of its replies.
+fn end_numbers(end: End) -> String {
+    let (kind, reason, second) = match end {
+        End::Done { replies, edited } => {
+            let (kind, entry) = outcome_numbers(edited);
+            let kinds: String = replies.iter().map(|reply| format!(" {}", fields_of(reply).0)).collect();
+            return format!("1 0 0 0 {kind} {entry}{kinds}");
+        }
+        End::RunRefused(fault) => return format!("4 0 0 {} 0 {NO_ENTRY}", fault.number()),
+        End::NotRun(reason) => (2, reason, 0),
+        End::NotSettled(reason, second) => (3, reason, second),
+        End::TakenBack(reason) => (5, reason, 0),
+        End::Unsettled(reason, second) => (6, reason, second),
+        other => panic!("{other:?}"),
+    };
+    format!("{kind} {reason} {second} 0 0 {NO_ENTRY}")
+}
+
+/// Runs a command over a machine, settles what it has left, and says what is there in the end.
+fn command_machine(words: &[&str]) {
+    let mut machine = Machine { set: bytes_of(words[0]), journal: Vec::new() };
+    let answers = bytes_of(words[1]);
+    let parts: Vec<Vec<u8>> = words[3..].iter().map(|word| bytes_of(word)).collect();
+    let told = match words[2] {
+        "f" => machine.run(Wanted::Frames(&parts[0]), &answers),
+        "e" => with_edit(&parts[0], &parts[1], &parts[2], |edit| machine.run(Wanted::Edit(edit), &answers)),
+        _ => machine.run(Wanted::Nothing, &answers),
+    };
+    println!("{}", told.unwrap_or_else(|error| said(Err(error))));
+    machine.run(Wanted::Nothing, &[]).expect("what is left is settled");
+    println!("done {} {}", digits(&machine.set), digits(&machine.journal));
 }
 
 fn entry_of(bytes: &[u8]) -> EntryNumber {

@@ -15,6 +15,7 @@ import struct
 import subprocess
 import sys
 import tempfile
+from dataclasses import dataclass
 from pathlib import Path
 from typing import Any, Iterable
 
@@ -32,6 +33,7 @@ VERSIONS = {6: 2, 7: 3, 8: 3}
 
 NO_PLACE = 2**64 - 1
 ABSENT, CLOSED = 3, 5
+NO_ENTRY = 0x10000
 
 # The replies in the order of their numbers, and so that none begins another that comes after it.
 NUMBERED = [
@@ -53,6 +55,24 @@ REPLIES = sorted(NUMBERED, key=len, reverse=True)
 # The outcomes in the order of their numbers.
 OUTCOMES = ["Done", "Exists", "Missing", "OrderRepeats", "OrderUnknown", "NoFree"]
 
+# The edits, and what comes of one, in the order of their numbers, and the positions of a new entry.
+EDITS = [
+    "Add",
+    "Remove",
+    "First",
+    "Order",
+    "Unrepeat",
+    "Next",
+    "Timeout",
+    "Activate",
+    "Deactivate",
+]
+EDITED = ["Done", "Added", "Present"]
+POSITIONS = ["Last", "First", "NoOrder"]
+
+# The variable with the state of a keeper, the attributes that the variables of a machine have, and those of new ones.
+KEEP = "BootKeepState"
+OLD, NEW = bytes([0x17, 0, 0, 0]), bytes([7, 0, 0, 0])
 
 # The statuses in the order of their numbers.
 STATUSES = ["DONE", "REFUSED", "NO_ROOM", "ABSENT", "NO_MEMORY", "CLOSED", "BAD_SIZE"]
@@ -64,6 +84,18 @@ def camel(name: str) -> str:
 
 def snake(word: str) -> str:
     return re.sub(r"(?<!^)(?=[A-Z])", "_", word).upper()
+
+
+@dataclass(frozen=True)
+class Command:
+    """A command over a machine: its words in a line, the variables, and how it ends if its moves are made."""
+
+    words: str
+    #: What the machine keeps.
+    before: dict[str, bytes]
+    #: What is there after it, without attributes, and the state of a keeper.
+    after: dict[str, bytes]
+    end: str
 
 
 class Side:
@@ -179,6 +211,10 @@ def number_bytes(numbers: Iterable[int]) -> bytes:
     return b"".join(number.to_bytes(2, "little") for number in numbers)
 
 
+def long_bytes(numbers: Iterable[int]) -> bytes:
+    return b"".join(number.to_bytes(4, "little") for number in numbers)
+
+
 def entries_of(variables: list[tuple[str, bytes]]) -> dict[int, bytes]:
     """The data of the entries, by their numbers."""
     return {
@@ -228,6 +264,57 @@ def frames_of(stream: bytes) -> list[bytes]:
         frames.append(stream[at:end])
         at = end
     return frames
+
+
+def data_of(variables: dict[str, str]) -> dict[str, bytes]:
+    """The data of these variables, by their names."""
+    return {name: bytes.fromhex(digits) for name, digits in variables.items()}
+
+
+def is_boot_name(name: str) -> bool:
+    """Whether the boot manager has a variable of this name."""
+    return re.fullmatch("BootOrder|BootNext|Timeout|Boot[0-9A-F]{4}", name) is not None
+
+
+def with_attributes(data: dict[str, bytes], there: dict[str, bytes]) -> dict[str, bytes]:
+    """What a machine keeps of these variables. The attributes of those that are there stay."""
+    return {
+        name: there.get(name, NEW)[:4] + value if is_boot_name(name) else value
+        for name, value in data.items()
+        if name != KEEP
+    }
+
+
+def kept(data: dict[str, bytes]) -> dict[str, bytes]:
+    """What a machine keeps of these variables, which have its attributes."""
+    return with_attributes(data, dict.fromkeys(data, OLD))
+
+
+def journal_of(state: bytes) -> bytes:
+    """The journal's file of the machine, if there is nothing to do: whose it is, and the state of a keeper."""
+    parts = (b"machine", state)
+    return b"BKJ2" + b"".join(len(part).to_bytes(4, "little") + part for part in parts)
+
+
+def edit_numbers(case: dict[str, Any]) -> list[int]:
+    """The six numbers of the edit of a case."""
+    flags = [int(case.get(flag, False)) for flag in ("again", "stale", "only")]
+    position = POSITIONS.index(case.get("position", "Last"))
+    return [EDITS.index(case["edit"]) + 1, case.get("entry", NO_ENTRY), position, *flags]
+
+
+def is_for_machines(case: dict[str, Any]) -> bool:
+    """Whether an edit can be of a machine, whose variables have data, and has an option if it adds one."""
+    has_data = all(data for name, data in case["vars"].items() if is_boot_name(name))
+    return has_data and not case["answer"].startswith("BadOption")
+
+
+def is_short(case: dict[str, Any]) -> bool:
+    """Whether a case of an edit states each of its variables, and its data in digits: neither a range of entries, nor data
+    in pieces."""
+    named = [*case["vars"].items(), *case.get("after", {}).items()]
+    is_spelled = all(isinstance(data, str) and ".." not in name for name, data in named)
+    return is_spelled and isinstance(case.get("option", ""), str)
 
 
 def images_of(root: Path) -> Iterable[tuple[str, bytes, str]]:
@@ -283,6 +370,10 @@ class Cases:
             for case in part["cases"]
             if isinstance(case["input"], str) and isinstance(case["answer"], str)
         ]
+        cases = json.loads((root / "tests/cases/boot_edits.json").read_text(encoding="utf-8"))
+        edits = [case for part in cases if part["call"] == "edit" for case in part["cases"]]
+        self.edits = [case for case in edits if is_short(case)]
+        self.edits_of_machines = [case for case in self.edits if is_for_machines(case)]
 
     def is_option(self, data: bytes) -> bool:
         return self.side.ask("option", self.side.file("option", data))[0] == 0
@@ -640,6 +731,91 @@ class Cases:
             self.removed(variables, name),
         ]
 
+    def edit_case(self) -> tuple[str, list[str]]:
+        """An edit of the cases of the repository, at times with a number that is none, or over bytes that are no set."""
+        case = self.chance.choice(self.edits)
+        numbers, entries = edit_numbers(case), number_bytes(case.get("entries", ()))
+        data, wanted = set_of([*data_of(case["vars"]).items()]), self.edited(case)
+        wrong = self.chance.choice(["", "", "", "kind", "number", "position", "set"])
+        if wrong == "kind":
+            numbers[0], wanted = self.chance.choice([0, 10, 2**32 - 1]), self.refused(
+                "UNEDITED_BAD_KIND"
+            )
+        elif wrong == "number" and numbers[0] in (1, 6):
+            numbers[1], wanted = 0x10001, self.refused("UNEDITED_BAD_NUMBER")
+        elif wrong == "position" and numbers[0] == 1:
+            numbers[2], wanted = 3, self.refused("UNEDITED_BAD_POSITION")
+        elif wrong == "set":
+            data, wanted = b"BVS2", f"refused {self.side.kinds['SET_BAD_MAGIC']} 0 0 {NO_PLACE}"
+        words = [long_bytes(numbers), entries, bytes.fromhex(case.get("option", "")), data]
+        return f"set_edit {' '.join(map(digits, words))}", [wanted]
+
+    def moves_case(self) -> tuple[str, list[str]]:
+        """A command over a machine: what it runs, what becomes of its moves, and what is there in the end."""
+        command = self.chance.choice([self.frames_command, self.edit_command])()
+        old, new = command.before, with_attributes(command.after, command.before)
+        state = command.after.get(KEEP, b"")
+        answers, wanted = b"", f"done {command.end}"
+        at, moves = self.chance.randrange(1 + 2 * (old != new)), old != new or state
+        how = self.chance.choice(["", "refused", "perhaps", "cut"])
+        if how and moves:
+            answers = bytes(at) + bytes([["refused", "perhaps", "cut"].index(how) + 1])
+            wanted = "cut" if how == "cut" else f"done 5 7 0 0 0 {NO_ENTRY}"
+            if how != "cut" or at == 0:
+                new, state = old, b""
+        line = f"moves {digits(set_of([*old.items()]))} {digits(answers)} {command.words}"
+        is_made = moves and (at > 0 or how in ("", "perhaps"))
+        journal = journal_of(state) if is_made else b""
+        return line, [wanted, f"done {digits(set_of([*new.items()]))} {digits(journal)}"]
+
+    def frames_command(self) -> Command:
+        """A command that runs frames over the set of the examples."""
+        stream = b"".join(self.stream(self.chance.randrange(6)))
+        out = self.side.work / "after"
+        files = self.side.file("set", self.set), self.side.file("stream", stream)
+        status, lines, told = self.side.ask("run", "--stream", *files, "--out", str(out))
+        assert status == 0, told
+        kinds = [
+            next(kind for kind in REPLIES if line.startswith(kind)) for line in lines.splitlines()
+        ]
+        numbers = "".join(f" {1 + NUMBERED.index(kind)}" for kind in kinds)
+        before = kept(dict(variables_of(self.set)))
+        after = dict(variables_of(out.read_bytes()))
+        return Command(f"f {digits(stream)}", before, after, f"1 0 0 0 0 {NO_ENTRY}{numbers}")
+
+    def edit_command(self) -> Command:
+        """A command that makes an edit of the cases of the repository."""
+        case = self.chance.choice(self.edits_of_machines)
+        words = [
+            long_bytes(edit_numbers(case)),
+            number_bytes(case.get("entries", ())),
+            bytes.fromhex(case.get("option", "")),
+        ]
+        line, before = self.edited(case).split(), data_of(case["vars"])
+        after = data_of(case["after"]) if line[0] == "done" else before
+        # The journal has the state of a keeper, and a variable with one doesn't count.
+        after = {name: data for name, data in after.items() if name != KEEP}
+        end = (
+            f"1 0 0 0 {' '.join(line[2:])}"
+            if line[0] == "done"
+            else f"4 0 0 {line[1]} 0 {NO_ENTRY}"
+        )
+        return Command(f"e {' '.join(map(digits, words))}", kept(before), after, end)
+
+    def edited(self, case: dict[str, Any]) -> str:
+        """The driver's line of what a case states of an edit."""
+        word, *told = case["answer"].split()
+        if word in EDITED:
+            after = set_of([*data_of(case["after"]).items()])
+            entry = int(told[0], 16) if told else 0x10000
+            return f"done {digits(after)} {EDITED.index(word)} {entry}"
+        if word == "BadOption":
+            return self.side.refusal("option", f"refused: {' '.join(told)}")
+        if word in ("BadOrder", "BadNext"):
+            return self.refused(f"VARS_{snake(word)}")
+        place = int(told[0], 16) if told else NO_PLACE
+        return f"refused {self.side.kinds['UNEDITED_' + snake(word)]} 0 {place} {NO_PLACE}"
+
     def got(self, variables: dict[bytes, bytes], name: bytes) -> str:
         return f"done {digits(variables[name])}" if name in variables else f"status {ABSENT}"
 
@@ -773,6 +949,8 @@ def main() -> int:
             cases.plan_case,
             cases.risk_case,
             cases.change_case,
+            cases.edit_case,
+            cases.moves_case,
             cases.run_case,
             cases.keeper_case,
             cases.set_case,

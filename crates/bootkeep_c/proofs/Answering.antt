@@ -8,6 +8,10 @@ use Rattle.bootkeep_c.specs.Refusals.{Tells}
 use Rattle.bootkeep_c.specs.Buffer.{Gives, IsKept}
 use Rattle.bootkeep_c.specs.Answers.{Answers}
 use Rattle.bootkeep_c.specs.Entries.{TellsNumber}
+use Rattle.boot_edits.specs.declared.answer.EditAnswer.{EditAnswer}
+use Rattle.bootkeep_c.specs.declared.edit.EditedNumbers.{EditedNumbers}
+use Rattle.bootkeep_c.specs.declared.edit.EditedSet.{EditedSet}
+use Rattle.bootkeep_c.specs.Edits.{TellsEdited, AnswersEdit}
 
 pub answers : {A V : Type 0} (items : V → List A) (Is : List A → Type 0) (Fails : Failure → Type 0) (made : Result V Failure)
     (status : ℕ) (old new : List A) (old_len len : ℕ)
@@ -26,3 +30,16 @@ pub tells_number : (Is : ℕ → Type 0) (Fails : Failure → Type 0) (found : R
 tells_number Is Fails (Ok told) status old new old_why why is fails tells none = inl (tells.0, subst Is (sym tells.1) is, tells.2)
 tells_number Is Fails (Err (failure.Refused r)) status old new old_why why is fails tells none = inr (inl (failure.Refused r, fails (λ e. cc), none.0, none.1))
 tells_number Is Fails (Err failure.Memory) status old new old_why why is fails tells none = inr (inr (none.0.0, none.1, none.0.1))
+
+pub answers_edit : (Is : List ℕ → EditAnswer → Type 0) (Fails : Failure → Type 0) (made : Result EditedSet Failure) (status : ℕ)
+    (old new : List ℕ) (old_len len : ℕ) (edited_old edited : EditedNumbers) (old_why why : Refusal)
+    → IfOk made (λ set. Is set.bytes.items set.answer) → IfErr made (λ failed. failed ≢ failure.Memory → Fails failed)
+    → IfOk made (λ set. Gives status set.bytes.items old new len × TellsEdited status set.answer edited_old edited × (why ≡ old_why))
+    → IfErr made (λ failed. Tells failed status old_why why × IsKept old new old_len len × (edited ≡ edited_old))
+    → AnswersEdit Is Fails status old new old_len len edited_old edited old_why why
+answers_edit Is Fails (Ok set) status old new old_len len edited_old edited old_why why is fails given told =
+    inl (set.bytes.items, set.answer, is, given.0, given.1, given.2)
+answers_edit Is Fails (Err (failure.Refused r)) status old new old_len len edited_old edited old_why why is fails given told =
+    inr (inl (failure.Refused r, fails (λ e. cc), told.0, told.1, told.2))
+answers_edit Is Fails (Err failure.Memory) status old new old_len len edited_old edited old_why why is fails given told =
+    inr (inr (told.0.0, told.1, told.2, told.0.1))

@@ -1,5 +1,6 @@
 pub mod Telling
 pub mod Answering
+pub mod Beginnings
 pub mod PartsOfOptions
 pub mod Failures
 pub mod FramesMade
@@ -14,3 +15,4 @@ pub mod NamedEntries
 pub mod PlacesInSets
 pub mod NamedTexts
 pub mod PlacesOfLists
+pub mod SessionBoxes

@@ -22,3 +22,8 @@ pub mod Steps
 pub mod Replies
 pub mod Words
 pub mod Images
+pub mod Edits
+pub mod Wanted
+pub mod SessionHandle
+pub mod Sessions
+pub mod Ends

@@ -14,6 +14,8 @@ use Rattle.uefi_vars.specs.declared.fault.VarFault.{VarFault}
 use Rattle.uefi_vars.specs.declared.fault.VarFault.TheVariants as var
 use Rattle.uefi_vars.specs.declared.fault.PutFault.{PutFault}
 use Rattle.uefi_vars.specs.declared.fault.PutFault.TheVariants as put
+use Rattle.boot_edits.specs.declared.fault.EditFault.{EditFault}
+use Rattle.boot_edits.specs.declared.fault.EditFault.TheVariants as edit
 use Rattle.boot_requests.specs.declared.fault.OpenFault.{OpenFault}
 use Rattle.boot_requests.specs.declared.fault.OpenFault.TheVariants as opening
 use Rattle.boot_requests.specs.declared.fault.FeedFault.{FeedFault}
@@ -34,6 +36,8 @@ use Rattle.efi_images.specs.declared.digest_fault.DigestFault.{DigestFault}
 use Rattle.efi_images.specs.declared.digest_fault.DigestFault.TheVariants as undigested
 use Rattle.efi_images.specs.declared.signatures.ListFault.{ListFault}
 use Rattle.efi_images.specs.declared.signatures.ListFault.TheVariants as listed
+use Rattle.boot_journal.specs.declared.fault.JournalFault.{JournalFault}
+use Rattle.boot_journal.specs.declared.fault.JournalFault.TheVariants as journal
 use Rattle.efi_images.specs.Words.{place_of}
 use Rattle.bootkeep_c.specs.declared.refusal.Refusal.{Refusal}
 use Rattle.bootkeep_c.specs.declared.failure.Failure.{Failure}
@@ -127,6 +131,21 @@ put_failure put.BadName = bare 0x0601
 put_failure put.EmptyData = bare 0x0602
 put_failure put.DataTooLong = bare 0x0603
 put_failure put.OutOfMemory = failure.Memory
+
+-- a set that refuses an edit: the place is the number of the entry that it is refused for
+abbrev pub edit_failure : EditFault → Failure
+edit_failure (edit.BadOption fault) = option_failure fault
+edit_failure edit.OptionTooLong = bare 0x0E08
+edit_failure (edit.Taken entry) = at_place 0x0E01 entry
+edit_failure edit.NoFree = bare 0x0E02
+edit_failure (edit.Twice entry) = at_place 0x0E03 entry
+edit_failure (edit.Missing entry) = at_place 0x0E04 entry
+edit_failure (edit.Stale entry) = at_place 0x0E05 entry
+edit_failure (edit.NoOption entry) = at_place 0x0E06 entry
+edit_failure edit.BadOrder = bare 0x0501
+edit_failure edit.BadNext = bare 0x0502
+edit_failure edit.OrderTooLong = bare 0x0E07
+edit_failure edit.OutOfMemory = failure.Memory
 
 abbrev pub feed_failure : FeedFault → Failure
 feed_failure feeding.BadMagic = bare 0x0701
@@ -230,6 +249,17 @@ lists_failure (listed.CutHeader place) = at_place 0x0A01 place
 lists_failure (listed.BadListSize place len) = at_place 0x0A02 place
 lists_failure (listed.BadSignatureSize place len) = at_place 0x0A03 place
 lists_failure listed.OutOfMemory = failure.Memory
+
+-- bytes that aren't the file of a journal
+abbrev pub journal_failure : JournalFault → Failure
+journal_failure journal.BadMagic = bare 0x0C01
+journal_failure (journal.BadMachine place) = at_place 0x0C02 place
+journal_failure (journal.Truncated place) = at_place 0x0C03 place
+journal_failure (journal.ValueTooLong place) = at_place 0x0C04 place
+journal_failure (journal.BadCourse place) = at_place 0x0C05 place
+journal_failure (journal.BadIdentity place) = at_place 0x0C06 place
+journal_failure (journal.BadName place) = at_place 0x0C07 place
+journal_failure journal.OutOfMemory = failure.Memory
 
 -- ---- what a call tells
 

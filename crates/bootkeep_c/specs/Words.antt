@@ -164,13 +164,59 @@ loaded_word kind =
     else (if kind == 0x0B0D then Some (codes "ImageRelocationUnknownType")
     else None))))))))))))
 
--- of what a file has
+-- of the journal's file, and of a machine
+abbrev pub journal_word : ℕ → Option (List ℕ)
+journal_word kind =
+    if kind == 0x0C01 then Some (codes "JournalBadMagic")
+    else (if kind == 0x0C02 then Some (codes "JournalBadMachine")
+    else (if kind == 0x0C03 then Some (codes "JournalTruncated")
+    else (if kind == 0x0C04 then Some (codes "JournalValueTooLong")
+    else (if kind == 0x0C05 then Some (codes "JournalBadCourse")
+    else (if kind == 0x0C06 then Some (codes "JournalBadIdentity")
+    else (if kind == 0x0C07 then Some (codes "JournalBadName")
+    else (if kind == 0x0C08 then Some (codes "JournalOfAnother")
+    else (if kind == 0x0C09 then Some (codes "JournalTooLong")
+    else None))))))))
+
+abbrev pub machine_word : ℕ → Option (List ℕ)
+machine_word kind =
+    if kind == 0x0D01 then Some (codes "MachineBadName")
+    else (if kind == 0x0D02 then Some (codes "MachineBadStart")
+    else (if kind == 0x0D03 then Some (codes "MachineNoData")
+    else (if kind == 0x0D04 then Some (codes "MachineTooLong")
+    else None)))
+
+-- of an edit
+abbrev pub edit_word : ℕ → Option (List ℕ)
+edit_word kind =
+    if kind == 0x0E01 then Some (codes "UneditedTaken")
+    else (if kind == 0x0E02 then Some (codes "UneditedNoFree")
+    else (if kind == 0x0E03 then Some (codes "UneditedTwice")
+    else (if kind == 0x0E04 then Some (codes "UneditedMissing")
+    else (if kind == 0x0E05 then Some (codes "UneditedStale")
+    else (if kind == 0x0E06 then Some (codes "UneditedNoOption")
+    else (if kind == 0x0E07 then Some (codes "UneditedOrderTooLong")
+    else (if kind == 0x0E08 then Some (codes "UneditedOptionTooLong")
+    else (if kind == 0x0E09 then Some (codes "UneditedBadKind")
+    else (if kind == 0x0E0A then Some (codes "UneditedBadNumber")
+    else (if kind == 0x0E0B then Some (codes "UneditedBadPosition")
+    else None))))))))))
+
+-- of a change of a machine or of a set
+unfoldable pub change_word : ℕ → Option (List ℕ)
+change_word kind =
+    if kind / 0x100 == 12 then journal_word kind
+    else (if kind / 0x100 == 13 then machine_word kind
+    else (if kind / 0x100 == 14 then edit_word kind
+    else None))
+
+-- of what a file has, and of a change
 unfoldable pub file_word : ℕ → Option (List ℕ)
 file_word kind =
     if kind / 0x100 == 9 then image_word kind
     else (if kind / 0x100 == 10 then lists_word kind
     else (if kind / 0x100 == 11 then loaded_word kind
-    else None))
+    else change_word kind))
 
 -- the upper byte of its number tells of what a refusal is
 abbrev pub refusal_word : ℕ → Option (List ℕ)

@@ -2,22 +2,27 @@
 
 ghost use Rattle.std.specs.Prelude.{◌≡◌};
 ghost use Rattle.bootkeep_c.specs.declared.failure.Failure.TheVariants as failure;
-ghost use Rattle.bootkeep_c.specs.Refusals.{at_place, bare, path_failure, text_failure, named_failure, list_failure, option_failure, set_failure, vars_failure, open_failure, put_failure, feed_failure, frame_failure, image_failure, digest_failure, lists_failure, Tells};
+ghost use Rattle.bootkeep_c.specs.Refusals.{at_place, bare, path_failure, text_failure, named_failure, list_failure, option_failure, set_failure, vars_failure, open_failure, put_failure, edit_failure, feed_failure, frame_failure, image_failure, digest_failure, lists_failure, journal_failure, Tells};
 
 use crate::image_number::image_number;
 use crate::refusal::{
     FRAME_BAD_KIND, FRAME_BAD_MAGIC, FRAME_BAD_NUMBER, FRAME_BAD_PAYLOAD, FRAME_BAD_SIZE,
     FRAME_BAD_VERSION, FRAME_SHORT, FRAME_TOO_LONG, IMAGE_CERTIFICATES_OVERLAP, IMAGE_OVERLAP,
-    LISTS_BAD_LIST_SIZE, LISTS_BAD_SIGNATURE_SIZE, LISTS_CUT_HEADER, NO_KIND, NO_PLACE,
-    OPTION_EMPTY_LIST, OPTION_LIST_PAST_END, OPTION_LIST_TOO_LONG, OPTION_NO_TERMINATOR,
-    OPTION_PATH, OPTION_SHORT, OPTION_ZERO_UNIT, PATH_BAD_END, PATH_BAD_LENGTH, PATH_NO_END,
-    PATH_PAST_END, PATH_SHORT_HEADER, PUT_BAD_NAME, PUT_DATA_TOO_LONG, PUT_EMPTY_DATA, Refusal,
-    SET_BAD_DATA, SET_BAD_MAGIC, SET_BAD_NAME, SET_NOT_RISING, SET_TRUNCATED, STREAM_BAD_MAGIC,
-    STREAM_BAD_VERSION, STREAM_TOO_LONG, TEXT_BAD_ARGUMENT, TEXT_BAD_COUNT, TEXT_BAD_DATA,
-    TEXT_BAD_END, TEXT_BAD_NUMBER, TEXT_BAD_SEGMENT, TEXT_OUT_OF_RANGE, TEXT_UNKNOWN_NAME,
-    VARS_BAD_NEXT, VARS_BAD_ORDER, VARS_BAD_STATE,
+    JOURNAL_BAD_COURSE, JOURNAL_BAD_IDENTITY, JOURNAL_BAD_MACHINE, JOURNAL_BAD_MAGIC,
+    JOURNAL_BAD_NAME, JOURNAL_TRUNCATED, JOURNAL_VALUE_TOO_LONG, LISTS_BAD_LIST_SIZE,
+    LISTS_BAD_SIGNATURE_SIZE, LISTS_CUT_HEADER, NO_KIND, NO_PLACE, OPTION_EMPTY_LIST,
+    OPTION_LIST_PAST_END, OPTION_LIST_TOO_LONG, OPTION_NO_TERMINATOR, OPTION_PATH, OPTION_SHORT,
+    OPTION_ZERO_UNIT, PATH_BAD_END, PATH_BAD_LENGTH, PATH_NO_END, PATH_PAST_END, PATH_SHORT_HEADER,
+    PUT_BAD_NAME, PUT_DATA_TOO_LONG, PUT_EMPTY_DATA, Refusal, SET_BAD_DATA, SET_BAD_MAGIC,
+    SET_BAD_NAME, SET_NOT_RISING, SET_TRUNCATED, STREAM_BAD_MAGIC, STREAM_BAD_VERSION,
+    STREAM_TOO_LONG, TEXT_BAD_ARGUMENT, TEXT_BAD_COUNT, TEXT_BAD_DATA, TEXT_BAD_END,
+    TEXT_BAD_NUMBER, TEXT_BAD_SEGMENT, TEXT_OUT_OF_RANGE, TEXT_UNKNOWN_NAME, UNEDITED_MISSING,
+    UNEDITED_NO_FREE, UNEDITED_NO_OPTION, UNEDITED_OPTION_TOO_LONG, UNEDITED_ORDER_TOO_LONG,
+    UNEDITED_STALE, UNEDITED_TAKEN, UNEDITED_TWICE, VARS_BAD_NEXT, VARS_BAD_ORDER, VARS_BAD_STATE,
 };
 use crate::status::{NO_MEMORY, REFUSED};
+use boot_edits::EditFault;
+use boot_journal::JournalFault;
 use boot_requests::{FeedFault, FrameFault, OpenFault};
 use efi_images::{DigestFault, ImageFault, ListFault};
 use std::alloc::{AllocError, AllocFailed};
@@ -216,6 +221,27 @@ impl From<PutFault> for Failure {
     }
 }
 
+impl From<EditFault> for Failure {
+    ghost from_gives = { λ fault made. made ≡ edit_failure fault };
+
+    fn from(fault: EditFault) -> Failure {
+        match fault {
+            EditFault::BadOption(fault) => Failure::from(fault),
+            EditFault::OptionTooLong => Failure::bare(UNEDITED_OPTION_TOO_LONG),
+            EditFault::Taken(entry) => Failure::at(UNEDITED_TAKEN, usize::from(entry)),
+            EditFault::NoFree => Failure::bare(UNEDITED_NO_FREE),
+            EditFault::Twice(entry) => Failure::at(UNEDITED_TWICE, usize::from(entry)),
+            EditFault::Missing(entry) => Failure::at(UNEDITED_MISSING, usize::from(entry)),
+            EditFault::Stale(entry) => Failure::at(UNEDITED_STALE, usize::from(entry)),
+            EditFault::NoOption(entry) => Failure::at(UNEDITED_NO_OPTION, usize::from(entry)),
+            EditFault::BadOrder => Failure::bare(VARS_BAD_ORDER),
+            EditFault::BadNext => Failure::bare(VARS_BAD_NEXT),
+            EditFault::OrderTooLong => Failure::bare(UNEDITED_ORDER_TOO_LONG),
+            EditFault::OutOfMemory => Failure::Memory,
+        }
+    }
+}
+
 impl From<FeedFault> for Failure {
     ghost from_gives = { λ fault made. made ≡ feed_failure fault };
 
@@ -278,6 +304,23 @@ impl From<ListFault> for Failure {
             ListFault::BadListSize(place, _) => Failure::at(LISTS_BAD_LIST_SIZE, place),
             ListFault::BadSignatureSize(place, _) => Failure::at(LISTS_BAD_SIGNATURE_SIZE, place),
             ListFault::OutOfMemory => Failure::Memory,
+        }
+    }
+}
+
+impl From<JournalFault> for Failure {
+    ghost from_gives = { λ fault made. made ≡ journal_failure fault };
+
+    fn from(fault: JournalFault) -> Failure {
+        match fault {
+            JournalFault::BadMagic => Failure::bare(JOURNAL_BAD_MAGIC),
+            JournalFault::BadMachine(place) => Failure::at(JOURNAL_BAD_MACHINE, place),
+            JournalFault::Truncated(place) => Failure::at(JOURNAL_TRUNCATED, place),
+            JournalFault::ValueTooLong(place) => Failure::at(JOURNAL_VALUE_TOO_LONG, place),
+            JournalFault::BadCourse(place) => Failure::at(JOURNAL_BAD_COURSE, place),
+            JournalFault::BadIdentity(place) => Failure::at(JOURNAL_BAD_IDENTITY, place),
+            JournalFault::BadName(place) => Failure::at(JOURNAL_BAD_NAME, place),
+            JournalFault::OutOfMemory => Failure::Memory,
         }
     }
 }

@@ -5,7 +5,7 @@ ghost use Rattle.std.specs.Option.{option_map};
 ghost use Rattle.boot_requests.specs.Turn.{Plain};
 ghost use Rattle.bootkeep_c.specs.Handle.{seal_owns, kept_coded, open_number};
 
-mod parts;
+pub(crate) mod parts;
 
 use boot_requests::Keeper;
 use parts::Parts;

@@ -64,9 +64,22 @@ use crate::refusal::IMAGE_SECTION_OVER_TABLE;
 use crate::refusal::IMAGE_SHORT_DOS_HEADER;
 use crate::refusal::IMAGE_SUBSYSTEM;
 use crate::refusal::IMAGE_UNMAPPED_CODE_VIEW;
+use crate::refusal::JOURNAL_BAD_COURSE;
+use crate::refusal::JOURNAL_BAD_IDENTITY;
+use crate::refusal::JOURNAL_BAD_MACHINE;
+use crate::refusal::JOURNAL_BAD_MAGIC;
+use crate::refusal::JOURNAL_BAD_NAME;
+use crate::refusal::JOURNAL_OF_ANOTHER;
+use crate::refusal::JOURNAL_TOO_LONG;
+use crate::refusal::JOURNAL_TRUNCATED;
+use crate::refusal::JOURNAL_VALUE_TOO_LONG;
 use crate::refusal::LISTS_BAD_LIST_SIZE;
 use crate::refusal::LISTS_BAD_SIGNATURE_SIZE;
 use crate::refusal::LISTS_CUT_HEADER;
+use crate::refusal::MACHINE_BAD_NAME;
+use crate::refusal::MACHINE_BAD_START;
+use crate::refusal::MACHINE_NO_DATA;
+use crate::refusal::MACHINE_TOO_LONG;
 use crate::refusal::NO_KIND;
 use crate::refusal::NO_PLACE;
 use crate::refusal::OPTION_EMPTY_LIST;
@@ -104,6 +117,17 @@ use crate::refusal::TEXT_BAD_SEGMENT;
 use crate::refusal::TEXT_NOT_UTF8;
 use crate::refusal::TEXT_OUT_OF_RANGE;
 use crate::refusal::TEXT_UNKNOWN_NAME;
+use crate::refusal::UNEDITED_BAD_KIND;
+use crate::refusal::UNEDITED_BAD_NUMBER;
+use crate::refusal::UNEDITED_BAD_POSITION;
+use crate::refusal::UNEDITED_MISSING;
+use crate::refusal::UNEDITED_NO_FREE;
+use crate::refusal::UNEDITED_NO_OPTION;
+use crate::refusal::UNEDITED_OPTION_TOO_LONG;
+use crate::refusal::UNEDITED_ORDER_TOO_LONG;
+use crate::refusal::UNEDITED_STALE;
+use crate::refusal::UNEDITED_TAKEN;
+use crate::refusal::UNEDITED_TWICE;
 use crate::refusal::VARS_BAD_NEXT;
 use crate::refusal::VARS_BAD_ORDER;
 use crate::refusal::VARS_BAD_STATE;
@@ -233,5 +257,29 @@ pub fn numbers_of_refusals_stay()
     ensures image_relocation_block_address { IMAGE_RELOCATION_BLOCK_ADDRESS ≡ 0x0B0B }
     ensures image_relocation_beyond_image { IMAGE_RELOCATION_BEYOND_IMAGE ≡ 0x0B0C }
     ensures image_relocation_unknown_type { IMAGE_RELOCATION_UNKNOWN_TYPE ≡ 0x0B0D }
+    ensures journal_bad_magic { JOURNAL_BAD_MAGIC ≡ 0x0C01 }
+    ensures journal_bad_machine { JOURNAL_BAD_MACHINE ≡ 0x0C02 }
+    ensures journal_truncated { JOURNAL_TRUNCATED ≡ 0x0C03 }
+    ensures journal_value_too_long { JOURNAL_VALUE_TOO_LONG ≡ 0x0C04 }
+    ensures journal_bad_course { JOURNAL_BAD_COURSE ≡ 0x0C05 }
+    ensures journal_bad_identity { JOURNAL_BAD_IDENTITY ≡ 0x0C06 }
+    ensures journal_bad_name { JOURNAL_BAD_NAME ≡ 0x0C07 }
+    ensures journal_of_another { JOURNAL_OF_ANOTHER ≡ 0x0C08 }
+    ensures journal_too_long { JOURNAL_TOO_LONG ≡ 0x0C09 }
+    ensures machine_bad_name { MACHINE_BAD_NAME ≡ 0x0D01 }
+    ensures machine_bad_start { MACHINE_BAD_START ≡ 0x0D02 }
+    ensures machine_no_data { MACHINE_NO_DATA ≡ 0x0D03 }
+    ensures machine_too_long { MACHINE_TOO_LONG ≡ 0x0D04 }
+    ensures unedited_taken { UNEDITED_TAKEN ≡ 0x0E01 }
+    ensures unedited_no_free { UNEDITED_NO_FREE ≡ 0x0E02 }
+    ensures unedited_twice { UNEDITED_TWICE ≡ 0x0E03 }
+    ensures unedited_missing { UNEDITED_MISSING ≡ 0x0E04 }
+    ensures unedited_stale { UNEDITED_STALE ≡ 0x0E05 }
+    ensures unedited_no_option { UNEDITED_NO_OPTION ≡ 0x0E06 }
+    ensures unedited_order_too_long { UNEDITED_ORDER_TOO_LONG ≡ 0x0E07 }
+    ensures unedited_option_too_long { UNEDITED_OPTION_TOO_LONG ≡ 0x0E08 }
+    ensures unedited_bad_kind { UNEDITED_BAD_KIND ≡ 0x0E09 }
+    ensures unedited_bad_number { UNEDITED_BAD_NUMBER ≡ 0x0E0A }
+    ensures unedited_bad_position { UNEDITED_BAD_POSITION ≡ 0x0E0B }
     ensures no_place { NO_PLACE ≡ no_place }
 {}

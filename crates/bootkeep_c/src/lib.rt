@@ -9,6 +9,8 @@ mod answer;
 mod buffer;
 mod change;
 mod description;
+mod edit;
+mod end;
 mod entry;
 mod failure;
 mod frame;
@@ -21,7 +23,9 @@ pub mod laws;
 mod limits;
 mod lists;
 mod loaded_word;
+mod machine_word;
 mod making;
+mod moves;
 mod named;
 mod named_path;
 mod named_text;
@@ -31,15 +35,21 @@ mod path;
 mod refusal;
 mod reply;
 mod run;
+mod session;
+mod session_begin;
+mod session_handle;
 mod set;
 mod status;
 mod text;
 mod variable;
 mod version;
+mod wanted_run;
 mod word;
 
 pub use change::{ChangeNumbers, bootkeep_set_changes};
 pub use description::bootkeep_option_description_utf8;
+pub use edit::{EditNumbers, EditedNumbers, bootkeep_set_edit};
+pub use end::EndNumbers;
 pub use entry::{EntryState, bootkeep_set_entry, bootkeep_set_lowest_free};
 pub use failure::Failure;
 pub use frame::{Asked, bootkeep_frame_make};
@@ -56,6 +66,11 @@ pub use keeper_reply::{
 };
 pub use lists::{ListPlaces, bootkeep_signature_lists};
 pub use making::{bootkeep_option_make, bootkeep_option_make_units};
+pub use moves::{
+    bootkeep_moves_bytes, bootkeep_moves_close, bootkeep_moves_edit, bootkeep_moves_end,
+    bootkeep_moves_name, bootkeep_moves_next, bootkeep_moves_reply, bootkeep_moves_requests,
+    bootkeep_moves_settle, bootkeep_moves_tell,
+};
 pub use named::{NamedEntry, bootkeep_set_named};
 pub use named_path::bootkeep_path_names;
 pub use named_text::bootkeep_path_parse;
@@ -64,6 +79,7 @@ pub use path::{bootkeep_path_check, bootkeep_path_text};
 pub use refusal::Refusal;
 pub use reply::ReplyNumbers;
 pub use run::bootkeep_run;
+pub use session_handle::{MovesHandle, MovesRoom};
 pub use set::{
     bootkeep_set_at_risk, bootkeep_set_get, bootkeep_set_plan, bootkeep_set_put,
     bootkeep_set_remove,

@@ -18,6 +18,9 @@ pub const LIST_MAX: u32 = 65_535;
 /// The most bytes that the word of a status, a refusal or an outcome has.
 pub const WORD_MAX: u32 = 32;
 
+/// The most bytes that the name of a machine has.
+pub const MACHINE_MAX: u32 = 4_096;
+
 // The twelve bytes before a payload, and the payload.
 const _: () = prove!(FRAME_MAX as usize == 12 + boot_requests::PAYLOAD_MAX);
 
@@ -28,3 +31,5 @@ const _: () = prove!(DATA_MAX as usize == uefi_vars::DATA_MAX);
 const _: () = prove!(ORDER_MAX as usize == uefi_vars::ORDER_MAX);
 
 const _: () = prove!(LIST_MAX as usize == uefi_option::LIST_MAX);
+
+const _: () = prove!(MACHINE_MAX as usize == boot_journal::MACHINE_NAME_MAX);

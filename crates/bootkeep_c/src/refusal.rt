@@ -303,6 +303,78 @@ pub const IMAGE_RELOCATION_BEYOND_IMAGE: u32 = 0x0B0C;
 /// [`RelocationFault::UnknownType`](efi_images::RelocationFault::UnknownType).
 pub const IMAGE_RELOCATION_UNKNOWN_TYPE: u32 = 0x0B0D;
 
+/// [`JournalFault::BadMagic`](boot_journal::JournalFault::BadMagic).
+pub const JOURNAL_BAD_MAGIC: u32 = 0x0C01;
+
+/// [`JournalFault::BadMachine`](boot_journal::JournalFault::BadMachine).
+pub const JOURNAL_BAD_MACHINE: u32 = 0x0C02;
+
+/// [`JournalFault::Truncated`](boot_journal::JournalFault::Truncated).
+pub const JOURNAL_TRUNCATED: u32 = 0x0C03;
+
+/// [`JournalFault::ValueTooLong`](boot_journal::JournalFault::ValueTooLong).
+pub const JOURNAL_VALUE_TOO_LONG: u32 = 0x0C04;
+
+/// [`JournalFault::BadCourse`](boot_journal::JournalFault::BadCourse).
+pub const JOURNAL_BAD_COURSE: u32 = 0x0C05;
+
+/// [`JournalFault::BadIdentity`](boot_journal::JournalFault::BadIdentity).
+pub const JOURNAL_BAD_IDENTITY: u32 = 0x0C06;
+
+/// [`JournalFault::BadName`](boot_journal::JournalFault::BadName).
+pub const JOURNAL_BAD_NAME: u32 = 0x0C07;
+
+/// The journal is another machine's.
+pub const JOURNAL_OF_ANOTHER: u32 = 0x0C08;
+
+/// With attributes, what a change of a journal of version 1 has is too long.
+pub const JOURNAL_TOO_LONG: u32 = 0x0C09;
+
+/// The name of a machine has no byte, or more than 4,096.
+pub const MACHINE_BAD_NAME: u32 = 0x0D01;
+
+/// The identity of a start isn't one to 64 characters from 0x21 to 0x7E.
+pub const MACHINE_BAD_START: u32 = 0x0D02;
+
+/// [`RunFault::NoData`](journaled_requests::RunFault::NoData).
+pub const MACHINE_NO_DATA: u32 = 0x0D03;
+
+/// [`RunFault::TooLong`](journaled_requests::RunFault::TooLong).
+pub const MACHINE_TOO_LONG: u32 = 0x0D04;
+
+/// [`EditFault::Taken`](boot_edits::EditFault::Taken).
+pub const UNEDITED_TAKEN: u32 = 0x0E01;
+
+/// [`EditFault::NoFree`](boot_edits::EditFault::NoFree).
+pub const UNEDITED_NO_FREE: u32 = 0x0E02;
+
+/// [`EditFault::Twice`](boot_edits::EditFault::Twice).
+pub const UNEDITED_TWICE: u32 = 0x0E03;
+
+/// [`EditFault::Missing`](boot_edits::EditFault::Missing).
+pub const UNEDITED_MISSING: u32 = 0x0E04;
+
+/// [`EditFault::Stale`](boot_edits::EditFault::Stale).
+pub const UNEDITED_STALE: u32 = 0x0E05;
+
+/// [`EditFault::NoOption`](boot_edits::EditFault::NoOption).
+pub const UNEDITED_NO_OPTION: u32 = 0x0E06;
+
+/// [`EditFault::OrderTooLong`](boot_edits::EditFault::OrderTooLong).
+pub const UNEDITED_ORDER_TOO_LONG: u32 = 0x0E07;
+
+/// [`EditFault::OptionTooLong`](boot_edits::EditFault::OptionTooLong).
+pub const UNEDITED_OPTION_TOO_LONG: u32 = 0x0E08;
+
+/// The number of what is to be done is that of no edit.
+pub const UNEDITED_BAD_KIND: u32 = 0x0E09;
+
+/// The number of an entry, or of seconds, is above 65,536.
+pub const UNEDITED_BAD_NUMBER: u32 = 0x0E0A;
+
+/// The position of a new entry is none.
+pub const UNEDITED_BAD_POSITION: u32 = 0x0E0B;
+
 /// Why a call refuses: `struct bootkeep_refusal`.
 #[repr(C)]
 #[derive(Clone, Copy, Debug, PartialEq, Eq)]

@@ -110,7 +110,7 @@ fn ran_over(alloc: Global, set: &[u8], stream: &[u8]) -> Result<(Vec<u8>, String
 }
 
 /// The delivery of each frame of a stream.
-fn read_events(alloc: Global, stream: &[u8]) -> Result<Vec<Event>, Failure>
+pub(crate) fn read_events(alloc: Global, stream: &[u8]) -> Result<Vec<Event>, Failure>
     ensures found { IfOk result (λ events. IsStream stream.now events.items) }
     ensures fault { IfErr result (λ failed. failed ≢ Failure.Memory → IsStreamFailure stream.now failed) }
 {

@@ -225,7 +225,7 @@ fn value_of<'a>(vars: &'a Vars, name: &[u8]) -> Option<&'a [u8]>
 }
 
 /// The name as text. If it isn't UTF-8 it is no name, and nor is the empty text in its place.
-fn name_text(name: &[u8]) -> &str
+pub(crate) fn name_text(name: &[u8]) -> &str
     ensures { IsNameText name.now result.now }
 {
     match str::from_utf8(name) {

@@ -7,6 +7,7 @@ ghost use Rattle.bootkeep_c.specs.Words.{word_max, status_word, refusal_word, pa
 
 use crate::buffer::give;
 use crate::loaded_word::word_of_loaded;
+use crate::machine_word::word_of_change;
 use crate::refusal::FRAME_BAD_KIND;
 use crate::refusal::FRAME_BAD_MAGIC;
 use crate::refusal::FRAME_BAD_NUMBER;
@@ -200,7 +201,7 @@ fn word_of_refusal(kind: u32) -> Option<&'static str>
     }
 }
 
-/// The word of a refusal of what a file has.
+/// The word of a refusal of what a file has, or of a change.
 #[tactic(auto, unfolding(crate::specs::Words::file_word))]
 fn word_of_file(kind: u32) -> Option<&'static str>
     ensures word { option_map (λ word. word.now) result ≡ file_word kind }
@@ -210,7 +211,7 @@ fn word_of_file(kind: u32) -> Option<&'static str>
         9 => word_of_image(kind),
         10 => word_of_lists(kind),
         11 => word_of_loaded(kind),
-        _ => None,
+        _ => word_of_change(kind),
     }
 }
 

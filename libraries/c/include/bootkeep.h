@@ -15,14 +15,16 @@
  *
  * Bytes go in and bytes come out. The calls are those of Bootkeep's proved libraries: each returns for every input,
  * accepts exactly what the formats say, and tells the first fault of anything else by number. What each call does is
- * said here. docs/c.md leads to a first program, and docs/formats.md has the formats to the byte; both are in the
- * sources, as is all that is named in docs/ here.
+ * said here, and in a manual of its own, as bootkeep_path_text(3). docs/c.md leads to a first program, and
+ * docs/formats.md to the formats, to the byte: what is named in docs/ here is a page of the source.
  *
- * The calls are on values alone: they read and write no machine. To change one, call `bootvars`, which keeps a journal
- * over a loss of power, and takes a change back by `bootvars undo`.
+ * The calls are on values alone: they read and write no machine. To change one, a program makes the moves of
+ * bootkeep_moves_next, which keep a journal over a loss of power, or calls `bootvars`, which makes them, and takes a
+ * change back by `bootvars undo`.
  *
  * Each call answers a status, BOOTKEEP_DONE if all went well. Everything else that it tells goes to places of the
- * caller, so there is never anything to free: a program closes the keepers that it opened, and that is all.
+ * caller, so there is never anything to free: a program closes the keepers and commands that it opened, and that is
+ * all.
  *
  * BUFFERS
  *
@@ -37,6 +39,37 @@
  * `out` may be NULL.
  *
  * What else a call tells, as `*taken`, is written at BOOTKEEP_DONE alone.
+ *
+ * PARAMETERS
+ *
+ * These mean the same in each call that has them; what else a call is handed is said where it is declared.
+ *
+ *     out, cap, len            where the answer goes, how many bytes fit there, and how many the answer has
+ *     refusal                  why what was handed in is refused
+ *     bytes, bytes_len         the bytes that are read, and how many there are
+ *     text, text_len           the text of a device path, in UTF-8, and how many bytes it has
+ *     taken                    how many of the bytes the device path takes
+ *     attributes               the attributes of a load option, all 32 bits: BOOTKEEP_OPTION_ACTIVE,
+ *                              BOOTKEEP_OPTION_FORCE_RECONNECT, BOOTKEEP_OPTION_HIDDEN, and a value of those of
+ *                              BOOTKEEP_OPTION_CATEGORY
+ *     list, list_len           the device paths of a load option, one after the other, and how many bytes they have
+ *     optional, optional_len   the optional data of a load option, and how many bytes they have
+ *     set, set_len             a set, all the bytes of a set file, and how many there are
+ *     name, name_len           the name of a variable, and how many bytes it has
+ *     keeper                   the keeper
+ *     frame, frame_len         the bytes that are delivered, and how many there are
+ *     reply                    the reply, of which the caller has written `size`
+ *     edit                     the edit, of which the caller has written `size`
+ *     numbers, numbers_len     the numbers of the entries that an edit is of, in its sequence, and how many there are
+ *     option, option_len       the bytes of the load option that BOOTKEEP_EDIT_ADD adds, and how many there are
+ *     cap, len                 without an `out`: how many items fit in what the answer goes to, and how many it has
+ *     numbers                  where the answer goes: numbers of entries
+ *     image, image_len         all the bytes of the image, and how many there are
+ *     moves                    the command over a machine
+ *     machine, machine_len     what the machine is called, any bytes, and how many: 1 to BOOTKEEP_MACHINE_MAX
+ *     start, start_len         the identity of the machine's start, in printing ASCII, and how many bytes it has
+ *     variables, variables_len  what the machine keeps of its variables, as a set, and how many bytes that has
+ *     journal, journal_len     all the bytes of the journal's file, and how many: none if there is no such file
  *
  * PROCESSORS
  *
@@ -64,9 +97,9 @@
  *   - What a call may write, an `out`, a `*len` and every other pointer without `const`, overlaps nothing else that
  *     the same call was handed, and nobody else reads or writes it until the call returns. Nobody writes what is
  *     handed in behind `const` until then.
- *   - A `struct bootkeep_keeper` is opened, or zeroed, before any other call is handed it, and is never written, copied
- *     or moved by value after that: it has one owner. `at` is nobody's but the library's. One that is open is closed
- *     before it is opened again: what it holds is lost otherwise.
+ *   - A `struct bootkeep_keeper` or `struct bootkeep_moves` is opened, or zeroed, before any other call is handed it,
+ *     and is never written, copied or moved by value after that: it has one owner. `at` is nobody's but the library's.
+ *     One that is open is closed before it is opened again: what it holds is lost otherwise.
  *   - The program's malloc, realloc and free are one allocator, whose blocks have the usual alignment; in firmware its
  *     bootkeep_allocate, bootkeep_grow and bootkeep_free are. What these refuse is answered by BOOTKEEP_NO_MEMORY.
  *   - No call is made from a signal's handler, or in the child of a fork of a process with several threads before it
@@ -75,10 +108,11 @@
  *
  * THREADS
  *
- * Calls without a keeper may be made by any thread at any time. A keeper is used by one thread at a time: it may be
- * handed from one to another, and closed by any, if what hands it over orders the two calls, as a lock, a channel or
- * the start and the end of a thread does. Keepers have nothing to do with each other: all that one holds is its own,
- * and the library keeps nothing beside it. docs/c.md says what this rests on, which is no proof.
+ * Calls without a keeper or a command may be made by any thread at any time. A keeper, as a command, is used by one
+ * thread at a time: it may be handed from one to another, and closed by any, if what hands it over orders the two
+ * calls, as a lock, a channel or the start and the end of a thread does. Keepers have nothing to do with each other:
+ * all that one holds is its own, and the library keeps nothing beside it. docs/c.md says what this rests on, which is
+ * no proof.
  */
 
 #ifndef BOOTKEEP_H
@@ -113,11 +147,12 @@ extern "C" {
  * The library for firmware, libbootkeep-firmware.a, has these calls without a C library. It takes memory by these three
  * functions of the program's, and refers to nothing else. The other libraries don't call them.
  *
- * No call takes more than BOOTKEEP_STACK_MAX bytes of the stack, of which UEFI has 128 KiB (UEFI 2.10, 2.3.4): a plan,
- * a run and the events of a keeper up to 19,000, bootkeep_set_at_risk 14,000, bootkeep_image_digest 10,000, and all
- * others 2,700. What the three functions take comes on top. `tools/build-c --firmware` prints it for each call: it adds
- * up the frames that the compiler tells, along the longest way down, and counts what calls itself, sorts of numbers and
- * what goes down a tree of them, as often as it does for 65,536 numbers.
+ * No call takes more than BOOTKEEP_STACK_MAX bytes of the stack, of which UEFI has 128 KiB (UEFI 2.10, 2.3.4):
+ * bootkeep_moves_next up to 30,000, a plan, an edit, a run and the events of a keeper 19,000, bootkeep_set_at_risk
+ * 15,000, bootkeep_image_digest 10,000, and all others 5,100. What the three functions take comes on top.
+ * `tools/build-c --firmware` prints it for each call: it adds up the frames that the compiler tells, along the longest
+ * way down, and counts what calls itself, sorts of numbers and what goes down a tree of them, as often as it does for
+ * 65,536 numbers.
  *
  * The library uses no red zone, nothing of it is written, and it needs the processor's level x86-64-v2. Its calls have
  * the System V convention, so that XMM6 to XMM15 may be changed, which firmware wants back from what it calls (UEFI
@@ -128,7 +163,7 @@ extern "C" {
  * that one, which is freed. At NULL that one stays as it was. bootkeep_free frees a block; the library hands it no
  * NULL.
  */
-#define BOOTKEEP_STACK_MAX 20480
+#define BOOTKEEP_STACK_MAX 32768
 
 void *bootkeep_allocate(size_t len);
 void *bootkeep_grow(void *block, size_t kept, size_t len);
@@ -150,14 +185,16 @@ uint32_t bootkeep_version(void);
 #define BOOTKEEP_REFUSED 1
 /* A buffer is too short: `*len` says how much room the answer needs. Nothing has happened. */
 #define BOOTKEEP_NO_ROOM 2
-/* There is no variable of this name, or no word of this number. */
+/* There is no variable of this name, no word of this number, no such move, or no such reply. */
 #define BOOTKEEP_ABSENT 3
 /*
- * Memory was refused. Nothing has happened. This may come in the place of any other status but BOOTKEEP_CLOSED and
- * BOOTKEEP_BAD_SIZE, and but BOOTKEEP_REFUSED at the calls that say so.
+ * Memory was refused. Nothing has happened.
+ *
+ * This may come in the place of any other status but BOOTKEEP_CLOSED and BOOTKEEP_BAD_SIZE, and but BOOTKEEP_REFUSED at
+ * the calls that say so.
  */
 #define BOOTKEEP_NO_MEMORY 4
-/* The keeper isn't open. */
+/* The keeper, or the command over a machine, isn't open. */
 #define BOOTKEEP_CLOSED 5
 /* The `size` of a struct is below that which the struct had when it first came. Nothing has happened. */
 #define BOOTKEEP_BAD_SIZE 6
@@ -173,6 +210,8 @@ uint32_t bootkeep_version(void);
 #define BOOTKEEP_ORDER_MAX 65536
 /* The most bytes of a word of a number. */
 #define BOOTKEEP_WORD_MAX 32
+/* The most bytes of the name of a machine. */
+#define BOOTKEEP_MACHINE_MAX 4096
 
 /* ---- Refusals --------------------------------------------------------------------------------------------------- */
 
@@ -187,7 +226,9 @@ struct bootkeep_refusal {
     size_t inner_place;
 };
 
+/* There is no fault. */
 #define BOOTKEEP_NO_KIND 0
+/* There is no place. */
 #define BOOTKEEP_NO_PLACE SIZE_MAX
 
 /*
@@ -219,20 +260,18 @@ struct bootkeep_refusal {
 #define BOOTKEEP_TEXT_BAD_END 0x0204
 /* The text isn't UTF-8 from this place on. This comes before any other fault of a text. */
 #define BOOTKEEP_TEXT_NOT_UTF8 0x0205
-/*
- * These are of bootkeep_path_parse alone, which reads the names of nodes too. No node has the name at this place.
- */
+/* Of bootkeep_path_parse alone: no node has the name at this place. */
 #define BOOTKEEP_TEXT_UNKNOWN_NAME 0x0206
-/* The argument at this place isn't what the node has there. */
+/* Of bootkeep_path_parse alone: the argument at this place isn't what the node has there. */
 #define BOOTKEEP_TEXT_BAD_ARGUMENT 0x0207
-/* At this place the segment ends before it has all its arguments, or has one more. */
+/* Of bootkeep_path_parse alone: at this place the segment ends before it has all its arguments, or has one more. */
 #define BOOTKEEP_TEXT_BAD_COUNT 0x0208
-/* What the arguments of the segment at this place say is no data of its node. */
+/* Of bootkeep_path_parse alone: what the arguments of the segment at this place say is no data of its node. */
 #define BOOTKEEP_TEXT_BAD_DATA 0x0209
 
 /*
  * Of a load option. Only BOOTKEEP_OPTION_PATH and BOOTKEEP_OPTION_NOT_UTF8 have a place, and the first has a fault
- * within.
+ * within; its place is in the list if an option is to be made.
  */
 
 /* There are fewer bytes than the six of the attributes and of the length of the list. */
@@ -245,16 +284,15 @@ struct bootkeep_refusal {
 #define BOOTKEEP_OPTION_EMPTY_LIST 0x0304
 /* The bytes of the list from this place of the option on don't begin with a path: `inner_kind` is that path's fault. */
 #define BOOTKEEP_OPTION_PATH 0x0305
-/*
- * These are of parts of which an option is to be made, as BOOTKEEP_OPTION_EMPTY_LIST and BOOTKEEP_OPTION_PATH may be,
- * whose place is then in the list. A character of the description is zero.
- */
+/* Of bootkeep_option_make and bootkeep_option_make_units alone: a character of the description is zero. */
 #define BOOTKEEP_OPTION_ZERO_UNIT 0x0306
-/* The paths have more bytes than BOOTKEEP_LIST_MAX. */
+/* Of bootkeep_option_make and bootkeep_option_make_units alone: the paths have more bytes than BOOTKEEP_LIST_MAX. */
 #define BOOTKEEP_OPTION_LIST_TOO_LONG 0x0307
-/* The description isn't UTF-8 from this place of it on. */
+/* Of bootkeep_option_make alone: the description isn't UTF-8 from this place of it on. */
 #define BOOTKEEP_OPTION_NOT_UTF8 0x0308
-/* Of bootkeep_option_description_utf8: half of a pair of units stands alone in the description, which is no text. */
+/*
+ * Of bootkeep_option_description_utf8 alone: half of a pair of units stands alone in the description, which is no text.
+ */
 #define BOOTKEEP_OPTION_NOT_UTF16 0x0309
 
 /*
@@ -404,9 +442,12 @@ struct bootkeep_refusal {
 #define BOOTKEEP_IMAGE_BYTE_CODE 0x0921
 /* The image's entry point isn't in it. */
 #define BOOTKEEP_IMAGE_ENTRY_POINT 0x0922
-/* These two are of bootkeep_image_digest alone, without a place. Headers and sections have more bytes than the file. */
+/* Of bootkeep_image_digest alone, without a place: headers and sections have more bytes than the file. */
 #define BOOTKEEP_IMAGE_OVERLAP 0x0923
-/* The certificate table has more bytes than are left of the file after the headers and sections. */
+/*
+ * Of bootkeep_image_digest alone, without a place: the certificate table has more bytes than are left of the file after
+ * the headers and sections.
+ */
 #define BOOTKEEP_IMAGE_CERTIFICATES_OVERLAP 0x0924
 
 /*
@@ -451,6 +492,69 @@ struct bootkeep_refusal {
 /* A relocation is of a type that firmware doesn't know. */
 #define BOOTKEEP_IMAGE_RELOCATION_UNKNOWN_TYPE 0x0b0d
 
+/*
+ * Of the file of a journal. The place is that of the field with the fault, in the file.
+ */
+
+/* The file begins neither with `BKJ1` nor with `BKJ2`. This has no place. */
+#define BOOTKEEP_JOURNAL_BAD_MAGIC 0x0c01
+/* The name of the machine is to have no byte, or more than BOOTKEEP_MACHINE_MAX. */
+#define BOOTKEEP_JOURNAL_BAD_MACHINE 0x0c02
+/* The file ends in the field. */
+#define BOOTKEEP_JOURNAL_TRUNCATED 0x0c03
+/* The value is to have more than BOOTKEEP_DATA_MAX bytes. */
+#define BOOTKEEP_JOURNAL_VALUE_TOO_LONG 0x0c04
+/* The byte is neither 1, for changes that are being made, nor 2, for changes that are taken back. */
+#define BOOTKEEP_JOURNAL_BAD_COURSE 0x0c05
+/* The identity isn't one to 64 characters from 0x21 to 0x7E. */
+#define BOOTKEEP_JOURNAL_BAD_IDENTITY 0x0c06
+/* The name isn't that of a variable of the boot manager. */
+#define BOOTKEEP_JOURNAL_BAD_NAME 0x0c07
+/* The journal is another machine's. This and the next one have no place. */
+#define BOOTKEEP_JOURNAL_OF_ANOTHER 0x0c08
+/* With attributes, what a change of a journal that has none has is longer than BOOTKEEP_DATA_MAX. */
+#define BOOTKEEP_JOURNAL_TOO_LONG 0x0c09
+
+/*
+ * Of a machine. None has a place.
+ */
+
+/* The name of the machine has no byte, or more than BOOTKEEP_MACHINE_MAX. */
+#define BOOTKEEP_MACHINE_BAD_NAME 0x0d01
+/* The identity of the start isn't one to 64 characters from 0x21 to 0x7E. */
+#define BOOTKEEP_MACHINE_BAD_START 0x0d02
+/* These two are of `fault` alone. A variable of the boot manager has no byte after its attributes. */
+#define BOOTKEEP_MACHINE_NO_DATA 0x0d03
+/* With its attributes, what a variable would have after the run is longer than BOOTKEEP_DATA_MAX. */
+#define BOOTKEEP_MACHINE_TOO_LONG 0x0d04
+
+/*
+ * Of an edit of a set that isn't made. The place is the number of the entry that it is refused for: of .._TAKEN,
+ * .._TWICE, .._MISSING, .._STALE and .._NO_OPTION. The others have none.
+ */
+/* An entry is stored under the number that the new one is to have. */
+#define BOOTKEEP_UNEDITED_TAKEN 0x0e01
+/* An entry is stored under each number. */
+#define BOOTKEEP_UNEDITED_NO_FREE 0x0e02
+/* The number is in the list twice. */
+#define BOOTKEEP_UNEDITED_TWICE 0x0e03
+/* There is no entry of the number. */
+#define BOOTKEEP_UNEDITED_MISSING 0x0e04
+/* There is no entry of the number, which was to be in the order. */
+#define BOOTKEEP_UNEDITED_STALE 0x0e05
+/* The entry of the number is no load option. */
+#define BOOTKEEP_UNEDITED_NO_OPTION 0x0e06
+/* BootOrder would have more than BOOTKEEP_ORDER_MAX numbers. */
+#define BOOTKEEP_UNEDITED_ORDER_TOO_LONG 0x0e07
+/* The load option to be added has more than BOOTKEEP_DATA_MAX bytes. */
+#define BOOTKEEP_UNEDITED_OPTION_TOO_LONG 0x0e08
+/* `kind` is none of BOOTKEEP_EDIT_.. */
+#define BOOTKEEP_UNEDITED_BAD_KIND 0x0e09
+/* `number` is above BOOTKEEP_NO_ENTRY. */
+#define BOOTKEEP_UNEDITED_BAD_NUMBER 0x0e0a
+/* `position` is none of BOOTKEEP_POSITION_.. */
+#define BOOTKEEP_UNEDITED_BAD_POSITION 0x0e0b
+
 /* ---- Words ------------------------------------------------------------------------------------------------------ */
 
 /*
@@ -458,6 +562,10 @@ struct bootkeep_refusal {
  * `NoRoom` of BOOTKEEP_NO_ROOM, `PathNoEnd` of BOOTKEEP_PATH_NO_END and `OrderRepeats` of
  * BOOTKEEP_OUTCOME_ORDER_REPEATS. It is ASCII, and room for BOOTKEEP_WORD_MAX bytes is always enough. These calls take
  * no memory.
+ *
+ *     status    the number of a status
+ *     kind      the number of a refusal, its `kind` or its `inner_kind`
+ *     outcome   the number of an outcome: one of BOOTKEEP_OUTCOME_...
  *
  *     BOOTKEEP_DONE, BOOTKEEP_NO_ROOM
  *     BOOTKEEP_ABSENT    this version has no such number
@@ -488,7 +596,7 @@ uint32_t bootkeep_path_text(const uint8_t *bytes, size_t bytes_len, uint8_t *out
  * The text of the device path for a person, as `bootvars show` prints it: that of bootkeep_path_text, with its name and
  * its fields for each node of the standard's table whose text can be read back as the node. It is UTF-8: names of files
  * may have characters past ASCII. bootkeep_path_parse reads it as the same path; bootkeep_text_path refuses most of the
- * names. All else is as there.
+ * names. All else is as of bootkeep_path_text, also that what comes after the path is left.
  *
  *     BOOTKEEP_DONE, BOOTKEEP_NO_ROOM, BOOTKEEP_NO_MEMORY
  *     BOOTKEEP_REFUSED   a number of paths
@@ -509,8 +617,8 @@ uint32_t bootkeep_path_check(const uint8_t *bytes, size_t bytes_len, size_t *tak
 /*
  * The bytes of the device path that the text stands for: the one to call for what a person wrote. It reads each text
  * that bootkeep_path_text and bootkeep_path_names give, as the path of which they gave it, and other spellings besides:
- * docs/formats.md has the grammar. What the first one gives has the same bytes for good; a later version may know more
- * names.
+ * docs/formats/paths.md has the grammar. What the first one gives has the same bytes for good; a later version may know
+ * more names.
  *
  *     BOOTKEEP_DONE, BOOTKEEP_NO_ROOM, BOOTKEEP_NO_MEMORY
  *     BOOTKEEP_REFUSED   a number of texts
@@ -519,9 +627,9 @@ uint32_t bootkeep_path_parse(const uint8_t *text, size_t text_len, uint8_t *out,
                              struct bootkeep_refusal *refusal) BOOTKEEP_CHECKED BOOTKEEP_NONNULL((5, 6));
 
 /*
- * The same for texts as bootkeep_path_text gives them, and other spellings of these: it refuses the names of most
- * nodes, so that what a person copies from `bootvars show` isn't read. It takes a text and gives a path, where
- * bootkeep_path_text takes a path and gives a text.
+ * The bytes of the device path that the text stands for, of texts as bootkeep_path_text gives them, and other spellings
+ * of these: it refuses the names of most nodes, so that what a person copies from `bootvars show` isn't read. It takes
+ * a text and gives a path, where bootkeep_path_text takes a path and gives a text.
  *
  *     BOOTKEEP_DONE, BOOTKEEP_NO_ROOM, BOOTKEEP_NO_MEMORY
  *     BOOTKEEP_REFUSED   a number of texts
@@ -565,6 +673,8 @@ struct bootkeep_option_parts {
 /*
  * The parts of the load option that the bytes are, all of them, in `*parts`. This takes no memory.
  *
+ *     parts   where each part is in the bytes
+ *
  *     BOOTKEEP_DONE
  *     BOOTKEEP_REFUSED   a number of load options
  */
@@ -577,9 +687,9 @@ uint32_t bootkeep_option_parts(const uint8_t *bytes, size_t bytes_len, struct bo
 
 /*
  * The description of the load option that the bytes are, as one line of ASCII, for a terminal or a log: units that
- * don't print are shown by their numbers, as docs/formats.md says. bootkeep_option_make takes these for characters of a
- * name: it is to be given what bootkeep_option_description_utf8 gives. A fault of the option is told even if there is
- * no memory.
+ * don't print are shown by their numbers, as docs/formats/options.md says. bootkeep_option_make takes these for
+ * characters of a name: it is to be given what bootkeep_option_description_utf8 gives. A fault of the option is told
+ * even if there is no memory.
  *
  *     BOOTKEEP_DONE, BOOTKEEP_NO_ROOM, BOOTKEEP_NO_MEMORY
  *     BOOTKEEP_REFUSED   a number of load options
@@ -602,6 +712,8 @@ uint32_t bootkeep_option_description_utf8(const uint8_t *bytes, size_t bytes_len
  * The load option of these parts: its attributes, its description, which is UTF-8 and has no zero at its end, the list
  * of its device paths, as their bytes one after the other, each as bootkeep_path_parse gives it, and its optional data.
  *
+ *     description, description_len   the description, in UTF-8, and how many bytes it has
+ *
  *     BOOTKEEP_DONE, BOOTKEEP_NO_ROOM, BOOTKEEP_NO_MEMORY
  *     BOOTKEEP_REFUSED   BOOTKEEP_OPTION_NOT_UTF8; otherwise BOOTKEEP_OPTION_PATH, with its place in the list;
  *                        otherwise BOOTKEEP_OPTION_ZERO_UNIT, BOOTKEEP_OPTION_EMPTY_LIST or
@@ -613,8 +725,11 @@ uint32_t bootkeep_option_make(uint32_t attributes, const uint8_t *description, s
     BOOTKEEP_CHECKED BOOTKEEP_NONNULL((10, 11));
 
 /*
- * The same with the units of the description as they are stored, whether or not they are a text, and without the zero
- * unit that closes it. `units_len` counts units. So each option can be made again of its parts, to the byte.
+ * The load option of these parts, as of bootkeep_option_make, but with the units of its description as they are stored,
+ * whether or not they are a text, and without the zero unit that closes it. So each option can be made again of its
+ * parts, to the byte.
+ *
+ *     units, units_len   the units of the description, and how many units there are
  *
  *     BOOTKEEP_DONE, BOOTKEEP_NO_ROOM, BOOTKEEP_NO_MEMORY
  *     BOOTKEEP_REFUSED   BOOTKEEP_OPTION_PATH, with its place in the list; otherwise BOOTKEEP_OPTION_ZERO_UNIT,
@@ -654,6 +769,12 @@ uint32_t bootkeep_option_make_units(uint32_t attributes, const uint16_t *units, 
  * has what its kind takes; the others aren't looked at, and may be 0 and NULL. An `entry` of 0 is Boot0000, and an
  * order of no numbers empties BootOrder: no call knows that they were forgotten.
  *
+ *     number               the number of the request
+ *     kind                 what it is to do: one of BOOTKEEP_REQUEST_...
+ *     entry                the number of the entry
+ *     option, option_len   the load option, and how many bytes it has
+ *     order, order_len     the numbers of the order, and how many there are
+ *
  *     BOOTKEEP_DONE, BOOTKEEP_NO_ROOM, BOOTKEEP_NO_MEMORY
  *     BOOTKEEP_REFUSED   BOOTKEEP_FRAME_BAD_KIND; otherwise a number of load options; otherwise
  *                        BOOTKEEP_FRAME_TOO_LONG or BOOTKEEP_FRAME_BAD_NUMBER
@@ -676,6 +797,8 @@ uint32_t bootkeep_frame_make(uint32_t number, uint32_t kind, uint16_t entry, con
  * What a boot would try (UEFI 2.10, 3.3): in `*next` the number of BootNext's entry, or BOOTKEEP_NO_ENTRY, and in
  * `numbers` those of the normal entries of BootOrder, in its order. `cap` and `*len` count numbers here, and not bytes.
  *
+ *     next   the number of BootNext's entry, or BOOTKEEP_NO_ENTRY
+ *
  *     BOOTKEEP_DONE, BOOTKEEP_NO_ROOM, BOOTKEEP_NO_MEMORY
  *     BOOTKEEP_REFUSED   a number of sets, BOOTKEEP_VARS_BAD_ORDER or BOOTKEEP_VARS_BAD_NEXT
  */
@@ -689,6 +812,8 @@ uint32_t bootkeep_set_plan(const uint8_t *set, size_t set_len, uint16_t *numbers
  * may write over them. After them come those of BootOrder that are no load option, which firmware may delete. Each of
  * the two parts rises, and no number is in both. edk2 was seen to do both; the standard asks for neither. `cap` and
  * `*len` count numbers, of which there are 65536 at most.
+ *
+ *     unnamed   how many of the numbers are of entries that neither BootOrder nor BootNext names: the first ones
  *
  *     BOOTKEEP_DONE, BOOTKEEP_NO_ROOM, BOOTKEEP_NO_MEMORY
  *     BOOTKEEP_REFUSED   a number of sets, BOOTKEEP_VARS_BAD_ORDER or BOOTKEEP_VARS_BAD_NEXT
@@ -711,6 +836,8 @@ uint32_t bootkeep_set_get(const uint8_t *set, size_t set_len, const uint8_t *nam
 /*
  * The set with this data for the variable of this name, in the place of what it had, if it had any. `out` must not be
  * `set`.
+ *
+ *     data, data_len   the data of the variable, and how many bytes it has
  *
  *     BOOTKEEP_DONE, BOOTKEEP_NO_ROOM, BOOTKEEP_NO_MEMORY
  *     BOOTKEEP_REFUSED   a number of sets, or a number of what is put
@@ -742,6 +869,8 @@ struct bootkeep_variable {
  * Where the variables of the set are in its bytes, in the order of their names: nothing is copied. `cap` and `*len`
  * count variables.
  *
+ *     variables   where the answer goes: where each variable is
+ *
  *     BOOTKEEP_DONE, BOOTKEEP_NO_ROOM, BOOTKEEP_NO_MEMORY
  *     BOOTKEEP_REFUSED   a number of sets
  */
@@ -751,6 +880,8 @@ uint32_t bootkeep_set_variables(const uint8_t *set, size_t set_len, struct bootk
 
 /*
  * In `*number` the lowest number under which the set has no entry, or BOOTKEEP_NO_ENTRY if all are taken.
+ *
+ *     number   the lowest free number, or BOOTKEEP_NO_ENTRY
  *
  *     BOOTKEEP_DONE, BOOTKEEP_NO_MEMORY
  *     BOOTKEEP_REFUSED   a number of sets
@@ -770,8 +901,11 @@ uint32_t bootkeep_set_lowest_free(const uint8_t *set, size_t set_len, uint32_t *
 #define BOOTKEEP_ENTRY_OTHER_CATEGORY 4
 
 /*
- * In `*state` why a number of BootOrder isn't in the plan, or that it is, by one of the numbers above. That of BootNext
- * isn't if it is absent or undecodable. Whether an option is hidden doesn't matter.
+ * In `*state` why a number of BootOrder isn't in the plan, or that it is. That of BootNext isn't if it is absent or
+ * undecodable. Whether an option is hidden doesn't matter.
+ *
+ *     number   the number of the entry
+ *     state    what a boot makes of it: one of BOOTKEEP_ENTRY_...
  *
  *     BOOTKEEP_DONE, BOOTKEEP_NO_MEMORY
  *     BOOTKEEP_REFUSED   a number of sets
@@ -797,6 +931,8 @@ struct bootkeep_named {
  * What BootNext names, if it is there, and then what BootOrder names, in its order, each with why it isn't in the plan,
  * or that it is, as bootkeep_set_entry tells it. A number that BootOrder repeats is told again, and its entry looked at
  * once. `cap` and `*len` count numbers, of which there are BOOTKEEP_ORDER_MAX + 1 at most.
+ *
+ *     named   where the answer goes: each number, with what names it and what a boot makes of its entry
  *
  *     BOOTKEEP_DONE, BOOTKEEP_NO_ROOM, BOOTKEEP_NO_MEMORY
  *     BOOTKEEP_REFUSED   a number of sets, BOOTKEEP_VARS_BAD_ORDER or BOOTKEEP_VARS_BAD_NEXT
@@ -826,12 +962,97 @@ struct bootkeep_change {
  * BootKeepState isn't among them, and firmware refuses it: a program that makes the changes of a keeper on a machine
  * keeps that state elsewhere, and together with them, as is said at bootkeep_keeper_set.
  *
+ *     from, from_len   the set from which the changes lead, and how many bytes it has
+ *     to, to_len       the set to which they lead, and how many bytes it has
+ *     changes          where the answer goes
+ *
  *     BOOTKEEP_DONE, BOOTKEEP_NO_ROOM, BOOTKEEP_NO_MEMORY
  *     BOOTKEEP_REFUSED   a number of sets, of `from`; otherwise one of `to`
  */
 uint32_t bootkeep_set_changes(const uint8_t *from, size_t from_len, const uint8_t *to, size_t to_len,
                               struct bootkeep_change *changes, size_t cap, size_t *len,
                               struct bootkeep_refusal *refusal) BOOTKEEP_CHECKED BOOTKEEP_NONNULL((7, 8));
+
+/* ---- Edits of a set ---------------------------------------------------------------------------------------------- */
+
+/* An entry is added: a load option of these bytes, under `number`, or the lowest free one for BOOTKEEP_NO_ENTRY. */
+#define BOOTKEEP_EDIT_ADD 1
+/* The entries are deleted, their numbers taken out of BootOrder, and BootNext is deleted if it names one. */
+#define BOOTKEEP_EDIT_REMOVE 2
+/* The entries come first in BootOrder, in this sequence, and the rest of it behind them. */
+#define BOOTKEEP_EDIT_FIRST 3
+/* BootOrder becomes these entries, and unless `only` isn't 0 those that it had behind them. */
+#define BOOTKEEP_EDIT_ORDER 4
+/* BootOrder has each of its numbers once, where that is first. */
+#define BOOTKEEP_EDIT_UNREPEAT 5
+/* BootNext becomes `number`, or is deleted for BOOTKEEP_NO_ENTRY. */
+#define BOOTKEEP_EDIT_NEXT 6
+/* Timeout becomes `number` seconds, or is deleted for BOOTKEEP_NO_ENTRY. */
+#define BOOTKEEP_EDIT_TIMEOUT 7
+/* The entries get LOAD_OPTION_ACTIVE. */
+#define BOOTKEEP_EDIT_ACTIVATE 8
+/* The entries lose LOAD_OPTION_ACTIVE. */
+#define BOOTKEEP_EDIT_DEACTIVATE 9
+
+/* A new entry comes last in BootOrder, unless its number is there already, which stays where it is. */
+#define BOOTKEEP_POSITION_LAST 0
+/* A new entry comes first in BootOrder, and nowhere else. */
+#define BOOTKEEP_POSITION_FIRST 1
+/* BootOrder stays as it is. */
+#define BOOTKEEP_POSITION_NONE 2
+
+/* The set is as it was to be. */
+#define BOOTKEEP_EDITED_DONE 0
+/* The entry is added. */
+#define BOOTKEEP_EDITED_ADDED 1
+/* A load option with this description and these paths is there already, and nothing is changed. */
+#define BOOTKEEP_EDITED_PRESENT 2
+
+/* An edit. What its kind doesn't take isn't looked at. */
+struct bootkeep_edit {
+    /* sizeof(struct bootkeep_edit) */
+    size_t size;
+    /* One of BOOTKEEP_EDIT_... */
+    uint32_t kind;
+    /* The number of an entry, seconds, or BOOTKEEP_NO_ENTRY: 0 is Boot0000, and no seconds at all. */
+    uint32_t number;
+    /* One of BOOTKEEP_POSITION_..., of BOOTKEEP_EDIT_ADD. */
+    uint32_t position;
+    /* Not 0 to add an entry even if one with its description and its paths is there. */
+    uint32_t again;
+    /* Not 0 to let an order have numbers without an entry. */
+    uint32_t stale;
+    /* Not 0 to have the numbers as the whole order. */
+    uint32_t only;
+};
+
+/* What came of an edit. */
+struct bootkeep_edited {
+    /* sizeof(struct bootkeep_edited): the caller writes it before a call, and no call changes it. */
+    size_t size;
+    /* One of BOOTKEEP_EDITED_... */
+    uint32_t kind;
+    /* The number of the entry that is added, or of the lowest one that is there; otherwise BOOTKEEP_NO_ENTRY. */
+    uint32_t entry;
+};
+
+/*
+ * The set after an edit, and in `*edited` what came of that. The edits of entries have their numbers in `numbers`, and
+ * BOOTKEEP_EDIT_ADD has the bytes of its load option in `option`; what the kind doesn't take may be NULL and 0.
+ * Entries, BootOrder, BootNext and Timeout that the edit isn't of stay as they are, and so does every other variable.
+ * `out` must not be `set`.
+ *
+ *     edited             what came of it, of which the caller has written `size`
+ *
+ *     BOOTKEEP_DONE, BOOTKEEP_NO_ROOM, BOOTKEEP_NO_MEMORY
+ *     BOOTKEEP_BAD_SIZE  `edit->size` or `edited->size` is smaller than the struct
+ *     BOOTKEEP_REFUSED   a number of edits, of sets or of load options, BOOTKEEP_VARS_BAD_ORDER or
+ *                        BOOTKEEP_VARS_BAD_NEXT
+ */
+uint32_t bootkeep_set_edit(const struct bootkeep_edit *edit, const uint16_t *numbers, size_t numbers_len,
+                           const uint8_t *option, size_t option_len, const uint8_t *set, size_t set_len, uint8_t *out,
+                           size_t cap, size_t *len, struct bootkeep_edited *edited, struct bootkeep_refusal *refusal)
+    BOOTKEEP_CHECKED BOOTKEEP_NONNULL((1, 10, 11, 12));
 
 /* ---- Runs ------------------------------------------------------------------------------------------------------- */
 
@@ -840,6 +1061,10 @@ uint32_t bootkeep_set_changes(const uint8_t *from, size_t from_len, const uint8_
  * reply, ended by a line feed, as `bootkeep run --stream` prints it. The stream is frames one after the other, to its
  * end: whether each is a request is told by its reply. Two buffers are filled, both or none: at BOOTKEEP_NO_ROOM
  * `*set_len_out` and `*lines_len` say what the two need.
+ *
+ *     stream, stream_len              the frames, one after the other, and how many bytes they have
+ *     set_out, set_cap, set_len_out   where the set after them goes, how many bytes fit there, and how many it has
+ *     lines, lines_cap, lines_len     where the lines go, how many bytes fit there, and how many they have
  *
  *     BOOTKEEP_DONE, BOOTKEEP_NO_ROOM, BOOTKEEP_NO_MEMORY
  *     BOOTKEEP_REFUSED   a number of sets; otherwise a number of streams; otherwise one of variables
@@ -877,8 +1102,9 @@ uint32_t bootkeep_keeper_open(struct bootkeep_keeper *keeper, const uint8_t *set
                               struct bootkeep_refusal *refusal) BOOTKEEP_CHECKED BOOTKEEP_NONNULL((1, 4));
 
 /*
- * Each of these four is an event, and its answer is the line of its reply, without a line feed. At any status but
- * BOOTKEEP_DONE the event has not happened, and the same call may be made again.
+ * bootkeep_keeper_deliver, bootkeep_keeper_prepare, bootkeep_keeper_hand and bootkeep_keeper_restart are events, and
+ * the answer is the line of the reply, without a line feed. At any status but BOOTKEEP_DONE the event has not happened,
+ * and the same call may be made again.
  *
  *     BOOTKEEP_DONE, BOOTKEEP_NO_ROOM, BOOTKEEP_NO_MEMORY, BOOTKEEP_CLOSED
  */
@@ -958,8 +1184,11 @@ struct bootkeep_reply {
 };
 
 /*
- * The same four events, with the reply as a value and the numbers of a plan in place of the line: in `numbers` those of
- * the normal options of the plan that is handed out, and none at any other reply. `cap` and `*len` count numbers.
+ * bootkeep_keeper_deliver_reply, bootkeep_keeper_prepare_reply, bootkeep_keeper_hand_reply and
+ * bootkeep_keeper_restart_reply are the events of bootkeep_keeper_deliver, bootkeep_keeper_prepare,
+ * bootkeep_keeper_hand and bootkeep_keeper_restart, with the reply as a value and the numbers of a plan in place of the
+ * line: in `numbers` those of the normal options of the plan that is handed out, and none at any other reply. `cap` and
+ * `*len` count numbers. At any status but BOOTKEEP_DONE the event has not happened.
  *
  *     BOOTKEEP_DONE, BOOTKEEP_NO_ROOM, BOOTKEEP_NO_MEMORY, BOOTKEEP_CLOSED
  *     BOOTKEEP_BAD_SIZE   `reply->size` is below that of the struct of version 1
@@ -981,7 +1210,8 @@ uint32_t bootkeep_keeper_restart_reply(struct bootkeep_keeper *keeper, struct bo
  *
  * A file can hold it; firmware refuses it. So a program that makes the changes on a machine has to keep BootKeepState
  * elsewhere, and together with the changes that are still to be made, so that after a cut between two of them it makes
- * the others before it delivers anything. `bootvars update` does that: it is the call for a machine.
+ * the others before it delivers anything. bootkeep_moves_requests does that, and `bootvars update`: these are for a
+ * machine.
  *
  *     BOOTKEEP_DONE, BOOTKEEP_NO_ROOM, BOOTKEEP_NO_MEMORY, BOOTKEEP_CLOSED
  */
@@ -990,6 +1220,8 @@ uint32_t bootkeep_keeper_set(struct bootkeep_keeper *keeper, uint8_t *out, size_
 
 /*
  * In `*number` the number of the request that is to be applied next. This takes no memory.
+ *
+ *     number   the number of the request
  *
  *     BOOTKEEP_DONE, BOOTKEEP_CLOSED
  */
@@ -1003,6 +1235,239 @@ uint32_t bootkeep_keeper_next_number(struct bootkeep_keeper *keeper, uint32_t *n
  *     BOOTKEEP_DONE, BOOTKEEP_CLOSED
  */
 uint32_t bootkeep_keeper_close(struct bootkeep_keeper *keeper) BOOTKEEP_NONNULL((1));
+
+/* ---- Machines --------------------------------------------------------------------------------------------------- */
+
+/*
+ * A change of a machine, of which the program makes each move: `bootvars update` without input and output. Firmware
+ * stores one variable at a time, and power may fail between two of them. So a journal beside the variables tells what
+ * is about to be changed before anything is, and that it is done after it; and whoever begins after a loss of power
+ * first does what the journal still tells, or takes it back if the machine refuses it.
+ *
+ *     bootkeep_moves_requests    what was read of the machine, and the frames that are to be run; or
+ *     bootkeep_moves_edit        what was read of the machine, and an edit as of bootkeep_set_edit; or
+ *     bootkeep_moves_settle      what was read alone, to do what an earlier command has left, and no more
+ *     bootkeep_moves_next        the move that comes next, until there is none
+ *     bootkeep_moves_name, bootkeep_moves_bytes
+ *                                what it is
+ *     bootkeep_moves_tell        what became of it
+ *     bootkeep_moves_end, bootkeep_moves_reply
+ *                                how the command ended, and the reply to each frame
+ *     bootkeep_moves_close
+ *
+ * docs/promises.md has what is so then of every list of answers, if the program keeps to this, which no proof can see:
+ *
+ *   - It makes no move but the one that is asked for, and that one once, and tells what became of it before it asks for
+ *     the next one. Each move is whole: it is made or isn't, whatever is cut off when.
+ *   - It tells BOOTKEEP_BECAME_DONE once no cut undoes the move, and no later move lasts before an earlier one: a file
+ *     is written beside the old one, synced, renamed, and then its folder is synced.
+ *   - It tells BOOTKEEP_BECAME_REFUSED only if the move isn't made. To set what is there already, and to delete what
+ *     isn't there, is done.
+ *   - What is handed in is what is there, and from before it was read until the command is closed nobody else changes
+ *     the boot manager's variables or the journal. docs/machines.md has the locks that `bootvars` takes.
+ *   - The start's identity is another one after each start of the machine, and the same until then:
+ *     /proc/sys/kernel/random/boot_id on Linux. No two machines have the same name.
+ *
+ * To ask for the next move costs as much as all moves before it, so a command of n moves costs the square of n.
+ */
+
+/*
+ * A command over a machine. It holds memory until it is closed, and is opened, handed on and closed as a keeper is.
+ */
+struct bootkeep_moves {
+    /* 0 if no command is open. Read it, if you like. */
+    uint32_t is_open;
+    /* The library's. */
+    void *at;
+};
+
+/*
+ * Begins a command that runs the frames of a stream over the variables of a machine.
+ *
+ * `machine` is what the machine is called, any bytes, one to BOOTKEEP_MACHINE_MAX of them, and `start` the identity of
+ * its start. `variables` is a set of what the machine keeps under each name: of Boot####, BootOrder, BootNext and
+ * Timeout their attributes, in four bytes, and then their data, as a file of Linux's efivarfs has the two; any other
+ * may be left out. `journal` is the bytes of the journal's file, all of them, and of none if there is no such file.
+ * Notes, as `bootvars update` has them before the journal, aren't read.
+ *
+ * `*moves` may be memory that was never written, as that of a keeper.
+ *
+ *     stream, stream_len   the frames, one after the other, and how many bytes they have
+ *
+ *     BOOTKEEP_DONE, BOOTKEEP_NO_MEMORY
+ *     BOOTKEEP_REFUSED   a number of streams; otherwise BOOTKEEP_MACHINE_BAD_NAME; otherwise
+ *                        BOOTKEEP_MACHINE_BAD_START; otherwise a number of sets; otherwise one of journals
+ */
+uint32_t bootkeep_moves_requests(struct bootkeep_moves *moves, const uint8_t *machine, size_t machine_len,
+                                 const uint8_t *start, size_t start_len, const uint8_t *variables, size_t variables_len,
+                                 const uint8_t *journal, size_t journal_len, const uint8_t *stream, size_t stream_len,
+                                 struct bootkeep_refusal *refusal) BOOTKEEP_CHECKED BOOTKEEP_NONNULL((1, 12));
+
+/*
+ * Begins a command that makes an edit of the variables of a machine, as bootkeep_set_edit makes it of a set. `numbers`
+ * and `option` are copied.
+ *
+ *     BOOTKEEP_DONE, BOOTKEEP_NO_MEMORY
+ *     BOOTKEEP_BAD_SIZE  `edit->size` is smaller than the struct
+ *     BOOTKEEP_REFUSED   BOOTKEEP_UNEDITED_BAD_KIND, BOOTKEEP_UNEDITED_BAD_NUMBER or
+ *                        BOOTKEEP_UNEDITED_BAD_POSITION; otherwise BOOTKEEP_MACHINE_BAD_NAME; otherwise
+ *                        BOOTKEEP_MACHINE_BAD_START; otherwise a number of sets; otherwise one of journals
+ */
+uint32_t bootkeep_moves_edit(struct bootkeep_moves *moves, const uint8_t *machine, size_t machine_len,
+                             const uint8_t *start, size_t start_len, const uint8_t *variables, size_t variables_len,
+                             const uint8_t *journal, size_t journal_len, const struct bootkeep_edit *edit,
+                             const uint16_t *numbers, size_t numbers_len, const uint8_t *option, size_t option_len,
+                             struct bootkeep_refusal *refusal) BOOTKEEP_CHECKED BOOTKEEP_NONNULL((1, 10, 15));
+
+/*
+ * Begins a command that does what an earlier one has left to do, and no more.
+ *
+ *     BOOTKEEP_DONE, BOOTKEEP_NO_MEMORY
+ *     BOOTKEEP_REFUSED   BOOTKEEP_MACHINE_BAD_NAME; otherwise BOOTKEEP_MACHINE_BAD_START; otherwise a number of sets;
+ *                        otherwise one of journals
+ */
+uint32_t bootkeep_moves_settle(struct bootkeep_moves *moves, const uint8_t *machine, size_t machine_len,
+                               const uint8_t *start, size_t start_len, const uint8_t *variables, size_t variables_len,
+                               const uint8_t *journal, size_t journal_len, struct bootkeep_refusal *refusal)
+    BOOTKEEP_CHECKED BOOTKEEP_NONNULL((1, 10));
+
+/* No move comes next: the command has ended, as bootkeep_moves_end tells. */
+#define BOOTKEEP_MOVE_NONE 0
+/* The variable of bootkeep_moves_name is to be set to bootkeep_moves_bytes: its attributes, and then its data. */
+#define BOOTKEEP_MOVE_SET 1
+/* The variable of bootkeep_moves_name is to be deleted. */
+#define BOOTKEEP_MOVE_DELETE 2
+/* The journal's file is to be replaced by bootkeep_moves_bytes. */
+#define BOOTKEEP_MOVE_JOURNAL 3
+
+/*
+ * In `*kind` the move that comes next, by what was told so far. To ask again gives the same, until more is told. At
+ * BOOTKEEP_NO_MEMORY nothing has happened.
+ *
+ *     kind   the move, as BOOTKEEP_MOVE_SET
+ *
+ *     BOOTKEEP_DONE, BOOTKEEP_NO_MEMORY, BOOTKEEP_CLOSED
+ */
+uint32_t bootkeep_moves_next(struct bootkeep_moves *moves, uint32_t *kind) BOOTKEEP_CHECKED BOOTKEEP_NONNULL((1, 2));
+
+/*
+ * The name of the variable of the move that is asked for. This takes no memory.
+ *
+ *     BOOTKEEP_DONE, BOOTKEEP_NO_ROOM, BOOTKEEP_CLOSED
+ *     BOOTKEEP_ABSENT    no move of a variable is asked for
+ */
+uint32_t bootkeep_moves_name(struct bootkeep_moves *moves, uint8_t *out, size_t cap, size_t *len)
+    BOOTKEEP_CHECKED BOOTKEEP_NONNULL((1, 4));
+
+/*
+ * The bytes of the move that is asked for: those that the variable is to have, attributes first, or those of the
+ * journal's file.
+ *
+ *     BOOTKEEP_DONE, BOOTKEEP_NO_ROOM, BOOTKEEP_NO_MEMORY, BOOTKEEP_CLOSED
+ *     BOOTKEEP_ABSENT    no move that sets a variable or replaces the journal is asked for
+ */
+uint32_t bootkeep_moves_bytes(struct bootkeep_moves *moves, uint8_t *out, size_t cap, size_t *len)
+    BOOTKEEP_CHECKED BOOTKEEP_NONNULL((1, 4));
+
+/* The move is made, and no cut undoes it. */
+#define BOOTKEEP_BECAME_DONE 0
+/* The move was refused, and isn't made. */
+#define BOOTKEEP_BECAME_REFUSED 1
+/* The move was refused, and is made nevertheless, or that can't be told. Any other number counts as this one. */
+#define BOOTKEEP_BECAME_PERHAPS 2
+
+/*
+ * Tells what became of the move that is asked for. This takes no memory.
+ *
+ *     became   what became of it: BOOTKEEP_BECAME_DONE, BOOTKEEP_BECAME_REFUSED or BOOTKEEP_BECAME_PERHAPS
+ *     reason   the program's own number of why it was refused, which bootkeep_moves_end tells
+ *
+ *     BOOTKEEP_DONE, BOOTKEEP_CLOSED
+ *     BOOTKEEP_ABSENT    no move is asked for: nothing has happened
+ */
+uint32_t bootkeep_moves_tell(struct bootkeep_moves *moves, uint32_t became, uint32_t reason)
+    BOOTKEEP_CHECKED BOOTKEEP_NONNULL((1));
+
+/* It has happened. */
+#define BOOTKEEP_END_DONE 1
+/* A move of what an earlier command had left was refused, and that is taken back. Nothing was run. */
+#define BOOTKEEP_END_NOT_RUN 2
+/* The same, but it isn't taken back yet: the next command goes on with it. Nothing was run. */
+#define BOOTKEEP_END_NOT_SETTLED 3
+/* The variables were refused, for `fault`. Nothing was changed. */
+#define BOOTKEEP_END_RUN_REFUSED 4
+/* A move was refused, and the change is taken back: it hasn't happened. */
+#define BOOTKEEP_END_TAKEN_BACK 5
+/* A move was refused, and then one that takes the change back. It may still happen: don't take it for one that failed.
+ */
+#define BOOTKEEP_END_UNSETTLED 6
+/* Memory was refused. Nothing was changed. */
+#define BOOTKEEP_END_NO_MEMORY 7
+
+/* How a command ended. Later versions may add fields at its end: of those a call writes none that `size` leaves out. */
+struct bootkeep_moves_end {
+    /* sizeof(struct bootkeep_moves_end): the caller writes it before a call, and no call changes it. */
+    size_t size;
+    /* One of BOOTKEEP_END_... */
+    uint32_t kind;
+    /* The program's number of why a move was refused, or 0. */
+    uint32_t reason;
+    /* The same of a move that takes it back, or 0. */
+    uint32_t second_reason;
+    /*
+     * Why the variables were refused, or BOOTKEEP_NO_KIND: BOOTKEEP_VARS_..., BOOTKEEP_MACHINE_..., or of an edit a
+     * number of edits or of load options.
+     */
+    uint32_t fault;
+    /* How many replies there are: one to each frame, if it has happened. */
+    size_t replies;
+    /* One of BOOTKEEP_EDITED_...: what came of an edit that has happened. */
+    uint32_t edited;
+    /* The number of the entry that it added or found, or BOOTKEEP_NO_ENTRY. */
+    uint32_t entry;
+};
+
+/* To GCC a call of C++ that has the name of a struct hides that struct's constructors. */
+#if defined(__cplusplus) && defined(__GNUC__)
+#pragma GCC diagnostic push
+#pragma GCC diagnostic ignored "-Wshadow"
+#endif
+
+/*
+ * How the command ended, in `*end`. This takes no memory.
+ *
+ *     end   how, of which the caller has written `size`
+ *
+ *     BOOTKEEP_DONE, BOOTKEEP_CLOSED
+ *     BOOTKEEP_ABSENT     bootkeep_moves_next hasn't told that it ended
+ *     BOOTKEEP_BAD_SIZE   `end->size` is below that of the struct of version 1
+ */
+uint32_t bootkeep_moves_end(struct bootkeep_moves *moves, struct bootkeep_moves_end *end)
+    BOOTKEEP_CHECKED BOOTKEEP_NONNULL((1, 2));
+
+#if defined(__cplusplus) && defined(__GNUC__)
+#pragma GCC diagnostic pop
+#endif
+
+/*
+ * The reply to the frame at this place of the stream, counted from 0, in `*reply`. This takes no memory.
+ *
+ *     place   the place of the frame
+ *
+ *     BOOTKEEP_DONE, BOOTKEEP_CLOSED
+ *     BOOTKEEP_ABSENT     there is no such reply
+ *     BOOTKEEP_BAD_SIZE   `reply->size` is below that of the struct of version 1
+ */
+uint32_t bootkeep_moves_reply(struct bootkeep_moves *moves, size_t place, struct bootkeep_reply *reply)
+    BOOTKEEP_CHECKED BOOTKEEP_NONNULL((1, 3));
+
+/*
+ * Gives up what the command holds. It is closed then; to close one that is closed is no fault. A command may be closed
+ * at any time: what it has left to do, the next one does.
+ *
+ *     BOOTKEEP_DONE, BOOTKEEP_CLOSED
+ */
+uint32_t bootkeep_moves_close(struct bootkeep_moves *moves) BOOTKEEP_NONNULL((1));
 
 /* ---- Images ------------------------------------------------------------------------------------------------------ */
 
@@ -1023,8 +1488,11 @@ uint32_t bootkeep_keeper_close(struct bootkeep_keeper *keeper) BOOTKEEP_NONNULL(
 /*
  * What firmware for x86-64 asks of a file that an entry names before it starts it: `image` is all its bytes. The fault
  * is the first one, in firmware's order; which part of firmware finds it is in `*stage`, and what comes of it in
- * `*effect`. Without a fault the file may still be refused: docs/formats.md has what isn't looked at. This takes no
- * memory.
+ * `*effect`. Without a fault the file may still be refused: docs/formats/images.md has what isn't looked at. This takes
+ * no memory.
+ *
+ *     stage    which part of firmware finds the fault: one of BOOTKEEP_STAGE_...
+ *     effect   what comes of it: one of BOOTKEEP_EFFECT_...
  *
  *     BOOTKEEP_DONE      there is no fault
  *     BOOTKEEP_REFUSED   a number of images
@@ -1056,6 +1524,8 @@ struct bootkeep_signature_list {
 /*
  * Where the signature lists are in the data of db, dbx or KEK, in their order: nothing is copied. `cap` and `*len`
  * count lists.
+ *
+ *     lists   where the answer goes: where each list is
  *
  *     BOOTKEEP_DONE, BOOTKEEP_NO_ROOM, BOOTKEEP_NO_MEMORY
  *     BOOTKEEP_REFUSED   a number of signature lists
@@ -1111,6 +1581,20 @@ BOOTKEEP_ASSERT(offsetof(struct bootkeep_change, variable) == 0);
 BOOTKEEP_ASSERT(offsetof(struct bootkeep_change, kind) == 4);
 BOOTKEEP_ASSERT(sizeof(struct bootkeep_change) == 8);
 
+BOOTKEEP_ASSERT(offsetof(struct bootkeep_edit, size) == 0);
+BOOTKEEP_ASSERT(offsetof(struct bootkeep_edit, kind) == 8);
+BOOTKEEP_ASSERT(offsetof(struct bootkeep_edit, number) == 12);
+BOOTKEEP_ASSERT(offsetof(struct bootkeep_edit, position) == 16);
+BOOTKEEP_ASSERT(offsetof(struct bootkeep_edit, again) == 20);
+BOOTKEEP_ASSERT(offsetof(struct bootkeep_edit, stale) == 24);
+BOOTKEEP_ASSERT(offsetof(struct bootkeep_edit, only) == 28);
+BOOTKEEP_ASSERT(sizeof(struct bootkeep_edit) == 32);
+
+BOOTKEEP_ASSERT(offsetof(struct bootkeep_edited, size) == 0);
+BOOTKEEP_ASSERT(offsetof(struct bootkeep_edited, kind) == 8);
+BOOTKEEP_ASSERT(offsetof(struct bootkeep_edited, entry) == 12);
+BOOTKEEP_ASSERT(sizeof(struct bootkeep_edited) == 16);
+
 BOOTKEEP_ASSERT(offsetof(struct bootkeep_reply, size) == 0);
 BOOTKEEP_ASSERT(offsetof(struct bootkeep_reply, kind) == 8);
 BOOTKEEP_ASSERT(offsetof(struct bootkeep_reply, fault) == 12);
@@ -1125,6 +1609,20 @@ BOOTKEEP_ASSERT(sizeof(struct bootkeep_reply) == 64);
 BOOTKEEP_ASSERT(offsetof(struct bootkeep_keeper, is_open) == 0);
 BOOTKEEP_ASSERT(offsetof(struct bootkeep_keeper, at) == 8);
 BOOTKEEP_ASSERT(sizeof(struct bootkeep_keeper) == 16);
+
+BOOTKEEP_ASSERT(offsetof(struct bootkeep_moves, is_open) == 0);
+BOOTKEEP_ASSERT(offsetof(struct bootkeep_moves, at) == 8);
+BOOTKEEP_ASSERT(sizeof(struct bootkeep_moves) == 16);
+
+BOOTKEEP_ASSERT(offsetof(struct bootkeep_moves_end, size) == 0);
+BOOTKEEP_ASSERT(offsetof(struct bootkeep_moves_end, kind) == 8);
+BOOTKEEP_ASSERT(offsetof(struct bootkeep_moves_end, reason) == 12);
+BOOTKEEP_ASSERT(offsetof(struct bootkeep_moves_end, second_reason) == 16);
+BOOTKEEP_ASSERT(offsetof(struct bootkeep_moves_end, fault) == 20);
+BOOTKEEP_ASSERT(offsetof(struct bootkeep_moves_end, replies) == 24);
+BOOTKEEP_ASSERT(offsetof(struct bootkeep_moves_end, edited) == 32);
+BOOTKEEP_ASSERT(offsetof(struct bootkeep_moves_end, entry) == 36);
+BOOTKEEP_ASSERT(sizeof(struct bootkeep_moves_end) == 40);
 #undef BOOTKEEP_ASSERT
 #endif
 

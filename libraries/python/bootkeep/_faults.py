@@ -52,10 +52,10 @@ class Error(Exception):
 
 
 class Closed(Error):
-    """The keeper isn't open."""
+    """The keeper, or the command over a machine, isn't open."""
 
     def __init__(self) -> None:
-        super().__init__("the keeper is closed")
+        super().__init__("it is closed")
 
     def __reduce__(self) -> Tuple[Any, ...]:
         return type(self), ()

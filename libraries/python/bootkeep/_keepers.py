@@ -4,16 +4,15 @@ from __future__ import annotations
 
 import ctypes
 import threading
-import warnings
 from ctypes import byref, c_size_t
 from dataclasses import dataclass
-from types import TracebackType
-from typing import Any, Callable, List, Optional, Tuple, Type, Union
+from typing import Callable, List, Optional, Tuple, Union
 
 from ._buffers import ROOM, Bytes, bytes_in, bytes_of, number_of, numbers_of
 from ._faults import Refused, failure, fault_word, outcome_word, refused
 from ._library import RawKeeper, RawRefusal, RawReply, library
 from ._numbers import DONE, NO_KIND, NO_NUMBER, NO_ROOM, Fault, Outcome, ReplyKind
+from ._owned import Owned
 from ._requests import BootRequest
 from ._sets import BootVariables, Plan, entry_numbers, entry_or_none
 from ._values import EntryNumber
@@ -21,7 +20,8 @@ from ._values import EntryNumber
 
 def run(variables: Union[BootVariables, Bytes], stream: Bytes) -> Tuple[bytes, List[str]]:
     """Delivers each frame of a stream to a keeper of the set: the set after them, and the line of each reply.
-    ``Refused`` has a kind ``SET_..``, otherwise ``STREAM_..``, otherwise ``VARS_..``."""
+    ``Refused`` has a kind ``SET_..``, otherwise ``STREAM_..``, otherwise ``VARS_..``.
+    """
     refusal, given = RawRefusal(), (*bytes_in(variables), *bytes_in(stream))
     set_count, lines_count = c_size_t(), c_size_t()
     set_room, lines_room = given[1] + given[3] + ROOM, given[3] + ROOM
@@ -95,7 +95,7 @@ def _option_words(fault: Refused) -> str:
     return f"{word} {fault.place} {fault_word(fault.inner_kind, 'Path')} {fault.inner_place}"
 
 
-def _reply(told: RawReply, numbers: Tuple[int, ...]) -> Reply:
+def reply_of(told: RawReply, numbers: Tuple[int, ...]) -> Reply:
     """The reply of these numbers."""
     kind = ReplyKind(told.kind)
     is_plan = kind == ReplyKind.PLAN
@@ -111,7 +111,7 @@ def _reply(told: RawReply, numbers: Tuple[int, ...]) -> Reply:
     )
 
 
-class Keeper:
+class Keeper(Owned):
     """What keeps the boot entries of a machine, from a set of variables on, or its bytes::
 
         with bootkeep.Keeper(Path("set").read_bytes()) as keeper:
@@ -125,6 +125,8 @@ class Keeper:
     ``Refused`` with a kind ``SET_..``, otherwise ``VARS_..``.
     """
 
+    _called = "a keeper"
+
     def __init__(self, variables: Union[BootVariables, Bytes]) -> None:
         self._handle = RawKeeper()
         self._lock = threading.Lock()
@@ -135,32 +137,6 @@ class Keeper:
         )
         if status != DONE:
             raise failure(status, refusal)
-
-    def __enter__(self) -> Keeper:
-        return self
-
-    def __exit__(
-        self,
-        kind: Optional[Type[BaseException]],
-        error: Optional[BaseException],
-        trace: Optional[TracebackType],
-    ) -> None:
-        self.close()
-
-    def __del__(self) -> None:
-        if getattr(self, "_handle", None) is None or not self._handle.is_open:
-            return
-        warnings.warn(f"{self!r} was never closed", ResourceWarning, source=self)
-        self.close()
-
-    def __copy__(self) -> Keeper:
-        raise TypeError("a keeper has one owner, and is not copied")
-
-    def __deepcopy__(self, memo: object) -> Keeper:
-        return self.__copy__()
-
-    def __reduce__(self) -> Tuple[Any, ...]:
-        raise TypeError("a keeper has one owner, and is not copied")
 
     def deliver(self, frame: Bytes) -> Reply:
         """These bytes are delivered, which may be a frame."""
@@ -220,4 +196,4 @@ class Keeper:
         told = RawReply(size=ctypes.sizeof(RawReply))
         with self._lock:
             numbers = numbers_of(lambda *out: call(byref(self._handle), *given, byref(told), *out))
-        return _reply(told, numbers)
+        return reply_of(told, numbers)

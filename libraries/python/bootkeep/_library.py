@@ -59,6 +59,22 @@ class RawChange(ctypes.Structure):
     _fields_ = [("variable", c_uint32), ("kind", c_uint32)]
 
 
+class RawEdit(ctypes.Structure):
+    _fields_ = [
+        ("size", c_size_t),
+        ("kind", c_uint32),
+        ("number", c_uint32),
+        ("position", c_uint32),
+        ("again", c_uint32),
+        ("stale", c_uint32),
+        ("only", c_uint32),
+    ]
+
+
+class RawEdited(ctypes.Structure):
+    _fields_ = [("size", c_size_t), ("kind", c_uint32), ("entry", c_uint32)]
+
+
 class RawReply(ctypes.Structure):
     _fields_ = [
         ("size", c_size_t),
@@ -77,12 +93,31 @@ class RawKeeper(ctypes.Structure):
     _fields_ = [("is_open", c_uint32), ("at", c_void_p)]
 
 
+class RawMoves(ctypes.Structure):
+    _fields_ = [("is_open", c_uint32), ("at", c_void_p)]
+
+
+class RawEnd(ctypes.Structure):
+    _fields_ = [
+        ("size", c_size_t),
+        ("kind", c_uint32),
+        ("reason", c_uint32),
+        ("second_reason", c_uint32),
+        ("fault", c_uint32),
+        ("replies", c_size_t),
+        ("edited", c_uint32),
+        ("entry", c_uint32),
+    ]
+
+
 _IN = (c_char_p, c_size_t)
 _OUT = (c_char_p, c_size_t, POINTER(c_size_t))
 _NUMBERS = (POINTER(c_uint16), c_size_t, POINTER(c_size_t))
 _KEEPER = POINTER(RawKeeper)
+_MOVES = POINTER(RawMoves)
 _REPLY = POINTER(RawReply)
 _WHY = POINTER(RawRefusal)
+_EDIT = (POINTER(RawEdit), POINTER(c_uint16), c_size_t, *_IN)
 
 _CALLS: Dict[str, Tuple[Any, ...]] = {
     "bootkeep_version": (),
@@ -127,6 +162,7 @@ _CALLS: Dict[str, Tuple[Any, ...]] = {
     "bootkeep_set_lowest_free": (*_IN, POINTER(c_uint32), _WHY),
     "bootkeep_set_entry": (*_IN, c_uint16, POINTER(c_uint32), _WHY),
     "bootkeep_set_changes": (*_IN, *_IN, POINTER(RawChange), c_size_t, POINTER(c_size_t), _WHY),
+    "bootkeep_set_edit": (*_EDIT, *_IN, *_OUT, POINTER(RawEdited), _WHY),
     "bootkeep_run": (*_IN, *_IN, *_OUT, *_OUT, _WHY),
     "bootkeep_keeper_open": (_KEEPER, *_IN, _WHY),
     "bootkeep_keeper_deliver": (_KEEPER, *_IN, *_OUT),
@@ -140,6 +176,16 @@ _CALLS: Dict[str, Tuple[Any, ...]] = {
     "bootkeep_keeper_set": (_KEEPER, *_OUT),
     "bootkeep_keeper_next_number": (_KEEPER, POINTER(c_uint32)),
     "bootkeep_keeper_close": (_KEEPER,),
+    "bootkeep_moves_requests": (_MOVES, *_IN, *_IN, *_IN, *_IN, *_IN, _WHY),
+    "bootkeep_moves_edit": (_MOVES, *_IN, *_IN, *_IN, *_IN, *_EDIT, _WHY),
+    "bootkeep_moves_settle": (_MOVES, *_IN, *_IN, *_IN, *_IN, _WHY),
+    "bootkeep_moves_next": (_MOVES, POINTER(c_uint32)),
+    "bootkeep_moves_name": (_MOVES, *_OUT),
+    "bootkeep_moves_bytes": (_MOVES, *_OUT),
+    "bootkeep_moves_tell": (_MOVES, c_uint32, c_uint32),
+    "bootkeep_moves_end": (_MOVES, POINTER(RawEnd)),
+    "bootkeep_moves_reply": (_MOVES, c_size_t, _REPLY),
+    "bootkeep_moves_close": (_MOVES,),
     "bootkeep_image_check": (*_IN, POINTER(c_uint32), POINTER(c_uint32), _WHY),
     "bootkeep_image_digest": (*_IN, *_OUT, _WHY),
     "bootkeep_signature_lists": (*_IN, POINTER(RawList), c_size_t, POINTER(c_size_t), _WHY),

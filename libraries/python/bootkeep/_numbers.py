@@ -30,6 +30,9 @@ ORDER_MAX = 65536
 #: How many bytes a word has at most.
 WORD_MAX = 32
 
+#: The most bytes of the name of a machine.
+MACHINE_MAX = 4096
+
 #: Bits of the attributes of a load option (UEFI 2.10, 3.1.3), and the values of those of OPTION_CATEGORY.
 OPTION_ACTIVE = 0x00000001
 OPTION_FORCE_RECONNECT = 0x00000002
@@ -287,6 +290,100 @@ class Fault(Numbers):
     IMAGE_RELOCATION_BEYOND_IMAGE = 0x0B0C
     #: A relocation is of a type that firmware doesn't know.
     IMAGE_RELOCATION_UNKNOWN_TYPE = 0x0B0D
+    #: The file of a journal begins neither with `BKJ1` nor with `BKJ2`.
+    JOURNAL_BAD_MAGIC = 0x0C01
+    #: The name of the machine is to have no byte, or more than 4,096.
+    JOURNAL_BAD_MACHINE = 0x0C02
+    #: The file ends in the field.
+    JOURNAL_TRUNCATED = 0x0C03
+    #: The value is to have more than 1,048,576 bytes.
+    JOURNAL_VALUE_TOO_LONG = 0x0C04
+    #: The byte is neither 1, for changes that are being made, nor 2, for changes that are taken back.
+    JOURNAL_BAD_COURSE = 0x0C05
+    #: The identity isn't one to 64 characters from 0x21 to 0x7E.
+    JOURNAL_BAD_IDENTITY = 0x0C06
+    #: The name isn't that of a variable of the boot manager.
+    JOURNAL_BAD_NAME = 0x0C07
+    #: The journal is another machine's.
+    JOURNAL_OF_ANOTHER = 0x0C08
+    #: With attributes, what a change of a journal that has none has is too long.
+    JOURNAL_TOO_LONG = 0x0C09
+    #: The name of the machine has no byte, or more than 4,096.
+    MACHINE_BAD_NAME = 0x0D01
+    #: The identity of the start isn't one to 64 characters from 0x21 to 0x7E.
+    MACHINE_BAD_START = 0x0D02
+    #: A variable of the boot manager has no byte after its attributes.
+    MACHINE_NO_DATA = 0x0D03
+    #: With its attributes, what a variable would have after the run is too long.
+    MACHINE_TOO_LONG = 0x0D04
+    #: An entry is stored under the number that the new one is to have. The place of this one and of those of
+    #: entries below is the number of the entry.
+    UNEDITED_TAKEN = 0x0E01
+    #: An entry is stored under each number.
+    UNEDITED_NO_FREE = 0x0E02
+    #: The number is in the list twice.
+    UNEDITED_TWICE = 0x0E03
+    #: There is no entry of the number.
+    UNEDITED_MISSING = 0x0E04
+    #: There is no entry of the number, which was to be in the order.
+    UNEDITED_STALE = 0x0E05
+    #: The entry of the number is no load option.
+    UNEDITED_NO_OPTION = 0x0E06
+    #: BootOrder would have more than 65,536 numbers.
+    UNEDITED_ORDER_TOO_LONG = 0x0E07
+    #: The load option to be added has more than 1,048,576 bytes.
+    UNEDITED_OPTION_TOO_LONG = 0x0E08
+    #: The kind is that of no edit. This and the two after it come of numbers that this module doesn't hand over.
+    UNEDITED_BAD_KIND = 0x0E09
+    #: The number is above 65,536.
+    UNEDITED_BAD_NUMBER = 0x0E0A
+    #: The position is none.
+    UNEDITED_BAD_POSITION = 0x0E0B
+
+
+class EditKind(IntEnum):
+    """What an edit does."""
+
+    #: An entry is added.
+    ADD = 1
+    #: Entries are deleted, their numbers taken out of BootOrder, and BootNext is deleted if it names one.
+    REMOVE = 2
+    #: Entries come first in BootOrder, and the rest of it behind them.
+    FIRST = 3
+    #: BootOrder becomes another one.
+    ORDER = 4
+    #: BootOrder has each of its numbers once.
+    UNREPEAT = 5
+    #: BootNext names an entry, or is deleted.
+    NEXT = 6
+    #: Timeout becomes so many seconds, or is deleted.
+    TIMEOUT = 7
+    #: Entries get LOAD_OPTION_ACTIVE.
+    ACTIVATE = 8
+    #: Entries lose LOAD_OPTION_ACTIVE.
+    DEACTIVATE = 9
+
+
+class Position(IntEnum):
+    """Where a new entry comes in BootOrder."""
+
+    #: Last, unless its number is there already, which stays where it is.
+    LAST = 0
+    #: First, and nowhere else.
+    FIRST = 1
+    #: BootOrder stays as it is.
+    NONE = 2
+
+
+class EditedKind(Numbers):
+    """What came of an edit."""
+
+    #: The set is as it was to be.
+    DONE = 0
+    #: The entry is added.
+    ADDED = 1
+    #: A load option with this description and these paths is there already, and nothing is changed.
+    PRESENT = 2
 
 
 class RequestKind(IntEnum):
@@ -402,3 +499,46 @@ class Effect(Numbers):
     UNSAFE = 1
     #: The file's bytes don't tell whether it starts: the machine decides.
     UNDECIDED = 2
+
+
+class MoveKind(Numbers):
+    """Which move of a machine comes next."""
+
+    #: None: the command has ended.
+    NONE = 0
+    #: A variable is to be set.
+    SET = 1
+    #: A variable is to be deleted.
+    DELETE = 2
+    #: The journal's file is to be replaced.
+    JOURNAL = 3
+
+
+class Became(IntEnum):
+    """What became of a move."""
+
+    #: It is made, and no cut undoes it.
+    DONE = 0
+    #: It was refused, and isn't made.
+    REFUSED = 1
+    #: It was refused, and is made nevertheless, or that can't be told.
+    PERHAPS = 2
+
+
+class EndKind(Numbers):
+    """How a command over a machine ended."""
+
+    #: It has happened.
+    DONE = 1
+    #: A move of what an earlier command had left was refused, and that is taken back. Nothing was run.
+    NOT_RUN = 2
+    #: The same, but it isn't taken back yet: the next command goes on with it. Nothing was run.
+    NOT_SETTLED = 3
+    #: The variables were refused. Nothing was changed.
+    RUN_REFUSED = 4
+    #: A move was refused, and the change is taken back: it hasn't happened.
+    TAKEN_BACK = 5
+    #: A move was refused, and then one that takes the change back: it may still happen.
+    UNSETTLED = 6
+    #: Memory was refused. Nothing was changed.
+    NO_MEMORY = 7

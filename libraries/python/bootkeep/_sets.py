@@ -8,7 +8,7 @@ from __future__ import annotations
 
 from ctypes import byref, c_size_t, c_uint32
 from dataclasses import dataclass
-from typing import Dict, Iterator, Mapping, Optional, Tuple, Union
+from typing import Dict, Iterator, Mapping, Optional, Sequence, Tuple, Union
 
 from ._buffers import (
     Bytes,
@@ -20,6 +20,7 @@ from ._buffers import (
     numbers_of,
     utf8,
 )
+from ._edits import Edit, set_edit
 from ._faults import Refused, number_in
 from ._library import RawChange, RawNamed, RawRefusal, RawVariable, library
 from ._numbers import (
@@ -28,7 +29,10 @@ from ._numbers import (
     VARIABLE_ORDER,
     VARIABLE_TIMEOUT,
     ChangeKind,
+    EditedKind,
+    EditKind,
     EntryState,
+    Position,
 )
 from ._options import LoadOption
 from ._values import EntryNumber, Value, is_entry_name
@@ -255,6 +259,18 @@ class Entry:
         return f"{self.number.name} {state} {self.fault or self.option}"
 
 
+@dataclass(frozen=True)
+class WithEntry:
+    """A set with an entry that was asked for."""
+
+    #: The set.
+    variables: BootVariables
+    #: The number of the entry.
+    entry: EntryNumber
+    #: Whether it was added: otherwise it was there already, and the set is as it was.
+    is_new: bool
+
+
 class BootVariables(Value, Mapping[str, bytes]):
     """A set of variables, by their names, as a set file has it::
 
@@ -370,6 +386,59 @@ class BootVariables(Value, Mapping[str, bytes]):
     def without(self, name: str) -> BootVariables:
         """The set without the variable of this name; ``KeyError`` if it has none."""
         return BootVariables.from_bytes(set_remove(self._data, name))
+
+    def with_entry(
+        self,
+        option: LoadOption,
+        number: Optional[int] = None,
+        position: Position = Position.LAST,
+        again: bool = False,
+    ) -> WithEntry:
+        """The set with this load option as an entry: under this number, or the lowest free one, and with this position in
+        BootOrder. If an entry with its description and its paths is there, nothing is changed, unless it is added again.
+        ``Refused`` as of :func:`set_edit`."""
+        edit = Edit(EditKind.ADD, option=option, number=number, position=position, again=again)
+        edited = set_edit(self._data, edit)
+        assert edited.entry is not None  # An entry is added, or is there.
+        is_new = edited.kind == EditedKind.ADDED
+        return WithEntry(BootVariables.from_bytes(edited.data), edited.entry, is_new)
+
+    def without_entries(self, numbers: Sequence[int]) -> BootVariables:
+        """The set without these entries, their numbers in BootOrder, and a BootNext that names one. ``Refused`` as of
+        :func:`set_edit`."""
+        return self._edited(Edit(EditKind.REMOVE, numbers))
+
+    def with_first(self, numbers: Sequence[int]) -> BootVariables:
+        """The set with these entries first in BootOrder, in this sequence. ``Refused`` as of :func:`set_edit`."""
+        return self._edited(Edit(EditKind.FIRST, numbers))
+
+    def with_order(
+        self, numbers: Sequence[int], only: bool = False, stale: bool = False
+    ) -> BootVariables:
+        """The set with a BootOrder of these numbers, and unless they are to be the only ones those behind them that it had.
+        If it may be stale, a number needs no entry. ``Refused`` as of :func:`set_edit`.
+        """
+        return self._edited(Edit(EditKind.ORDER, numbers, only=only, stale=stale))
+
+    def without_repeats(self) -> BootVariables:
+        """The set with each number of BootOrder once, where that is first. ``Refused`` as of :func:`set_edit`."""
+        return self._edited(Edit(EditKind.UNREPEAT))
+
+    def with_next(self, number: Optional[int]) -> BootVariables:
+        """The set with this entry as BootNext, or without BootNext. ``Refused`` as of :func:`set_edit`."""
+        return self._edited(Edit(EditKind.NEXT, number=number))
+
+    def with_timeout(self, seconds: Optional[int]) -> BootVariables:
+        """The set with a Timeout of so many seconds, or without Timeout. ``Refused`` as of :func:`set_edit`."""
+        return self._edited(Edit(EditKind.TIMEOUT, number=seconds))
+
+    def with_active(self, numbers: Sequence[int], active: bool = True) -> BootVariables:
+        """The set with these entries active, or not. ``Refused`` as of :func:`set_edit`."""
+        kind = EditKind.ACTIVATE if active else EditKind.DEACTIVATE
+        return self._edited(Edit(kind, numbers))
+
+    def _edited(self, edit: Edit) -> BootVariables:
+        return BootVariables.from_bytes(set_edit(self._data, edit).data)
 
     def changes_to(self, other: BootVariables) -> Tuple[Change, ...]:
         """The changes that lead from here to the boot manager's variables of another set, as of :func:`set_changes`."""

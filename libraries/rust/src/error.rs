@@ -23,7 +23,7 @@ pub enum Error {
     },
     /// Memory was refused.
     NoMemory,
-    /// The keeper isn't open.
+    /// The keeper, or the command over a machine, isn't open.
     Closed,
     /// The library answers a status that this crate doesn't know.
     Other(u32),
@@ -300,6 +300,55 @@ faults! {
     ImageRelocationBeyondImage = 0x0b0c,
     /// A relocation is of a type that firmware doesn't know.
     ImageRelocationUnknownType = 0x0b0d,
+    /// The file of a journal begins neither with `BKJ1` nor with `BKJ2`.
+    JournalBadMagic = 0x0c01,
+    /// The name of the machine is to have no byte, or more than 4,096.
+    JournalBadMachine = 0x0c02,
+    /// The file ends in the field.
+    JournalTruncated = 0x0c03,
+    /// The value is to have more than 1,048,576 bytes.
+    JournalValueTooLong = 0x0c04,
+    /// The byte is neither 1, for changes that are being made, nor 2, for changes that are taken back.
+    JournalBadCourse = 0x0c05,
+    /// The identity isn't one to 64 characters from 0x21 to 0x7E.
+    JournalBadIdentity = 0x0c06,
+    /// The name isn't that of a variable of the boot manager.
+    JournalBadName = 0x0c07,
+    /// The journal is another machine's.
+    JournalOfAnother = 0x0c08,
+    /// With attributes, what a change of a journal that has none has is too long.
+    JournalTooLong = 0x0c09,
+    /// The name of the machine has no byte, or more than 4,096.
+    MachineBadName = 0x0d01,
+    /// The identity of the start isn't one to 64 characters from 0x21 to 0x7E.
+    MachineBadStart = 0x0d02,
+    /// A variable of the boot manager has no byte after its attributes.
+    MachineNoData = 0x0d03,
+    /// With its attributes, what a variable would have after the run is too long.
+    MachineTooLong = 0x0d04,
+    /// An entry is stored under the number that the new one is to have. The place of this fault, and of those of entries
+    /// below, is the number of the entry.
+    UneditedTaken = 0x0e01,
+    /// An entry is stored under each number.
+    UneditedNoFree = 0x0e02,
+    /// The number is in the list twice.
+    UneditedTwice = 0x0e03,
+    /// There is no entry of the number.
+    UneditedMissing = 0x0e04,
+    /// There is no entry of the number, which was to be in the order.
+    UneditedStale = 0x0e05,
+    /// The entry of the number is no load option.
+    UneditedNoOption = 0x0e06,
+    /// BootOrder would have more than 65,536 numbers.
+    UneditedOrderTooLong = 0x0e07,
+    /// The load option to be added has more than 1,048,576 bytes.
+    UneditedOptionTooLong = 0x0e08,
+    /// The kind is that of no edit. This and the two after it come of numbers that this crate doesn't hand over.
+    UneditedBadKind = 0x0e09,
+    /// The number is above 65,536.
+    UneditedBadNumber = 0x0e0a,
+    /// The position is none.
+    UneditedBadPosition = 0x0e0b,
 }
 
 impl PartialEq for Fault {

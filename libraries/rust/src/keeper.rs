@@ -79,7 +79,7 @@ pub enum Reply {
 }
 
 impl Reply {
-    fn of(told: &RawReply, numbers: Vec<u16>) -> Reply {
+    pub(crate) fn of(told: &RawReply, numbers: Vec<u16>) -> Reply {
         let (outcome, entry, next_number) = (outcome(told.outcome), entry_number(told.entry), told.next_number);
         match told.kind {
             REPLY_MALFORMED => {

@@ -50,6 +50,7 @@
 #![deny(unsafe_code)]
 #![warn(missing_docs)]
 
+mod edit;
 mod entry;
 mod error;
 mod file;
@@ -58,6 +59,7 @@ pub mod image;
 mod keeper;
 #[allow(unsafe_code)]
 mod library;
+mod moves;
 mod numbers;
 pub mod option;
 pub mod path;
@@ -67,7 +69,8 @@ pub use entry::{BadEntryNumber, EntryNumber};
 pub use error::{Error, Fault, Refusal};
 pub use file::{FileError, SetFile};
 pub use keeper::{Keeper, Outcome, Reply};
-pub use numbers::{DATA_MAX, FRAME_MAX, LIST_MAX, NAME_MAX, NO_NUMBER, ORDER_MAX, VERSION, WORD_MAX};
+pub use moves::{Became, End, MachineState, Move, Moves};
+pub use numbers::{DATA_MAX, FRAME_MAX, LIST_MAX, MACHINE_MAX, NAME_MAX, NO_NUMBER, ORDER_MAX, VERSION, WORD_MAX};
 pub use option::LoadOption;
 pub use path::{DevicePath, Node, NodeFault};
 

@@ -91,6 +91,53 @@ struct RawKeeper {
     at: *mut u8,
 }
 
+/// `struct bootkeep_moves`. It isn't moved while it is open, so it is in a box.
+#[repr(C)]
+struct RawMoves {
+    is_open: u32,
+    at: *mut u8,
+}
+
+#[repr(C)]
+#[derive(Clone, Copy, Default)]
+pub(crate) struct RawEnd {
+    size: usize,
+    pub(crate) kind: u32,
+    pub(crate) reason: u32,
+    pub(crate) second_reason: u32,
+    pub(crate) fault: u32,
+    pub(crate) replies: usize,
+    pub(crate) edited: u32,
+    pub(crate) entry: u32,
+}
+
+#[repr(C)]
+#[derive(Clone, Copy)]
+pub(crate) struct RawEdit {
+    pub(crate) size: usize,
+    pub(crate) kind: u32,
+    pub(crate) number: u32,
+    pub(crate) position: u32,
+    pub(crate) again: u32,
+    pub(crate) stale: u32,
+    pub(crate) only: u32,
+}
+
+impl RawEdit {
+    /// An edit of this kind with this number, and no more.
+    pub(crate) fn new(kind: u32, number: u32) -> RawEdit {
+        RawEdit { size: size_of::<RawEdit>(), kind, number, position: 0, again: 0, stale: 0, only: 0 }
+    }
+}
+
+#[repr(C)]
+#[derive(Clone, Copy, Default)]
+pub(crate) struct RawEdited {
+    size: usize,
+    pub(crate) kind: u32,
+    pub(crate) entry: u32,
+}
+
 // As many bytes as the header asserts.
 const _: () = assert!(size_of::<RawRefusal>() == 24);
 const _: () = assert!(size_of::<RawParts>() == 56);
@@ -98,8 +145,12 @@ const _: () = assert!(size_of::<RawVariable>() == 32);
 const _: () = assert!(size_of::<RawList>() == 32);
 const _: () = assert!(size_of::<RawNamed>() == 12);
 const _: () = assert!(size_of::<RawChange>() == 8);
+const _: () = assert!(size_of::<RawEdit>() == 32);
+const _: () = assert!(size_of::<RawEdited>() == 16);
 const _: () = assert!(size_of::<RawReply>() == 64);
 const _: () = assert!(size_of::<RawKeeper>() == 16);
+const _: () = assert!(size_of::<RawMoves>() == 16);
+const _: () = assert!(size_of::<RawEnd>() == 40);
 
 #[rustfmt::skip]
 extern "C" {
@@ -128,6 +179,7 @@ extern "C" {
     fn bootkeep_set_lowest_free(set: *const u8, set_len: usize, number: *mut u32, refusal: *mut RawRefusal) -> u32;
     fn bootkeep_set_entry(set: *const u8, set_len: usize, number: u16, state: *mut u32, refusal: *mut RawRefusal) -> u32;
     fn bootkeep_set_changes(from: *const u8, from_len: usize, to: *const u8, to_len: usize, changes: *mut RawChange, cap: usize, len: *mut usize, refusal: *mut RawRefusal) -> u32;
+    fn bootkeep_set_edit(edit: *const RawEdit, numbers: *const u16, numbers_len: usize, option: *const u8, option_len: usize, set: *const u8, set_len: usize, out: *mut u8, cap: usize, len: *mut usize, edited: *mut RawEdited, refusal: *mut RawRefusal) -> u32;
     fn bootkeep_run(set: *const u8, set_len: usize, stream: *const u8, stream_len: usize, set_out: *mut u8, set_cap: usize, set_len_out: *mut usize, lines: *mut u8, lines_cap: usize, lines_len: *mut usize, refusal: *mut RawRefusal) -> u32;
     fn bootkeep_keeper_open(keeper: *mut RawKeeper, set: *const u8, set_len: usize, refusal: *mut RawRefusal) -> u32;
     fn bootkeep_keeper_deliver_reply(keeper: *mut RawKeeper, frame: *const u8, frame_len: usize, reply: *mut RawReply, numbers: *mut u16, cap: usize, len: *mut usize) -> u32;
@@ -137,6 +189,16 @@ extern "C" {
     fn bootkeep_keeper_set(keeper: *mut RawKeeper, out: *mut u8, cap: usize, len: *mut usize) -> u32;
     fn bootkeep_keeper_next_number(keeper: *mut RawKeeper, number: *mut u32) -> u32;
     fn bootkeep_keeper_close(keeper: *mut RawKeeper) -> u32;
+    fn bootkeep_moves_requests(moves: *mut RawMoves, machine: *const u8, machine_len: usize, start: *const u8, start_len: usize, variables: *const u8, variables_len: usize, journal: *const u8, journal_len: usize, stream: *const u8, stream_len: usize, refusal: *mut RawRefusal) -> u32;
+    fn bootkeep_moves_edit(moves: *mut RawMoves, machine: *const u8, machine_len: usize, start: *const u8, start_len: usize, variables: *const u8, variables_len: usize, journal: *const u8, journal_len: usize, edit: *const RawEdit, numbers: *const u16, numbers_len: usize, option: *const u8, option_len: usize, refusal: *mut RawRefusal) -> u32;
+    fn bootkeep_moves_settle(moves: *mut RawMoves, machine: *const u8, machine_len: usize, start: *const u8, start_len: usize, variables: *const u8, variables_len: usize, journal: *const u8, journal_len: usize, refusal: *mut RawRefusal) -> u32;
+    fn bootkeep_moves_next(moves: *mut RawMoves, kind: *mut u32) -> u32;
+    fn bootkeep_moves_name(moves: *mut RawMoves, out: *mut u8, cap: usize, len: *mut usize) -> u32;
+    fn bootkeep_moves_bytes(moves: *mut RawMoves, out: *mut u8, cap: usize, len: *mut usize) -> u32;
+    fn bootkeep_moves_tell(moves: *mut RawMoves, became: u32, reason: u32) -> u32;
+    fn bootkeep_moves_end(moves: *mut RawMoves, end: *mut RawEnd) -> u32;
+    fn bootkeep_moves_reply(moves: *mut RawMoves, place: usize, reply: *mut RawReply) -> u32;
+    fn bootkeep_moves_close(moves: *mut RawMoves) -> u32;
     fn bootkeep_image_check(image: *const u8, image_len: usize, stage: *mut u32, effect: *mut u32, refusal: *mut RawRefusal) -> u32;
     fn bootkeep_image_digest(image: *const u8, image_len: usize, out: *mut u8, cap: usize, len: *mut usize, refusal: *mut RawRefusal) -> u32;
     fn bootkeep_signature_lists(bytes: *const u8, bytes_len: usize, lists: *mut RawList, cap: usize, len: *mut usize, refusal: *mut RawRefusal) -> u32;
@@ -368,6 +430,33 @@ pub(crate) fn set_remove(set: &[u8], name: &str) -> Result<Vec<u8>, Error> {
     })
 }
 
+/// The set after an edit, and what came of that.
+pub(crate) fn set_edit(
+    edit: &RawEdit,
+    numbers: &[u16],
+    option: &[u8],
+    set: &[u8],
+) -> Result<(Vec<u8>, RawEdited), Error> {
+    let room = set.len() + option.len() + 2 * numbers.len() + 4 * RECORD_MAX;
+    given(room, |out, len, edited: &mut RawEdited, refusal| unsafe {
+        edited.size = size_of::<RawEdited>();
+        bootkeep_set_edit(
+            edit,
+            numbers.as_ptr(),
+            numbers.len(),
+            option.as_ptr(),
+            option.len(),
+            set.as_ptr(),
+            set.len(),
+            out.as_mut_ptr(),
+            out.len(),
+            len,
+            edited,
+            refusal,
+        )
+    })
+}
+
 pub(crate) fn set_variables(set: &[u8]) -> Result<Vec<RawVariable>, Error> {
     given_alone(ROOM, |variables, len, refusal| unsafe {
         bootkeep_set_variables(set.as_ptr(), set.len(), variables.as_mut_ptr(), variables.len(), len, refusal)
@@ -522,6 +611,128 @@ impl Drop for Handle {
         let keeper: *mut RawKeeper = &mut *self.raw;
         // It may be closed already, if it couldn't be opened.
         let _status = unsafe { bootkeep_keeper_close(keeper) };
+    }
+}
+
+/// What a command runs.
+pub(crate) enum Wanted<'a> {
+    Nothing,
+    Frames(&'a [u8]),
+    Edit(RawEdit, &'a [u16], &'a [u8]),
+}
+
+/// A command over a machine.
+pub(crate) struct Command {
+    raw: Box<RawMoves>,
+}
+
+// All that a command holds is its own, and `&mut` gives it to one thread at a time.
+unsafe impl Send for Command {}
+
+impl Command {
+    pub(crate) fn begin(
+        machine: &[u8],
+        start: &[u8],
+        variables: &[u8],
+        journal: &[u8],
+        wanted: Wanted<'_>,
+    ) -> Result<Command, Error> {
+        let mut command = Command { raw: Box::new(RawMoves { is_open: 0, at: ptr::null_mut() }) };
+        let moves: *mut RawMoves = &mut *command.raw;
+        told(|_told: &mut (), refusal| unsafe {
+            match wanted {
+                Wanted::Frames(stream) => bootkeep_moves_requests(
+                    moves,
+                    machine.as_ptr(),
+                    machine.len(),
+                    start.as_ptr(),
+                    start.len(),
+                    variables.as_ptr(),
+                    variables.len(),
+                    journal.as_ptr(),
+                    journal.len(),
+                    stream.as_ptr(),
+                    stream.len(),
+                    refusal,
+                ),
+                Wanted::Edit(ref edit, numbers, option) => bootkeep_moves_edit(
+                    moves,
+                    machine.as_ptr(),
+                    machine.len(),
+                    start.as_ptr(),
+                    start.len(),
+                    variables.as_ptr(),
+                    variables.len(),
+                    journal.as_ptr(),
+                    journal.len(),
+                    edit,
+                    numbers.as_ptr(),
+                    numbers.len(),
+                    option.as_ptr(),
+                    option.len(),
+                    refusal,
+                ),
+                Wanted::Nothing => bootkeep_moves_settle(
+                    moves,
+                    machine.as_ptr(),
+                    machine.len(),
+                    start.as_ptr(),
+                    start.len(),
+                    variables.as_ptr(),
+                    variables.len(),
+                    journal.as_ptr(),
+                    journal.len(),
+                    refusal,
+                ),
+            }
+        })?;
+        Ok(command)
+    }
+
+    pub(crate) fn next(&mut self) -> Result<u32, Error> {
+        let moves: *mut RawMoves = &mut *self.raw;
+        told(|kind, _refusal| unsafe { bootkeep_moves_next(moves, kind) })
+    }
+
+    pub(crate) fn name(&mut self) -> Result<Vec<u8>, Error> {
+        let moves: *mut RawMoves = &mut *self.raw;
+        given_alone(NAME_MAX, |out, len, _refusal| unsafe {
+            bootkeep_moves_name(moves, out.as_mut_ptr(), out.len(), len)
+        })
+    }
+
+    pub(crate) fn bytes(&mut self) -> Result<Vec<u8>, Error> {
+        let moves: *mut RawMoves = &mut *self.raw;
+        given_alone(ROOM, |out, len, _refusal| unsafe { bootkeep_moves_bytes(moves, out.as_mut_ptr(), out.len(), len) })
+    }
+
+    pub(crate) fn tell(&mut self, became: u32, reason: u32) -> Result<(), Error> {
+        let moves: *mut RawMoves = &mut *self.raw;
+        told(|_told, _refusal| unsafe { bootkeep_moves_tell(moves, became, reason) })
+    }
+
+    pub(crate) fn end(&mut self) -> Result<RawEnd, Error> {
+        let moves: *mut RawMoves = &mut *self.raw;
+        told(|end: &mut RawEnd, _refusal| unsafe {
+            end.size = size_of::<RawEnd>();
+            bootkeep_moves_end(moves, end)
+        })
+    }
+
+    pub(crate) fn reply(&mut self, place: usize) -> Result<RawReply, Error> {
+        let moves: *mut RawMoves = &mut *self.raw;
+        told(|reply: &mut RawReply, _refusal| unsafe {
+            reply.size = size_of::<RawReply>();
+            bootkeep_moves_reply(moves, place, reply)
+        })
+    }
+}
+
+impl Drop for Command {
+    fn drop(&mut self) {
+        let moves: *mut RawMoves = &mut *self.raw;
+        // It may be closed already, if it couldn't be opened.
+        let _status = unsafe { bootkeep_moves_close(moves) };
     }
 }
 

@@ -18,6 +18,8 @@ pub const LIST_MAX: usize = 65_535;
 pub const ORDER_MAX: usize = 65_536;
 /// The most bytes of a word.
 pub const WORD_MAX: usize = 32;
+/// The most bytes of the name of a machine.
+pub const MACHINE_MAX: usize = 4_096;
 
 pub(crate) const DONE: u32 = 0;
 pub(crate) const REFUSED: u32 = 1;
@@ -43,6 +45,24 @@ pub(crate) const ENTRY_ABSENT: u32 = 1;
 pub(crate) const ENTRY_UNDECODABLE: u32 = 2;
 pub(crate) const ENTRY_INACTIVE: u32 = 3;
 pub(crate) const ENTRY_OTHER_CATEGORY: u32 = 4;
+
+pub(crate) const EDIT_ADD: u32 = 1;
+pub(crate) const EDIT_REMOVE: u32 = 2;
+pub(crate) const EDIT_FIRST: u32 = 3;
+pub(crate) const EDIT_ORDER: u32 = 4;
+pub(crate) const EDIT_UNREPEAT: u32 = 5;
+pub(crate) const EDIT_NEXT: u32 = 6;
+pub(crate) const EDIT_TIMEOUT: u32 = 7;
+pub(crate) const EDIT_ACTIVATE: u32 = 8;
+pub(crate) const EDIT_DEACTIVATE: u32 = 9;
+
+pub(crate) const POSITION_LAST: u32 = 0;
+pub(crate) const POSITION_FIRST: u32 = 1;
+pub(crate) const POSITION_NONE: u32 = 2;
+
+pub(crate) const EDITED_DONE: u32 = 0;
+pub(crate) const EDITED_ADDED: u32 = 1;
+pub(crate) const EDITED_PRESENT: u32 = 2;
 
 pub(crate) const REQUEST_ADD: u32 = 1;
 pub(crate) const REQUEST_REPLACE: u32 = 2;
@@ -80,3 +100,20 @@ pub(crate) const STAGE_START: u32 = 2;
 pub(crate) const EFFECT_REFUSED: u32 = 0;
 pub(crate) const EFFECT_UNSAFE: u32 = 1;
 pub(crate) const EFFECT_UNDECIDED: u32 = 2;
+
+pub(crate) const MOVE_NONE: u32 = 0;
+pub(crate) const MOVE_SET: u32 = 1;
+pub(crate) const MOVE_DELETE: u32 = 2;
+pub(crate) const MOVE_JOURNAL: u32 = 3;
+
+pub(crate) const BECAME_DONE: u32 = 0;
+pub(crate) const BECAME_REFUSED: u32 = 1;
+pub(crate) const BECAME_PERHAPS: u32 = 2;
+
+pub(crate) const END_DONE: u32 = 1;
+pub(crate) const END_NOT_RUN: u32 = 2;
+pub(crate) const END_NOT_SETTLED: u32 = 3;
+pub(crate) const END_RUN_REFUSED: u32 = 4;
+pub(crate) const END_TAKEN_BACK: u32 = 5;
+pub(crate) const END_UNSETTLED: u32 = 6;
+pub(crate) const END_NO_MEMORY: u32 = 7;

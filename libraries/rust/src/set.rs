@@ -3,6 +3,7 @@
 //! Each call refuses bytes that are no set: by a fault `Set..`, at the record that has it. It may answer
 //! [`Error::NoMemory`] in place of any other answer.
 
+use crate::edit;
 use crate::entry::EntryNumber;
 use crate::error::{Error, Refusal};
 use crate::library::{self, RawNamed};
@@ -10,6 +11,8 @@ use crate::numbers::*;
 use crate::option::LoadOption;
 use std::collections::HashMap;
 use std::fmt;
+
+pub use crate::edit::{Addition, Edit, EditOutcome, Edited, NewOrder, Position};
 
 /// A set without a variable.
 pub const EMPTY: &[u8] = b"BVS1";
@@ -227,6 +230,32 @@ pub fn put(set: &[u8], name: &str, data: &[u8]) -> Result<Vec<u8>, Error> {
 /// [`Error::Absent`] if it has none, besides those of all calls here.
 pub fn remove(set: &[u8], name: &str) -> Result<Vec<u8>, Error> {
     library::set_remove(set, name)
+}
+
+/// What becomes of the set by an edit. Entries, BootOrder, BootNext and Timeout that it isn't of stay as they are, and so
+/// does every other variable.
+///
+/// ```
+/// use bootkeep::set::{self, Addition, Edit, EditOutcome};
+/// use bootkeep::{option, EntryNumber, LoadOption};
+///
+/// # fn main() -> Result<(), Box<dyn std::error::Error>> {
+/// let option = LoadOption::new(option::ACTIVE, "Mine", &["PciRoot(0x0)".parse()?], b"")?;
+/// let edited = set::edit(set::EMPTY, Edit::Add(Addition::new(&option)))?;
+/// assert_eq!(edited.outcome, EditOutcome::Added(EntryNumber(0)));
+/// let edited = set::edit(&edited.set, Edit::Next(Some(EntryNumber(0))))?;
+/// assert_eq!(set::plan(&edited.set)?.to_string(), "plan next 0000 normal 0000");
+/// # Ok(())
+/// # }
+/// ```
+///
+/// # Errors
+///
+/// A fault `Unedited..`, whose place is the number of the entry that it is for;
+/// [`VarsBadOrder`](crate::Fault::VarsBadOrder) and [`VarsBadNext`](crate::Fault::VarsBadNext); a fault `Set..` of bytes
+/// that are no set; [`Error::NoMemory`].
+pub fn edit(set: &[u8], edit: Edit<'_>) -> Result<Edited, Error> {
+    edit::edited(set, edit)
 }
 
 /// The variables of the set, each as its name and its data, in the order of the names. Nothing of them is copied.

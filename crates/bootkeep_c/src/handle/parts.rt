@@ -8,8 +8,8 @@ use std::marker::Model;
 
 /// The pointer and the allocator of a box. They own what the box owned.
 pub struct Parts<T, A: Allocator> {
-    pub(super) ptr: *mut T,
-    pub(super) alloc: A,
+    pub(crate) ptr: *mut T,
+    pub(crate) alloc: A,
     pub ghost value: { T },
 }
 

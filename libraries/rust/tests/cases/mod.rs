@@ -1,5 +1,8 @@
 //! The cases of the repository: what they state. `tests/cases/FORMAT.md` has their form.
 
+// Each test needs a part of it.
+#![allow(dead_code)]
+
 use std::fs;
 use std::iter::Peekable;
 use std::path::Path;
@@ -86,7 +89,12 @@ pub struct Case(Json);
 
 impl Case {
     pub fn get(&self, name: &str) -> &Json {
-        self.0.get(name).unwrap_or_else(|| panic!("{name} of {:?}", self.0))
+        self.find(name).unwrap_or_else(|| panic!("{name} of {:?}", self.0))
+    }
+
+    /// What it states under a name that it needn't have.
+    pub fn find(&self, name: &str) -> Option<&Json> {
+        self.0.get(name)
     }
 
     pub fn answer(&self) -> String {
