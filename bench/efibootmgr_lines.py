@@ -275,7 +275,7 @@ def with_optional(data: bytes, optional: bytes) -> bytes:
 
 
 def expected(words: List[str], before: Dict[str, bytes], theirs: Run) -> Run:
-    """What Bootkeep's program has to do: what the other one did, but for what docs/machines.md lists."""
+    """What Bootkeep's program has to do: what the other one did, but for what docs/efibootmgr.md lists."""
     status, stdout, stderr, variables = theirs
     # A partition that isn't there has no entry.
     if NO_PART in words and status == 0 and variables != before:

@@ -1,7 +1,7 @@
 #!/usr/bin/env python3
 """Reads and checks variable files of edk2's OVMF, and set files. It is written from the formats, and shares nothing
 with the program that it is compared with. The formats are those of edk2's headers PiFirmwareVolume.h and
-VariableFormat.h, and that of docs/formats.md for set files.
+VariableFormat.h, and that of docs/formats/sets.md for set files.
 
     ovmf_store.py vars FILE                 writes a set of the variables of the standard's vendor to standard output
     ovmf_store.py check FILE                says what isn't as edk2 leaves it, or how many variables are there

@@ -111,7 +111,9 @@ class ThisRepository(unittest.TestCase):
             before: List[str] = []
             for module in modules:
                 with self.subTest(f"{crate} {module.name}"):
-                    self.assertLessEqual(set(module.imports) - {"declared"}, set(before))
+                    self.assertLessEqual(
+                        set(module.imports) - {"declared", "contracts"}, set(before)
+                    )
                     self.assertTrue(module.about)
                     for part in module.parts:
                         self.assertTrue(definition_list.name_of(part) or part.startswith("-- ----"))

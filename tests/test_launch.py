@@ -18,11 +18,35 @@ ROOT = TESTS.parent
 sys.path.insert(0, str(ROOT / "tools"))
 
 import building  # noqa: E402
+import command_rows  # noqa: E402
+import launch  # noqa: E402
 import progress  # noqa: E402
 import repository  # noqa: E402
 import trying  # noqa: E402
 
 NOT_PROVED = "this answer is of the program that isn't proved yet"
+
+
+class Words(unittest.TestCase):
+    """Which words only show something."""
+
+    def test_each_command_is_one_or_the_other(self) -> None:
+        commands = launch.PROGRAMS["bootvars"]
+        self.assertFalse(commands.shows & commands.keeps)
+        named = {it.name for it in command_rows.bootvars_commands()}
+        self.assertEqual(commands.shows | commands.keeps, named | {"help"})
+
+    def test_what_changes_a_machine_is_not_only_shown(self) -> None:
+        for line in (
+            *("try vars 0001", "confirm vars", "apply vars file", "timeout vars 5"),
+            *("undo vars", "add vars --loader f", "efibootmgr -n 0001", "apply vars -- --of"),
+        ):
+            self.assertFalse(launch.only_shows("bootvars", line.split()), line)
+        for line in (
+            *("try vars 0001 --dry-run", "apply --of vars", "apply vars file --dry-run"),
+            *("timeout --help", "undo --list vars", "show vars", "efibootmgr -v", ""),
+        ):
+            self.assertTrue(launch.only_shows("bootvars", line.split()), line)
 
 
 class Clone(unittest.TestCase):

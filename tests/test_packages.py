@@ -13,17 +13,20 @@ import tarfile
 import tempfile
 import unittest
 from pathlib import Path
-from typing import Dict, List
+from typing import Dict, Iterator, List, Set, Tuple
 
 ROOT = Path(__file__).resolve().parents[1]
 sys.path.insert(0, str(ROOT / "tools"))
 
 import debian_package  # noqa: E402
+import declarations  # noqa: E402
 import package_files  # noqa: E402
 import packages  # noqa: E402
 import proof_note  # noqa: E402
 import repository  # noqa: E402
-from file_tree import PROGRAM_MODE, FileTree  # noqa: E402
+from file_tree import PROGRAM_MODE, File, FileTree  # noqa: E402
+
+HEADER = ROOT / "libraries/c/include/bootkeep.h"
 
 MOMENT = 1_700_000_000
 """Tue, 14 Nov 2023 22:13:20, as `date -u -d @1700000000` says."""
@@ -238,12 +241,28 @@ class Places(unittest.TestCase):
             ],
         )
 
-    def test_pages_that_a_page_leads_to_are_there(self) -> None:
-        for page in package_files.PAGES:
-            text = " ".join((ROOT / "docs" / page).read_text(encoding="utf-8").split())
-            for other in re.findall(r"`docs/([\w.]+\.(?:md|json))`(?! of the source)", text):
-                with self.subTest(page):
-                    self.assertIn(other, [*package_files.PAGES, package_files.SCHEMA])
+    def test_pages_are_those_that_are_no_others(self) -> None:
+        self.assertIn("machines.md", package_files.PAGES)
+        self.assertNotIn("c.md", package_files.PAGES)
+        self.assertNotIn(package_files.OF_FLEET, package_files.PAGES)
+
+    def test_a_page_brings_the_pictures_that_it_shows(self) -> None:
+        files = package_files.fleet_files(package_files.DEBIAN).files
+        picture = (ROOT / "docs/fleet-scale.svg").read_bytes()
+        self.assertEqual(files["share/doc/bootkeep-fleet/fleet-scale.svg"].data, picture)
+
+    def test_each_call_has_a_manual(self) -> None:
+        examples = "share/doc/libbootkeep-dev/examples"
+        for place in (package_files.DEBIAN, package_files.OTHERS):
+            files = package_files.development_files(self.made, place, examples).files
+            names = {it.rpartition("/")[2].partition(".")[0] for it in files if "/man3/" in it}
+            declared = {it.name for it in declarations.header_calls(declarations.read(HEADER))}
+            self.assertEqual(names, {"bootkeep", *declared})
+
+    def test_each_page_of_a_format_is_there(self) -> None:
+        names = {f"formats/{it.name}" for it in (ROOT / "docs" / "formats").glob("*.md")}
+        self.assertIn("formats/paths.md", names)
+        self.assertLessEqual(names, set(package_files.PAGES))
 
     def test_the_schema_is_there_as_it_is(self) -> None:
         schema = (ROOT / "docs" / package_files.SCHEMA).read_bytes()
@@ -251,12 +270,160 @@ class Places(unittest.TestCase):
             files = package_files.program_files(self.made, place).files
             self.assertEqual(files[f"share/doc/bootkeep/{package_files.SCHEMA}"].data, schema)
 
+    def test_pictures_of_pages_are_there(self) -> None:
+        files = package_files.program_files(self.made, package_files.DEBIAN).files
+        self.assertIn("share/doc/bootkeep/pictures/change.svg", files)
+        for page in package_files.PAGES:
+            text = (ROOT / "docs" / page).read_text(encoding="utf-8")
+            for picture in re.findall(r"!\[[^\]]*\]\(([^)]*)\)", text):
+                place = os.path.normpath(Path("share/doc/bootkeep", page).parent / picture)
+                self.assertIn(place, set(files))
+
     def test_manuals_are_packed_for_debian(self) -> None:
         files = package_files.program_files(self.made, package_files.DEBIAN).files
         packed = files["share/man/man1/bootvars.1.gz"].data
         self.assertEqual(
             gzip.decompress(packed), (ROOT / "packaging/man" / "bootvars.1").read_bytes()
         )
+
+
+ELSEWHERE = (
+    "what is named in docs/ here is a page of the source",
+    "Other pages that are named here are in the package `bootkeep`, or in the source",
+)
+"""How a text says where all pages are that it names."""
+
+OF_ALL = ("PROVED", proof_note.LIST)
+"""What each package has, beside what is its own."""
+
+PAGE = re.compile(r"`?\bdocs/([\w/.-]+\.(?:md|json))\b`?")
+MANUAL = re.compile(r"\b([\w-]+)(?:\((\d)\)| (\d)(?= ))")
+INSTALLED = re.compile(r"/usr/(?:share|lib|libexec)/[\w/.-]*\w")
+
+
+class Named(unittest.TestCase):
+    """What the installed pages, manuals and texts name is in the same package, or in one that it depends on; or they say
+    where it is."""
+
+    packages: Dict[str, Dict[str, File]]
+    depends: Dict[str, Set[str]]
+
+    @classmethod
+    def setUpClass(cls) -> None:
+        folder = Path(tempfile.mkdtemp(prefix="bootkeep test "))
+        cls.addClassCleanup(shutil.rmtree, folder)
+        for name in (package_files.ARCHIVE, package_files.SHARED, "bootkeep.pc"):
+            (folder / name).write_text("")
+        shutil.copy(HEADER, folder)
+        made = package_files.Made({}, folder)
+        examples, place = "share/doc/libbootkeep-dev/examples", package_files.DEBIAN
+        cls.packages = {
+            "ansible-collection-bootkeep-boot": package_files.collection_files().files,
+            "bootkeep": package_files.program_files(made, place).files,
+            "bootkeep-agent": package_files.agent_files(place).files,
+            "bootkeep-fleet": package_files.fleet_files(place).files,
+            "libbootkeep-dev": package_files.development_files(made, place, examples).files,
+        }
+        control = (ROOT / "packaging/debian/control").read_text(encoding="utf-8")
+        cls.depends = {
+            re.split(r"\s", part)[0]: set(re.findall(r"[\w-]+", "".join(needed(part))))
+            for part in control.split("Package: ")[1:]
+        }
+
+    def there(self, package: str) -> List[str]:
+        """The paths of a package's files, and of those of the packages that it depends on, without `.gz`."""
+        some = [it for it in self.packages if it == package or it in self.depends[package]]
+        found = [re.sub(r"\.gz$", "", path) for it in some for path in self.packages[it]]
+        return [*found, *(f"share/doc/{it}/{name}" for it in some for name in OF_ALL)]
+
+    def texts(self) -> Iterator[Tuple[str, str, List[str]]]:
+        """Each text that is installed, by its package and its path, in paragraphs without line breaks."""
+        for package, files in self.packages.items():
+            for path, file in files.items():
+                data = gzip.decompress(file.data) if path.endswith(".gz") else file.data
+                if re.search(r"(/doc/.*\.md|/man/.*|\.h|\.service|README.*)(\.gz)?$", path):
+                    yield package, path, paragraphs(data.decode())
+
+    def test_pages(self) -> None:
+        named = 0
+        for package, path, parts in self.texts():
+            pages = [it.partition("/doc/")[2].partition("/")[2] for it in self.there(package)]
+            if any(said in part for part in parts for said in ELSEWHERE):
+                continue
+            for part in parts:
+                for found in PAGE.finditer(part):
+                    after = part[found.end() :].lstrip(" `")
+                    if not after.startswith("of the source") and not self.says(part, found[1]):
+                        self.assertIn(found[1], pages, f"{package} {path}: {part}")
+                        named += 1
+        self.assertGreater(named, 20)
+
+    def says(self, part: str, page: str) -> bool:
+        """Whether a paragraph names the package that has a page."""
+        have = [
+            it for it, files in self.packages.items() if any(f"/{page}" in one for one in files)
+        ]
+        return any(says_package(part, it) for it in have)
+
+    def test_pages_that_manuals_name_by_their_names(self) -> None:
+        for package, path, parts in self.texts():
+            if "/man/" in path:
+                there = self.there(package)
+                for part in parts:
+                    for page in re.findall(r"(?<![\w/.-])([\w.-][\w./-]*\.(?:md|json))\b", part):
+                        have = any(it.endswith(f"/{page}") for it in there)
+                        self.assertTrue(have or "of the source" in part, f"{path}: {page}")
+
+    def test_manuals(self) -> None:
+        ours = {
+            re.sub(r".*/man/man\d/|\.gz$", "", path): package
+            for package, files in self.packages.items()
+            for path in files
+            if "/man/" in path
+        }
+        named = 0
+        for package, path, parts in self.texts():
+            there, text = {it.rpartition("/")[2] for it in self.there(package)}, "\n".join(parts)
+            for name, section, other in MANUAL.findall(text):
+                manual = f"{name}.{section or other}"
+                if manual in ours and not says_package(text, ours[manual]):
+                    self.assertIn(manual, there, f"{package} {path}")
+                    named += 1
+        self.assertGreater(named, 100)
+
+    def test_files_of_packages(self) -> None:
+        named = 0
+        for package, path, parts in self.texts():
+            there = [f"/usr/{it}" for it in self.there(package)]
+            for part in parts:
+                for file in INSTALLED.findall(part):
+                    if "bootkeep" in file:
+                        plain = re.sub(r"\.gz$", "", file)
+                        have = any(it == plain or it.startswith(f"{plain}/") for it in there)
+                        others = any(
+                            says_package(part, it) for it in self.packages if it != package
+                        )
+                        self.assertTrue(have or others, f"{package} {path}: {file}")
+                        named += 1
+        self.assertGreater(named, 5)
+
+
+def needed(part: str) -> List[str]:
+    """What a package of the control file depends on."""
+    return re.findall(r"^Depends: (.*(?:\n .*)*)", part, re.MULTILINE)
+
+
+def says_package(part: str, package: str) -> bool:
+    """Whether a text names a package."""
+    return re.search(rf"(`|package ){package}(?![\w-])", part) is not None
+
+
+def paragraphs(text: str) -> List[str]:
+    """The paragraphs of a page, a manual or a header, each on one line, without the macros of manuals."""
+    plain = re.sub(r"^\.(Xr|Pa|It|Nm|Cm|Em|Ql|Li) ", "", text, flags=re.MULTILINE)
+    plain = plain.replace(" No of the source", " of the source")
+    parts = re.split(r"\n(?:\s*\n|\.(?:Pp|Sh|Ss).*\n| \*\n)", plain)
+    return [" ".join(re.sub(r"^ \* ", "", it, flags=re.MULTILINE).split()) for it in parts]
 
 
 class Collection(unittest.TestCase):

@@ -1,4 +1,5 @@
-"""The pages and the manuals: that what they name is there. And the top of the tree, which one of them lists."""
+"""The pages and the manuals: that what they name is there, and that pages for people don't grow. And the top of the tree,
+which one of them lists."""
 
 from __future__ import annotations
 
@@ -15,11 +16,29 @@ FILE = re.compile(r"`((?:bench|crates|docs|fleet|libraries|packaging|tests|tools
 TOP_MAX = 16
 """How many entries somebody is to see at first, who opens the repository."""
 
+WORDS_MAX = {
+    "README.md": 2100,
+    "docs/apply.md": 1500,
+    "docs/c.md": 2600,
+    "docs/efibootmgr.md": 1850,
+    "docs/firmware.md": 1250,
+    "docs/fleet.md": 3600,
+    "docs/library.md": 2900,
+    "docs/machines.md": 5800,
+    "docs/packages.md": 1000,
+    "docs/requests.md": 3500,
+}
+"""How many words each page may have that somebody reads from its top: some ten percent more than it had when it was last
+cut. A page that would have more is cut again. Pages to look things up in have no limit."""
+
+CALL = re.compile(r"\bbootkeep_[a-z]\w*")
+"""A call or a struct of the library for C."""
+
 SECTION = re.compile(r'`([\w/]+\.md)`, "([^"]+)"|"([^"]+)" in\s+`([\w/]+\.md)`')
 
 
 def pages() -> List[Path]:
-    return sorted([*ROOT.glob("*.md"), *ROOT.glob("docs/*.md"), *ROOT.glob("packaging/man/*")])
+    return sorted([*ROOT.glob("*.md"), *ROOT.glob("docs/**/*.md"), *ROOT.glob("packaging/man/*")])
 
 
 def texts() -> Dict[str, str]:
@@ -40,9 +59,25 @@ class Pages(unittest.TestCase):
             for page, section, other, where in SECTION.findall(" ".join(text.split())):
                 heads = (ROOT / (page or where)).read_text(encoding="utf-8")
                 head = re.escape(section or other)
-                self.assertRegex(heads, rf"(?m)^#+ {head}$", f"{name}: {section or other}")
+                self.assertTrue(
+                    re.search(rf"(?m)^#+ {head}$", heads), f"{name}: {section or other}"
+                )
                 found += 1
         self.assertGreater(found, 0)
+
+    def test_pages_for_people_are_short(self) -> None:
+        found = texts()
+        for name, most in WORDS_MAX.items():
+            with self.subTest(name):
+                self.assertLessEqual(len(found[name].split()), most)
+
+    def test_calls_that_are_named_are_declared(self) -> None:
+        header = (ROOT / "libraries/c/include/bootkeep.h").read_text(encoding="utf-8")
+        declared = set(CALL.findall(header))
+        for page in ("docs/c.md", "docs/firmware.md"):
+            called = CALL.findall((ROOT / page).read_text(encoding="utf-8"))
+            self.assertTrue(called)
+            self.assertLessEqual(set(called), declared, page)
 
     def test_the_manual_describes_each_option(self) -> None:
         completions = (ROOT / "packaging/completions" / "bootvars.fish").read_text(encoding="utf-8")

@@ -33,7 +33,8 @@ class Module:
     parts: List[str]
     """Its definitions, each with its comment, and the headings between them."""
     imports: List[str]
-    """The other files of the crate that it imports from, and `declared` if it imports a type of the code."""
+    """The other files of the crate that it imports from, and `declared` if it imports a type of the code, or `contracts` if
+    it imports what contracts see of one."""
 
 
 def name_of(part: str) -> str:

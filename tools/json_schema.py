@@ -22,7 +22,7 @@ Json = Any
 
 SCHEMA = Path("docs", "bootvars.schema.json")
 CASES = Path("tests", "cases")
-PAGES = ("README.md", "docs/*.md")
+PAGES = ("README.md", "docs/**/*.md")
 
 WRONG = "wrong_"
 """How the name of a file begins whose cases all state something wrong."""

@@ -49,15 +49,20 @@ PROGRAMS: Dict[str, Commands] = {
     "bootvars": Commands(
         shows=frozenset(["check", "show", "diff", "explain", "help"]),
         keeps=frozenset(
-            "read get add remove first order next activate deactivate undo write update option frame"
-            " efibootmgr".split()
+            "read get add remove first order next timeout activate deactivate try confirm apply undo"
+            " write update option frame efibootmgr".split()
         ),
         of_places=frozenset(["check", "show", "diff", "explain", "write"]),
     ),
 }
 
-DRY = frozenset("add remove first order next activate deactivate undo write update".split())
+DRY = frozenset(
+    "add remove first order next timeout activate deactivate try confirm apply undo write update".split()
+)
 """The commands of which `--dry-run` makes nothing that is kept."""
+
+LISTING = {"undo": "--list", "apply": "--of"}
+"""The option by which a command only shows something."""
 
 HELP = frozenset(["-h", "--help", "-V", "--version"])
 
@@ -80,7 +85,7 @@ def only_shows(program: str, words: List[str]) -> bool:
         return HELP.union(LISTS).issuperset(words[1:])
     is_help = len(words) > 1 and words[1] in HELP
     options = options_of(words)
-    is_list = words[0] == "undo" and "--list" in options
+    is_list = LISTING.get(words[0]) in options
     return is_help or is_list or words[0] in DRY and "--dry-run" in options
 
 

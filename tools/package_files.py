@@ -3,10 +3,13 @@
 from __future__ import annotations
 
 import gzip
+import os
+import re
 from dataclasses import dataclass
 from pathlib import Path
 from typing import Dict
 
+import call_manuals
 import proof_note
 from file_tree import PROGRAM_MODE, FileTree
 from repository import ROOT
@@ -17,11 +20,28 @@ PREFIX_MARK = b"@prefix@"
 ARCHIVE, HEADER = "libbootkeep.a", "bootkeep.h"
 SHARED, SHARED_NAMES = "libbootkeep.so.1.0.0", ("libbootkeep.so.1", "libbootkeep.so")
 
-PAGES = (
-    *("machines.md", "efibootmgr.md", "apply.md", "requests.md", "packages.md", "formats.md"),
-    *("promises.md", "definitions.md", "performance.md", "DECISIONS.md"),
+DOCS = ROOT / "docs"
+"""The folder of the pages."""
+
+OF_FLEET = "fleet.md"
+"""The page for those who have the sender of a fleet."""
+
+NOT_INSTALLED = frozenset(
+    "CONTRIBUTING.md SECURITY.md architecture.md c.md firmware.md library.md".split()
 )
-"""The pages for those who have the programs, and for those who want to know what to trust."""
+"""The pages for those who have the source."""
+
+PAGES = tuple(
+    page
+    for page in sorted(
+        str(it.relative_to(DOCS)) for it in (*DOCS.glob("*.md"), *DOCS.glob("*/*.md"))
+    )
+    if page not in NOT_INSTALLED and page != OF_FLEET
+)
+"""The pages for those who have the programs, and for those who want to know what to trust, by their paths in docs."""
+
+PICTURE = re.compile(r"!\[[^\]]*\]\(([^)\s]+)\)")
+"""A picture that a page shows, by its path from there."""
 
 SCHEMA = "bootvars.schema.json"
 """The schema of what `bootvars` prints as JSON. Programs read it, so it is never compressed."""
@@ -89,9 +109,19 @@ def program_files(made: Made, place: Place) -> FileTree:
     }.items():
         files.put(hook, place.script(script), PROGRAM_MODE)
     for page in PAGES:
-        place.put_text(files, f"share/doc/bootkeep/{page}", (ROOT / "docs" / page).read_bytes())
-    files.put(f"share/doc/bootkeep/{SCHEMA}", (ROOT / "docs" / SCHEMA).read_bytes())
+        put_page(files, place, "bootkeep", page)
+    files.put(f"share/doc/bootkeep/{SCHEMA}", (DOCS / SCHEMA).read_bytes())
     return files
+
+
+def put_page(files: FileTree, place: Place, package: str, page: str) -> None:
+    """Adds a page to the documents of a package, with the pictures that it shows. These are never compressed."""
+    to = f"share/doc/{package}"
+    text = (DOCS / page).read_bytes()
+    place.put_text(files, f"{to}/{page}", text)
+    for picture in PICTURE.findall(text.decode()):
+        file = os.path.normpath(Path(page).parent / picture)
+        files.put(f"{to}/{file}", (DOCS / file).read_bytes())
 
 
 def put_manual(files: FileTree, place: Place, name: str) -> None:
@@ -127,9 +157,7 @@ def fleet_files(place: Place) -> FileTree:
     }.items():
         files.put(path, (ROOT / source).read_bytes())
     put_manual(files, place, "bootfleet.1")
-    page, picture = (ROOT / "docs" / name for name in ("fleet.md", "fleet-scale.svg"))
-    place.put_text(files, f"share/doc/bootkeep-fleet/{page.name}", page.read_bytes())
-    files.put(f"share/doc/bootkeep-fleet/{picture.name}", picture.read_bytes())
+    put_page(files, place, "bootkeep-fleet", OF_FLEET)
     return files
 
 
@@ -160,6 +188,8 @@ def development_files(made: Made, place: Place, examples: str) -> FileTree:
     files.put(f"{place.libraries}/pkgconfig/bootkeep.pc", pkg_config(made, place))
     files.put(f"include/{HEADER}", made.built(HEADER))
     put_manual(files, place, "bootkeep.3")
+    for manual, text in call_manuals.manuals().items():
+        place.put_text(files, f"share/man/man3/{manual}", text)
     for example in sorted((ROOT / "libraries/c/examples").glob("*.[ch]")):
         files.put(f"{examples}/{example.name}", example.read_bytes())
     return files

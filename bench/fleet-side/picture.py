@@ -3,7 +3,8 @@
 from __future__ import annotations
 
 from typing import Any, Dict, List, NamedTuple
-from xml.sax.saxutils import escape
+
+from picture_drawing import Drawing
 
 MOST_TIMES = 1.2
 """How many times as much as of the fewest machines a machine may take of the most."""
@@ -11,15 +12,7 @@ MOST_TIMES = 1.2
 WIDTH, HEIGHT, GAP, TOP, BOTTOM = 164, 230, 8, 46, 66
 """The size of a figure's part of the picture, and what is left free of bars above and below in it."""
 
-STYLE = """
-svg { font: 12px system-ui, sans-serif; }
-.back { fill: #fcfcfb; } .name { fill: #0b0b0b; font-weight: 600; } .text { fill: #52514e; } .value { fill: #0b0b0b; }
-.bar { fill: #2a78d6; } .base { stroke: #8a8983; } .most { stroke: #b3261e; stroke-dasharray: 4 3; stroke-width: 1.5; }
-@media (prefers-color-scheme: dark) {
-.back { fill: #1a1a19; } .name { fill: #ffffff; } .text { fill: #c3c2b7; } .value { fill: #ffffff; }
-.bar { fill: #3987e5; } .most { stroke: #ff8a80; }
-}
-"""
+TITLE = "What a machine takes of the sender, its ledger and the broker"
 
 
 class Figure(NamedTuple):
@@ -65,19 +58,13 @@ def table(runs: List[Dict[str, Any]]) -> str:
 
 def picture(runs: List[Dict[str, Any]]) -> str:
     """The figures as a picture in SVG: of each a bar for one machine of each run, and how high one may be."""
-    parts = "".join(
-        f'<g transform="translate({GAP + at * WIDTH} 0)">{_part(figure, runs)}</g>\n'
-        for at, figure in enumerate(FIGURES)
-    )
-    width = len(FIGURES) * WIDTH + GAP
-    return (
-        f'<svg xmlns="http://www.w3.org/2000/svg" viewBox="0 0 {width} {HEIGHT}" role="img"'
-        f' aria-label="{escape(_described(runs))}">\n<style>{STYLE}</style>\n'
-        f'<rect class="back" width="{width}" height="{HEIGHT}"/>\n{parts}'
-        f'<path class="most" d="M{GAP} {HEIGHT - 14}h24"/>'
-        f'<text class="text" x="{GAP + 32}" y="{HEIGHT - 10}">{MOST_TIMES} times what it is with'
-        f' {runs[0]["machines"]:,} machines</text>\n</svg>\n'
-    )
+    drawing = Drawing(len(FIGURES) * WIDTH + GAP, TITLE, _described(runs))
+    for at, figure in enumerate(FIGURES):
+        _draw_figure(drawing, GAP + at * WIDTH, figure, runs)
+    drawing.path("most", f"M{GAP} {HEIGHT - 14}h24")
+    words = f"{MOST_TIMES} times what it is with {runs[0]['machines']:,} machines"
+    drawing.text("text", GAP + 32, HEIGHT - 10, words)
+    return drawing.written(HEIGHT)
 
 
 def _described(runs: List[Dict[str, Any]]) -> str:
@@ -90,29 +77,21 @@ def _described(runs: List[Dict[str, Any]]) -> str:
     return f"With {counts} machines. {'; '.join(told)}"
 
 
-def _part(figure: Figure, runs: List[Dict[str, Any]]) -> str:
-    """The part of one figure."""
+def _draw_figure(drawing: Drawing, left: int, figure: Figure, runs: List[Dict[str, Any]]) -> None:
+    """Draws the part of one figure."""
     values = [figure.of_machine(run) for run in runs]
     most = MOST_TIMES * values[0]
     room, floor = HEIGHT - TOP - BOTTOM, HEIGHT - BOTTOM
     scale = room / max(*values, most, 1e-9)
     step = (WIDTH - 2 * GAP) / len(runs)
-    out = [
-        f'<text class="name" x="0" y="18">{figure.name}</text>',
-        f'<text class="text" x="0" y="34">{figure.unit} a machine</text>',
-    ]
+    drawing.text("name", left, 18, figure.name)
+    drawing.text("text", left, 34, f"{figure.unit} a machine")
     for at, (run, value) in enumerate(zip(runs, values)):
         high = value * scale
-        middle = (at + 0.5) * step
-        left = f"{at * step + 5:.1f}"
-        out += [
-            f'<rect class="bar" x="{left}" y="{floor - high:.1f}" width="{step - 10:.1f}" height="{high:.1f}"/>',
-            f'<text class="text" x="{middle:.1f}" y="{floor + 16}" text-anchor="middle">{run["machines"]:,}</text>',
-            f'<text class="value" x="{middle:.1f}" y="{floor + 32}" text-anchor="middle">{figure.told(run)}</text>',
-        ]
+        middle = left + (at + 0.5) * step
+        drawing.rect("bar", left + at * step + 5, floor - high, step - 10, high)
+        drawing.text("text", middle, floor + 16, f"{run['machines']:,}", "middle")
+        drawing.text("value", middle, floor + 32, figure.told(run), "middle")
     limit = floor - most * scale
-    out += [
-        f'<path class="base" d="M0 {floor}H{WIDTH - 2 * GAP}"/>',
-        f'<path class="most" d="M0 {limit:.1f}H{WIDTH - 2 * GAP}"/>',
-    ]
-    return "".join(out)
+    drawing.path("base", f"M{left} {floor}h{WIDTH - 2 * GAP}")
+    drawing.path("most", f"M{left} {limit:.1f}h{WIDTH - 2 * GAP}")

@@ -25,7 +25,7 @@ NAMES_ENTRY = (2, 3, 5, 8)
 """The kinds of requests to a machine's own entries: Replace, Remove, Next and First begin with the number of one."""
 
 KIND_AT, PAYLOAD_AT = 3, 12
-"""Where the kind is in a frame, and where its payload begins (docs/formats.md)."""
+"""Where the kind is in a frame, and where its payload begins (docs/formats/requests.md)."""
 
 
 class Lost(NamedTuple):

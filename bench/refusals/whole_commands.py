@@ -192,7 +192,7 @@ class Bench:
         return done.out
 
     def leave(self, folder: Path, place: str) -> None:
-        """Leaves an order to be made by an update that was cut off, in the form of docs/formats.md."""
+        """Leaves an order to be made by an update that was cut off, in the form of docs/formats/machine.md."""
         order = next(
             line.split(" ")[1:]
             for line in self.expect(folder, ["show", place]).decode().splitlines()
