@@ -3,6 +3,7 @@ which one of them lists."""
 
 from __future__ import annotations
 
+import json
 import re
 import shutil
 import subprocess
@@ -33,6 +34,16 @@ cut. A page that would have more is cut again. Pages to look things up in have n
 
 CALL = re.compile(r"\bbootkeep_[a-z]\w*")
 """A call or a struct of the library for C."""
+
+COMMAND = re.compile(
+    r"(?:# |\$ )?(?:\./|\w+=\S+ )*(?:bootvars|bootkeep|bootfleet|bootfleet-agent|fleet(?:\(\))?|check|rauc|tools/\S+|bench/\S+"
+    r"|packaging/\S+|libraries/\S+|dpkg\S*|apt\S*|systemctl|mount|modprobe|ln|cp|cd|echo|zcat|install|export|mosquitto"
+    r"|reboot|update-initramfs|dracut|pip|cc|cargo) |\./check$|reboot$|name=\$|fleet\(\)|export "
+)
+"""How a line begins that is a command."""
+
+BLOCK = re.compile(r"(?m)^```(sh|console|rust)$")
+"""The beginning of a block that `bench/pages` takes."""
 
 SECTION = re.compile(r'`([\w/]+\.md)`, "([^"]+)"|"([^"]+)" in\s+`([\w/]+\.md)`')
 
@@ -90,6 +101,53 @@ class Pages(unittest.TestCase):
                 self.assertRegex(
                     described, rf"(?m)(^\.|\s)Fl -{option}\b(?!-)|[ ,]-{option}\b(?!-)"
                 )
+
+
+def indented_commands(text: str) -> List[str]:
+    """The commands of the blocks of a page that are indented, which `bench/pages` doesn't run. What goes on on further lines,
+    as a loop, is no command here."""
+    text = re.sub(r"(?ms)^```.*?^```$", "", text)
+    blocks = re.findall(r"(?m)(?:^\n|\A)((?: {4}.*\n)+)", text)
+    lines = [line[4:] for block in blocks for line in block.splitlines()]
+    return [line for line in lines if COMMAND.match(line)]
+
+
+class Commands(unittest.TestCase):
+    """Each command of a page is run: by `bench/pages`, or by what `bench/page_commands.json` names."""
+
+    def setUp(self) -> None:
+        rows = (ROOT / "bench/page_commands.json").read_text(encoding="utf-8")
+        self.rows: List[Dict[str, str]] = json.loads(rows)
+        self.pages = {name: text for name, text in texts().items() if name.endswith(".md")}
+
+    def test_each_page_with_blocks_is_run(self) -> None:
+        bench = (ROOT / "bench/pages").read_text(encoding="utf-8")
+        default = re.search(r"(?s)set -- (README.*?)\nfi", bench)
+        assert default is not None
+        run = default[1].replace("\\\n", " ").split()
+        blocks = [name for name, text in self.pages.items() if BLOCK.search(text)]
+        self.assertEqual(sorted(run), sorted(blocks))
+
+    def test_each_other_command_is_listed_once(self) -> None:
+        listed = sorted({(row["page"], row["command"]) for row in self.rows})
+        self.assertEqual(len(listed), len(self.rows))
+        written = {
+            (name, command)
+            for name, text in self.pages.items()
+            if name != "CHANGELOG.md"
+            for command in indented_commands(text)
+        }
+        self.assertEqual(listed, sorted(written))
+
+    def test_what_tries_it_has_it(self) -> None:
+        for row in self.rows:
+            with self.subTest(row["command"]):
+                if "not_run" in row:
+                    self.assertTrue(row["not_run"])
+                    continue
+                by = (ROOT / row["tried_by"]).read_text(encoding="utf-8")
+                self.assertTrue(row["as"])
+                self.assertIn(row["as"], by, row["tried_by"])
 
 
 @unittest.skipUnless(shutil.which("git") and (ROOT / ".git").exists(), "this is no clone")
