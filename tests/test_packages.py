@@ -83,7 +83,7 @@ class Changelog(unittest.TestCase):
     def test_all_places_have_the_version(self) -> None:
         version = debian_package.releases((ROOT / "CHANGELOG.md").read_text("utf-8"))[0].version
         for file, pattern in {
-            "crates/var_commands/src/commands.rt": r'^const VERSION: &str = "(.*)";$',
+            "crates/bootvars_words/src/commands.rt": r'^const VERSION: &str = "(.*)";$',
             "tools/build-c": r"^readonly VERSION=(\S+) ",
             "libraries/python/pyproject.toml": r'^version = "(.*)"$',
             "libraries/python/bootkeep/__init__.py": r'^__version__ = "(.*)"$',

@@ -87,8 +87,8 @@ def sources(crate: str, root: Path = ROOT) -> List[Path]:
 
 def bootvars_commands(root: Path = ROOT) -> List[Command]:
     """The commands of `bootvars`, in the order of its help."""
-    constants = Constants(sources("var_commands", root))
-    program = (root / "crates/var_commands/src/commands.rt").read_text(encoding="utf-8")
+    constants = Constants(sources("bootvars_words", root))
+    program = (root / "crates/bootvars_words/src/commands.rt").read_text(encoding="utf-8")
     found = []
     for table, frame in ADDED.findall(program):
         if frame:

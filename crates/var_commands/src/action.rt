@@ -5,7 +5,7 @@ use boot_edits::Position;
 use command_words::Flags;
 use place_checks::CheckWords;
 use place_edits::UndoWords;
-use wanted_changes::MachineWords;
+use wanted_changes::{MachineWords, ProfileWords};
 
 /// What the words of the command line ask for.
 #[derive(Clone, Copy)]
@@ -164,17 +164,6 @@ pub struct ApplyWords<'a> {
     pub dry_run: bool,
     /// Whether the status tells that something is changed.
     pub exit_code: bool,
-}
-
-/// The words that say a profile, and how what it changes is told.
-#[derive(Clone, Copy, Debug)]
-pub struct ProfileWords<'a> {
-    /// The path of the file.
-    pub file: &'a str,
-    /// The path of the folder that stands for the root of the system whose files are loaders, or nothing.
-    pub root: &'a str,
-    /// Whether JSON is printed.
-    pub json: bool,
 }
 
 /// The words of a start on trial.

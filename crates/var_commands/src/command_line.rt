@@ -2,20 +2,21 @@
 
 use crate::action::{
     Action, AddWords, ApplyWords, AttributeWords, ChangeWords, EntryChange, Form, KeptWords,
-    LoadOptionWords, LoaderWords, OptionalWords, PathWords, ProfileWords, RequestWords, SetWords,
-    StartWords, TrialJob, TrialWords,
+    LoadOptionWords, LoaderWords, OptionalWords, PathWords, RequestWords, SetWords, StartWords,
+    TrialJob, TrialWords,
 };
-use crate::commands::program;
 use crate::updates::Job;
 use boot_edits::Position;
 use boot_history::DEFAULT_STATE;
 use boot_updates::ReplyForm;
+use bootvars_words::program;
 use clap::{ArgMatches, Error};
 use command_words::Flags;
 use place_checks::CheckWords;
 use place_edits::UndoWords;
 use std::alloc::Global;
-use wanted_changes::MachineWords;
+use uefi_vars::EntryFamily;
+use wanted_changes::{MachineWords, ProfileWords};
 
 /// What `clap` finds in the words of the command line, of which the first one is the program's name.
 ///
@@ -121,6 +122,7 @@ fn machine_of<'a>(matches: &'a ArgMatches<'_>) -> Option<MachineWords<'a>> {
         machine: matches.get_str("machine"),
         adopt: matches.get_flag("adopt"),
         force: matches.get_flag("force"),
+        family: EntryFamily::Boot,
     })
 }
 

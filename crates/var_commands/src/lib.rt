@@ -4,32 +4,23 @@
 //!
 //! [`run`] does what the words of a command line ask for, and returns the status to end with. Where variables are is a
 //! place, which the library `var_places` reads and changes; the messages and the statuses of what goes wrong are in the
-//! library `messages`. What is printed of variables and requests is in the library `boot_texts`; here are the words of the
-//! command line and what is done for each.
+//! library `messages`. What is printed of variables and requests is in the library `boot_texts`, and the words of the command
+//! line in `bootvars_words`; here is what they ask for, and what is done for each.
 #![tactic(auto)]
 
 mod action;
-mod arg_rows;
 mod changing;
 mod command_line;
-mod commands;
-mod entry_rows;
-mod frame_rows;
 mod making;
-mod profile_rows;
 mod profiles;
 mod program;
 mod refusals;
-mod table;
-mod trial_rows;
 mod trials;
 mod undo_list;
 mod undoing;
-mod update_rows;
 mod updates;
 mod writing;
 
-pub use action::ProfileWords;
 pub use profiles::Profiles;
 pub use program::{OtherProgram, run};
 pub use trials::Trials;

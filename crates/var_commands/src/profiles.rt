@@ -1,8 +1,9 @@
 //! The command `apply`, which makes a place what a file says.
 
-use crate::action::{ApplyWords, ProfileWords};
+use crate::action::ApplyWords;
 use machine_changes::{ChangeOptions, StateUse};
 use messages::Failure;
+use wanted_changes::ProfileWords;
 
 /// What makes a machine what a file says, and prints the file that one has.
 pub trait Profiles<R> {

@@ -8,7 +8,7 @@ use boot_trials::{Outcome, TrialTarget};
 use machine_changes::{ChangeOptions, StateUse};
 use messages::Failure;
 use std::rt::Files;
-use uefi_vars::Vars;
+use uefi_vars::{EntryFamily, Vars};
 use var_places::is_folder;
 use wanted_changes::MachineWords;
 
@@ -105,6 +105,7 @@ pub(crate) fn told_machine<'a, R: Files + AllocGlobal>(
         machine: None,
         adopt: false,
         force: false,
+        family: EntryFamily::Boot,
     })
 }
 

@@ -2,6 +2,7 @@
 
 use crate::refusals::print_refusal;
 use crate::trials::{KeptTrial, Trials};
+use boot_history::family_state;
 use boot_journal::BootId;
 use boot_requests::InputFormat;
 use boot_updates::{
@@ -13,7 +14,9 @@ use machine_changes::{
 use messages::{Failure, Quoted, WrongWord};
 use request_preconditions::{Precondition, PreconditionFault, read_precondition};
 use std::alloc::Global;
+use std::fs;
 use std::rt::{Clock, Files};
+use uefi_vars::EntryFamily;
 use var_places::is_folder;
 use wanted_changes::MachineWords;
 use whole_files::OutputFile;
@@ -133,10 +136,41 @@ fn do_job<R: Files<File: OutputFile> + Clock + Input + Print + Eprint + AllocGlo
             Ok(Some(run_script(rt, trials, words, &script, printing)?))
         }
         Job::Settle => {
-            settle_machine(rt, &words.machine)?;
+            settle_all(rt, &words.machine)?;
             Ok(None)
         }
     }
+}
+
+/// Does what earlier changes have left to do: of the boot manager's entries, and in a folder of those of other families too.
+fn settle_all<R: Files<File: OutputFile> + Clock + Input + Print + Eprint + AllocGlobal>(
+    rt: &R,
+    machine: &MachineWords<'_>,
+) -> Result<(), Failure> {
+    settle_machine(rt, machine)?;
+    if is_folder(rt, machine.place)? {
+        settle_family(rt, machine, EntryFamily::Driver)?;
+        settle_family(rt, machine, EntryFamily::SysPrep)?;
+    }
+    Ok(())
+}
+
+/// The same of a family that has a journal of its own.
+fn settle_family<R: Files<File: OutputFile> + Clock + Input + Print + Eprint + AllocGlobal>(
+    rt: &R,
+    machine: &MachineWords<'_>,
+    family: EntryFamily,
+) -> Result<(), Failure> {
+    let state = family_state(rt.alloc(), machine.state, family)?;
+    if fs::metadata(rt, state.as_str()).is_err() {
+        return Ok(());
+    }
+    let machine = MachineWords {
+        state: state.as_str(),
+        family,
+        ..*machine
+    };
+    settle_machine(rt, &machine)
 }
 
 /// Runs the script over the place, or looks what it would do.

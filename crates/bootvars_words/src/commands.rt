@@ -34,7 +34,7 @@ Example:
 /// # Errors
 ///
 /// Memory is refused.
-pub(crate) fn program<'a>(alloc: Global) -> Result<Command<'a>, AllocError> {
+pub fn program<'a>(alloc: Global) -> Result<Command<'a>, AllocError> {
     bare_program(alloc).subcommands(commands(alloc)?)
 }
 
