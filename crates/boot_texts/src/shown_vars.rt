@@ -12,7 +12,7 @@ use crate::shown_option::{AttributeWords, ShownOption};
 use crate::shown_order::OrderMarks;
 use crate::shown_trial::{TrialView, append_trial, append_trial_member};
 use std::alloc::{AllocError, Global};
-use uefi_option::is_active;
+use uefi_option::{check_option, is_active};
 use uefi_vars::{
     AtRisk, BOOT_NEXT, BOOT_ORDER, EntryDigits, PlanNumbers, TIMEOUT, VarFault, Vars, entry_number,
     known_risks, plan_numbers,
@@ -47,8 +47,8 @@ pub(crate) struct ShownVars<'a> {
     others: Vec<OtherVariable<'a>>,
 }
 
-/// An entry as it is shown.
-#[derive(Drop)]
+/// An entry as it is shown. What it holds is made when it is written, and given up then: of many entries it takes much memory.
+#[derive(Clone, Copy)]
 struct ShownEntry<'a> {
     /// The name of its variable.
     name: &'a str,
@@ -56,8 +56,8 @@ struct ShownEntry<'a> {
     entry: EntryDigits,
     /// What a start of firmware may do to it, if anything is known.
     risk: Option<Risk>,
-    /// What it holds.
-    content: Content,
+    /// Its data.
+    data: &'a [u8],
 }
 
 impl JsonObject for ShownEntry<'_> {
@@ -70,7 +70,7 @@ impl JsonObject for ShownEntry<'_> {
             ],
             out,
         )?;
-        self.content.append_members(out)
+        Content::from_entry(out.alloc(), self.data)?.append_members(out)
     }
 }
 
@@ -159,14 +159,14 @@ impl<'a> ShownVars<'a> {
         alloc: Global,
         at_risk: Option<&AtRisk>,
         name: &'a str,
-        data: &[u8],
+        data: &'a [u8],
     ) -> Result<(), AllocError> {
         if let Some(number) = entry_number(name) {
             self.entries.push(ShownEntry {
                 name,
                 entry: EntryDigits(number),
                 risk: at_risk.and_then(|at_risk| Risk::of(at_risk, number)),
-                content: Content::from_entry(alloc, data)?,
+                data,
             })?;
             return Ok(());
         }
@@ -250,8 +250,8 @@ impl JsonObject for ShownVars<'_> {
 fn inactive_of(alloc: Global, entries: &[ShownEntry<'_>]) -> Result<Vec<u16>, AllocError> {
     let mut inactive = Vec::new(alloc);
     for shown in entries {
-        if let Content::LoadOption(option) = &shown.content
-            && !is_active(option.attributes())
+        if let Ok(option) = check_option(shown.data)
+            && !is_active(option.attributes)
         {
             inactive.push(shown.entry.0)?;
         }
@@ -311,7 +311,7 @@ pub fn vars_report(
     trial: Option<TrialView>,
 ) -> Result<String, AllocError> {
     let mut report = String::new(alloc);
-    append_vars(&ShownVars::new(alloc, vars, trial)?, &mut report)?;
+    append_vars(alloc, &ShownVars::new(alloc, vars, trial)?, &mut report)?;
     Ok(report)
 }
 
@@ -331,10 +331,14 @@ pub fn vars_json(
 }
 
 /// Appends the lines of variables.
-fn append_vars(shown: &ShownVars<'_>, report: &mut String) -> Result<(), AllocError> {
+fn append_vars(
+    alloc: Global,
+    shown: &ShownVars<'_>,
+    report: &mut String,
+) -> Result<(), AllocError> {
     writeln!(report, "variables {}", shown.variables)?;
     for entry in &shown.entries {
-        append_entry(entry, report)?;
+        append_entry(entry.name, &Content::from_entry(alloc, entry.data)?, report)?;
     }
     append_order(shown, report)?;
     append_numbers(
@@ -415,19 +419,19 @@ fn append_numbers(
     }
 }
 
-/// Appends the lines of an entry.
-fn append_entry(entry: &ShownEntry<'_>, report: &mut String) -> Result<(), AllocError> {
-    match &entry.content {
+/// Appends the lines of the entry of this name, which holds this.
+fn append_entry(name: &str, content: &Content, report: &mut String) -> Result<(), AllocError> {
+    match content {
         Content::LoadOption(option) => {
             let kind = if option.is_normal() {
                 "normal"
             } else {
                 "other"
             };
-            writeln!(report, "{} {kind} {}", entry.name, option.description)?;
+            writeln!(report, "{name} {kind} {}", option.description)?;
             append_option(option, report)
         }
-        Content::Undecodable(fault) => append_fault(entry.name, fault, report),
+        Content::Undecodable(fault) => append_fault(name, fault, report),
         Content::Order { .. } | Content::Next { .. } | Content::Timeout(_) => Ok(()),
     }
 }
