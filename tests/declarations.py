@@ -243,7 +243,7 @@ def rust_faults(text: str) -> Dict[str, int]:
 
 
 PACKAGE_PREFIXES = {
-    "Attributes": "OPTION_",
+    "Attributes": "ATTRIBUTE_",
     "Became": "BECAME_",
     "ChangeKind": "CHANGE_",
     "EditKind": "EDIT_",
@@ -251,7 +251,7 @@ PACKAGE_PREFIXES = {
     "Effect": "EFFECT_",
     "EndKind": "END_",
     "EntryState": "ENTRY_",
-    "Fault": "",
+    "Fault": "FAULT_",
     "MoveKind": "MOVE_",
     "Outcome": "OUTCOME_",
     "Position": "POSITION_",

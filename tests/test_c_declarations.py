@@ -11,6 +11,7 @@ from typing import Dict, NamedTuple
 
 sys.path.insert(0, str(Path(__file__).resolve().parents[1] / "tools"))
 
+import call_header  # noqa: E402
 import call_manuals  # noqa: E402
 from declarations import (  # noqa: E402
     CRATE,
@@ -68,8 +69,8 @@ STRUCTS = {
 # The calls that the crate for Rust leaves out: it has replies as values alone.
 NOT_IN_RUST = {f"bootkeep_keeper_{it}" for it in ("deliver", "prepare", "hand", "restart")}
 
-# What the header names of the standard, which the crate that has the calls has under other names.
-STANDARD = "OPTION_ACTIVE OPTION_FORCE_RECONNECT OPTION_HIDDEN OPTION_CATEGORY OPTION_CATEGORY_BOOT OPTION_CATEGORY_APP"
+# What begins the names of what is of the standard, which the crate that has the calls has under other names.
+STANDARD = "ATTRIBUTE_"
 
 # What the package and the crate for Rust have `None` for, and a status that neither of them can meet.
 WITHOUT_NUMBER = {"OUTCOME_NONE": 0, "BAD_SIZE": 6}
@@ -148,14 +149,15 @@ class Constants(unittest.TestCase):
 
     def test_the_crate_for_rust_has_those_of_the_header(self) -> None:
         faults = {
-            snake(name): number for name, number in rust_faults(read(RUST / "error.rs")).items()
+            f"FAULT_{snake(name)}": number
+            for name, number in rust_faults(read(RUST / "error.rs")).items()
         }
         of_options = constants_of(read(RUST / "option.rs"))
         found = {
             **WITHOUT_NUMBER,
             **constants_of(read(RUST / "numbers.rs")),
             **faults,
-            **{f"OPTION_{name}": number for name, number in of_options.items()},
+            **{f"ATTRIBUTE_{name}": number for name, number in of_options.items()},
         }
         self.assertEqual(found, self.in_header)
 
@@ -164,9 +166,18 @@ class Constants(unittest.TestCase):
         for file in CRATE.glob("*.rt"):
             found.update(constants_of(read(file), "u32"))
         wanted = {
-            name: number for name, number in self.in_header.items() if name not in STANDARD.split()
+            re.sub("^FAULT_", "", name): number
+            for name, number in self.in_header.items()
+            if not name.startswith(STANDARD)
         }
         self.assertEqual(found, wanted)
+
+    def test_refusals_have_a_prefix_of_their_own(self) -> None:
+        header = call_header.read_header(read(HEADER))
+        refusals = {it.name for it in header.constants[call_header.REFUSALS]}
+        faults = {f"BOOTKEEP_{name}" for name in self.in_header if name.startswith("FAULT_")}
+        self.assertEqual(refusals - faults, {"BOOTKEEP_NO_KIND", "BOOTKEEP_NO_PLACE"})
+        self.assertEqual(faults - refusals, set())
 
 
 class Versions(unittest.TestCase):

@@ -46,9 +46,9 @@ SMALL = """/*
  */
 
 /* No byte is there. */
-#define BOOTKEEP_PATH_NO_END 0x0101
+#define BOOTKEEP_FAULT_PATH_NO_END 0x0101
 /* Of bootkeep_b alone: it is odd. */
-#define BOOTKEEP_PATH_ODD 0x0102
+#define BOOTKEEP_FAULT_PATH_ODD 0x0102
 
 /* ---- Calls ------- */
 
@@ -134,14 +134,14 @@ class SmallHeader(unittest.TestCase):
             ".It Dv BOOTKEEP_COLOR_RED , BOOTKEEP_COLOR_BLUE\nColors.\n",
             ".It Fa color\nOne of\n.Dv BOOTKEEP_COLOR_...\n.It Fa out , cap , len\nWhere the answer goes.\n",
             ".It Dv BOOTKEEP_REFUSED\nIt is refused.\nHere: a number of paths.\n",
-            "Of a path.\nThe place is that of the node.\n.Bl -tag -width Ds\n.It Dv BOOTKEEP_PATH_NO_END\n",
+            "Of a path.\nThe place is that of the node.\n.Bl -tag -width Ds\n.It Dv BOOTKEEP_FAULT_PATH_NO_END\n",
             ".Sh SEE ALSO\n.Xr bootkeep 3 ,\n.Xr bootkeep_b 3 ,\n.Xr bootkeep_c 3\n",
         ):
             self.assertIn(part, text)
         self.assertNotIn("PATH_ODD", text)
 
     def test_a_refusal_of_one_call_alone(self) -> None:
-        self.assertIn(".It Dv BOOTKEEP_PATH_ODD\nIt is odd.\n", "\n".join(self.manual(1)))
+        self.assertIn(".It Dv BOOTKEEP_FAULT_PATH_ODD\nIt is odd.\n", "\n".join(self.manual(1)))
 
     def test_what_is_not_said(self) -> None:
         with self.assertRaises(call_manuals.NoManual):
@@ -189,8 +189,8 @@ class ThisHeader(unittest.TestCase):
         answered = {it.name for manual in self.made for it in manual.refusals()}
         refusals = {it.name for it in self.header.constants[call_header.REFUSALS]}
         others = refusals - answered
-        in_replies = {it for it in others if it.startswith("BOOTKEEP_FRAME_")}
-        in_ends = {"BOOTKEEP_MACHINE_NO_DATA", "BOOTKEEP_MACHINE_TOO_LONG"}
+        in_replies = {it for it in others if it.startswith("BOOTKEEP_FAULT_FRAME_")}
+        in_ends = {"BOOTKEEP_FAULT_MACHINE_TOO_LONG"}
         none = {"BOOTKEEP_NO_KIND", "BOOTKEEP_NO_PLACE"}
         self.assertEqual(others - in_replies, in_ends | none)
         for manual in self.made:

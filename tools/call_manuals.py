@@ -30,7 +30,7 @@ KINDS = {
     "machines": "MACHINE_",
     "edits": "UNEDITED_",
 }
-"""What the header calls the numbers of refusals whose names begin so."""
+"""What the header calls the numbers of refusals whose names begin so, after `BOOTKEEP_FAULT_`."""
 
 ALONE = re.compile(r"^Of ([\w ]+?) alone[:,] ")
 """How it says of which calls alone a number is."""
@@ -295,7 +295,7 @@ def sentence(text: str, is_capital: bool = True) -> str:
 
 def in_kind(refusal: Constant, kind: str) -> bool:
     """Whether a refusal is one of these."""
-    return refusal.name.startswith(f"BOOTKEEP_{KINDS[kind]}")
+    return refusal.name.startswith(f"BOOTKEEP_FAULT_{KINDS[kind]}")
 
 
 def is_named(constant: Constant, name: str) -> bool:

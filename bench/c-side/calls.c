@@ -87,8 +87,8 @@ void *make(size_t len)
 
 #define GIVEN(which) call->given[which].at, call->given[which].len
 #define OUT(which) call->told.out[which], call->told.cap[which], &call->told.len[which]
-#define ITEMS(type) (type *)(void *)call->told.out[0], call->told.cap[0], &call->told.len[0]
-#define NUMBERS ITEMS(uint16_t)
+#define STRUCTS(type) (type *)(void *)call->told.out[0], call->told.cap[0], sizeof(type), &call->told.len[0]
+#define NUMBERS (uint16_t *)(void *)call->told.out[0], call->told.cap[0], &call->told.len[0]
 
 static bool is(const struct call *call, const char *name)
 {
@@ -133,8 +133,8 @@ static uint32_t once_edit(struct call *call)
 {
     const struct bootkeep_edit edit = edit_of(call->given[0]);
 
-    return bootkeep_set_edit(&edit, (const uint16_t *)(const void *)call->given[1].at, call->given[1].len / 2, GIVEN(2),
-                             GIVEN(3), OUT(0), &call->edited, &call->refusal);
+    return bootkeep_vars_edit(&edit, (const uint16_t *)(const void *)call->given[1].at, call->given[1].len / 2,
+                              GIVEN(2), GIVEN(3), OUT(0), &call->edited, &call->refusal);
 }
 
 /* Makes a call on a set. */
@@ -143,29 +143,29 @@ static uint32_t once_set(struct call *call)
     uint32_t number = (uint32_t)call->told.extra, status = UINT32_MAX;
     size_t count = (size_t)call->told.extra;
 
-    if (is(call, "set_plan"))
-        status = bootkeep_set_plan(GIVEN(0), NUMBERS, &number, &call->refusal);
-    else if (is(call, "set_at_risk"))
-        status = bootkeep_set_at_risk(GIVEN(0), NUMBERS, &count, &call->refusal);
-    else if (is(call, "set_named"))
-        status = bootkeep_set_named(GIVEN(0), ITEMS(struct bootkeep_named), &call->refusal);
-    else if (is(call, "set_variables"))
-        status = bootkeep_set_variables(GIVEN(0), ITEMS(struct bootkeep_variable), &call->refusal);
-    else if (is(call, "set_changes"))
-        status = bootkeep_set_changes(GIVEN(0), GIVEN(1), ITEMS(struct bootkeep_change), &call->refusal);
-    else if (is(call, "set_lowest_free"))
-        status = bootkeep_set_lowest_free(GIVEN(0), &number, &call->refusal);
-    else if (is(call, "set_entry"))
-        status = bootkeep_set_entry(GIVEN(0), (uint16_t)number_at(call, 1, 0, 2), &number, &call->refusal);
-    else if (is(call, "set_get"))
-        status = bootkeep_set_get(GIVEN(0), GIVEN(1), OUT(0), &call->refusal);
-    else if (is(call, "set_put"))
-        status = bootkeep_set_put(GIVEN(0), GIVEN(1), GIVEN(2), OUT(0), &call->refusal);
-    else if (is(call, "set_remove"))
-        status = bootkeep_set_remove(GIVEN(0), GIVEN(1), OUT(0), &call->refusal);
+    if (is(call, "vars_plan"))
+        status = bootkeep_vars_plan(GIVEN(0), NUMBERS, &number, &call->refusal);
+    else if (is(call, "vars_at_risk"))
+        status = bootkeep_vars_at_risk(GIVEN(0), NUMBERS, &count, &call->refusal);
+    else if (is(call, "vars_named"))
+        status = bootkeep_vars_named(GIVEN(0), STRUCTS(struct bootkeep_named), &call->refusal);
+    else if (is(call, "vars_list"))
+        status = bootkeep_vars_list(GIVEN(0), STRUCTS(struct bootkeep_variable), &call->refusal);
+    else if (is(call, "vars_changes"))
+        status = bootkeep_vars_changes(GIVEN(0), GIVEN(1), STRUCTS(struct bootkeep_change), &call->refusal);
+    else if (is(call, "vars_lowest_free"))
+        status = bootkeep_vars_lowest_free(GIVEN(0), &number, &call->refusal);
+    else if (is(call, "vars_entry"))
+        status = bootkeep_vars_entry(GIVEN(0), (uint16_t)number_at(call, 1, 0, 2), &number, &call->refusal);
+    else if (is(call, "vars_get"))
+        status = bootkeep_vars_get(GIVEN(0), GIVEN(1), OUT(0), &call->refusal);
+    else if (is(call, "vars_put"))
+        status = bootkeep_vars_put(GIVEN(0), GIVEN(1), GIVEN(2), OUT(0), &call->refusal);
+    else if (is(call, "vars_remove"))
+        status = bootkeep_vars_remove(GIVEN(0), GIVEN(1), OUT(0), &call->refusal);
     else
         complain("no such call");
-    call->told.extra = is(call, "set_at_risk") ? count : number;
+    call->told.extra = is(call, "vars_at_risk") ? count : number;
     return status;
 }
 
@@ -228,8 +228,8 @@ static uint32_t once_other(struct call *call)
         status = bootkeep_path_check(GIVEN(0), &taken, &call->refusal);
     else if (is(call, "path_parse"))
         status = bootkeep_path_parse(GIVEN(0), OUT(0), &call->refusal);
-    else if (is(call, "text_path"))
-        status = bootkeep_text_path(GIVEN(0), OUT(0), &call->refusal);
+    else if (is(call, "path_parse_exact"))
+        status = bootkeep_path_parse_exact(GIVEN(0), OUT(0), &call->refusal);
     else if (is(call, "option_parts"))
         status = bootkeep_option_parts(GIVEN(0), &call->parts, &call->refusal);
     else if (is(call, "option_description"))
@@ -262,7 +262,7 @@ static uint32_t once_image(struct call *call)
         return bootkeep_image_check(GIVEN(0), &stage, &effect, &call->refusal);
     if (is(call, "image_digest"))
         return bootkeep_image_digest(GIVEN(0), OUT(0), &call->refusal);
-    return bootkeep_signature_lists(GIVEN(0), ITEMS(struct bootkeep_signature_list), &call->refusal);
+    return bootkeep_signature_lists(GIVEN(0), STRUCTS(struct bootkeep_signature_list), &call->refusal);
 }
 
 /* Makes the call once. */
@@ -272,7 +272,7 @@ static uint32_t once(struct call *call)
         return once_image(call);
     if (ends_with(call, "_word"))
         return once_word(call);
-    if (is(call, "set_edit"))
+    if (is(call, "vars_edit"))
         return once_edit(call);
     if (!strncmp(call->name, "set_", 4))
         return once_set(call);
@@ -288,15 +288,15 @@ static bool has_reply(const struct call *call)
 /* How many bytes an element of the first buffer has. */
 static size_t unit(const struct call *call)
 {
-    if (is(call, "set_variables"))
+    if (is(call, "vars_list"))
         return sizeof(struct bootkeep_variable);
     if (is(call, "signature_lists"))
         return sizeof(struct bootkeep_signature_list);
-    if (is(call, "set_named"))
+    if (is(call, "vars_named"))
         return sizeof(struct bootkeep_named);
-    if (is(call, "set_changes"))
+    if (is(call, "vars_changes"))
         return sizeof(struct bootkeep_change);
-    return is(call, "set_plan") || is(call, "set_at_risk") || has_reply(call) ? sizeof(uint16_t) : 1;
+    return is(call, "vars_plan") || is(call, "vars_at_risk") || has_reply(call) ? sizeof(uint16_t) : 1;
 }
 
 /* Complains if a buffer has anything but marks between these places. */
@@ -472,12 +472,27 @@ static void try_edit_sizes(void)
     struct bootkeep_refusal refusal;
     size_t len = 0;
 
-    if (bootkeep_set_edit(&edit, NULL, 0, NULL, 0, NULL, 0, NULL, 0, &len, &edited, &refusal) != BOOTKEEP_BAD_SIZE)
+    if (bootkeep_vars_edit(&edit, NULL, 0, NULL, 0, NULL, 0, NULL, 0, &len, &edited, &refusal) != BOOTKEEP_BAD_SIZE)
         complain("an edit of too small a size is made");
     edit.size = sizeof edit;
     edited.size = sizeof edited - 1;
-    if (bootkeep_set_edit(&edit, NULL, 0, NULL, 0, NULL, 0, NULL, 0, &len, &edited, &refusal) != BOOTKEEP_BAD_SIZE)
+    if (bootkeep_vars_edit(&edit, NULL, 0, NULL, 0, NULL, 0, NULL, 0, &len, &edited, &refusal) != BOOTKEEP_BAD_SIZE)
         complain("what came of an edit is told in too small a size");
+}
+
+/* Makes the calls that give structs with another size of one, at which nothing is looked at or written. */
+static void try_item_sizes(void)
+{
+    const size_t sizes[] = {0, sizeof(struct bootkeep_change) - 1, sizeof(struct bootkeep_variable) + 1, SIZE_MAX};
+    struct bootkeep_refusal refusal;
+    size_t len = 1;
+
+    for (size_t at = 0; at < sizeof sizes / sizeof sizes[0]; at++)
+        if (bootkeep_vars_list(NULL, 0, NULL, 0, sizes[at], &len, &refusal) != BOOTKEEP_BAD_SIZE ||
+            bootkeep_vars_named(NULL, 0, NULL, 0, sizes[at], &len, &refusal) != BOOTKEEP_BAD_SIZE ||
+            bootkeep_vars_changes(NULL, 0, NULL, 0, NULL, 0, sizes[at], &len, &refusal) != BOOTKEEP_BAD_SIZE ||
+            bootkeep_signature_lists(NULL, 0, NULL, 0, sizes[at], &len, &refusal) != BOOTKEEP_BAD_SIZE || len != 1)
+            complain("structs of another size are given");
 }
 
 /* Says what the call answered, and gives up its buffers. */
@@ -501,7 +516,7 @@ static void say(struct call *call, uint32_t status)
             printf(" %" PRIu64, call->told.extra);
         if (has_reply(call))
             say_reply(&call->reply);
-        if (is(call, "set_edit"))
+        if (is(call, "vars_edit"))
             say_edited(&call->edited);
     } else
         printf("status %" PRIu32, status);
@@ -618,7 +633,7 @@ static void take_line(char *line)
         return;
     }
     call.name = words[0];
-    if (is(&call, "set_edit"))
+    if (is(&call, "vars_edit"))
         try_edit_sizes();
     for (size_t at = 0; at < 4; at++)
         call.given[at] = bytes_of(at + 1 < count ? words[at + 1] : "-");
@@ -635,6 +650,7 @@ int main(void)
 
     if (bootkeep_version() != BOOTKEEP_VERSION)
         complain("the library has another version than the header");
+    try_item_sizes();
     while (getline(&line, &room, stdin) > 0)
         take_line(line);
     free(line);

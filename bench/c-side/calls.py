@@ -90,13 +90,13 @@ def entry_or_none(number: Optional[bootkeep.EntryNumber]) -> int:
     return NO_ENTRY if number is None else int(number)
 
 
-def set_plan(data: bytes) -> str:
-    plan = bootkeep.set_plan(data)
+def vars_plan(data: bytes) -> str:
+    plan = bootkeep.vars_plan(data)
     return f"{digits_of(plan.normal)} {entry_or_none(plan.next)}"
 
 
-def set_at_risk(data: bytes) -> str:
-    risk = bootkeep.set_at_risk(data)
+def vars_at_risk(data: bytes) -> str:
+    risk = bootkeep.vars_at_risk(data)
     return f"{digits_of(risk.unnamed + risk.undecodable)} {len(risk.unnamed)}"
 
 
@@ -141,10 +141,10 @@ def frame_make(numbers: bytes, option: bytes, order: bytes) -> str:
     return digits(bootkeep.frame_make(number, request, entry=entry))
 
 
-def set_variables(data: bytes) -> str:
+def vars_list(data: bytes) -> str:
     """The places of the variables, as C has them. The module gives their data in place."""
     places, at = b"", 4
-    for name, value in bootkeep.set_variables(data).items():
+    for name, value in bootkeep.vars_list(data).items():
         assert data[at + 1 : at + 1 + len(name)] == name.encode()
         start = at + len(name) + 5
         assert value == data[start : start + len(value)]
@@ -155,27 +155,27 @@ def set_variables(data: bytes) -> str:
     return digits(places)
 
 
-def set_named(data: bytes) -> str:
+def vars_named(data: bytes) -> str:
     stands_for = {"BootOrder": 0x10001, "BootNext": 0x10002}
     named = b""
-    for one in bootkeep.set_named(data):
+    for one in bootkeep.vars_named(data):
         for number in (stands_for[one.variable], one.number, int(one.state)):
             named += number.to_bytes(4, "little")
     return digits(named)
 
 
-def set_lowest_free(data: bytes) -> str:
-    return str(entry_or_none(bootkeep.set_lowest_free(data)))
+def vars_lowest_free(data: bytes) -> str:
+    return str(entry_or_none(bootkeep.vars_lowest_free(data)))
 
 
-def set_entry(data: bytes, number: bytes) -> str:
-    return str(int(bootkeep.set_entry(data, int.from_bytes(number, "little"))))
+def vars_entry(data: bytes, number: bytes) -> str:
+    return str(int(bootkeep.vars_entry(data, int.from_bytes(number, "little"))))
 
 
-def set_changes(before: bytes, after: bytes) -> str:
+def vars_changes(before: bytes, after: bytes) -> str:
     stands_for = {"BootOrder": 0x10001, "BootNext": 0x10002, "Timeout": 0x10003}
     changes = b""
-    for change in bootkeep.set_changes(before, after):
+    for change in bootkeep.vars_changes(before, after):
         number = stands_for.get(change.name) or int(change.name[4:], 16)
         changes += number.to_bytes(4, "little") + int(change.kind).to_bytes(4, "little")
     return digits(changes)
@@ -206,8 +206,8 @@ def edit_of(numbers: bytes, entries: bytes, option: bytes) -> bootkeep.Edit:
     )
 
 
-def set_edit(numbers: bytes, entries: bytes, option: bytes, data: bytes) -> str:
-    edited = bootkeep.set_edit(data, edit_of(numbers, entries, option))
+def vars_edit(numbers: bytes, entries: bytes, option: bytes, data: bytes) -> str:
+    edited = bootkeep.vars_edit(data, edit_of(numbers, entries, option))
     return f"{digits(edited.data)} {int(edited.kind)} {entry_or_none(edited.entry)}"
 
 
@@ -245,7 +245,7 @@ CALLS: Dict[str, Callable[..., str]] = {
     "outcome_word": word(bootkeep.outcome_word),
     "path_check": lambda data: str(bootkeep.path_check(data)),
     "path_parse": lambda text: digits(bootkeep.path_parse(text_of(text))),
-    "text_path": lambda text: digits(bootkeep.text_path(text_of(text))),
+    "path_parse_exact": lambda text: digits(bootkeep.path_parse_exact(text_of(text))),
     "option_parts": option_parts,
     "option_description": lambda data: digits(
         bootkeep.option_parts(data).description_line.encode()
@@ -254,17 +254,17 @@ CALLS: Dict[str, Callable[..., str]] = {
     "option_make": option_make,
     "option_make_units": option_make_units,
     "frame_make": frame_make,
-    "set_plan": set_plan,
-    "set_variables": set_variables,
-    "set_named": set_named,
-    "set_lowest_free": set_lowest_free,
-    "set_entry": set_entry,
-    "set_changes": set_changes,
-    "set_at_risk": set_at_risk,
-    "set_edit": set_edit,
-    "set_get": lambda data, name: digits(bootkeep.set_get(data, text_of(name))),
-    "set_put": lambda data, name, value: digits(bootkeep.set_put(data, text_of(name), value)),
-    "set_remove": lambda data, name: digits(bootkeep.set_remove(data, text_of(name))),
+    "vars_plan": vars_plan,
+    "vars_list": vars_list,
+    "vars_named": vars_named,
+    "vars_lowest_free": vars_lowest_free,
+    "vars_entry": vars_entry,
+    "vars_changes": vars_changes,
+    "vars_at_risk": vars_at_risk,
+    "vars_edit": vars_edit,
+    "vars_get": lambda data, name: digits(bootkeep.vars_get(data, text_of(name))),
+    "vars_put": lambda data, name, value: digits(bootkeep.vars_put(data, text_of(name), value)),
+    "vars_remove": lambda data, name: digits(bootkeep.vars_remove(data, text_of(name))),
     "image_check": image_check,
     "image_digest": lambda data: digits(bootkeep.image_digest(data)),
     "signature_lists": signature_lists,
@@ -329,11 +329,13 @@ class Machine:
             self.journal = move.data or b""
         elif move.kind == bootkeep.MoveKind.DELETE:
             with contextlib.suppress(KeyError):
-                self.set = bootkeep.set_remove(self.set, move.name or "")
+                self.set = bootkeep.vars_remove(self.set, move.name or "")
         else:
-            self.set = bootkeep.set_put(self.set, move.name or "", move.data or b"")
+            self.set = bootkeep.vars_put(self.set, move.name or "", move.data or b"")
 
-    def run(self, wanted: Union[bytes, bootkeep.Edit, None], answers: Iterable[int]) -> str:
+    def run(
+        self, wanted: Union[bytes, bootkeep.Edit, bootkeep.Restore, None], answers: Iterable[int]
+    ) -> str:
         """How a command ended, or that it was cut."""
         state = bootkeep.MachineState(b"machine", b"start", self.set, self.journal)
         left, reason = iter(answers), 7
@@ -365,9 +367,11 @@ def command_machine(words: List[str]) -> None:
     variables, answers, kind, *parts = words
     machine = Machine(data_of(variables))
     try:
-        wanted: Union[bytes, bootkeep.Edit, None] = None
+        wanted: Union[bytes, bootkeep.Edit, bootkeep.Restore, None] = None
         if kind == "f":
             wanted = data_of(parts[0])
+        elif kind == "b":
+            wanted = bootkeep.Restore(data_of(parts[0]))
         elif kind == "e":
             wanted = edit_of(*map(data_of, parts))
         print(machine.run(wanted, data_of(answers)))

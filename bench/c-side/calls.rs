@@ -3,9 +3,9 @@
 //! request that there isn't and a keeper that is closed, is answered here.
 
 use bootkeep::frame::Request;
-use bootkeep::set::{Addition, BootVariable, ChangeKind, Edit, EditOutcome, EntryState, NewOrder, Plan, Position};
+use bootkeep::vars::{Addition, BootVariable, ChangeKind, Edit, EditOutcome, EntryState, NewOrder, Plan, Position};
 use bootkeep::{
-    frame, image, option, path, set, Became, End, EntryNumber, Error, Fault, Keeper, LoadOption, MachineState, Move,
+    frame, image, option, path, vars, Became, End, EntryNumber, Error, Fault, Keeper, LoadOption, MachineState, Move,
     Moves, Outcome, Refusal, Reply,
 };
 use std::io::{self, BufRead};
@@ -100,7 +100,7 @@ fn made(name: &str, given: &[Vec<u8>]) -> Result<String, Error> {
         "path_names" => path::names(first).map(|(text, taken)| format!("{} {taken}", digits(text.as_bytes()))),
         "path_check" => path::check(first).map(|taken| taken.to_string()),
         "path_parse" => path::parse(text_of(first, Fault::TextNotUtf8)?).map(|bytes| digits(&bytes)),
-        "text_path" => path::parse_text(text_of(first, Fault::TextNotUtf8)?).map(|bytes| digits(&bytes)),
+        "path_parse_exact" => path::parse_exact(text_of(first, Fault::TextNotUtf8)?).map(|bytes| digits(&bytes)),
         "option_parts" => option_parts(first),
         "option_description" => option::description_line(first).map(|text| digits(text.as_bytes())),
         "option_description_utf8" => option::description(first).map(|text| digits(text.as_bytes())),
@@ -113,7 +113,7 @@ fn made(name: &str, given: &[Vec<u8>]) -> Result<String, Error> {
             option::make(number(first), description, &given[2], &given[3]).map(|bytes| digits(&bytes))
         }
         "frame_make" => frame_make(first, &given[1], &given[2]),
-        "set_edit" => set_edit(first, &given[1], &given[2], &given[3]),
+        "vars_edit" => vars_edit(first, &given[1], &given[2], &given[3]),
         "image_check" => match image::check(first)? {
             Some(fault) => Err(Error::Refused(fault.refusal)),
             None => Ok(String::new()),
@@ -132,28 +132,28 @@ fn made_of_set(name: &str, set: &[u8], given: &[Vec<u8>]) -> Result<String, Erro
     // A name that isn't UTF-8 is none, and neither is what stands for it here.
     let named = given.first().map(|name| String::from_utf8_lossy(name)).unwrap_or_default();
     match name {
-        "set_plan" => set::plan(set).map(|plan| format!("{} {}", digits_of(plan.normal), entry_or_none(plan.next))),
-        "set_at_risk" => {
-            let risk = set::at_risk(set)?;
+        "vars_plan" => vars::plan(set).map(|plan| format!("{} {}", digits_of(plan.normal), entry_or_none(plan.next))),
+        "vars_at_risk" => {
+            let risk = vars::at_risk(set)?;
             let count = risk.unnamed.len();
             Ok(format!("{} {count}", digits_of([risk.unnamed, risk.undecodable].concat())))
         }
-        "set_variables" => set_variables(set),
-        "set_named" => {
-            let named = set::named(set)?;
+        "vars_list" => vars_list(set),
+        "vars_named" => {
+            let named = vars::named(set)?;
             let numbers = named.iter().map(|one| [stands_for(one.variable), one.number.0.into(), state(one.state)]);
             Ok(digits_of_longs(numbers.flatten()))
         }
-        "set_lowest_free" => set::lowest_free(set).map(|free| entry_or_none(free).to_string()),
-        "set_entry" => set::entry(set, entry_of(&given[0])).map(|told| state(told).to_string()),
-        "set_changes" => {
-            let changes = set::changes(set, &given[0])?;
+        "vars_lowest_free" => vars::lowest_free(set).map(|free| entry_or_none(free).to_string()),
+        "vars_entry" => vars::entry(set, entry_of(&given[0])).map(|told| state(told).to_string()),
+        "vars_changes" => {
+            let changes = vars::changes(set, &given[0])?;
             let numbers = changes.iter().map(|one| [stands_for(one.variable), change(one.kind)]);
             Ok(digits_of_longs(numbers.flatten()))
         }
-        "set_get" => set::get(set, &named).map(|data| digits(&data)),
-        "set_put" => set::put(set, &named, &given[1]).map(|after| digits(&after)),
-        "set_remove" => set::remove(set, &named).map(|after| digits(&after)),
+        "vars_get" => vars::get(set, &named).map(|data| digits(&data)),
+        "vars_put" => vars::put(set, &named, &given[1]).map(|after| digits(&after)),
+        "vars_remove" => vars::remove(set, &named).map(|after| digits(&after)),
         _ => panic!("no such call: {name}"),
     }
 }
@@ -199,14 +199,14 @@ fn frame_make(numbers: &[u8], option: &[u8], order: &[u8]) -> Result<String, Err
 }
 
 /// The set after an edit.
-fn set_edit(numbers: &[u8], entries: &[u8], option: &[u8], data: &[u8]) -> Result<String, Error> {
+fn vars_edit(numbers: &[u8], entries: &[u8], option: &[u8], data: &[u8]) -> Result<String, Error> {
     // Of a set that is none, the fault comes before that of the option.
-    set::variables(data).map(drop)?;
-    with_edit(numbers, entries, option, |edit| edited(set::edit(data, edit)?))
+    vars::list(data).map(drop)?;
+    with_edit(numbers, entries, option, |edit| edited(vars::edit(data, edit)?))
 }
 
 /// What came of an edit, as calls.c says it.
-fn edited(edited: set::Edited) -> Result<String, Error> {
+fn edited(edited: vars::Edited) -> Result<String, Error> {
     let (kind, entry) = outcome_numbers(edited.outcome);
     Ok(format!("{} {kind} {entry}", digits(&edited.set)))
 }
@@ -270,13 +270,14 @@ enum Wanted<'a> {
     Nothing,
     Frames(&'a [u8]),
     Edit(Edit<'a>),
+    Restore(&'a [u8]),
 }
 
 impl Machine {
     fn make(&mut self, asked: Move) -> Result<(), Error> {
         match asked {
-            Move::Set { name, data } => self.set = set::put(&self.set, &name, &data)?,
-            Move::Delete { name } => match set::remove(&self.set, &name) {
+            Move::Set { name, data } => self.set = vars::put(&self.set, &name, &data)?,
+            Move::Delete { name } => match vars::remove(&self.set, &name) {
                 Err(Error::Absent) => (),
                 removed => self.set = removed?,
             },
@@ -294,6 +295,7 @@ impl Machine {
             Wanted::Nothing => Moves::settle(state)?,
             Wanted::Frames(stream) => Moves::requests(state, stream)?,
             Wanted::Edit(edit) => Moves::edit(state, edit)?,
+            Wanted::Restore(back) => Moves::restore(state, back)?,
         };
         let mut answers = answers.iter().copied();
         let mut reason = 7;
@@ -341,6 +343,7 @@ fn command_machine(words: &[&str]) {
     let parts: Vec<Vec<u8>> = words[3..].iter().map(|word| bytes_of(word)).collect();
     let told = match words[2] {
         "f" => machine.run(Wanted::Frames(&parts[0]), &answers),
+        "b" => machine.run(Wanted::Restore(&parts[0]), &answers),
         "e" => with_edit(&parts[0], &parts[1], &parts[2], |edit| machine.run(Wanted::Edit(edit), &answers)),
         _ => machine.run(Wanted::Nothing, &answers),
     };
@@ -361,8 +364,8 @@ fn signature_lists(bytes: &[u8]) -> Result<String, Error> {
     Ok(digits(&places.flat_map(usize::to_le_bytes).collect::<Vec<_>>()))
 }
 
-fn set_variables(set: &[u8]) -> Result<String, Error> {
-    let places = set::variables(set)?.flat_map(|(name, data)| {
+fn vars_list(set: &[u8]) -> Result<String, Error> {
+    let places = vars::list(set)?.flat_map(|(name, data)| {
         let name = name.as_bytes();
         [start(set, name), name.len(), start(set, data), data.len()]
     });

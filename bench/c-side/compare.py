@@ -104,7 +104,7 @@ class Side:
     def __init__(self, root: Path, command: str, work: Path) -> None:
         self.command, self.work = command, work
         header = (root / "libraries/c/include/bootkeep.h").read_text()
-        found = re.findall(r"^#define BOOTKEEP_(\w+) (0x[0-9a-f]{4})$", header, re.M)
+        found = re.findall(r"^#define BOOTKEEP_FAULT_(\w+) (0x[0-9a-f]{4})$", header, re.M)
         self.kinds = {name: int(number, 16) for name, number in found}
         self.numbers = {
             "status": {name: number for number, name in enumerate(STATUSES)},
@@ -417,7 +417,7 @@ class Cases:
 
     def text_case(self) -> tuple[str, list[str]]:
         held = damage(self.chance, self.chance.choice(self.texts).encode()).replace(b"\0", b"0")
-        line = f"text_path {digits(held)}"
+        line = f"path_parse_exact {digits(held)}"
         try:
             text = held.decode()
         except UnicodeDecodeError as error:
@@ -486,7 +486,7 @@ class Cases:
     def plan_case(self) -> tuple[str, list[str]]:
         data = damage(self.chance, self.set)
         status, out, told = self.side.ask("show", self.side.file("set", data))
-        line = f"set_plan {digits(data)}"
+        line = f"vars_plan {digits(data)}"
         if status:
             return line, [self.side.refusal("set", told)]
         first, normal = line_of(r"^plan next (\S+) normal (.*)$", out).groups()
@@ -496,7 +496,7 @@ class Cases:
     def risk_case(self) -> tuple[str, list[str]]:
         data = damage(self.chance, set_of(self.reordered()))
         status, _, told = self.side.ask("show", self.side.file("set", data))
-        line = f"set_at_risk {digits(data)}"
+        line = f"vars_at_risk {digits(data)}"
         if status:
             return line, [self.side.refusal("set", told)]
         variables = variables_of(data)
@@ -525,7 +525,7 @@ class Cases:
         data = damage(self.chance, set_of(self.reordered()))
         number = self.chance.choice([*entries_of(variables_of(self.set)), 0x77])
         given = digits(data)
-        lines = f"set_variables {given}\nset_lowest_free {given}\nset_entry {given} {digits(number_bytes([number]))}"
+        lines = f"vars_list {given}\nvars_lowest_free {given}\nvars_entry {given} {digits(number_bytes([number]))}"
         told = self.side.ask("show", self.side.file("set", data))[2]
         if told and "BadOrder" not in told and "BadNext" not in told:
             return lines, [self.side.refusal("set", told)] * 3
@@ -572,7 +572,7 @@ class Cases:
     def named_case(self) -> tuple[str, list[str]]:
         """What BootNext and BootOrder name, and what a boot makes of it."""
         data = damage(self.chance, set_of(self.reordered()))
-        line = f"set_named {digits(data)}"
+        line = f"vars_named {digits(data)}"
         status, _, told = self.side.ask("show", self.side.file("set", data))
         if status:
             return line, [self.side.refusal("set", told)]
@@ -610,7 +610,7 @@ class Cases:
         for name in self.chance.sample([name for name, _ in second], k=2):
             second = [(held, b"\1" if held == name else data) for held, data in second]
         second = [(name, data) for name, data in second if self.chance.randrange(4) > 0]
-        line = f"set_changes {digits(set_of(first))} {digits(set_of(second))}"
+        line = f"vars_changes {digits(set_of(first))} {digits(set_of(second))}"
         before, after = dict(first), dict(second)
         entry = re.compile("Boot[0-9A-F]{4}").fullmatch
         names = [name for name in sorted(after) if entry(name) and before.get(name) != after[name]]
@@ -720,7 +720,7 @@ class Cases:
             self.chance.choice([0, 1, 2, 300] * 4 + [1_048_576, 1_048_577])
         )
         given = f"{digits(data)} {digits(name)}"
-        lines = f"set_get {given}\nset_put {given} {digits(value)}\nset_remove {given}"
+        lines = f"vars_get {given}\nvars_put {given} {digits(value)}\nvars_remove {given}"
         told = self.side.ask("show", self.side.file("set", data))[2]
         if told and "BadOrder" not in told and "BadNext" not in told:
             return lines, [self.side.refusal("set", told)] * 3
@@ -748,11 +748,12 @@ class Cases:
         elif wrong == "set":
             data, wanted = b"BVS2", f"refused {self.side.kinds['SET_BAD_MAGIC']} 0 0 {NO_PLACE}"
         words = [long_bytes(numbers), entries, bytes.fromhex(case.get("option", "")), data]
-        return f"set_edit {' '.join(map(digits, words))}", [wanted]
+        return f"vars_edit {' '.join(map(digits, words))}", [wanted]
 
     def moves_case(self) -> tuple[str, list[str]]:
         """A command over a machine: what it runs, what becomes of its moves, and what is there in the end."""
-        command = self.chance.choice([self.frames_command, self.edit_command])()
+        commands = [self.frames_command, self.edit_command, self.restore_command]
+        command = self.chance.choice(commands)()
         old, new = command.before, with_attributes(command.after, command.before)
         state = command.after.get(KEEP, b"")
         answers, wanted = b"", f"done {command.end}"
@@ -801,6 +802,15 @@ class Cases:
             else f"4 0 0 {line[1]} 0 {NO_ENTRY}"
         )
         return Command(f"e {' '.join(map(digits, words))}", kept(before), after, end)
+
+    def restore_command(self) -> Command:
+        """A command that brings the variables of one case of an edit back to those of another one."""
+        before, back = (data_of(self.chance.choice(self.edits_of_machines)["vars"]) for _ in "12")
+        after = {name: data for name, data in before.items() if not is_boot_name(name)}
+        after.update((name, data) for name, data in back.items() if is_boot_name(name))
+        after.pop(KEEP, None)
+        words = digits(set_of([*with_attributes(back, kept(before)).items()]))
+        return Command(f"b {words}", kept(before), after, f"1 0 0 0 0 {NO_ENTRY}")
 
     def edited(self, case: dict[str, Any]) -> str:
         """The driver's line of what a case states of an edit."""

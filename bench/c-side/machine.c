@@ -75,8 +75,8 @@ static void make_move(struct machine *machine, struct bootkeep_moves *moves, uin
     set.len = machine->set.len + name.len + data.len + 8;
     set.at = make(set.len);
     status = kind == BOOTKEEP_MOVE_SET
-                 ? bootkeep_set_put(BYTES(machine->set), BYTES(name), BYTES(data), set.at, set.len, &set.len, &refusal)
-                 : bootkeep_set_remove(BYTES(machine->set), BYTES(name), set.at, set.len, &set.len, &refusal);
+                 ? bootkeep_vars_put(BYTES(machine->set), BYTES(name), BYTES(data), set.at, set.len, &set.len, &refusal)
+                 : bootkeep_vars_remove(BYTES(machine->set), BYTES(name), set.at, set.len, &set.len, &refusal);
     // What isn't there is deleted.
     if (status == BOOTKEEP_DONE)
         replace(&machine->set, set);
@@ -98,6 +98,9 @@ static uint32_t begin(struct bootkeep_moves *moves, const struct machine *machin
     if (wanted->kind == 'f')
         return bootkeep_moves_requests(moves, NAME, sizeof NAME - 1, START, sizeof START - 1, BYTES(machine->set),
                                        BYTES(machine->journal), BYTES(wanted->parts[0]), refusal);
+    if (wanted->kind == 'b')
+        return bootkeep_moves_restore(moves, NAME, sizeof NAME - 1, START, sizeof START - 1, BYTES(machine->set),
+                                      BYTES(machine->journal), BYTES(wanted->parts[0]), refusal);
     if (wanted->kind == 's')
         return bootkeep_moves_settle(moves, NAME, sizeof NAME - 1, START, sizeof START - 1, BYTES(machine->set),
                                      BYTES(machine->journal), refusal);

@@ -24,7 +24,7 @@ EFI_STATUS efi_main(EFI_HANDLE image, EFI_SYSTEM_TABLE *table)
     if (EFI_ERROR(variables_read(&variables)))
         return EFI_OUT_OF_RESOURCES;
     before = BS->RaiseTPL(TPL_HIGH_LEVEL);
-    status = bootkeep_set_plan(variables.set, variables.set_len, numbers, NUMBERS, &count, &next, &refusal);
+    status = bootkeep_vars_plan(variables.set, variables.set_len, numbers, NUMBERS, &count, &next, &refusal);
     BS->RestoreTPL(before);
     variables_drop(&variables);
     Print(L"plan status %d next %x normal", (UINTN)status, (UINTN)next);

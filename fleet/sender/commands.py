@@ -485,11 +485,11 @@ def _wanted(options: argparse.Namespace) -> Wanted:
         raise Problem("which entry? --description, --path, both, or --option says it")
     for path in paths:
         try:
-            bootkeep.text_path(path)
+            bootkeep.path_parse_exact(path)
         except bootkeep.Refused as refused:
             raise Problem(f"{path}: it is no path: {refused}") from refused
     if options.goal != "remove" and options.description is not None and paths:
-        made = bootkeep.option_make(bootkeep.OPTION_ACTIVE, options.description, paths)
+        made = bootkeep.option_make(bootkeep.ATTRIBUTE_ACTIVE, options.description, paths)
         return Wanted(made)
     return Wanted(None, options.description, paths)
 

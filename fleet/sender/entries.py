@@ -64,7 +64,9 @@ def parts_of_option(option: bytes) -> Parts:
 
 def activated(option: bytes, is_active: bool) -> bytes:
     """A load option, made active or inactive: the lowest bit of its attributes (UEFI 2.10, 3.1.3)."""
-    lowest = option[0] & ~bootkeep.OPTION_ACTIVE | (bootkeep.OPTION_ACTIVE if is_active else 0)
+    lowest = option[0] & ~bootkeep.ATTRIBUTE_ACTIVE | (
+        bootkeep.ATTRIBUTE_ACTIVE if is_active else 0
+    )
     return bytes([lowest]) + option[1:]
 
 
@@ -77,7 +79,7 @@ def entry_of_shown(shown: Dict[str, Any]) -> Entry:
     parts = Parts(
         int(shown["attributes"]),
         units(shown["description"]) if as_hex is None else bytes.fromhex(as_hex),
-        tuple(bootkeep.text_path(text) for text in shown["paths"]),
+        tuple(bootkeep.path_parse_exact(text) for text in shown["paths"]),
         bytes.fromhex(shown["optional"] or ""),
     )
     return Entry(number, parts)
@@ -107,7 +109,7 @@ class Wanted(NamedTuple):
         described = self.description is None or parts.description == self.description.encode(
             "utf-16-le"
         )
-        paths = tuple(bootkeep.text_path(text) for text in self.paths)
+        paths = tuple(bootkeep.path_parse_exact(text) for text in self.paths)
         return described and paths in ((), parts.paths)
 
     def __str__(self) -> str:

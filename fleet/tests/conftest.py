@@ -35,7 +35,7 @@ VENDOR = "8be4df61-93ca-11d2-aa0d-00e098032b8c"
 def option(label: str) -> bytes:
     """The load option of a description, after which `inactive` or `optional` may say more."""
     name, _, more = label.partition(" ")
-    attributes = 0 if more == "inactive" else bootkeep.OPTION_ACTIVE
+    attributes = 0 if more == "inactive" else bootkeep.ATTRIBUTE_ACTIVE
     return bootkeep.option_make(attributes, name, [PATH], b"x" if more == "optional" else b"")
 
 

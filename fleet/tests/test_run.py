@@ -387,7 +387,7 @@ def test_a_clock_that_is_set_back_stops_nothing(
 
 def test_large_frames_are_sent_a_few_at_once(sender: Sender) -> None:
     """A broker takes no message without end."""
-    large = bootkeep.option_make(bootkeep.OPTION_ACTIVE, "large", [PATH], bytes(100_000))
+    large = bootkeep.option_make(bootkeep.ATTRIBUTE_ACTIVE, "large", [PATH], bytes(100_000))
     frame = bootkeep.frame_make(0, bootkeep.Request.REPLACE, entry=0, option=large)
     add(sender.ledger, Goal("send", frames=(frame,) * 9))
     assert run(sender) and sender.ledger.all_reached()

@@ -70,12 +70,12 @@ IsEditAsked asked numbers option (edit.Timeout seconds) = (asked.kind ≡ 7) × 
 IsEditAsked asked numbers option (edit.Activate entries) = (asked.kind ≡ 8) × (entries.now ≡ numbers)
 IsEditAsked asked numbers option (edit.Deactivate entries) = (asked.kind ≡ 9) × (entries.now ≡ numbers)
 
--- no edit is asked for, for this: no kind, no number or no position
+-- no edit is asked for, for this: no kind, no number or no position, of several the first one
 abbrev pub IsEditUnasked : EditNumbers → Failure → Type 0
 IsEditUnasked asked failed =
     (((asked.kind ≡ 0) ⊎ (9 < asked.kind)) × (failed ≡ bare 0x0E09))
     ⊎ ((((asked.kind ≡ 1) ⊎ ((asked.kind ≡ 6) ⊎ (asked.kind ≡ 7))) × IsNumberUnasked asked.number failed)
-    ⊎ ((asked.kind ≡ 1) × IsPositionUnasked asked.position failed))
+    ⊎ ((asked.kind ≡ 1) × (asked.number ≤ 0x10000) × IsPositionUnasked asked.position failed))
 
 -- ---- what comes of it
 
@@ -99,10 +99,12 @@ pub record IsRefusedBySet (asked : EditNumbers) (numbers option set : List ℕ) 
   pub refuses : IsEditFault vars wanted reason
   pub is : failed ≡ edit_failure reason
 
--- why a set isn't edited
+-- why a set isn't edited: no edit is asked for, or, of one that is, the bytes are no set, or its variables refuse it
 abbrev pub IsSetUnedited : EditNumbers → List ℕ → List ℕ → List ℕ → Failure → Type 0
 IsSetUnedited asked numbers option set failed =
-    IsEditUnasked asked failed ⊎ (IsSetFailure set failed ⊎ IsRefusedBySet asked numbers option set failed)
+    IsEditUnasked asked failed
+    ⊎ (((wanted : Edit) × IsEditAsked asked numbers option wanted × IsSetFailure set failed)
+    ⊎ IsRefusedBySet asked numbers option set failed)
 
 -- ---- what a call tells
 

@@ -11,6 +11,7 @@ use Rattle.boot_journal.specs.declared.attributes.AttributesFault.TheVariants.{T
 use Rattle.boot_journal.specs.declared.fault.JournalFault.{JournalFault}
 use Rattle.boot_journal.specs.declared.journal_file.JournalFile.{JournalFile}
 use Rattle.boot_journal.specs.declared.machine.CommandError.{CommandError}
+use Rattle.boot_journal.specs.Attributes.{HasNoData}
 use Rattle.boot_journal.specs.Bytes.{SpellsJournalFile, of_machine}
 use Rattle.boot_journal.specs.Fault.{IsJournalFault}
 use Rattle.boot_journal.specs.Journal.{JournalParts, idle}
@@ -74,12 +75,30 @@ pub record IsBegun (machine boot set journal : List ℕ) (run : WantedRun) (sess
   pub wanted_is : session.wanted ≡ run
   pub going : session.ended ≡ None
 
--- why none is begun
+-- why what was read of a machine isn't what a command begins with, after its name and the identity of its start
+abbrev pub IsReadFailure : List ℕ → List ℕ → List ℕ → Failure → Type 0
+IsReadFailure machine set journal failed =
+    IsSetFailure set failed
+    ⊎ ((vars : Variables) × SpellsSet set vars × IsJournalFailure machine journal failed)
+
+-- why none is begun: of several reasons the first one, in this order
 abbrev pub IsBeginFailure : List ℕ → List ℕ → List ℕ → List ℕ → Failure → Type 0
 IsBeginFailure machine boot set journal failed =
     ((¬ IsMachineName machine) × (failed ≡ bare 0x0D01))
-    ⊎ (((¬ IsName boot) × (failed ≡ bare 0x0D02))
-    ⊎ (IsSetFailure set failed ⊎ IsJournalFailure machine journal failed))
+    ⊎ ((IsMachineName machine × (¬ IsName boot) × (failed ≡ bare 0x0D02))
+    ⊎ (IsMachineName machine × IsName boot × IsReadFailure machine set journal failed))
+
+-- why none is begun that runs a stream of frames: the stream isn't one, or, of one that is, as above
+abbrev pub IsUnbegunBy : List ℕ → List ℕ → List ℕ → List ℕ → List ℕ → Failure → Type 0
+IsUnbegunBy machine boot set journal stream failed =
+    IsStreamFailure stream failed
+    ⊎ ((events : List Event) × IsStream stream events × IsBeginFailure machine boot set journal failed)
+
+-- why none is begun that makes an edit: no edit is asked for, or, of one that is, as above
+abbrev pub IsUnbegunWith : List ℕ → List ℕ → List ℕ → List ℕ → EditNumbers → List ℕ → List ℕ → Failure → Type 0
+IsUnbegunWith machine boot set journal asked numbers option failed =
+    IsEditUnasked asked failed
+    ⊎ ((edit : Edit) × IsEditAsked asked numbers option edit × IsBeginFailure machine boot set journal failed)
 
 -- the session begins one that runs a stream of frames
 abbrev pub IsBegunBy : List ℕ → List ℕ → List ℕ → List ℕ → List ℕ → Session → Type 0
@@ -95,6 +114,23 @@ pub record IsBegunWith (machine boot set journal : List ℕ) (asked : EditNumber
   pub edit : Edit
   pub asks : IsEditAsked asked numbers option edit
   pub begun : IsBegun machine boot set journal (wanted.Edit owned) session
+
+-- the session begins one that brings back the boot manager's variables of a set with these bytes
+abbrev pub IsBegunBack : List ℕ → List ℕ → List ℕ → List ℕ → List ℕ → Session → Type 0
+IsBegunBack machine boot set journal bytes session =
+    (back : Variables) × SpellsSet bytes back × IsBegun machine boot set journal (wanted.Restore back) session
+
+-- why bytes aren't a set that is brought back: they are no set, or a variable of the boot manager has no data in it
+abbrev pub IsBackFailure : List ℕ → Failure → Type 0
+IsBackFailure bytes failed =
+    IsSetFailure bytes failed
+    ⊎ ((back : Variables) × SpellsSet bytes back × HasNoData back × (failed ≡ bare 0x0D03))
+
+-- why none is begun that does: by such a set, or, of one that is brought back, as above
+abbrev pub IsUnbegunBack : List ℕ → List ℕ → List ℕ → List ℕ → List ℕ → Failure → Type 0
+IsUnbegunBack machine boot set journal bytes failed =
+    IsBackFailure bytes failed
+    ⊎ ((back : Variables) × SpellsSet bytes back × IsBeginFailure machine boot set journal failed)
 
 -- What comes of a call that begins a command: the session is open, or it is closed and the failure is told, or memory was
 -- refused.

@@ -4,6 +4,7 @@ use Rattle.std.specs.Prelude.{◌≡◌, ℕ, List, []}
 use Rattle.uefi_vars.specs.Vars.{Variables}
 use Rattle.boot_requests.specs.declared.event.Event.{Event}
 use Rattle.boot_edits.specs.declared.edit.Edit.{Edit}
+use Rattle.boot_edits.specs.Restore.{IsRestored}
 use Rattle.boot_edits.specs.Run.{IsRun, IsRunFault as IsEditRunFault}
 use Rattle.journaled_requests.specs.Requests.{IsAnswered}
 use Rattle.journaled_requests.specs.RunFault.{IsRunFault}
@@ -38,6 +39,11 @@ RefusesEdit owned from (refusal.Frames fault) = ⊥
 RefusesEdit owned from (refusal.Edit fault) =
     (edit : Edit) × IsEditAsked owned.asked owned.numbers.items owned.option.items edit × IsEditRunFault edit from fault
 
+-- by bringing back those of a set, and nothing is answered
+abbrev pub LeadsBack : Variables → Variables → Variables → RunAnswer → Type 0
+LeadsBack back from to (answer.Replies answers) = IsRestored back from to × (answers.items ≡ [])
+LeadsBack back from to (answer.Edited told) = ⊥
+
 -- by nothing the variables stay as they are, and nothing is answered
 abbrev pub LeadsNowhere : Variables → Variables → RunAnswer → Type 0
 LeadsNowhere from to (answer.Replies answers) = (to ≡ from) × (answers.items ≡ [])
@@ -49,8 +55,10 @@ abbrev pub RunLeads : WantedRun → Variables → Variables → RunAnswer → Ty
 RunLeads wanted.Nothing from to told = LeadsNowhere from to told
 RunLeads (wanted.Frames events) from to told = LeadsByFrames events.items from to told
 RunLeads (wanted.Edit owned) from to told = LeadsByEdit owned from to told
+RunLeads (wanted.Restore back) from to told = LeadsBack back from to told
 
 abbrev pub RunRefuses : WantedRun → Variables → RunRefusal → Type 0
 RunRefuses wanted.Nothing from why = ⊥
 RunRefuses (wanted.Frames events) from why = RefusesFrames events.items from why
 RunRefuses (wanted.Edit owned) from why = RefusesEdit owned from why
+RunRefuses (wanted.Restore back) from why = ⊥

@@ -5,12 +5,15 @@ ghost use Rattle.std.specs.Option.{option_map};
 ghost use Rattle.uefi_text.specs.Bytes.{Each};
 ghost use Rattle.uefi_vars.specs.BootChange.{is_boot_name, change_parts};
 ghost use Rattle.bootkeep_c.specs.declared.failure.Failure.{Failure};
+ghost use Rattle.bootkeep_c.specs.Status.{bad_size};
+ghost use Rattle.bootkeep_c.specs.Buffer.{IsKept};
 ghost use Rattle.bootkeep_c.specs.Answers.{Answers};
 ghost use Rattle.bootkeep_c.specs.Changes.{StandsForName, change_number, variable_of, TellsIfBoot, AreChangesBetween, IsPairFailure};
 
 use crate::answer::answer;
 use crate::failure::Failure;
 use crate::refusal::Refusal;
+use crate::status::BAD_SIZE;
 use std::alloc::{AllocError, Global};
 use uefi_vars::{BOOT_NEXT, BOOT_ORDER, BootChange, boot_changes, entry_number, laws, read_set};
 
@@ -32,6 +35,9 @@ pub const CHANGE_REPLACED: u32 = 2;
 /// The variable is taken out.
 pub const CHANGE_REMOVED: u32 = 3;
 
+/// How many bytes the struct of a change has.
+const CHANGE_LEN: usize = 8;
+
 /// A change of one variable of the boot manager: `struct bootkeep_change`.
 #[repr(C)]
 #[derive(Clone, Copy, Debug, PartialEq, Eq)]
@@ -43,22 +49,28 @@ pub struct ChangeNumbers {
 }
 
 // As many bytes as the header asserts.
-const _: () = prove!(size_of::<ChangeNumbers>() == 8);
+const _: () = prove!(size_of::<ChangeNumbers>() == CHANGE_LEN);
 
 /// The changes that lead from one set to the boot manager's variables of another, in the order in which a machine is to
 /// make them (UEFI 2.10, 3.3).
 #[unsafe(no_mangle)]
-pub extern "C" fn bootkeep_set_changes(
+pub extern "C" fn bootkeep_vars_changes(
     alloc: Global,
     from: &[u8],
     to: &[u8],
     changes: &mut [ChangeNumbers],
+    item_size: usize,
     len: &mut usize,
     refusal: &mut Refusal,
 ) -> u32
-    ensures { Answers (AreChangesBetween from.now to.now) (IsPairFailure from.now to.now)
+    ensures size { item_size ≢ 8 → (result ≡ bad_size) × IsKept changes.old changes.new len.old len.new
+        × (refusal.new ≡ refusal.old) }
+    ensures answers { item_size ≡ 8 → Answers (AreChangesBetween from.now to.now) (IsPairFailure from.now to.now)
         result changes.old changes.new len.old len.new refusal.old refusal.new }
 {
+    if item_size != CHANGE_LEN {
+        return BAD_SIZE;
+    }
     let found = changes_between(alloc, from, to);
     answer(found, changes, len, refusal)
 }

@@ -111,7 +111,7 @@ const _: () = prove!(size_of::<EditedNumbers>() == EDITED_LEN);
 /// What becomes of a set by an edit. An edit of a list of entries has them in `numbers`, and one that adds an entry has its
 /// bytes in `option`.
 #[unsafe(no_mangle)]
-pub extern "C" fn bootkeep_set_edit(
+pub extern "C" fn bootkeep_vars_edit(
     alloc: Global,
     edit: &EditNumbers,
     numbers: &[u16],
@@ -237,7 +237,8 @@ pub(crate) fn edit_asked<'a>(
 /// The entry of these bytes that is to be added.
 fn addition_asked<'a>(asked: &EditNumbers, option: &'a [u8]) -> Result<Addition<'a>, Failure>
     ensures asked { IfOk result (IsAdditionAsked asked.now option.now) }
-    ensures fault { IfErr result (λ failed. IsNumberUnasked asked.now.number failed ⊎ IsPositionUnasked asked.now.position failed) }
+    ensures fault { IfErr result (λ failed. IsNumberUnasked asked.now.number failed
+        ⊎ ((asked.now.number ≤ 0x10000) × IsPositionUnasked asked.now.position failed)) }
 {
     Ok(Addition {
         entry: number_asked(asked.number)?,

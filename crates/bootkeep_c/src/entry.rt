@@ -76,7 +76,7 @@ impl EntryState {
 
 /// The lowest number under which the set has no entry (UEFI 2.10, 3.3), or what stands for none.
 #[unsafe(no_mangle)]
-pub extern "C" fn bootkeep_set_lowest_free(
+pub extern "C" fn bootkeep_vars_lowest_free(
     alloc: Global,
     set: &[u8],
     number: &mut u32,
@@ -89,7 +89,7 @@ pub extern "C" fn bootkeep_set_lowest_free(
 
 /// What a boot makes of the entry of this number, if BootOrder names it (UEFI 2.10, 3.1.3 and 3.3).
 #[unsafe(no_mangle)]
-pub extern "C" fn bootkeep_set_entry(
+pub extern "C" fn bootkeep_vars_entry(
     alloc: Global,
     set: &[u8],
     number: u16,

@@ -46,11 +46,11 @@ mod version;
 mod wanted_run;
 mod word;
 
-pub use change::{ChangeNumbers, bootkeep_set_changes};
+pub use change::{ChangeNumbers, bootkeep_vars_changes};
 pub use description::bootkeep_option_description_utf8;
-pub use edit::{EditNumbers, EditedNumbers, bootkeep_set_edit};
+pub use edit::{EditNumbers, EditedNumbers, bootkeep_vars_edit};
 pub use end::EndNumbers;
-pub use entry::{EntryState, bootkeep_set_entry, bootkeep_set_lowest_free};
+pub use entry::{EntryState, bootkeep_vars_entry, bootkeep_vars_lowest_free};
 pub use failure::Failure;
 pub use frame::{Asked, bootkeep_frame_make};
 pub use handle::{KeeperHandle, KeeperRoom};
@@ -69,9 +69,9 @@ pub use making::{bootkeep_option_make, bootkeep_option_make_units};
 pub use moves::{
     bootkeep_moves_bytes, bootkeep_moves_close, bootkeep_moves_edit, bootkeep_moves_end,
     bootkeep_moves_name, bootkeep_moves_next, bootkeep_moves_reply, bootkeep_moves_requests,
-    bootkeep_moves_settle, bootkeep_moves_tell,
+    bootkeep_moves_restore, bootkeep_moves_settle, bootkeep_moves_tell,
 };
-pub use named::{NamedEntry, bootkeep_set_named};
+pub use named::{NamedEntry, bootkeep_vars_named};
 pub use named_path::bootkeep_path_names;
 pub use named_text::bootkeep_path_parse;
 pub use option::{OptionPlaces, bootkeep_option_description, bootkeep_option_parts};
@@ -81,10 +81,10 @@ pub use reply::ReplyNumbers;
 pub use run::bootkeep_run;
 pub use session_handle::{MovesHandle, MovesRoom};
 pub use set::{
-    bootkeep_set_at_risk, bootkeep_set_get, bootkeep_set_plan, bootkeep_set_put,
-    bootkeep_set_remove,
+    bootkeep_vars_at_risk, bootkeep_vars_get, bootkeep_vars_plan, bootkeep_vars_put,
+    bootkeep_vars_remove,
 };
-pub use text::bootkeep_text_path;
-pub use variable::{VariablePlaces, bootkeep_set_variables};
+pub use text::bootkeep_path_parse_exact;
+pub use variable::{VariablePlaces, bootkeep_vars_list};
 pub use version::{VERSION, bootkeep_version};
 pub use word::{bootkeep_outcome_word, bootkeep_refusal_word, bootkeep_status_word};

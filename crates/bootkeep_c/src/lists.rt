@@ -4,14 +4,20 @@ ghost use Rattle.std.specs.Prelude.{◌≡◌, ◌≢◌, map, IfOk, IfErr};
 ghost use Rattle.efi_images.specs.declared.signatures.SignatureList.{SignatureList};
 ghost use Rattle.efi_images.specs.Signatures.{list_parts};
 ghost use Rattle.bootkeep_c.specs.declared.failure.Failure.{Failure};
+ghost use Rattle.bootkeep_c.specs.Status.{bad_size};
+ghost use Rattle.bootkeep_c.specs.Buffer.{IsKept};
 ghost use Rattle.bootkeep_c.specs.Answers.{Answers};
 ghost use Rattle.bootkeep_c.specs.Images.{list_places, HasListsAt, IsListsFailure};
 
 use crate::answer::answer;
 use crate::failure::Failure;
 use crate::refusal::Refusal;
+use crate::status::BAD_SIZE;
 use efi_images::{SignatureList, read_lists};
 use std::alloc::{AllocError, Global};
+
+/// How many bytes the struct of a list's places has.
+const LIST_LEN: usize = 32;
 
 /// Where a signature list is in the bytes: `struct bootkeep_signature_list`.
 #[repr(C)]
@@ -28,7 +34,7 @@ pub struct ListPlaces {
 }
 
 // As many bytes as the header asserts.
-const _: () = prove!(size_of::<ListPlaces>() == 32);
+const _: () = prove!(size_of::<ListPlaces>() == LIST_LEN);
 
 /// Where the signature lists are in the data of db, dbx or KEK (UEFI 2.10, 32.4.1).
 #[unsafe(no_mangle)]
@@ -36,12 +42,18 @@ pub extern "C" fn bootkeep_signature_lists(
     alloc: Global,
     bytes: &[u8],
     lists: &mut [ListPlaces],
+    item_size: usize,
     len: &mut usize,
     refusal: &mut Refusal,
 ) -> u32
-    ensures { Answers (HasListsAt bytes.now) (IsListsFailure bytes.now)
+    ensures size { item_size ≢ 32 → (result ≡ bad_size) × IsKept lists.old lists.new len.old len.new
+        × (refusal.new ≡ refusal.old) }
+    ensures answers { item_size ≡ 32 → Answers (HasListsAt bytes.now) (IsListsFailure bytes.now)
         result lists.old lists.new len.old len.new refusal.old refusal.new }
 {
+    if item_size != LIST_LEN {
+        return BAD_SIZE;
+    }
     let found = lists_of(alloc, bytes);
     answer(found, lists, len, refusal)
 }

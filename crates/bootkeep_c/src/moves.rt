@@ -6,10 +6,8 @@ ghost use Rattle.bootkeep_c.specs.Status.{done, closed, bad_size};
 ghost use Rattle.bootkeep_c.specs.Refusals.{Tells};
 ghost use Rattle.bootkeep_c.specs.Buffer.{IsKept};
 ghost use Rattle.bootkeep_c.specs.SessionHandle.{session_number};
-ghost use Rattle.bootkeep_c.specs.Runs.{IsStreamFailure};
-ghost use Rattle.bootkeep_c.specs.Sessions.{IsBegun, IsBegunBy, IsBegunWith, IsBeginFailure, Begins, SaysNext, HearsOf, GivesName, GivesBytes, became};
+ghost use Rattle.bootkeep_c.specs.Sessions.{IsBegun, IsBegunBy, IsBegunWith, IsBeginFailure, IsUnbegunBy, IsUnbegunWith, IsBegunBack, IsUnbegunBack, Begins, SaysNext, HearsOf, GivesName, GivesBytes, became};
 ghost use Rattle.bootkeep_c.specs.declared.wanted_run.WantedRun.TheVariants as wanted;
-ghost use Rattle.bootkeep_c.specs.Edits.{IsEditUnasked};
 ghost use Rattle.bootkeep_c.specs.Ends.{TellsEnd, TellsReply, answer_at};
 
 use crate::buffer::give;
@@ -19,7 +17,7 @@ use crate::failure::Failure;
 use crate::refusal::Refusal;
 use crate::reply::{REPLY_LEN, ReplyNumbers};
 use crate::session::{Session, became};
-use crate::session_begin::{Read, begun, begun_by, begun_with};
+use crate::session_begin::{Read, begun, begun_back, begun_by, begun_with};
 use crate::session_handle::{MovesHandle, MovesRoom};
 use crate::status::{ABSENT, BAD_SIZE, CLOSED, DONE, NO_MEMORY};
 use crate::wanted_run::WantedRun;
@@ -42,7 +40,7 @@ pub extern "C" fn bootkeep_moves_requests(
     // What is there owns nothing: an open command would be lost.
     requires { moves.old.seal.kept ≡ None }
     ensures begins { Begins (IsBegunBy machine.now start.now set.now journal.now stream.now)
-        (λ failed. IsStreamFailure stream.now failed ⊎ IsBeginFailure machine.now start.now set.now journal.now failed)
+        (IsUnbegunBy machine.now start.now set.now journal.now stream.now)
         result moves.new.seal.kept refusal.old refusal.new }
     ensures handle { moves.new.is_open ≡ session_number moves.new.seal.kept }
 {
@@ -75,7 +73,7 @@ pub extern "C" fn bootkeep_moves_edit(
     ensures size { edit.now.size < 32 → (result ≡ bad_size) × (moves.new.seal.kept ≡ None) × (refusal.new ≡ refusal.old) }
     ensures begins { 32 ≤ edit.now.size →
         Begins (IsBegunWith machine.now start.now set.now journal.now edit.now numbers.now option.now)
-        (λ failed. IsEditUnasked edit.now failed ⊎ IsBeginFailure machine.now start.now set.now journal.now failed)
+        (IsUnbegunWith machine.now start.now set.now journal.now edit.now numbers.now option.now)
         result moves.new.seal.kept refusal.old refusal.new }
     ensures handle { moves.new.is_open ≡ session_number moves.new.seal.kept }
 {
@@ -90,6 +88,36 @@ pub extern "C" fn bootkeep_moves_edit(
         journal,
     };
     let begun = begun_with(alloc, read, edit, numbers, option);
+    open_begun(alloc, begun, moves, refusal)
+}
+
+/// Begins a command that brings the boot manager's variables of a machine back to those of a set, which has them as the
+/// machine keeps them, in memory of which nothing is read.
+#[unsafe(no_mangle)]
+pub extern "C" fn bootkeep_moves_restore(
+    alloc: Global,
+    moves: &mut MovesRoom,
+    machine: &[u8],
+    start: &[u8],
+    set: &[u8],
+    journal: &[u8],
+    back: &[u8],
+    refusal: &mut Refusal,
+) -> u32
+    // What is there owns nothing: an open command would be lost.
+    requires { moves.old.seal.kept ≡ None }
+    ensures begins { Begins (IsBegunBack machine.now start.now set.now journal.now back.now)
+        (IsUnbegunBack machine.now start.now set.now journal.now back.now)
+        result moves.new.seal.kept refusal.old refusal.new }
+    ensures handle { moves.new.is_open ≡ session_number moves.new.seal.kept }
+{
+    let read = Read {
+        machine,
+        start,
+        set,
+        journal,
+    };
+    let begun = begun_back(alloc, read, back);
     open_begun(alloc, begun, moves, refusal)
 }
 

@@ -3,6 +3,8 @@
 ghost use Rattle.std.specs.Prelude.{◌≡◌, ◌≢◌, ◌^◌, length, IfOk, IfErr};
 ghost use Rattle.uefi_vars.specs.Vars.{entry_of};
 ghost use Rattle.bootkeep_c.specs.declared.failure.Failure.{Failure};
+ghost use Rattle.bootkeep_c.specs.Status.{bad_size};
+ghost use Rattle.bootkeep_c.specs.Buffer.{IsKept};
 ghost use Rattle.bootkeep_c.specs.Answers.{Answers};
 ghost use Rattle.bootkeep_c.specs.Sets.{IsPlanFailure};
 ghost use Rattle.bootkeep_c.specs.Entries.{IsEntryState};
@@ -13,11 +15,15 @@ use crate::change::{VARIABLE_NEXT, VARIABLE_ORDER};
 use crate::entry::{EntryState, state_of};
 use crate::failure::Failure;
 use crate::refusal::Refusal;
+use crate::status::BAD_SIZE;
 use std::alloc::{AllocError, Global};
 use uefi_vars::{Vars, boot_next, boot_order, laws, read_set};
 
 /// How many entries may be known: one for each number.
 const KNOWN_LEN: usize = 0x10000;
+
+/// How many bytes the struct of a number that is named has.
+const NAMED_LEN: usize = 12;
 
 /// A number that BootNext or BootOrder names: `struct bootkeep_named`.
 #[repr(C)]
@@ -32,21 +38,27 @@ pub struct NamedEntry {
 }
 
 // As many bytes as the header asserts.
-const _: () = prove!(size_of::<NamedEntry>() == 12);
+const _: () = prove!(size_of::<NamedEntry>() == NAMED_LEN);
 
 /// What BootNext names, and then what BootOrder names, in its order, each with what a boot makes of the entry (UEFI 2.10,
 /// 3.1.3 and 3.3). However often a number occurs in BootOrder, its entry is looked at once.
 #[unsafe(no_mangle)]
-pub extern "C" fn bootkeep_set_named(
+pub extern "C" fn bootkeep_vars_named(
     alloc: Global,
     set: &[u8],
     named: &mut [NamedEntry],
+    item_size: usize,
     len: &mut usize,
     refusal: &mut Refusal,
 ) -> u32
-    ensures { Answers (AreNamedIn set.now) (IsPlanFailure set.now)
+    ensures size { item_size ≢ 12 → (result ≡ bad_size) × IsKept named.old named.new len.old len.new
+        × (refusal.new ≡ refusal.old) }
+    ensures answers { item_size ≡ 12 → Answers (AreNamedIn set.now) (IsPlanFailure set.now)
         result named.old named.new len.old len.new refusal.old refusal.new }
 {
+    if item_size != NAMED_LEN {
+        return BAD_SIZE;
+    }
     let found = named_in(alloc, set);
     answer(found, named, len, refusal)
 }

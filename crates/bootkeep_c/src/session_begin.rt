@@ -1,22 +1,25 @@
 //! Where commands over a machine begin: what was read of it, and what is to be run.
 
-ghost use Rattle.std.specs.Prelude.{◌≡◌, ◌≢◌, ◌⊎◌, ◌↔◌, Some, None, IfOk, IfErr, IsTrue};
+ghost use Rattle.std.specs.Prelude.{◌≡◌, ◌≢◌, ◌↔◌, Some, None, IfOk, IfErr, IsTrue};
 ghost use Rattle.uefi_vars.specs.Name.{IsName};
+ghost use Rattle.uefi_vars.specs.Set.{SpellsSet};
 ghost use Rattle.boot_journal.specs.MachineName.{IsMachineName};
 ghost use Rattle.bootkeep_c.specs.declared.failure.Failure.{Failure};
 ghost use Rattle.bootkeep_c.specs.Refusals.{bare};
-ghost use Rattle.bootkeep_c.specs.Runs.{IsStreamFailure};
-ghost use Rattle.bootkeep_c.specs.Sessions.{IsBegun, IsBegunBy, IsBegunWith, IsBeginFailure, IsJournalOf, IsJournalFailure};
-ghost use Rattle.bootkeep_c.specs.Edits.{IsEditUnasked};
+ghost use Rattle.bootkeep_c.specs.Sessions.{IsBegun, IsBegunBy, IsBegunWith, IsBeginFailure, IsUnbegunBy, IsUnbegunWith, IsBegunBack, IsBackFailure, IsUnbegunBack, IsJournalOf, IsJournalFailure};
 
 use crate::edit::{EditNumbers, edit_asked};
 use crate::failure::Failure;
-use crate::refusal::{JOURNAL_OF_ANOTHER, JOURNAL_TOO_LONG, MACHINE_BAD_NAME, MACHINE_BAD_START};
+use crate::refusal::{
+    JOURNAL_OF_ANOTHER, JOURNAL_TOO_LONG, MACHINE_BAD_NAME, MACHINE_BAD_START, MACHINE_NO_DATA,
+};
 use crate::run::read_events;
 use crate::session::Session;
 use crate::set::name_text;
 use crate::wanted_run::{OwnedEdit, WantedRun};
-use boot_journal::{AttributesFault, BootId, Journal, JournalFile, MachineName, read_journal};
+use boot_journal::{
+    AttributesFault, BootId, Journal, JournalFile, MachineName, read_journal, without_attributes,
+};
 use boot_moves::Dialogue;
 use std::alloc::Global;
 use uefi_vars::{Vars, read_set};
@@ -42,8 +45,8 @@ pub(crate) fn begun_by(
 ) -> Result<Box<Session>, Failure>
     ensures begun { IfOk result (λ session.
         IsBegunBy read.entry.machine.now read.entry.start.now read.entry.set.now read.entry.journal.now stream.now session.value) }
-    ensures fault { IfErr result (λ failed. failed ≢ Failure.Memory → IsStreamFailure stream.now failed
-        ⊎ IsBeginFailure read.entry.machine.now read.entry.start.now read.entry.set.now read.entry.journal.now failed) }
+    ensures fault { IfErr result (λ failed. failed ≢ Failure.Memory →
+        IsUnbegunBy read.entry.machine.now read.entry.start.now read.entry.set.now read.entry.journal.now stream.now failed) }
 {
     let events = read_events(alloc, stream)?;
     begun(alloc, read, WantedRun::Frames(events))
@@ -60,8 +63,9 @@ pub(crate) fn begun_with(
     ensures begun { IfOk result (λ session.
         IsBegunWith read.entry.machine.now read.entry.start.now read.entry.set.now read.entry.journal.now
         asked.now numbers.now option.now session.value) }
-    ensures fault { IfErr result (λ failed. failed ≢ Failure.Memory → IsEditUnasked asked.now failed
-        ⊎ IsBeginFailure read.entry.machine.now read.entry.start.now read.entry.set.now read.entry.journal.now failed) }
+    ensures fault { IfErr result (λ failed. failed ≢ Failure.Memory →
+        IsUnbegunWith read.entry.machine.now read.entry.start.now read.entry.set.now read.entry.journal.now
+        asked.now numbers.now option.now failed) }
 {
     let _ = edit_asked(asked, numbers, option)?;
     let owned = OwnedEdit {
@@ -70,6 +74,34 @@ pub(crate) fn begun_with(
         option: Vec::from_slice(alloc, option)?,
     };
     begun(alloc, read, WantedRun::Edit(owned))
+}
+
+/// Begins a command that brings back the boot manager's variables of a set.
+pub(crate) fn begun_back(
+    alloc: Global,
+    read: Read<'_>,
+    back: &[u8],
+) -> Result<Box<Session>, Failure>
+    ensures begun { IfOk result (λ session.
+        IsBegunBack read.entry.machine.now read.entry.start.now read.entry.set.now read.entry.journal.now back.now session.value) }
+    ensures fault { IfErr result (λ failed. failed ≢ Failure.Memory →
+        IsUnbegunBack read.entry.machine.now read.entry.start.now read.entry.set.now read.entry.journal.now back.now failed) }
+{
+    let back = set_back(alloc, back)?;
+    begun(alloc, read, WantedRun::Restore(back))
+}
+
+/// The set of these bytes, if each variable of the boot manager in it has data after its attributes.
+fn set_back(alloc: Global, bytes: &[u8]) -> Result<Vars, Failure>
+    ensures read { IfOk result (λ back. SpellsSet bytes.now back) }
+    ensures fault { IfErr result (λ failed. failed ≢ Failure.Memory → IsBackFailure bytes.now failed) }
+{
+    let back = read_set(alloc, bytes)?;
+    match without_attributes(alloc, &back) {
+        Ok(_) => Ok(back),
+        Err(AttributesFault::NoData) => Err(Failure::bare(MACHINE_NO_DATA)),
+        Err(_) => Err(Failure::Memory),
+    }
 }
 
 /// Begins a command that runs this.
@@ -97,24 +129,32 @@ pub(crate) fn begun(
 
 /// The machine's name.
 fn machine_name(alloc: Global, bytes: &[u8]) -> Result<MachineName, Failure>
-    ensures name { IfOk result (λ name. name ≡ bytes.now) }
+    ensures name { IfOk result (λ name. (name ≡ bytes.now) × IsMachineName bytes.now) }
     ensures fault { IfErr result (λ failed. failed ≢ Failure.Memory →
         (¬ IsMachineName bytes.now) × (failed ≡ bare 0x0D01)) }
 {
     match MachineName::new(Vec::from_slice(alloc, bytes)?) {
-        Some(name) => Ok(name),
+        Some(name) => {
+            // A name's bytes are valid.
+            let _ = name.as_bytes();
+            Ok(name)
+        }
         None => Err(Failure::bare(MACHINE_BAD_NAME)),
     }
 }
 
 /// The identity of the machine's start.
 fn start_identity(alloc: Global, bytes: &[u8]) -> Result<BootId, Failure>
-    ensures start { IfOk result (λ start. start ≡ bytes.now) }
+    ensures start { IfOk result (λ start. (start ≡ bytes.now) × IsName bytes.now) }
     ensures fault { IfErr result (λ failed. failed ≢ Failure.Memory →
         (¬ IsName bytes.now) × (failed ≡ bare 0x0D02)) }
 {
     match BootId::new(String::from_str(alloc, name_text(bytes))?) {
-        Some(start) => Ok(start),
+        Some(start) => {
+            // And so is an identity's text.
+            let _ = start.as_str();
+            Ok(start)
+        }
         None => Err(Failure::bare(MACHINE_BAD_START)),
     }
 }

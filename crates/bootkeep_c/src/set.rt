@@ -34,7 +34,7 @@ pub const NO_ENTRY: u32 = 0x10000;
 
 /// What a boot would try (UEFI 2.10, 3.3): the number of BootNext's entry, and those of the normal entries of BootOrder.
 #[unsafe(no_mangle)]
-pub extern "C" fn bootkeep_set_plan(
+pub extern "C" fn bootkeep_vars_plan(
     alloc: Global,
     set: &[u8],
     numbers: &mut [u16],
@@ -103,7 +103,7 @@ fn planned(alloc: Global, set: &[u8]) -> Result<PlanNumbers, Failure>
 /// The entries that a start of firmware may write over or delete (UEFI 2.10, 3.3): those that neither BootOrder nor
 /// BootNext names, and after them those of BootOrder that are no load option.
 #[unsafe(no_mangle)]
-pub extern "C" fn bootkeep_set_at_risk(
+pub extern "C" fn bootkeep_vars_at_risk(
     alloc: Global,
     set: &[u8],
     numbers: &mut [u16],
@@ -172,7 +172,7 @@ fn at_risk(alloc: Global, set: &[u8]) -> Result<Listed, Failure>
 
 /// The data of the variable of this name.
 #[unsafe(no_mangle)]
-pub extern "C" fn bootkeep_set_get(
+pub extern "C" fn bootkeep_vars_get(
     alloc: Global,
     set: &[u8],
     name: &[u8],
@@ -236,7 +236,7 @@ pub(crate) fn name_text(name: &[u8]) -> &str
 
 /// The set with this data for the variable of this name.
 #[unsafe(no_mangle)]
-pub extern "C" fn bootkeep_set_put(
+pub extern "C" fn bootkeep_vars_put(
     alloc: Global,
     set: &[u8],
     name: &[u8],
@@ -298,7 +298,7 @@ fn put(vars: &mut Vars, name: &[u8], value: &[u8]) -> Result<(), PutFault>
 
 /// The set without the variable of this name.
 #[unsafe(no_mangle)]
-pub extern "C" fn bootkeep_set_remove(
+pub extern "C" fn bootkeep_vars_remove(
     alloc: Global,
     set: &[u8],
     name: &[u8],

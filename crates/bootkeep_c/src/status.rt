@@ -18,5 +18,5 @@ pub const NO_MEMORY: u32 = 4;
 /// The keeper isn't open.
 pub const CLOSED: u32 = 5;
 
-/// The size that a struct of the caller states is too small.
+/// The size that a struct of the caller states is too small, or that of its items is another one.
 pub const BAD_SIZE: u32 = 6;

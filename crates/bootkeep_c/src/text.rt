@@ -23,7 +23,7 @@ use uefi_text::{laws, read_text};
 
 /// The bytes of the device path that the text stands for.
 #[unsafe(no_mangle)]
-pub extern "C" fn bootkeep_text_path(
+pub extern "C" fn bootkeep_path_parse_exact(
     alloc: Global,
     text: &[u8],
     out: &mut [u8],

@@ -4,6 +4,8 @@ ghost use Rattle.std.specs.Prelude.{◌≡◌, ◌≢◌, ◌+◌, ◌<◌, ◌^
 ghost use Rattle.std.specs.FinMap.{entries};
 ghost use Rattle.uefi_vars.specs.Set.{SpellsSet, magic, record_bytes};
 ghost use Rattle.bootkeep_c.specs.declared.failure.Failure.{Failure};
+ghost use Rattle.bootkeep_c.specs.Status.{bad_size};
+ghost use Rattle.bootkeep_c.specs.Buffer.{IsKept};
 ghost use Rattle.bootkeep_c.specs.Answers.{Answers};
 ghost use Rattle.bootkeep_c.specs.Sets.{IsSetFailure};
 ghost use Rattle.bootkeep_c.specs.Variables.{places_at, places_from, HasVariablesAt};
@@ -11,6 +13,7 @@ ghost use Rattle.bootkeep_c.specs.Variables.{places_at, places_from, HasVariable
 use crate::answer::answer;
 use crate::failure::Failure;
 use crate::refusal::Refusal;
+use crate::status::BAD_SIZE;
 use std::alloc::{AllocError, Global};
 use uefi_vars::{SET_MAGIC, Vars, read_set};
 
@@ -19,6 +22,9 @@ const NAME_LEN_LEN: usize = 1;
 
 /// The bytes that state the length of data.
 const DATA_LEN_LEN: usize = 4;
+
+/// How many bytes the struct of a variable's places has.
+const VARIABLE_LEN: usize = 32;
 
 /// Where a variable is in the bytes of its set: `struct bootkeep_variable`.
 #[repr(C)]
@@ -35,20 +41,26 @@ pub struct VariablePlaces {
 }
 
 // As many bytes as the header asserts.
-const _: () = prove!(size_of::<VariablePlaces>() == 32);
+const _: () = prove!(size_of::<VariablePlaces>() == VARIABLE_LEN);
 
 /// Where the variables of the set are in its bytes, in the order of their names.
 #[unsafe(no_mangle)]
-pub extern "C" fn bootkeep_set_variables(
+pub extern "C" fn bootkeep_vars_list(
     alloc: Global,
     set: &[u8],
     variables: &mut [VariablePlaces],
+    item_size: usize,
     len: &mut usize,
     refusal: &mut Refusal,
 ) -> u32
-    ensures { Answers (HasVariablesAt set.now) (IsSetFailure set.now)
+    ensures size { item_size ≢ 32 → (result ≡ bad_size) × IsKept variables.old variables.new len.old len.new
+        × (refusal.new ≡ refusal.old) }
+    ensures answers { item_size ≡ 32 → Answers (HasVariablesAt set.now) (IsSetFailure set.now)
         result variables.old variables.new len.old len.new refusal.old refusal.new }
 {
+    if item_size != VARIABLE_LEN {
+        return BAD_SIZE;
+    }
     let found = variables_of(alloc, set);
     answer(found, variables, len, refusal)
 }

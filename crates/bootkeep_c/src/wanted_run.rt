@@ -2,10 +2,11 @@
 
 ghost use Rattle.std.specs.Prelude.{◌≡◌, IfOk, IfErr};
 ghost use Rattle.boot_journal.specs.Cause.{IfRefused};
-ghost use Rattle.bootkeep_c.specs.Wanted.{LeadsByFrames, RefusesFrames, LeadsByEdit, RefusesEdit};
+ghost use Rattle.boot_journal.specs.declared.machine.CallError.TheVariants.{OutOfMemory};
+ghost use Rattle.bootkeep_c.specs.Wanted.{LeadsByFrames, RefusesFrames, LeadsByEdit, RefusesEdit, LeadsBack};
 
 use crate::edit::{EditNumbers, edit_asked};
-use boot_edits::{EditAnswer, EditRun, EditRunFault};
+use boot_edits::{EditAnswer, EditRun, EditRunFault, Restore};
 use boot_journal::{CallError, Run};
 use boot_requests::{Answer, Event};
 use journaled_requests::{Requests, RunFault};
@@ -21,6 +22,8 @@ pub enum WantedRun {
     Frames(Vec<Event>),
     /// An edit.
     Edit(OwnedEdit),
+    /// The boot manager's variables become those of a set, as a machine keeps them.
+    Restore(Vars),
 }
 
 /// An edit, with the numbers and the bytes that it is of.
@@ -75,6 +78,7 @@ impl Run for Running<'_> {
             WantedRun::Nothing => Ok((vars.copy(alloc)?, RunAnswer::Replies(Vec::new(alloc)))),
             WantedRun::Frames(events) => run_frames(alloc, vars, events),
             WantedRun::Edit(edit) => run_edit(alloc, vars, edit),
+            WantedRun::Restore(back) => run_restore(alloc, vars, back),
         }
     }
 }
@@ -112,5 +116,20 @@ fn run_edit(
         Ok((to, answer)) => Ok((to, RunAnswer::Edited(answer))),
         Err(CallError::Refused(fault)) => Err(CallError::Refused(RunRefusal::Edit(fault))),
         Err(CallError::OutOfMemory) => Err(CallError::OutOfMemory),
+    }
+}
+
+/// Brings the boot manager's variables back to those of a set, and answers nothing. It is never refused.
+fn run_restore(
+    alloc: Global,
+    vars: &Vars,
+    back: &Vars,
+) -> Result<(Vars, RunAnswer), CallError<RunRefusal>>
+    ensures leads { IfOk result (λ done. LeadsBack back.now vars.now done.0 done.1) }
+    ensures refuses { IfErr result (λ error. error ≡ OutOfMemory) }
+{
+    match (Restore { to: back }).run(alloc, vars) {
+        Ok((to, ())) => Ok((to, RunAnswer::Replies(Vec::new(alloc)))),
+        Err(_) => Err(CallError::OutOfMemory),
     }
 }

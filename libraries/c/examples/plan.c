@@ -45,9 +45,9 @@ static int show_entry(const uint8_t *set, size_t set_len, unsigned number, const
 
     snprintf(name, sizeof name, "Boot%04X", number);
     status =
-        bootkeep_set_get(set, set_len, (const uint8_t *)name, sizeof name - 1, data, sizeof data, &data_len, &refusal);
+        bootkeep_vars_get(set, set_len, (const uint8_t *)name, sizeof name - 1, data, sizeof data, &data_len, &refusal);
     if (status != BOOTKEEP_DONE)
-        return tell("bootkeep_set_get", status, &refusal);
+        return tell("bootkeep_vars_get", status, &refusal);
     status = bootkeep_option_description(data, data_len, text, sizeof text, &text_len, &refusal);
     if (status != BOOTKEEP_DONE)
         return tell("bootkeep_option_description", status, &refusal);
@@ -62,9 +62,9 @@ static int show_plan(const uint8_t *set, size_t set_len)
     size_t count;
     int failed = 0;
 
-    status = bootkeep_set_plan(set, set_len, numbers, BOOTKEEP_ORDER_MAX, &count, &next, &refusal);
+    status = bootkeep_vars_plan(set, set_len, numbers, BOOTKEEP_ORDER_MAX, &count, &next, &refusal);
     if (status != BOOTKEEP_DONE)
-        return tell("bootkeep_set_plan", status, &refusal);
+        return tell("bootkeep_vars_plan", status, &refusal);
     if (next != BOOTKEEP_NO_ENTRY)
         failed = show_entry(set, set_len, next, "next");
     for (size_t at = 0; at < count && !failed; at++)

@@ -49,9 +49,9 @@
  *     bytes, bytes_len         the bytes that are read, and how many there are
  *     text, text_len           the text of a device path, in UTF-8, and how many bytes it has
  *     taken                    how many of the bytes the device path takes
- *     attributes               the attributes of a load option, all 32 bits: BOOTKEEP_OPTION_ACTIVE,
- *                              BOOTKEEP_OPTION_FORCE_RECONNECT, BOOTKEEP_OPTION_HIDDEN, and a value of those of
- *                              BOOTKEEP_OPTION_CATEGORY
+ *     attributes               the attributes of a load option, all 32 bits: BOOTKEEP_ATTRIBUTE_ACTIVE,
+ *                              BOOTKEEP_ATTRIBUTE_FORCE_RECONNECT, BOOTKEEP_ATTRIBUTE_HIDDEN, and a value of those of
+ *                              BOOTKEEP_ATTRIBUTE_CATEGORY
  *     list, list_len           the device paths of a load option, one after the other, and how many bytes they have
  *     optional, optional_len   the optional data of a load option, and how many bytes they have
  *     set, set_len             a set, all the bytes of a set file, and how many there are
@@ -63,6 +63,7 @@
  *     numbers, numbers_len     the numbers of the entries that an edit is of, in its sequence, and how many there are
  *     option, option_len       the bytes of the load option that BOOTKEEP_EDIT_ADD adds, and how many there are
  *     cap, len                 without an `out`: how many items fit in what the answer goes to, and how many it has
+ *     item_size                how many bytes one of these items has: the caller's sizeof
  *     numbers                  where the answer goes: numbers of entries
  *     image, image_len         all the bytes of the image, and how many there are
  *     moves                    the command over a machine
@@ -110,9 +111,10 @@
  *
  * Calls without a keeper or a command may be made by any thread at any time. A keeper, as a command, is used by one
  * thread at a time: it may be handed from one to another, and closed by any, if what hands it over orders the two
- * calls, as a lock, a channel or the start and the end of a thread does. Keepers have nothing to do with each other:
- * all that one holds is its own, and the library keeps nothing beside it. docs/c.md says what this rests on, which is
- * no proof.
+ * calls, as a lock, a channel or the start and the end of a thread does. That goes for calls that only look at it too,
+ * as bootkeep_keeper_set and bootkeep_moves_name: they take what the handle holds out of it and put it back, so none of
+ * them takes a pointer to const. Keepers have nothing to do with each other: all that one holds is its own, and the
+ * library keeps nothing beside it. docs/c.md says what this rests on, which is no proof.
  */
 
 #ifndef BOOTKEEP_H
@@ -145,10 +147,11 @@ extern "C" {
 
 /*
  * The library for firmware, libbootkeep-firmware.a, has these calls without a C library. It takes memory by these three
- * functions of the program's, and refers to nothing else. The other libraries don't call them.
+ * functions of the program's, and refers to nothing else. The other libraries don't call them: they are declared only
+ * if BOOTKEEP_FIRMWARE is defined before this file is included.
  *
  * No call takes more than BOOTKEEP_STACK_MAX bytes of the stack, of which UEFI has 128 KiB (UEFI 2.10, 2.3.4):
- * bootkeep_moves_next up to 30,000, a plan, an edit, a run and the events of a keeper 19,000, bootkeep_set_at_risk
+ * bootkeep_moves_next up to 30,000, a plan, an edit, a run and the events of a keeper 19,000, bootkeep_vars_at_risk
  * 15,000, bootkeep_image_digest 10,000, and all others 5,100. What the three functions take comes on top.
  * `tools/build-c --firmware` prints it for each call: it adds up the frames that the compiler tells, along the longest
  * way down, and counts what calls itself, sorts of numbers and what goes down a tree of them, as often as it does for
@@ -165,9 +168,11 @@ extern "C" {
  */
 #define BOOTKEEP_STACK_MAX 32768
 
+#if defined(BOOTKEEP_FIRMWARE)
 void *bootkeep_allocate(size_t len);
 void *bootkeep_grow(void *block, size_t kept, size_t len);
 void bootkeep_free(void *block);
+#endif
 
 /* ---- Version ---------------------------------------------------------------------------------------------------- */
 
@@ -196,7 +201,10 @@ uint32_t bootkeep_version(void);
 #define BOOTKEEP_NO_MEMORY 4
 /* The keeper, or the command over a machine, isn't open. */
 #define BOOTKEEP_CLOSED 5
-/* The `size` of a struct is below that which the struct had when it first came. Nothing has happened. */
+/*
+ * The `size` of a struct is below that which the struct had when it first came, or `item_size` isn't the size of the
+ * struct. Nothing has happened.
+ */
 #define BOOTKEEP_BAD_SIZE 6
 
 /* ---- Sizes ------------------------------------------------------------------------------------------------------ */
@@ -236,138 +244,139 @@ struct bootkeep_refusal {
  */
 
 /* No byte remains where a node must be. */
-#define BOOTKEEP_PATH_NO_END 0x0101
+#define BOOTKEEP_FAULT_PATH_NO_END 0x0101
 /* One to three bytes remain, fewer than the header of a node has. */
-#define BOOTKEEP_PATH_SHORT_HEADER 0x0102
+#define BOOTKEEP_FAULT_PATH_SHORT_HEADER 0x0102
 /* The node states a length below 4, that of its header alone. */
-#define BOOTKEEP_PATH_BAD_LENGTH 0x0103
+#define BOOTKEEP_FAULT_PATH_BAD_LENGTH 0x0103
 /* The node states more bytes than remain. */
-#define BOOTKEEP_PATH_PAST_END 0x0104
+#define BOOTKEEP_FAULT_PATH_PAST_END 0x0104
 /* The node has type 0x7F and isn't an end node. */
-#define BOOTKEEP_PATH_BAD_END 0x0105
+#define BOOTKEEP_FAULT_PATH_BAD_END 0x0105
 
 /*
  * Of the text of a device path. The place is in the text.
  */
 
 /* What is at this place isn't a segment. */
-#define BOOTKEEP_TEXT_BAD_SEGMENT 0x0201
+#define BOOTKEEP_FAULT_TEXT_BAD_SEGMENT 0x0201
 /* The argument at this place must be a number and isn't a number's text. */
-#define BOOTKEEP_TEXT_BAD_NUMBER 0x0202
+#define BOOTKEEP_FAULT_TEXT_BAD_NUMBER 0x0202
 /* The argument at this place is out of its range. */
-#define BOOTKEEP_TEXT_OUT_OF_RANGE 0x0203
+#define BOOTKEEP_FAULT_TEXT_OUT_OF_RANGE 0x0203
 /* The segment at this place is a `Path` of type 0x7F, that of the end nodes. */
-#define BOOTKEEP_TEXT_BAD_END 0x0204
+#define BOOTKEEP_FAULT_TEXT_BAD_END 0x0204
 /* The text isn't UTF-8 from this place on. This comes before any other fault of a text. */
-#define BOOTKEEP_TEXT_NOT_UTF8 0x0205
+#define BOOTKEEP_FAULT_TEXT_NOT_UTF8 0x0205
 /* Of bootkeep_path_parse alone: no node has the name at this place. */
-#define BOOTKEEP_TEXT_UNKNOWN_NAME 0x0206
+#define BOOTKEEP_FAULT_TEXT_UNKNOWN_NAME 0x0206
 /* Of bootkeep_path_parse alone: the argument at this place isn't what the node has there. */
-#define BOOTKEEP_TEXT_BAD_ARGUMENT 0x0207
+#define BOOTKEEP_FAULT_TEXT_BAD_ARGUMENT 0x0207
 /* Of bootkeep_path_parse alone: at this place the segment ends before it has all its arguments, or has one more. */
-#define BOOTKEEP_TEXT_BAD_COUNT 0x0208
+#define BOOTKEEP_FAULT_TEXT_BAD_COUNT 0x0208
 /* Of bootkeep_path_parse alone: what the arguments of the segment at this place say is no data of its node. */
-#define BOOTKEEP_TEXT_BAD_DATA 0x0209
+#define BOOTKEEP_FAULT_TEXT_BAD_DATA 0x0209
 
 /*
- * Of a load option. Only BOOTKEEP_OPTION_PATH and BOOTKEEP_OPTION_NOT_UTF8 have a place, and the first has a fault
- * within; its place is in the list if an option is to be made.
+ * Of a load option. Only BOOTKEEP_FAULT_OPTION_PATH and BOOTKEEP_FAULT_OPTION_NOT_UTF8 have a place, and the first has
+ * a fault within; its place is in the list if an option is to be made.
  */
 
 /* There are fewer bytes than the six of the attributes and of the length of the list. */
-#define BOOTKEEP_OPTION_SHORT 0x0301
+#define BOOTKEEP_FAULT_OPTION_SHORT 0x0301
 /* No zero unit closes the description. */
-#define BOOTKEEP_OPTION_NO_TERMINATOR 0x0302
+#define BOOTKEEP_FAULT_OPTION_NO_TERMINATOR 0x0302
 /* The list of paths has fewer bytes than the option states. */
-#define BOOTKEEP_OPTION_LIST_PAST_END 0x0303
+#define BOOTKEEP_FAULT_OPTION_LIST_PAST_END 0x0303
 /* The list of paths has no byte. */
-#define BOOTKEEP_OPTION_EMPTY_LIST 0x0304
+#define BOOTKEEP_FAULT_OPTION_EMPTY_LIST 0x0304
 /* The bytes of the list from this place of the option on don't begin with a path: `inner_kind` is that path's fault. */
-#define BOOTKEEP_OPTION_PATH 0x0305
+#define BOOTKEEP_FAULT_OPTION_PATH 0x0305
 /* Of bootkeep_option_make and bootkeep_option_make_units alone: a character of the description is zero. */
-#define BOOTKEEP_OPTION_ZERO_UNIT 0x0306
+#define BOOTKEEP_FAULT_OPTION_ZERO_UNIT 0x0306
 /* Of bootkeep_option_make and bootkeep_option_make_units alone: the paths have more bytes than BOOTKEEP_LIST_MAX. */
-#define BOOTKEEP_OPTION_LIST_TOO_LONG 0x0307
+#define BOOTKEEP_FAULT_OPTION_LIST_TOO_LONG 0x0307
 /* Of bootkeep_option_make alone: the description isn't UTF-8 from this place of it on. */
-#define BOOTKEEP_OPTION_NOT_UTF8 0x0308
+#define BOOTKEEP_FAULT_OPTION_NOT_UTF8 0x0308
 /*
  * Of bootkeep_option_description_utf8 alone: half of a pair of units stands alone in the description, which is no text.
  */
-#define BOOTKEEP_OPTION_NOT_UTF16 0x0309
+#define BOOTKEEP_FAULT_OPTION_NOT_UTF16 0x0309
 
 /*
  * Of a set file. The place is that of the record with the fault.
  */
 
 /* The file doesn't begin with the four bytes `BVS1`. */
-#define BOOTKEEP_SET_BAD_MAGIC 0x0401
+#define BOOTKEEP_FAULT_SET_BAD_MAGIC 0x0401
 /* The file ends within the record. */
-#define BOOTKEEP_SET_TRUNCATED 0x0402
+#define BOOTKEEP_FAULT_SET_TRUNCATED 0x0402
 /* The name isn't one to 64 characters from 0x21 to 0x7E. */
-#define BOOTKEEP_SET_BAD_NAME 0x0403
+#define BOOTKEEP_FAULT_SET_BAD_NAME 0x0403
 /* The data is to have no byte, or more than 1,048,576. */
-#define BOOTKEEP_SET_BAD_DATA 0x0404
+#define BOOTKEEP_FAULT_SET_BAD_DATA 0x0404
 /* The name isn't above that of the record before, by bytes. */
-#define BOOTKEEP_SET_NOT_RISING 0x0405
+#define BOOTKEEP_FAULT_SET_NOT_RISING 0x0405
 
 /*
  * Of variables that say what is to be booted. None has a place.
  */
 
 /* The bytes of BootOrder are odd in number, or more than two for each of 65,536 entries. */
-#define BOOTKEEP_VARS_BAD_ORDER 0x0501
+#define BOOTKEEP_FAULT_VARS_BAD_ORDER 0x0501
 /* BootNext has another number of bytes than two. */
-#define BOOTKEEP_VARS_BAD_NEXT 0x0502
+#define BOOTKEEP_FAULT_VARS_BAD_NEXT 0x0502
 /* The bytes of BootKeepState aren't ones that a keeper stores. Only keepers and runs look at it. */
-#define BOOTKEEP_VARS_BAD_STATE 0x0503
+#define BOOTKEEP_FAULT_VARS_BAD_STATE 0x0503
 
 /*
  * Of a variable that is to be put into a set. None has a place.
  */
 
 /* The name isn't one to 64 characters from 0x21 to 0x7E. */
-#define BOOTKEEP_PUT_BAD_NAME 0x0601
+#define BOOTKEEP_FAULT_PUT_BAD_NAME 0x0601
 /* There is no data. A variable without data is deleted, and never stored. */
-#define BOOTKEEP_PUT_EMPTY_DATA 0x0602
+#define BOOTKEEP_FAULT_PUT_EMPTY_DATA 0x0602
 /* The data has more than 1,048,576 bytes. */
-#define BOOTKEEP_PUT_DATA_TOO_LONG 0x0603
+#define BOOTKEEP_FAULT_PUT_DATA_TOO_LONG 0x0603
 
 /*
- * Of a stream of frames, which can't be cut. Only BOOTKEEP_STREAM_REST has a place.
+ * Of a stream of frames, which can't be cut. Only BOOTKEEP_FAULT_STREAM_REST has a place.
  */
 
 /* A header doesn't begin with 0x42 0x51. */
-#define BOOTKEEP_STREAM_BAD_MAGIC 0x0701
+#define BOOTKEEP_FAULT_STREAM_BAD_MAGIC 0x0701
 /* The version of a header is none of 1 to 3. */
-#define BOOTKEEP_STREAM_BAD_VERSION 0x0702
+#define BOOTKEEP_FAULT_STREAM_BAD_VERSION 0x0702
 /* A payload is to have more bytes than a frame can have. */
-#define BOOTKEEP_STREAM_TOO_LONG 0x0703
+#define BOOTKEEP_FAULT_STREAM_TOO_LONG 0x0703
 /* The last frame isn't whole. The place is how many bytes of it are there. */
-#define BOOTKEEP_STREAM_REST 0x0704
+#define BOOTKEEP_FAULT_STREAM_REST 0x0704
 
 /*
- * Of a frame. None has a place. bootkeep_frame_make answers BOOTKEEP_FRAME_TOO_LONG, BOOTKEEP_FRAME_BAD_KIND and
- * BOOTKEEP_FRAME_BAD_NUMBER; all of them are the `fault` of a reply to bytes that aren't a frame.
+ * Of a frame. None has a place. bootkeep_frame_make answers BOOTKEEP_FAULT_FRAME_TOO_LONG,
+ * BOOTKEEP_FAULT_FRAME_BAD_KIND and BOOTKEEP_FAULT_FRAME_BAD_NUMBER; all of them are the `fault` of a reply to bytes
+ * that aren't a frame.
  */
 
 /* There are fewer bytes than the twelve before the payload. */
-#define BOOTKEEP_FRAME_SHORT 0x0801
+#define BOOTKEEP_FAULT_FRAME_SHORT 0x0801
 /* The bytes don't begin with 0x42 0x51. */
-#define BOOTKEEP_FRAME_BAD_MAGIC 0x0802
+#define BOOTKEEP_FAULT_FRAME_BAD_MAGIC 0x0802
 /* The version is none of 1 to 3. */
-#define BOOTKEEP_FRAME_BAD_VERSION 0x0803
+#define BOOTKEEP_FAULT_FRAME_BAD_VERSION 0x0803
 /* The payload has more bytes than a frame can have. */
-#define BOOTKEEP_FRAME_TOO_LONG 0x0804
+#define BOOTKEEP_FAULT_FRAME_TOO_LONG 0x0804
 /* There are fewer or more bytes than the twelve and those of the payload. */
-#define BOOTKEEP_FRAME_BAD_SIZE 0x0805
+#define BOOTKEEP_FAULT_FRAME_BAD_SIZE 0x0805
 /* No kind of request has this number. */
-#define BOOTKEEP_FRAME_BAD_KIND 0x0806
+#define BOOTKEEP_FAULT_FRAME_BAD_KIND 0x0806
 /* The number is BOOTKEEP_NO_NUMBER, which no request has. */
-#define BOOTKEEP_FRAME_BAD_NUMBER 0x0807
+#define BOOTKEEP_FAULT_FRAME_BAD_NUMBER 0x0807
 /* The payload doesn't have the bytes that a request of its kind has. */
-#define BOOTKEEP_FRAME_BAD_PAYLOAD 0x0808
+#define BOOTKEEP_FAULT_FRAME_BAD_PAYLOAD 0x0808
 /* The payload's load option isn't one. Only replies have this number. */
-#define BOOTKEEP_FRAME_OPTION 0x0809
+#define BOOTKEEP_FAULT_FRAME_OPTION 0x0809
 
 /*
  * Of an image that firmware doesn't start. The place is that of the field that has the fault, or of a section's header.
@@ -375,191 +384,194 @@ struct bootkeep_refusal {
  */
 
 /* The file has no bytes. */
-#define BOOTKEEP_IMAGE_EMPTY 0x0901
+#define BOOTKEEP_FAULT_IMAGE_EMPTY 0x0901
 /* The file ends in its DOS header. */
-#define BOOTKEEP_IMAGE_SHORT_DOS_HEADER 0x0902
+#define BOOTKEEP_FAULT_IMAGE_SHORT_DOS_HEADER 0x0902
 /* The file doesn't begin with MZ. */
-#define BOOTKEEP_IMAGE_DOS_SIGNATURE 0x0903
+#define BOOTKEEP_FAULT_IMAGE_DOS_SIGNATURE 0x0903
 /* There are no 264 bytes from e_lfanew on, as many as headers with 16 data directories have. */
-#define BOOTKEEP_IMAGE_PE_PLACE 0x0904
+#define BOOTKEEP_FAULT_IMAGE_PE_PLACE 0x0904
 /* There is no PE signature where e_lfanew says. */
-#define BOOTKEEP_IMAGE_PE_SIGNATURE 0x0905
+#define BOOTKEEP_FAULT_IMAGE_PE_SIGNATURE 0x0905
 /* Magic is neither that of PE32 nor that of PE32+. */
-#define BOOTKEEP_IMAGE_MAGIC 0x0906
+#define BOOTKEEP_FAULT_IMAGE_MAGIC 0x0906
 /* The image is no EFI application. */
-#define BOOTKEEP_IMAGE_SUBSYSTEM 0x0907
+#define BOOTKEEP_FAULT_IMAGE_SUBSYSTEM 0x0907
 /* There are more data directories than the format has. */
-#define BOOTKEEP_IMAGE_DIRECTORY_COUNT 0x0908
+#define BOOTKEEP_FAULT_IMAGE_DIRECTORY_COUNT 0x0908
 /* The optional header isn't as long as one with so many data directories. */
-#define BOOTKEEP_IMAGE_OPTIONAL_HEADER_SIZE 0x0909
+#define BOOTKEEP_FAULT_IMAGE_OPTIONAL_HEADER_SIZE 0x0909
 /* The image has no room for its section table and one header more. */
-#define BOOTKEEP_IMAGE_IMAGE_SIZE 0x090a
+#define BOOTKEEP_FAULT_IMAGE_IMAGE_SIZE 0x090a
 /* The headers have no room for the section table. */
-#define BOOTKEEP_IMAGE_HEADERS_SIZE 0x090b
+#define BOOTKEEP_FAULT_IMAGE_HEADERS_SIZE 0x090b
 /* The headers don't end in the image. */
-#define BOOTKEEP_IMAGE_HEADERS_BEYOND_IMAGE 0x090c
+#define BOOTKEEP_FAULT_IMAGE_HEADERS_BEYOND_IMAGE 0x090c
 /* The file ends in the headers. */
-#define BOOTKEEP_IMAGE_HEADERS_BEYOND_FILE 0x090d
+#define BOOTKEEP_FAULT_IMAGE_HEADERS_BEYOND_FILE 0x090d
 /* The file ends before the certificate table does. */
-#define BOOTKEEP_IMAGE_CERTIFICATES_BEYOND_FILE 0x090e
+#define BOOTKEEP_FAULT_IMAGE_CERTIFICATES_BEYOND_FILE 0x090e
 /* The machine isn't one that firmware knows. */
-#define BOOTKEEP_IMAGE_MACHINE 0x090f
+#define BOOTKEEP_FAULT_IMAGE_MACHINE 0x090f
 /* A section lies in the headers, in the file or in memory. */
-#define BOOTKEEP_IMAGE_SECTION_IN_HEADERS 0x0910
+#define BOOTKEEP_FAULT_IMAGE_SECTION_IN_HEADERS 0x0910
 /* The file ends before a section does. */
-#define BOOTKEEP_IMAGE_SECTION_BEYOND_FILE 0x0911
+#define BOOTKEEP_FAULT_IMAGE_SECTION_BEYOND_FILE 0x0911
 /* The debug directory is at an offset of more than four bytes. */
-#define BOOTKEEP_IMAGE_DEBUG_PLACE 0x0912
+#define BOOTKEEP_FAULT_IMAGE_DEBUG_PLACE 0x0912
 /* The file ends in an entry of the debug directory. */
-#define BOOTKEEP_IMAGE_DEBUG_BEYOND_FILE 0x0913
+#define BOOTKEEP_FAULT_IMAGE_DEBUG_BEYOND_FILE 0x0913
 /* CodeView data are in no section: firmware loads them after the sections. */
-#define BOOTKEEP_IMAGE_UNMAPPED_CODE_VIEW 0x0914
+#define BOOTKEEP_FAULT_IMAGE_UNMAPPED_CODE_VIEW 0x0914
 /* The image is one for ARM64. */
-#define BOOTKEEP_IMAGE_ARM64 0x0915
+#define BOOTKEEP_FAULT_IMAGE_ARM64 0x0915
 /* The image takes more memory than is taken for granted, 512 MiB. */
-#define BOOTKEEP_IMAGE_MEMORY 0x0916
+#define BOOTKEEP_FAULT_IMAGE_MEMORY 0x0916
 /* The relocations are stripped, and the image's address is in the first page of memory. */
-#define BOOTKEEP_IMAGE_FIXED_BASE 0x0917
+#define BOOTKEEP_FAULT_IMAGE_FIXED_BASE 0x0917
 /* The relocations are stripped: the memory at the image's address has to be free. */
-#define BOOTKEEP_IMAGE_RELOCATIONS_STRIPPED 0x0918
+#define BOOTKEEP_FAULT_IMAGE_RELOCATIONS_STRIPPED 0x0918
 /* Sections are aligned to nothing. */
-#define BOOTKEEP_IMAGE_SECTION_ALIGNMENT 0x0919
+#define BOOTKEEP_FAULT_IMAGE_SECTION_ALIGNMENT 0x0919
 /* A section isn't in the image. */
-#define BOOTKEEP_IMAGE_SECTION_BEYOND_IMAGE 0x091a
+#define BOOTKEEP_FAULT_IMAGE_SECTION_BEYOND_IMAGE 0x091a
 /* A section is written after the image's memory. */
-#define BOOTKEEP_IMAGE_SECTION_BEYOND_MEMORY 0x091b
+#define BOOTKEEP_FAULT_IMAGE_SECTION_BEYOND_MEMORY 0x091b
 /* A section without bytes in the file is written over the section table. */
-#define BOOTKEEP_IMAGE_SECTION_OVER_TABLE 0x091c
+#define BOOTKEEP_FAULT_IMAGE_SECTION_OVER_TABLE 0x091c
 /* The directory of relocations is the first after those that there are, and isn't in the headers. */
-#define BOOTKEEP_IMAGE_RELOCATIONS_NOT_LOADED 0x091d
+#define BOOTKEEP_FAULT_IMAGE_RELOCATIONS_NOT_LOADED 0x091d
 /* The relocations end after the last address of four bytes. */
-#define BOOTKEEP_IMAGE_RELOCATIONS_OVERFLOW 0x091e
+#define BOOTKEEP_FAULT_IMAGE_RELOCATIONS_OVERFLOW 0x091e
 /* The relocations aren't in the image. */
-#define BOOTKEEP_IMAGE_RELOCATIONS_BEYOND_IMAGE 0x091f
+#define BOOTKEEP_FAULT_IMAGE_RELOCATIONS_BEYOND_IMAGE 0x091f
 /* The image is one for IA32, which is loaded and not started. */
-#define BOOTKEEP_IMAGE_IA32 0x0920
+#define BOOTKEEP_FAULT_IMAGE_IA32 0x0920
 /* The image is EFI byte code, which needs an interpreter. */
-#define BOOTKEEP_IMAGE_BYTE_CODE 0x0921
+#define BOOTKEEP_FAULT_IMAGE_BYTE_CODE 0x0921
 /* The image's entry point isn't in it. */
-#define BOOTKEEP_IMAGE_ENTRY_POINT 0x0922
+#define BOOTKEEP_FAULT_IMAGE_ENTRY_POINT 0x0922
 /* Of bootkeep_image_digest alone, without a place: headers and sections have more bytes than the file. */
-#define BOOTKEEP_IMAGE_OVERLAP 0x0923
+#define BOOTKEEP_FAULT_IMAGE_OVERLAP 0x0923
 /*
  * Of bootkeep_image_digest alone, without a place: the certificate table has more bytes than are left of the file after
  * the headers and sections.
  */
-#define BOOTKEEP_IMAGE_CERTIFICATES_OVERLAP 0x0924
+#define BOOTKEEP_FAULT_IMAGE_CERTIFICATES_OVERLAP 0x0924
 
 /*
  * Of signature lists. The place is that of the list with the fault.
  */
 
 /* The bytes end in the 28 before the list's header. */
-#define BOOTKEEP_LISTS_CUT_HEADER 0x0a01
+#define BOOTKEEP_FAULT_LISTS_CUT_HEADER 0x0a01
 /* The list has fewer bytes than its headers, or more than there are. */
-#define BOOTKEEP_LISTS_BAD_LIST_SIZE 0x0a02
+#define BOOTKEEP_FAULT_LISTS_BAD_LIST_SIZE 0x0a02
 /* A signature has fewer than 16 bytes, or the signatures aren't whole. */
-#define BOOTKEEP_LISTS_BAD_SIGNATURE_SIZE 0x0a03
+#define BOOTKEEP_FAULT_LISTS_BAD_SIGNATURE_SIZE 0x0a03
 
 /*
  * Of what an image has in memory, which bootkeep_image_check tells. The place is an offset in the file.
  */
 
 /* The debug entry of CodeView data isn't in the image. */
-#define BOOTKEEP_IMAGE_CODE_VIEW_ENTRY_BEYOND_IMAGE 0x0b01
+#define BOOTKEEP_FAULT_IMAGE_CODE_VIEW_ENTRY_BEYOND_IMAGE 0x0b01
 /* The debug entry of CodeView data isn't in one section, or the headers, once they are in memory. */
-#define BOOTKEEP_IMAGE_CODE_VIEW_ENTRY_NOT_LOADED 0x0b02
+#define BOOTKEEP_FAULT_IMAGE_CODE_VIEW_ENTRY_NOT_LOADED 0x0b02
 /* CodeView data aren't in the image. */
-#define BOOTKEEP_IMAGE_CODE_VIEW_BEYOND_IMAGE 0x0b03
+#define BOOTKEEP_FAULT_IMAGE_CODE_VIEW_BEYOND_IMAGE 0x0b03
 /* CodeView data aren't in one section, or the headers, once they are in memory. */
-#define BOOTKEEP_IMAGE_CODE_VIEW_NOT_LOADED 0x0b04
+#define BOOTKEEP_FAULT_IMAGE_CODE_VIEW_NOT_LOADED 0x0b04
 /* CodeView data have fewer bytes than data with their signature. */
-#define BOOTKEEP_IMAGE_CODE_VIEW_SIZE 0x0b05
+#define BOOTKEEP_FAULT_IMAGE_CODE_VIEW_SIZE 0x0b05
 /* What the loader reads of the resources isn't in one section, or the headers. */
-#define BOOTKEEP_IMAGE_RESOURCES_NOT_LOADED 0x0b06
+#define BOOTKEEP_FAULT_IMAGE_RESOURCES_NOT_LOADED 0x0b06
 /* A directory, a name or the data of a resource begin after the resources. */
-#define BOOTKEEP_IMAGE_RESOURCE_BEYOND_RESOURCES 0x0b07
+#define BOOTKEEP_FAULT_IMAGE_RESOURCE_BEYOND_RESOURCES 0x0b07
 /* The entries of a directory of resources end after the resources. */
-#define BOOTKEEP_IMAGE_RESOURCE_DIRECTORY_SIZE 0x0b08
+#define BOOTKEEP_FAULT_IMAGE_RESOURCE_DIRECTORY_SIZE 0x0b08
 /* A block of relocations isn't in one section, or the headers. */
-#define BOOTKEEP_IMAGE_RELOCATION_BLOCK_NOT_LOADED 0x0b09
+#define BOOTKEEP_FAULT_IMAGE_RELOCATION_BLOCK_NOT_LOADED 0x0b09
 /* A block of relocations has no bytes, or more than are left of the relocations. */
-#define BOOTKEEP_IMAGE_RELOCATION_BLOCK_SIZE 0x0b0a
+#define BOOTKEEP_FAULT_IMAGE_RELOCATION_BLOCK_SIZE 0x0b0a
 /* A block of relocations is of a page that isn't in the image. */
-#define BOOTKEEP_IMAGE_RELOCATION_BLOCK_ADDRESS 0x0b0b
+#define BOOTKEEP_FAULT_IMAGE_RELOCATION_BLOCK_ADDRESS 0x0b0b
 /* A relocation is of an address that isn't in the image. */
-#define BOOTKEEP_IMAGE_RELOCATION_BEYOND_IMAGE 0x0b0c
+#define BOOTKEEP_FAULT_IMAGE_RELOCATION_BEYOND_IMAGE 0x0b0c
 /* A relocation is of a type that firmware doesn't know. */
-#define BOOTKEEP_IMAGE_RELOCATION_UNKNOWN_TYPE 0x0b0d
+#define BOOTKEEP_FAULT_IMAGE_RELOCATION_UNKNOWN_TYPE 0x0b0d
 
 /*
  * Of the file of a journal. The place is that of the field with the fault, in the file.
  */
 
 /* The file begins neither with `BKJ1` nor with `BKJ2`. This has no place. */
-#define BOOTKEEP_JOURNAL_BAD_MAGIC 0x0c01
+#define BOOTKEEP_FAULT_JOURNAL_BAD_MAGIC 0x0c01
 /* The name of the machine is to have no byte, or more than BOOTKEEP_MACHINE_MAX. */
-#define BOOTKEEP_JOURNAL_BAD_MACHINE 0x0c02
+#define BOOTKEEP_FAULT_JOURNAL_BAD_MACHINE 0x0c02
 /* The file ends in the field. */
-#define BOOTKEEP_JOURNAL_TRUNCATED 0x0c03
+#define BOOTKEEP_FAULT_JOURNAL_TRUNCATED 0x0c03
 /* The value is to have more than BOOTKEEP_DATA_MAX bytes. */
-#define BOOTKEEP_JOURNAL_VALUE_TOO_LONG 0x0c04
+#define BOOTKEEP_FAULT_JOURNAL_VALUE_TOO_LONG 0x0c04
 /* The byte is neither 1, for changes that are being made, nor 2, for changes that are taken back. */
-#define BOOTKEEP_JOURNAL_BAD_COURSE 0x0c05
+#define BOOTKEEP_FAULT_JOURNAL_BAD_COURSE 0x0c05
 /* The identity isn't one to 64 characters from 0x21 to 0x7E. */
-#define BOOTKEEP_JOURNAL_BAD_IDENTITY 0x0c06
+#define BOOTKEEP_FAULT_JOURNAL_BAD_IDENTITY 0x0c06
 /* The name isn't that of a variable of the boot manager. */
-#define BOOTKEEP_JOURNAL_BAD_NAME 0x0c07
+#define BOOTKEEP_FAULT_JOURNAL_BAD_NAME 0x0c07
 /* The journal is another machine's. This and the next one have no place. */
-#define BOOTKEEP_JOURNAL_OF_ANOTHER 0x0c08
+#define BOOTKEEP_FAULT_JOURNAL_OF_ANOTHER 0x0c08
 /* With attributes, what a change of a journal that has none has is longer than BOOTKEEP_DATA_MAX. */
-#define BOOTKEEP_JOURNAL_TOO_LONG 0x0c09
+#define BOOTKEEP_FAULT_JOURNAL_TOO_LONG 0x0c09
 
 /*
  * Of a machine. None has a place.
  */
 
 /* The name of the machine has no byte, or more than BOOTKEEP_MACHINE_MAX. */
-#define BOOTKEEP_MACHINE_BAD_NAME 0x0d01
+#define BOOTKEEP_FAULT_MACHINE_BAD_NAME 0x0d01
 /* The identity of the start isn't one to 64 characters from 0x21 to 0x7E. */
-#define BOOTKEEP_MACHINE_BAD_START 0x0d02
-/* These two are of `fault` alone. A variable of the boot manager has no byte after its attributes. */
-#define BOOTKEEP_MACHINE_NO_DATA 0x0d03
-/* With its attributes, what a variable would have after the run is longer than BOOTKEEP_DATA_MAX. */
-#define BOOTKEEP_MACHINE_TOO_LONG 0x0d04
+#define BOOTKEEP_FAULT_MACHINE_BAD_START 0x0d02
+/*
+ * A variable of the boot manager has no byte after its attributes: in what is to be brought back, or, in `fault`, in
+ * what the machine keeps.
+ */
+#define BOOTKEEP_FAULT_MACHINE_NO_DATA 0x0d03
+/* In `fault` alone: with its attributes, what a variable would have after the run is longer than BOOTKEEP_DATA_MAX. */
+#define BOOTKEEP_FAULT_MACHINE_TOO_LONG 0x0d04
 
 /*
  * Of an edit of a set that isn't made. The place is the number of the entry that it is refused for: of .._TAKEN,
  * .._TWICE, .._MISSING, .._STALE and .._NO_OPTION. The others have none.
  */
 /* An entry is stored under the number that the new one is to have. */
-#define BOOTKEEP_UNEDITED_TAKEN 0x0e01
+#define BOOTKEEP_FAULT_UNEDITED_TAKEN 0x0e01
 /* An entry is stored under each number. */
-#define BOOTKEEP_UNEDITED_NO_FREE 0x0e02
+#define BOOTKEEP_FAULT_UNEDITED_NO_FREE 0x0e02
 /* The number is in the list twice. */
-#define BOOTKEEP_UNEDITED_TWICE 0x0e03
+#define BOOTKEEP_FAULT_UNEDITED_TWICE 0x0e03
 /* There is no entry of the number. */
-#define BOOTKEEP_UNEDITED_MISSING 0x0e04
+#define BOOTKEEP_FAULT_UNEDITED_MISSING 0x0e04
 /* There is no entry of the number, which was to be in the order. */
-#define BOOTKEEP_UNEDITED_STALE 0x0e05
+#define BOOTKEEP_FAULT_UNEDITED_STALE 0x0e05
 /* The entry of the number is no load option. */
-#define BOOTKEEP_UNEDITED_NO_OPTION 0x0e06
+#define BOOTKEEP_FAULT_UNEDITED_NO_OPTION 0x0e06
 /* BootOrder would have more than BOOTKEEP_ORDER_MAX numbers. */
-#define BOOTKEEP_UNEDITED_ORDER_TOO_LONG 0x0e07
+#define BOOTKEEP_FAULT_UNEDITED_ORDER_TOO_LONG 0x0e07
 /* The load option to be added has more than BOOTKEEP_DATA_MAX bytes. */
-#define BOOTKEEP_UNEDITED_OPTION_TOO_LONG 0x0e08
+#define BOOTKEEP_FAULT_UNEDITED_OPTION_TOO_LONG 0x0e08
 /* `kind` is none of BOOTKEEP_EDIT_.. */
-#define BOOTKEEP_UNEDITED_BAD_KIND 0x0e09
+#define BOOTKEEP_FAULT_UNEDITED_BAD_KIND 0x0e09
 /* `number` is above BOOTKEEP_NO_ENTRY. */
-#define BOOTKEEP_UNEDITED_BAD_NUMBER 0x0e0a
+#define BOOTKEEP_FAULT_UNEDITED_BAD_NUMBER 0x0e0a
 /* `position` is none of BOOTKEEP_POSITION_.. */
-#define BOOTKEEP_UNEDITED_BAD_POSITION 0x0e0b
+#define BOOTKEEP_FAULT_UNEDITED_BAD_POSITION 0x0e0b
 
 /* ---- Words ------------------------------------------------------------------------------------------------------ */
 
 /*
  * The word that a status, the number of a refusal or that of an outcome has for a person: that of its name here, as
- * `NoRoom` of BOOTKEEP_NO_ROOM, `PathNoEnd` of BOOTKEEP_PATH_NO_END and `OrderRepeats` of
+ * `NoRoom` of BOOTKEEP_NO_ROOM, `PathNoEnd` of BOOTKEEP_FAULT_PATH_NO_END and `OrderRepeats` of
  * BOOTKEEP_OUTCOME_ORDER_REPEATS. It is ASCII, and room for BOOTKEEP_WORD_MAX bytes is always enough. These calls take
  * no memory.
  *
@@ -582,8 +594,8 @@ uint32_t bootkeep_outcome_word(uint32_t outcome, uint8_t *out, size_t cap, size_
 /*
  * The text of the device path at the start of the bytes (UEFI 2.10, 10.3 and 10.6), in the one spelling that is
  * printed, and in `*taken` how many bytes the path takes. What comes after its end is left: if the path is to be all of
- * the bytes, compare `*taken` with `bytes_len`. bootkeep_text_path and bootkeep_path_parse read the text. A fault of
- * the path is told even if there is no memory.
+ * the bytes, compare `*taken` with `bytes_len`. bootkeep_path_parse_exact and bootkeep_path_parse read the text. A
+ * fault of the path is told even if there is no memory.
  *
  *     BOOTKEEP_DONE, BOOTKEEP_NO_ROOM, BOOTKEEP_NO_MEMORY
  *     BOOTKEEP_REFUSED   a number of paths
@@ -595,8 +607,8 @@ uint32_t bootkeep_path_text(const uint8_t *bytes, size_t bytes_len, uint8_t *out
 /*
  * The text of the device path for a person, as `bootvars show` prints it: that of bootkeep_path_text, with its name and
  * its fields for each node of the standard's table whose text can be read back as the node. It is UTF-8: names of files
- * may have characters past ASCII. bootkeep_path_parse reads it as the same path; bootkeep_text_path refuses most of the
- * names. All else is as of bootkeep_path_text, also that what comes after the path is left.
+ * may have characters past ASCII. bootkeep_path_parse reads it as the same path; bootkeep_path_parse_exact refuses most
+ * of the names. All else is as of bootkeep_path_text, also that what comes after the path is left.
  *
  *     BOOTKEEP_DONE, BOOTKEEP_NO_ROOM, BOOTKEEP_NO_MEMORY
  *     BOOTKEEP_REFUSED   a number of paths
@@ -628,24 +640,23 @@ uint32_t bootkeep_path_parse(const uint8_t *text, size_t text_len, uint8_t *out,
 
 /*
  * The bytes of the device path that the text stands for, of texts as bootkeep_path_text gives them, and other spellings
- * of these: it refuses the names of most nodes, so that what a person copies from `bootvars show` isn't read. It takes
- * a text and gives a path, where bootkeep_path_text takes a path and gives a text.
+ * of these: it refuses the names of most nodes, so that what a person copies from `bootvars show` isn't read.
  *
  *     BOOTKEEP_DONE, BOOTKEEP_NO_ROOM, BOOTKEEP_NO_MEMORY
  *     BOOTKEEP_REFUSED   a number of texts
  */
-uint32_t bootkeep_text_path(const uint8_t *text, size_t text_len, uint8_t *out, size_t cap, size_t *len,
-                            struct bootkeep_refusal *refusal) BOOTKEEP_CHECKED BOOTKEEP_NONNULL((5, 6));
+uint32_t bootkeep_path_parse_exact(const uint8_t *text, size_t text_len, uint8_t *out, size_t cap, size_t *len,
+                                   struct bootkeep_refusal *refusal) BOOTKEEP_CHECKED BOOTKEEP_NONNULL((5, 6));
 
 /* ---- Load options ----------------------------------------------------------------------------------------------- */
 
-/* Bits of the attributes (UEFI 2.10, 3.1.3), and the values of those of BOOTKEEP_OPTION_CATEGORY. */
-#define BOOTKEEP_OPTION_ACTIVE 0x00000001
-#define BOOTKEEP_OPTION_FORCE_RECONNECT 0x00000002
-#define BOOTKEEP_OPTION_HIDDEN 0x00000008
-#define BOOTKEEP_OPTION_CATEGORY 0x00001f00
-#define BOOTKEEP_OPTION_CATEGORY_BOOT 0x00000000
-#define BOOTKEEP_OPTION_CATEGORY_APP 0x00000100
+/* Bits of the attributes (UEFI 2.10, 3.1.3), and the values of those of BOOTKEEP_ATTRIBUTE_CATEGORY. */
+#define BOOTKEEP_ATTRIBUTE_ACTIVE 0x00000001
+#define BOOTKEEP_ATTRIBUTE_FORCE_RECONNECT 0x00000002
+#define BOOTKEEP_ATTRIBUTE_HIDDEN 0x00000008
+#define BOOTKEEP_ATTRIBUTE_CATEGORY 0x00001f00
+#define BOOTKEEP_ATTRIBUTE_CATEGORY_BOOT 0x00000000
+#define BOOTKEEP_ATTRIBUTE_CATEGORY_APP 0x00000100
 
 /* Where the parts of a load option are in its bytes: for each part its offset, and how many bytes it has. */
 struct bootkeep_option_parts {
@@ -703,7 +714,7 @@ uint32_t bootkeep_option_description(const uint8_t *bytes, size_t bytes_len, uin
  * bootkeep_option_parts tells where the units are, and bootkeep_option_make_units takes them.
  *
  *     BOOTKEEP_DONE, BOOTKEEP_NO_ROOM, BOOTKEEP_NO_MEMORY
- *     BOOTKEEP_REFUSED   a number of load options; otherwise BOOTKEEP_OPTION_NOT_UTF16
+ *     BOOTKEEP_REFUSED   a number of load options; otherwise BOOTKEEP_FAULT_OPTION_NOT_UTF16
  */
 uint32_t bootkeep_option_description_utf8(const uint8_t *bytes, size_t bytes_len, uint8_t *out, size_t cap, size_t *len,
                                           struct bootkeep_refusal *refusal) BOOTKEEP_CHECKED BOOTKEEP_NONNULL((5, 6));
@@ -715,9 +726,9 @@ uint32_t bootkeep_option_description_utf8(const uint8_t *bytes, size_t bytes_len
  *     description, description_len   the description, in UTF-8, and how many bytes it has
  *
  *     BOOTKEEP_DONE, BOOTKEEP_NO_ROOM, BOOTKEEP_NO_MEMORY
- *     BOOTKEEP_REFUSED   BOOTKEEP_OPTION_NOT_UTF8; otherwise BOOTKEEP_OPTION_PATH, with its place in the list;
- *                        otherwise BOOTKEEP_OPTION_ZERO_UNIT, BOOTKEEP_OPTION_EMPTY_LIST or
- *                        BOOTKEEP_OPTION_LIST_TOO_LONG, in this order
+ *     BOOTKEEP_REFUSED   BOOTKEEP_FAULT_OPTION_NOT_UTF8; otherwise BOOTKEEP_FAULT_OPTION_PATH, with its place in the
+ *                        list; otherwise BOOTKEEP_FAULT_OPTION_ZERO_UNIT, BOOTKEEP_FAULT_OPTION_EMPTY_LIST or
+ *                        BOOTKEEP_FAULT_OPTION_LIST_TOO_LONG, in this order
  */
 uint32_t bootkeep_option_make(uint32_t attributes, const uint8_t *description, size_t description_len,
                               const uint8_t *list, size_t list_len, const uint8_t *optional, size_t optional_len,
@@ -732,8 +743,9 @@ uint32_t bootkeep_option_make(uint32_t attributes, const uint8_t *description, s
  *     units, units_len   the units of the description, and how many units there are
  *
  *     BOOTKEEP_DONE, BOOTKEEP_NO_ROOM, BOOTKEEP_NO_MEMORY
- *     BOOTKEEP_REFUSED   BOOTKEEP_OPTION_PATH, with its place in the list; otherwise BOOTKEEP_OPTION_ZERO_UNIT,
- *                        BOOTKEEP_OPTION_EMPTY_LIST or BOOTKEEP_OPTION_LIST_TOO_LONG, in this order
+ *     BOOTKEEP_REFUSED   BOOTKEEP_FAULT_OPTION_PATH, with its place in the list; otherwise
+ *                        BOOTKEEP_FAULT_OPTION_ZERO_UNIT, BOOTKEEP_FAULT_OPTION_EMPTY_LIST or
+ *                        BOOTKEEP_FAULT_OPTION_LIST_TOO_LONG, in this order
  */
 uint32_t bootkeep_option_make_units(uint32_t attributes, const uint16_t *units, size_t units_len, const uint8_t *list,
                                     size_t list_len, const uint8_t *optional, size_t optional_len, uint8_t *out,
@@ -776,8 +788,8 @@ uint32_t bootkeep_option_make_units(uint32_t attributes, const uint16_t *units, 
  *     order, order_len     the numbers of the order, and how many there are
  *
  *     BOOTKEEP_DONE, BOOTKEEP_NO_ROOM, BOOTKEEP_NO_MEMORY
- *     BOOTKEEP_REFUSED   BOOTKEEP_FRAME_BAD_KIND; otherwise a number of load options; otherwise
- *                        BOOTKEEP_FRAME_TOO_LONG or BOOTKEEP_FRAME_BAD_NUMBER
+ *     BOOTKEEP_REFUSED   BOOTKEEP_FAULT_FRAME_BAD_KIND; otherwise a number of load options; otherwise
+ *                        BOOTKEEP_FAULT_FRAME_TOO_LONG or BOOTKEEP_FAULT_FRAME_BAD_NUMBER
  */
 uint32_t bootkeep_frame_make(uint32_t number, uint32_t kind, uint16_t entry, const uint8_t *option, size_t option_len,
                              const uint16_t *order, size_t order_len, uint8_t *out, size_t cap, size_t *len,
@@ -800,10 +812,10 @@ uint32_t bootkeep_frame_make(uint32_t number, uint32_t kind, uint16_t entry, con
  *     next   the number of BootNext's entry, or BOOTKEEP_NO_ENTRY
  *
  *     BOOTKEEP_DONE, BOOTKEEP_NO_ROOM, BOOTKEEP_NO_MEMORY
- *     BOOTKEEP_REFUSED   a number of sets, BOOTKEEP_VARS_BAD_ORDER or BOOTKEEP_VARS_BAD_NEXT
+ *     BOOTKEEP_REFUSED   a number of sets, BOOTKEEP_FAULT_VARS_BAD_ORDER or BOOTKEEP_FAULT_VARS_BAD_NEXT
  */
-uint32_t bootkeep_set_plan(const uint8_t *set, size_t set_len, uint16_t *numbers, size_t cap, size_t *len,
-                           uint32_t *next, struct bootkeep_refusal *refusal)
+uint32_t bootkeep_vars_plan(const uint8_t *set, size_t set_len, uint16_t *numbers, size_t cap, size_t *len,
+                            uint32_t *next, struct bootkeep_refusal *refusal)
     BOOTKEEP_CHECKED BOOTKEEP_NONNULL((5, 6, 7));
 
 /*
@@ -816,10 +828,10 @@ uint32_t bootkeep_set_plan(const uint8_t *set, size_t set_len, uint16_t *numbers
  *     unnamed   how many of the numbers are of entries that neither BootOrder nor BootNext names: the first ones
  *
  *     BOOTKEEP_DONE, BOOTKEEP_NO_ROOM, BOOTKEEP_NO_MEMORY
- *     BOOTKEEP_REFUSED   a number of sets, BOOTKEEP_VARS_BAD_ORDER or BOOTKEEP_VARS_BAD_NEXT
+ *     BOOTKEEP_REFUSED   a number of sets, BOOTKEEP_FAULT_VARS_BAD_ORDER or BOOTKEEP_FAULT_VARS_BAD_NEXT
  */
-uint32_t bootkeep_set_at_risk(const uint8_t *set, size_t set_len, uint16_t *numbers, size_t cap, size_t *len,
-                              size_t *unnamed, struct bootkeep_refusal *refusal)
+uint32_t bootkeep_vars_at_risk(const uint8_t *set, size_t set_len, uint16_t *numbers, size_t cap, size_t *len,
+                               size_t *unnamed, struct bootkeep_refusal *refusal)
     BOOTKEEP_CHECKED BOOTKEEP_NONNULL((5, 6, 7));
 
 /*
@@ -829,8 +841,8 @@ uint32_t bootkeep_set_at_risk(const uint8_t *set, size_t set_len, uint16_t *numb
  *     BOOTKEEP_ABSENT    the set has no such variable, be the name one of a variable or not
  *     BOOTKEEP_REFUSED   a number of sets
  */
-uint32_t bootkeep_set_get(const uint8_t *set, size_t set_len, const uint8_t *name, size_t name_len, uint8_t *out,
-                          size_t cap, size_t *len, struct bootkeep_refusal *refusal)
+uint32_t bootkeep_vars_get(const uint8_t *set, size_t set_len, const uint8_t *name, size_t name_len, uint8_t *out,
+                           size_t cap, size_t *len, struct bootkeep_refusal *refusal)
     BOOTKEEP_CHECKED BOOTKEEP_NONNULL((7, 8));
 
 /*
@@ -842,9 +854,9 @@ uint32_t bootkeep_set_get(const uint8_t *set, size_t set_len, const uint8_t *nam
  *     BOOTKEEP_DONE, BOOTKEEP_NO_ROOM, BOOTKEEP_NO_MEMORY
  *     BOOTKEEP_REFUSED   a number of sets, or a number of what is put
  */
-uint32_t bootkeep_set_put(const uint8_t *set, size_t set_len, const uint8_t *name, size_t name_len, const uint8_t *data,
-                          size_t data_len, uint8_t *out, size_t cap, size_t *len, struct bootkeep_refusal *refusal)
-    BOOTKEEP_CHECKED BOOTKEEP_NONNULL((9, 10));
+uint32_t bootkeep_vars_put(const uint8_t *set, size_t set_len, const uint8_t *name, size_t name_len,
+                           const uint8_t *data, size_t data_len, uint8_t *out, size_t cap, size_t *len,
+                           struct bootkeep_refusal *refusal) BOOTKEEP_CHECKED BOOTKEEP_NONNULL((9, 10));
 
 /*
  * The set without the variable of this name.
@@ -853,8 +865,8 @@ uint32_t bootkeep_set_put(const uint8_t *set, size_t set_len, const uint8_t *nam
  *     BOOTKEEP_ABSENT    the set has no such variable
  *     BOOTKEEP_REFUSED   a number of sets
  */
-uint32_t bootkeep_set_remove(const uint8_t *set, size_t set_len, const uint8_t *name, size_t name_len, uint8_t *out,
-                             size_t cap, size_t *len, struct bootkeep_refusal *refusal)
+uint32_t bootkeep_vars_remove(const uint8_t *set, size_t set_len, const uint8_t *name, size_t name_len, uint8_t *out,
+                              size_t cap, size_t *len, struct bootkeep_refusal *refusal)
     BOOTKEEP_CHECKED BOOTKEEP_NONNULL((7, 8));
 
 /* Where a variable is in the bytes of its set: its name and its data, each with how many bytes it has. */
@@ -872,11 +884,12 @@ struct bootkeep_variable {
  *     variables   where the answer goes: where each variable is
  *
  *     BOOTKEEP_DONE, BOOTKEEP_NO_ROOM, BOOTKEEP_NO_MEMORY
+ *     BOOTKEEP_BAD_SIZE  `item_size` isn't the size of the struct
  *     BOOTKEEP_REFUSED   a number of sets
  */
-uint32_t bootkeep_set_variables(const uint8_t *set, size_t set_len, struct bootkeep_variable *variables, size_t cap,
-                                size_t *len, struct bootkeep_refusal *refusal)
-    BOOTKEEP_CHECKED BOOTKEEP_NONNULL((5, 6));
+uint32_t bootkeep_vars_list(const uint8_t *set, size_t set_len, struct bootkeep_variable *variables, size_t cap,
+                            size_t item_size, size_t *len, struct bootkeep_refusal *refusal)
+    BOOTKEEP_CHECKED BOOTKEEP_NONNULL((6, 7));
 
 /*
  * In `*number` the lowest number under which the set has no entry, or BOOTKEEP_NO_ENTRY if all are taken.
@@ -886,8 +899,8 @@ uint32_t bootkeep_set_variables(const uint8_t *set, size_t set_len, struct bootk
  *     BOOTKEEP_DONE, BOOTKEEP_NO_MEMORY
  *     BOOTKEEP_REFUSED   a number of sets
  */
-uint32_t bootkeep_set_lowest_free(const uint8_t *set, size_t set_len, uint32_t *number,
-                                  struct bootkeep_refusal *refusal) BOOTKEEP_CHECKED BOOTKEEP_NONNULL((3, 4));
+uint32_t bootkeep_vars_lowest_free(const uint8_t *set, size_t set_len, uint32_t *number,
+                                   struct bootkeep_refusal *refusal) BOOTKEEP_CHECKED BOOTKEEP_NONNULL((3, 4));
 
 /* What a boot makes of an entry that BootOrder names. It is tried. */
 #define BOOTKEEP_ENTRY_NORMAL 0
@@ -910,8 +923,8 @@ uint32_t bootkeep_set_lowest_free(const uint8_t *set, size_t set_len, uint32_t *
  *     BOOTKEEP_DONE, BOOTKEEP_NO_MEMORY
  *     BOOTKEEP_REFUSED   a number of sets
  */
-uint32_t bootkeep_set_entry(const uint8_t *set, size_t set_len, uint16_t number, uint32_t *state,
-                            struct bootkeep_refusal *refusal) BOOTKEEP_CHECKED BOOTKEEP_NONNULL((4, 5));
+uint32_t bootkeep_vars_entry(const uint8_t *set, size_t set_len, uint16_t number, uint32_t *state,
+                             struct bootkeep_refusal *refusal) BOOTKEEP_CHECKED BOOTKEEP_NONNULL((4, 5));
 
 /* What stands for BootOrder, BootNext and Timeout where other numbers are those of entries. */
 #define BOOTKEEP_VARIABLE_ORDER 0x00010001
@@ -929,16 +942,18 @@ struct bootkeep_named {
 
 /*
  * What BootNext names, if it is there, and then what BootOrder names, in its order, each with why it isn't in the plan,
- * or that it is, as bootkeep_set_entry tells it. A number that BootOrder repeats is told again, and its entry looked at
- * once. `cap` and `*len` count numbers, of which there are BOOTKEEP_ORDER_MAX + 1 at most.
+ * or that it is, as bootkeep_vars_entry tells it. A number that BootOrder repeats is told again, and its entry looked
+ * at once. `cap` and `*len` count numbers, of which there are BOOTKEEP_ORDER_MAX + 1 at most.
  *
  *     named   where the answer goes: each number, with what names it and what a boot makes of its entry
  *
  *     BOOTKEEP_DONE, BOOTKEEP_NO_ROOM, BOOTKEEP_NO_MEMORY
- *     BOOTKEEP_REFUSED   a number of sets, BOOTKEEP_VARS_BAD_ORDER or BOOTKEEP_VARS_BAD_NEXT
+ *     BOOTKEEP_BAD_SIZE  `item_size` isn't the size of the struct
+ *     BOOTKEEP_REFUSED   a number of sets, BOOTKEEP_FAULT_VARS_BAD_ORDER or BOOTKEEP_FAULT_VARS_BAD_NEXT
  */
-uint32_t bootkeep_set_named(const uint8_t *set, size_t set_len, struct bootkeep_named *named, size_t cap, size_t *len,
-                            struct bootkeep_refusal *refusal) BOOTKEEP_CHECKED BOOTKEEP_NONNULL((5, 6));
+uint32_t bootkeep_vars_named(const uint8_t *set, size_t set_len, struct bootkeep_named *named, size_t cap,
+                             size_t item_size, size_t *len, struct bootkeep_refusal *refusal)
+    BOOTKEEP_CHECKED BOOTKEEP_NONNULL((6, 7));
 
 /* The variable is new, has other data, or is taken out. */
 #define BOOTKEEP_CHANGE_ADDED 1
@@ -967,11 +982,12 @@ struct bootkeep_change {
  *     changes          where the answer goes
  *
  *     BOOTKEEP_DONE, BOOTKEEP_NO_ROOM, BOOTKEEP_NO_MEMORY
+ *     BOOTKEEP_BAD_SIZE  `item_size` isn't the size of the struct
  *     BOOTKEEP_REFUSED   a number of sets, of `from`; otherwise one of `to`
  */
-uint32_t bootkeep_set_changes(const uint8_t *from, size_t from_len, const uint8_t *to, size_t to_len,
-                              struct bootkeep_change *changes, size_t cap, size_t *len,
-                              struct bootkeep_refusal *refusal) BOOTKEEP_CHECKED BOOTKEEP_NONNULL((7, 8));
+uint32_t bootkeep_vars_changes(const uint8_t *from, size_t from_len, const uint8_t *to, size_t to_len,
+                               struct bootkeep_change *changes, size_t cap, size_t item_size, size_t *len,
+                               struct bootkeep_refusal *refusal) BOOTKEEP_CHECKED BOOTKEEP_NONNULL((8, 9));
 
 /* ---- Edits of a set ---------------------------------------------------------------------------------------------- */
 
@@ -1046,12 +1062,12 @@ struct bootkeep_edited {
  *
  *     BOOTKEEP_DONE, BOOTKEEP_NO_ROOM, BOOTKEEP_NO_MEMORY
  *     BOOTKEEP_BAD_SIZE  `edit->size` or `edited->size` is smaller than the struct
- *     BOOTKEEP_REFUSED   a number of edits, of sets or of load options, BOOTKEEP_VARS_BAD_ORDER or
- *                        BOOTKEEP_VARS_BAD_NEXT
+ *     BOOTKEEP_REFUSED   a number of edits, of sets or of load options, BOOTKEEP_FAULT_VARS_BAD_ORDER or
+ *                        BOOTKEEP_FAULT_VARS_BAD_NEXT
  */
-uint32_t bootkeep_set_edit(const struct bootkeep_edit *edit, const uint16_t *numbers, size_t numbers_len,
-                           const uint8_t *option, size_t option_len, const uint8_t *set, size_t set_len, uint8_t *out,
-                           size_t cap, size_t *len, struct bootkeep_edited *edited, struct bootkeep_refusal *refusal)
+uint32_t bootkeep_vars_edit(const struct bootkeep_edit *edit, const uint16_t *numbers, size_t numbers_len,
+                            const uint8_t *option, size_t option_len, const uint8_t *set, size_t set_len, uint8_t *out,
+                            size_t cap, size_t *len, struct bootkeep_edited *edited, struct bootkeep_refusal *refusal)
     BOOTKEEP_CHECKED BOOTKEEP_NONNULL((1, 10, 11, 12));
 
 /* ---- Runs ------------------------------------------------------------------------------------------------------- */
@@ -1127,7 +1143,7 @@ uint32_t bootkeep_keeper_restart(struct bootkeep_keeper *keeper, uint8_t *out, s
 
 /* What a reply is. */
 
-/* What was delivered isn't a frame: `fault` says why, and `option_fault` if that is BOOTKEEP_FRAME_OPTION. */
+/* What was delivered isn't a frame: `fault` says why, and `option_fault` if that is BOOTKEEP_FAULT_FRAME_OPTION. */
 #define BOOTKEEP_REPLY_MALFORMED 1
 /* The request was applied before, with this outcome. */
 #define BOOTKEEP_REPLY_REPEAT 2
@@ -1167,7 +1183,7 @@ struct bootkeep_reply {
     size_t size;
     /* One of BOOTKEEP_REPLY_... */
     uint32_t kind;
-    /* One of BOOTKEEP_FRAME_..., or BOOTKEEP_NO_KIND. */
+    /* One of BOOTKEEP_FAULT_FRAME_..., or BOOTKEEP_NO_KIND. */
     uint32_t fault;
     /* The fault of a frame's option, with its places in the option. Its `kind` is BOOTKEEP_NO_KIND if there is none. */
     struct bootkeep_refusal option_fault;
@@ -1245,7 +1261,8 @@ uint32_t bootkeep_keeper_close(struct bootkeep_keeper *keeper) BOOTKEEP_NONNULL(
  * first does what the journal still tells, or takes it back if the machine refuses it.
  *
  *     bootkeep_moves_requests    what was read of the machine, and the frames that are to be run; or
- *     bootkeep_moves_edit        what was read of the machine, and an edit as of bootkeep_set_edit; or
+ *     bootkeep_moves_edit        what was read of the machine, and an edit as of bootkeep_vars_edit; or
+ *     bootkeep_moves_restore     what was read of the machine, and a set that is to be brought back; or
  *     bootkeep_moves_settle      what was read alone, to do what an earlier command has left, and no more
  *     bootkeep_moves_next        the move that comes next, until there is none
  *     bootkeep_moves_name, bootkeep_moves_bytes
@@ -1295,8 +1312,8 @@ struct bootkeep_moves {
  *     stream, stream_len   the frames, one after the other, and how many bytes they have
  *
  *     BOOTKEEP_DONE, BOOTKEEP_NO_MEMORY
- *     BOOTKEEP_REFUSED   a number of streams; otherwise BOOTKEEP_MACHINE_BAD_NAME; otherwise
- *                        BOOTKEEP_MACHINE_BAD_START; otherwise a number of sets; otherwise one of journals
+ *     BOOTKEEP_REFUSED   a number of streams; otherwise BOOTKEEP_FAULT_MACHINE_BAD_NAME; otherwise
+ *                        BOOTKEEP_FAULT_MACHINE_BAD_START; otherwise a number of sets; otherwise one of journals
  */
 uint32_t bootkeep_moves_requests(struct bootkeep_moves *moves, const uint8_t *machine, size_t machine_len,
                                  const uint8_t *start, size_t start_len, const uint8_t *variables, size_t variables_len,
@@ -1304,14 +1321,14 @@ uint32_t bootkeep_moves_requests(struct bootkeep_moves *moves, const uint8_t *ma
                                  struct bootkeep_refusal *refusal) BOOTKEEP_CHECKED BOOTKEEP_NONNULL((1, 12));
 
 /*
- * Begins a command that makes an edit of the variables of a machine, as bootkeep_set_edit makes it of a set. `numbers`
+ * Begins a command that makes an edit of the variables of a machine, as bootkeep_vars_edit makes it of a set. `numbers`
  * and `option` are copied.
  *
  *     BOOTKEEP_DONE, BOOTKEEP_NO_MEMORY
  *     BOOTKEEP_BAD_SIZE  `edit->size` is smaller than the struct
- *     BOOTKEEP_REFUSED   BOOTKEEP_UNEDITED_BAD_KIND, BOOTKEEP_UNEDITED_BAD_NUMBER or
- *                        BOOTKEEP_UNEDITED_BAD_POSITION; otherwise BOOTKEEP_MACHINE_BAD_NAME; otherwise
- *                        BOOTKEEP_MACHINE_BAD_START; otherwise a number of sets; otherwise one of journals
+ *     BOOTKEEP_REFUSED   BOOTKEEP_FAULT_UNEDITED_BAD_KIND, BOOTKEEP_FAULT_UNEDITED_BAD_NUMBER or
+ *                        BOOTKEEP_FAULT_UNEDITED_BAD_POSITION; otherwise BOOTKEEP_FAULT_MACHINE_BAD_NAME; otherwise
+ *                        BOOTKEEP_FAULT_MACHINE_BAD_START; otherwise a number of sets; otherwise one of journals
  */
 uint32_t bootkeep_moves_edit(struct bootkeep_moves *moves, const uint8_t *machine, size_t machine_len,
                              const uint8_t *start, size_t start_len, const uint8_t *variables, size_t variables_len,
@@ -1320,11 +1337,29 @@ uint32_t bootkeep_moves_edit(struct bootkeep_moves *moves, const uint8_t *machin
                              struct bootkeep_refusal *refusal) BOOTKEEP_CHECKED BOOTKEEP_NONNULL((1, 10, 15));
 
 /*
+ * Begins a command that brings the boot manager's variables of a machine back to those of a set: Boot####, BootOrder,
+ * BootNext and Timeout. What is in it under these names is there then, and what isn't is gone; all else stays. So what
+ * was read before a change undoes it.
+ *
+ *     back, back_len   the set, which has of each variable what the machine keeps, as `variables` has it, and how many
+ *                      bytes it has
+ *
+ *     BOOTKEEP_DONE, BOOTKEEP_NO_MEMORY
+ *     BOOTKEEP_REFUSED   a number of sets, of `back`; otherwise BOOTKEEP_FAULT_MACHINE_NO_DATA, of a variable in it;
+ *                        otherwise BOOTKEEP_FAULT_MACHINE_BAD_NAME; otherwise BOOTKEEP_FAULT_MACHINE_BAD_START;
+ *                        otherwise a number of sets, of `variables`; otherwise one of journals
+ */
+uint32_t bootkeep_moves_restore(struct bootkeep_moves *moves, const uint8_t *machine, size_t machine_len,
+                                const uint8_t *start, size_t start_len, const uint8_t *variables, size_t variables_len,
+                                const uint8_t *journal, size_t journal_len, const uint8_t *back, size_t back_len,
+                                struct bootkeep_refusal *refusal) BOOTKEEP_CHECKED BOOTKEEP_NONNULL((1, 12));
+
+/*
  * Begins a command that does what an earlier one has left to do, and no more.
  *
  *     BOOTKEEP_DONE, BOOTKEEP_NO_MEMORY
- *     BOOTKEEP_REFUSED   BOOTKEEP_MACHINE_BAD_NAME; otherwise BOOTKEEP_MACHINE_BAD_START; otherwise a number of sets;
- *                        otherwise one of journals
+ *     BOOTKEEP_REFUSED   BOOTKEEP_FAULT_MACHINE_BAD_NAME; otherwise BOOTKEEP_FAULT_MACHINE_BAD_START; otherwise a
+ *                        number of sets; otherwise one of journals
  */
 uint32_t bootkeep_moves_settle(struct bootkeep_moves *moves, const uint8_t *machine, size_t machine_len,
                                const uint8_t *start, size_t start_len, const uint8_t *variables, size_t variables_len,
@@ -1415,8 +1450,8 @@ struct bootkeep_moves_end {
     /* The same of a move that takes it back, or 0. */
     uint32_t second_reason;
     /*
-     * Why the variables were refused, or BOOTKEEP_NO_KIND: BOOTKEEP_VARS_..., BOOTKEEP_MACHINE_..., or of an edit a
-     * number of edits or of load options.
+     * Why the variables were refused, or BOOTKEEP_NO_KIND: BOOTKEEP_FAULT_VARS_..., BOOTKEEP_FAULT_MACHINE_..., or of
+     * an edit a number of edits or of load options.
      */
     uint32_t fault;
     /* How many replies there are: one to each frame, if it has happened. */
@@ -1473,7 +1508,7 @@ uint32_t bootkeep_moves_close(struct bootkeep_moves *moves) BOOTKEEP_NONNULL((1)
 
 /* Which part of firmware finds a fault: the boot manager, for which there is no such file then. */
 #define BOOTKEEP_STAGE_BOOT_MANAGER 0
-/* LoadImage. With Secure Boot the faults up to BOOTKEEP_IMAGE_DEBUG_BEYOND_FILE are found before it. */
+/* LoadImage. With Secure Boot the faults up to BOOTKEEP_FAULT_IMAGE_DEBUG_BEYOND_FILE are found before it. */
 #define BOOTKEEP_STAGE_LOADER 1
 /* StartImage. */
 #define BOOTKEEP_STAGE_START 2
@@ -1505,7 +1540,7 @@ uint32_t bootkeep_image_check(const uint8_t *image, size_t image_len, uint32_t *
  *
  *     BOOTKEEP_DONE, BOOTKEEP_NO_ROOM, BOOTKEEP_NO_MEMORY
  *     BOOTKEEP_REFUSED   a number of images: the boot manager's, and the loader's up to
- *                        BOOTKEEP_IMAGE_SECTION_BEYOND_FILE, or one of the two of digests
+ *                        BOOTKEEP_FAULT_IMAGE_SECTION_BEYOND_FILE, or one of the two of digests
  */
 uint32_t bootkeep_image_digest(const uint8_t *image, size_t image_len, uint8_t *out, size_t cap, size_t *len,
                                struct bootkeep_refusal *refusal) BOOTKEEP_CHECKED BOOTKEEP_NONNULL((5, 6));
@@ -1528,11 +1563,12 @@ struct bootkeep_signature_list {
  *     lists   where the answer goes: where each list is
  *
  *     BOOTKEEP_DONE, BOOTKEEP_NO_ROOM, BOOTKEEP_NO_MEMORY
+ *     BOOTKEEP_BAD_SIZE  `item_size` isn't the size of the struct
  *     BOOTKEEP_REFUSED   a number of signature lists
  */
 uint32_t bootkeep_signature_lists(const uint8_t *bytes, size_t bytes_len, struct bootkeep_signature_list *lists,
-                                  size_t cap, size_t *len, struct bootkeep_refusal *refusal)
-    BOOTKEEP_CHECKED BOOTKEEP_NONNULL((5, 6));
+                                  size_t cap, size_t item_size, size_t *len, struct bootkeep_refusal *refusal)
+    BOOTKEEP_CHECKED BOOTKEEP_NONNULL((6, 7));
 
 /* ---- Layouts ---------------------------------------------------------------------------------------------------- */
 

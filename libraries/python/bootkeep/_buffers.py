@@ -3,7 +3,7 @@
 from __future__ import annotations
 
 import ctypes
-from ctypes import byref, c_size_t, c_uint16, c_uint32
+from ctypes import byref, c_size_t, c_uint16, c_uint32, sizeof
 from typing import Any, Callable, Optional, Sequence, SupportsBytes, Tuple, Union
 
 from ._faults import failure
@@ -66,6 +66,17 @@ def unless_absent(
 
 
 def items_of(kind: Any, call: Callable[..., int], refusal: Optional[RawRefusal]) -> Sequence[Any]:
+    """The structs that a call puts into its buffer, which is told how large one is: a second call is made if the first
+    has no room for them."""
+    return _in_room(kind, refusal, lambda at, room, count: call(at, room, sizeof(kind), count))
+
+
+def numbers_of(call: Callable[..., int], refusal: Optional[RawRefusal] = None) -> Tuple[int, ...]:
+    """The numbers that a call puts into its buffer."""
+    return tuple(_in_room(c_uint16, refusal, call))
+
+
+def _in_room(kind: Any, refusal: Optional[RawRefusal], call: Callable[..., int]) -> Sequence[Any]:
     """What a call puts into its buffer: a second call is made if the first has no room for it."""
     count, room = c_size_t(), ROOM
     while True:
@@ -76,11 +87,6 @@ def items_of(kind: Any, call: Callable[..., int], refusal: Optional[RawRefusal])
         if status != NO_ROOM:
             raise failure(status, refusal)
         room = count.value
-
-
-def numbers_of(call: Callable[..., int], refusal: Optional[RawRefusal] = None) -> Tuple[int, ...]:
-    """The numbers that a call puts into its buffer."""
-    return tuple(items_of(c_uint16, call, refusal))
 
 
 def number_of(call: Callable[[Any], Any], refusal: Optional[RawRefusal] = None) -> int:

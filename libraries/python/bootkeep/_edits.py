@@ -74,14 +74,14 @@ class Edited:
     entry: Optional[EntryNumber]
 
 
-def set_edit(variables: Bytes, edit: Edit) -> Edited:
+def vars_edit(variables: Bytes, edit: Edit) -> Edited:
     """What becomes of a set file, all its bytes, by an edit. ``Refused`` has a kind ``UNEDITED_..``, whose place is the
     number of the entry that it is for, or one of sets or of load options, ``VARS_BAD_ORDER`` or ``VARS_BAD_NEXT``.
     ``OverflowError`` is of a number with more than 16 bits."""
     refusal, edited = RawRefusal(), RawEdited(size=sizeof(RawEdited))
     asked, held = edit.arguments(), bytes_in(variables)
     data = bytes_of(
-        lambda *out: library.bootkeep_set_edit(*asked, *held, *out, byref(edited), byref(refusal)),
+        lambda *out: library.bootkeep_vars_edit(*asked, *held, *out, byref(edited), byref(refusal)),
         held[1] + asked[-1] + 2 * len(edit.numbers) + _MORE,
         refusal,
     )

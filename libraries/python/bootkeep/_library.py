@@ -113,6 +113,7 @@ class RawEnd(ctypes.Structure):
 _IN = (c_char_p, c_size_t)
 _OUT = (c_char_p, c_size_t, POINTER(c_size_t))
 _NUMBERS = (POINTER(c_uint16), c_size_t, POINTER(c_size_t))
+_ROOM = (c_size_t, c_size_t, POINTER(c_size_t))
 _KEEPER = POINTER(RawKeeper)
 _MOVES = POINTER(RawMoves)
 _REPLY = POINTER(RawReply)
@@ -128,7 +129,7 @@ _CALLS: Dict[str, Tuple[Any, ...]] = {
     "bootkeep_path_names": (*_IN, *_OUT, POINTER(c_size_t), _WHY),
     "bootkeep_path_check": (*_IN, POINTER(c_size_t), _WHY),
     "bootkeep_path_parse": (*_IN, *_OUT, _WHY),
-    "bootkeep_text_path": (*_IN, *_OUT, _WHY),
+    "bootkeep_path_parse_exact": (*_IN, *_OUT, _WHY),
     "bootkeep_option_parts": (*_IN, POINTER(RawParts), _WHY),
     "bootkeep_option_description": (*_IN, *_OUT, _WHY),
     "bootkeep_option_description_utf8": (*_IN, *_OUT, _WHY),
@@ -152,17 +153,17 @@ _CALLS: Dict[str, Tuple[Any, ...]] = {
         *_OUT,
         _WHY,
     ),
-    "bootkeep_set_plan": (*_IN, *_NUMBERS, POINTER(c_uint32), _WHY),
-    "bootkeep_set_at_risk": (*_IN, *_NUMBERS, POINTER(c_size_t), _WHY),
-    "bootkeep_set_get": (*_IN, *_IN, *_OUT, _WHY),
-    "bootkeep_set_put": (*_IN, *_IN, *_IN, *_OUT, _WHY),
-    "bootkeep_set_remove": (*_IN, *_IN, *_OUT, _WHY),
-    "bootkeep_set_variables": (*_IN, POINTER(RawVariable), c_size_t, POINTER(c_size_t), _WHY),
-    "bootkeep_set_named": (*_IN, POINTER(RawNamed), c_size_t, POINTER(c_size_t), _WHY),
-    "bootkeep_set_lowest_free": (*_IN, POINTER(c_uint32), _WHY),
-    "bootkeep_set_entry": (*_IN, c_uint16, POINTER(c_uint32), _WHY),
-    "bootkeep_set_changes": (*_IN, *_IN, POINTER(RawChange), c_size_t, POINTER(c_size_t), _WHY),
-    "bootkeep_set_edit": (*_EDIT, *_IN, *_OUT, POINTER(RawEdited), _WHY),
+    "bootkeep_vars_plan": (*_IN, *_NUMBERS, POINTER(c_uint32), _WHY),
+    "bootkeep_vars_at_risk": (*_IN, *_NUMBERS, POINTER(c_size_t), _WHY),
+    "bootkeep_vars_get": (*_IN, *_IN, *_OUT, _WHY),
+    "bootkeep_vars_put": (*_IN, *_IN, *_IN, *_OUT, _WHY),
+    "bootkeep_vars_remove": (*_IN, *_IN, *_OUT, _WHY),
+    "bootkeep_vars_list": (*_IN, POINTER(RawVariable), *_ROOM, _WHY),
+    "bootkeep_vars_named": (*_IN, POINTER(RawNamed), *_ROOM, _WHY),
+    "bootkeep_vars_lowest_free": (*_IN, POINTER(c_uint32), _WHY),
+    "bootkeep_vars_entry": (*_IN, c_uint16, POINTER(c_uint32), _WHY),
+    "bootkeep_vars_changes": (*_IN, *_IN, POINTER(RawChange), *_ROOM, _WHY),
+    "bootkeep_vars_edit": (*_EDIT, *_IN, *_OUT, POINTER(RawEdited), _WHY),
     "bootkeep_run": (*_IN, *_IN, *_OUT, *_OUT, _WHY),
     "bootkeep_keeper_open": (_KEEPER, *_IN, _WHY),
     "bootkeep_keeper_deliver": (_KEEPER, *_IN, *_OUT),
@@ -178,6 +179,7 @@ _CALLS: Dict[str, Tuple[Any, ...]] = {
     "bootkeep_keeper_close": (_KEEPER,),
     "bootkeep_moves_requests": (_MOVES, *_IN, *_IN, *_IN, *_IN, *_IN, _WHY),
     "bootkeep_moves_edit": (_MOVES, *_IN, *_IN, *_IN, *_IN, *_EDIT, _WHY),
+    "bootkeep_moves_restore": (_MOVES, *_IN, *_IN, *_IN, *_IN, *_IN, _WHY),
     "bootkeep_moves_settle": (_MOVES, *_IN, *_IN, *_IN, *_IN, _WHY),
     "bootkeep_moves_next": (_MOVES, POINTER(c_uint32)),
     "bootkeep_moves_name": (_MOVES, *_OUT),
@@ -188,7 +190,7 @@ _CALLS: Dict[str, Tuple[Any, ...]] = {
     "bootkeep_moves_close": (_MOVES,),
     "bootkeep_image_check": (*_IN, POINTER(c_uint32), POINTER(c_uint32), _WHY),
     "bootkeep_image_digest": (*_IN, *_OUT, _WHY),
-    "bootkeep_signature_lists": (*_IN, POINTER(RawList), c_size_t, POINTER(c_size_t), _WHY),
+    "bootkeep_signature_lists": (*_IN, POINTER(RawList), *_ROOM, _WHY),
 }
 
 

@@ -37,6 +37,15 @@ class MachineState:
 
 
 @dataclass(frozen=True)
+class Restore:
+    """The variables of the boot manager are brought back to those of a set: what it has is there then, and what it hasn't is
+    gone. All else stays."""
+
+    #: A set of what the machine is to keep, as ``MachineState.variables`` has it: so what was read before a change undoes it.
+    back: Union[Bytes, SupportsBytes]
+
+
+@dataclass(frozen=True)
 class Move:
     """A move of a machine. It is made whole, or not at all."""
 
@@ -74,21 +83,24 @@ class Moves(Owned):
                 moves.tell(make(move))
             print(moves.end)
 
-    What an earlier command has left is done first. Then an edit is made of the machine's variables, or the frames of a
-    stream are run over them; with neither that is all. The header says, under *Machines*, what the caller promises:
+    What an earlier command has left is done first. Then an edit is made of the machine's variables, or they are brought
+    back to those of a set, or the frames of a stream are run over them; with none of these that is all. The header says, under *Machines*, what the caller promises:
     moves are made one by one, whole, and so that a loss of power doesn't undo them. :meth:`close`, which the end of
     ``with`` calls, gives up what it holds. It is used by one thread at a time. To make one raises ``Refused`` with a
-    kind ``STREAM_..``, otherwise ``MACHINE_..``, otherwise ``SET_..``, otherwise ``JOURNAL_..``; an edit that the
-    variables refuse is told by :attr:`end`.
+    kind ``STREAM_..``, or one ``SET_..`` or ``MACHINE_NO_DATA`` of the set that is to be brought back; otherwise
+    ``MACHINE_..``, otherwise ``SET_..``, otherwise ``JOURNAL_..``; an edit that the variables refuse is told by
+    :attr:`end`.
     """
 
     _called = "a command over a machine"
 
-    def __init__(self, state: MachineState, run: Union[Edit, Bytes, None] = None) -> None:
+    def __init__(self, state: MachineState, run: Union[Edit, Restore, Bytes, None] = None) -> None:
         self._handle = RawMoves()
         call, given = library.bootkeep_moves_settle, state.arguments()
         if isinstance(run, Edit):
             call, given = library.bootkeep_moves_edit, (*given, *run.arguments())
+        elif isinstance(run, Restore):
+            call, given = library.bootkeep_moves_restore, (*given, *bytes_in(run.back))
         elif run is not None:
             call, given = library.bootkeep_moves_requests, (*given, *bytes_in(run))
         refusal = RawRefusal()

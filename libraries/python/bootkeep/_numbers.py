@@ -33,13 +33,13 @@ WORD_MAX = 32
 #: The most bytes of the name of a machine.
 MACHINE_MAX = 4096
 
-#: Bits of the attributes of a load option (UEFI 2.10, 3.1.3), and the values of those of OPTION_CATEGORY.
-OPTION_ACTIVE = 0x00000001
-OPTION_FORCE_RECONNECT = 0x00000002
-OPTION_HIDDEN = 0x00000008
-OPTION_CATEGORY = 0x00001F00
-OPTION_CATEGORY_BOOT = 0x00000000
-OPTION_CATEGORY_APP = 0x00000100
+#: Bits of the attributes of a load option (UEFI 2.10, 3.1.3), and the values of those of ATTRIBUTE_CATEGORY.
+ATTRIBUTE_ACTIVE = 0x00000001
+ATTRIBUTE_FORCE_RECONNECT = 0x00000002
+ATTRIBUTE_HIDDEN = 0x00000008
+ATTRIBUTE_CATEGORY = 0x00001F00
+ATTRIBUTE_CATEGORY_BOOT = 0x00000000
+ATTRIBUTE_CATEGORY_APP = 0x00000100
 
 
 class Attributes(IntFlag):
@@ -57,7 +57,7 @@ class Attributes(IntFlag):
     @property
     def category(self) -> int:
         """The bits of LOAD_OPTION_CATEGORY, where they are in the attributes."""
-        return int(self) & OPTION_CATEGORY
+        return int(self) & ATTRIBUTE_CATEGORY
 
     def __invert__(self) -> Attributes:
         """All 32 bits the other way: some Pythons would drop those that have no name."""

@@ -10,7 +10,7 @@ from typing import Iterable, Optional, Tuple, Union
 from ._buffers import Bytes, bytes_in, bytes_of, utf8
 from ._faults import Refused, failure, number_in
 from ._library import RawParts, RawRefusal, library
-from ._numbers import DONE, OPTION_CATEGORY_BOOT, Attributes, Fault
+from ._numbers import ATTRIBUTE_CATEGORY_BOOT, DONE, Attributes, Fault
 from ._paths import DevicePath, list_of, paths_in
 from ._values import Value
 
@@ -47,7 +47,7 @@ class OptionParts:
     @property
     def is_normal(self) -> bool:
         """Whether the boot manager tries the option by itself."""
-        return self.is_active and self.category == OPTION_CATEGORY_BOOT
+        return self.is_active and self.category == ATTRIBUTE_CATEGORY_BOOT
 
 
 def option_parts(data: Bytes) -> OptionParts:

@@ -81,10 +81,10 @@ def path_parse(text: str) -> bytes:
     return _parsed(library.bootkeep_path_parse, text)
 
 
-def text_path(text: str) -> bytes:
+def path_parse_exact(text: str) -> bytes:
     """The same for texts as :func:`path_text` gives them, and other spellings of these: the names of most nodes are
     refused."""
-    return _parsed(library.bootkeep_text_path, text)
+    return _parsed(library.bootkeep_path_parse_exact, text)
 
 
 def _parsed(call: Callable[..., int], text: str) -> bytes:

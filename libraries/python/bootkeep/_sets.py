@@ -20,7 +20,7 @@ from ._buffers import (
     numbers_of,
     utf8,
 )
-from ._edits import Edit, set_edit
+from ._edits import Edit, vars_edit
 from ._faults import Refused, number_in
 from ._library import RawChange, RawNamed, RawRefusal, RawVariable, library
 from ._numbers import (
@@ -70,12 +70,12 @@ def entry_or_none(number: int) -> Optional[EntryNumber]:
     return None if number == NO_ENTRY else EntryNumber(number)
 
 
-def set_plan(variables: Bytes) -> Plan:
+def vars_plan(variables: Bytes) -> Plan:
     """What a boot would try with the variables of a set file, all its bytes (UEFI 2.10, 3.3). ``Refused`` may also have
     ``VARS_BAD_ORDER`` or ``VARS_BAD_NEXT``."""
     first, refusal, given = c_uint32(), RawRefusal(), bytes_in(variables)
     normal = numbers_of(
-        lambda *out: library.bootkeep_set_plan(*given, *out, byref(first), byref(refusal)), refusal
+        lambda *out: library.bootkeep_vars_plan(*given, *out, byref(first), byref(refusal)), refusal
     )
     return Plan(entry_or_none(first.value), entry_numbers(normal))
 
@@ -90,55 +90,57 @@ class AtRisk:
     undecodable: Tuple[EntryNumber, ...]
 
 
-def set_at_risk(variables: Bytes) -> AtRisk:
+def vars_at_risk(variables: Bytes) -> AtRisk:
     """The entries of a set file, all its bytes, that a start of firmware may write over or delete. ``Refused`` as of
-    :func:`set_plan`."""
+    :func:`vars_plan`."""
     unnamed, refusal, given = c_size_t(), RawRefusal(), bytes_in(variables)
     numbers = entry_numbers(
         numbers_of(
-            lambda *out: library.bootkeep_set_at_risk(*given, *out, byref(unnamed), byref(refusal)),
+            lambda *out: library.bootkeep_vars_at_risk(
+                *given, *out, byref(unnamed), byref(refusal)
+            ),
             refusal,
         )
     )
     return AtRisk(numbers[: unnamed.value], numbers[unnamed.value :])
 
 
-def set_get(variables: Bytes, name: str) -> bytes:
+def vars_get(variables: Bytes, name: str) -> bytes:
     """The data of the variable of this name; ``KeyError`` if the set has none."""
     refusal, given = RawRefusal(), (*bytes_in(variables), *bytes_in(utf8(name)))
     return unless_absent(
-        name, lambda *out: library.bootkeep_set_get(*given, *out, byref(refusal)), refusal
+        name, lambda *out: library.bootkeep_vars_get(*given, *out, byref(refusal)), refusal
     )
 
 
-def set_put(variables: Bytes, name: str, data: Bytes) -> bytes:
+def vars_put(variables: Bytes, name: str, data: Bytes) -> bytes:
     """The set with this data for the variable of this name, in the place of what it had, if it had any. ``Refused`` may
     also have a kind ``PUT_..``."""
     refusal, given = RawRefusal(), (*bytes_in(variables), *bytes_in(utf8(name)), *bytes_in(data))
     return bytes_of(
-        lambda *out: library.bootkeep_set_put(*given, *out, byref(refusal)),
+        lambda *out: library.bootkeep_vars_put(*given, *out, byref(refusal)),
         len(variables) + len(data) + 69,
         refusal,
     )
 
 
-def set_remove(variables: Bytes, name: str) -> bytes:
+def vars_remove(variables: Bytes, name: str) -> bytes:
     """The set without the variable of this name; ``KeyError`` if it has none."""
     refusal, given = RawRefusal(), (*bytes_in(variables), *bytes_in(utf8(name)))
     return unless_absent(
         name,
-        lambda *out: library.bootkeep_set_remove(*given, *out, byref(refusal)),
+        lambda *out: library.bootkeep_vars_remove(*given, *out, byref(refusal)),
         refusal,
         len(variables),
     )
 
 
-def set_variables(variables: Bytes) -> Dict[str, bytes]:
+def vars_list(variables: Bytes) -> Dict[str, bytes]:
     """The data of each variable of a set file, all its bytes, by their names, in the order of these."""
     refusal, given = RawRefusal(), bytes_in(variables)
     places = items_of(
         RawVariable,
-        lambda *out: library.bootkeep_set_variables(*given, *out, byref(refusal)),
+        lambda *out: library.bootkeep_vars_list(*given, *out, byref(refusal)),
         refusal,
     )
     held = given[0]
@@ -150,22 +152,22 @@ def set_variables(variables: Bytes) -> Dict[str, bytes]:
     }
 
 
-def set_lowest_free(variables: Bytes) -> Optional[EntryNumber]:
+def vars_lowest_free(variables: Bytes) -> Optional[EntryNumber]:
     """The lowest number under which a set file, all its bytes, has no entry; ``None`` if all are taken."""
     refusal = RawRefusal()
     given = bytes_in(variables)
     number = number_of(
-        lambda out: library.bootkeep_set_lowest_free(*given, out, byref(refusal)), refusal
+        lambda out: library.bootkeep_vars_lowest_free(*given, out, byref(refusal)), refusal
     )
     return entry_or_none(number)
 
 
-def set_entry(variables: Bytes, number: int) -> EntryState:
+def vars_entry(variables: Bytes, number: int) -> EntryState:
     """What a boot makes of an entry that BootOrder names: why its number isn't in the plan, or that it is. That of BootNext
     isn't if it is absent or undecodable."""
     refusal, given = RawRefusal(), (*bytes_in(variables), number_in(number, 16))
     return EntryState(
-        number_of(lambda out: library.bootkeep_set_entry(*given, out, byref(refusal)), refusal),
+        number_of(lambda out: library.bootkeep_vars_entry(*given, out, byref(refusal)), refusal),
     )
 
 
@@ -181,12 +183,12 @@ class NamedEntry:
     state: EntryState
 
 
-def set_named(variables: Bytes) -> Tuple[NamedEntry, ...]:
+def vars_named(variables: Bytes) -> Tuple[NamedEntry, ...]:
     """What BootNext and then BootOrder of a set file, all its bytes, name, in the order in which a boot looks at it.
-    ``Refused`` as of :func:`set_plan`."""
+    ``Refused`` as of :func:`vars_plan`."""
     refusal, given = RawRefusal(), bytes_in(variables)
     named = items_of(
-        RawNamed, lambda *out: library.bootkeep_set_named(*given, *out, byref(refusal)), refusal
+        RawNamed, lambda *out: library.bootkeep_vars_named(*given, *out, byref(refusal)), refusal
     )
     return tuple(
         NamedEntry(_variable_name(one.variable), EntryNumber(one.number), EntryState(one.state))
@@ -209,15 +211,15 @@ class Change:
     after: Optional[bytes] = None
 
 
-def set_changes(before: Bytes, after: Bytes) -> Tuple[Change, ...]:
+def vars_changes(before: Bytes, after: Bytes) -> Tuple[Change, ...]:
     """The changes that lead from one set file to the boot manager's variables of another, all bytes of each, in an
     order in which a machine can make them. ``Refused`` has the fault of the first, otherwise that of the second.
     """
     refusal, given = RawRefusal(), (*bytes_in(before), *bytes_in(after))
     changes = items_of(
-        RawChange, lambda *out: library.bootkeep_set_changes(*given, *out, byref(refusal)), refusal
+        RawChange, lambda *out: library.bootkeep_vars_changes(*given, *out, byref(refusal)), refusal
     )
-    old, new = set_variables(before), set_variables(after)
+    old, new = vars_list(before), vars_list(after)
     names = ((_variable_name(change.variable), ChangeKind(change.kind)) for change in changes)
     return tuple(Change(name, kind, old.get(name), new.get(name)) for name, kind in names)
 
@@ -290,7 +292,7 @@ class BootVariables(Value, Mapping[str, bytes]):
         """The set of these variables, in any order, or one without any. ``Refused`` has a kind ``PUT_..``."""
         data = EMPTY
         for name, held in (variables or {}).items():
-            data = set_put(data, name, bytes_in(held)[0])
+            data = vars_put(data, name, bytes_in(held)[0])
         self._fill(data)
 
     @classmethod
@@ -302,7 +304,7 @@ class BootVariables(Value, Mapping[str, bytes]):
         return variables
 
     def _fill(self, data: bytes) -> None:
-        self._set(_data=data, _by_name=set_variables(data))
+        self._set(_data=data, _by_name=vars_list(data))
 
     def __getitem__(self, name: str) -> bytes:
         return self._by_name[name]
@@ -319,17 +321,17 @@ class BootVariables(Value, Mapping[str, bytes]):
     @property
     def plan(self) -> Plan:
         """What a boot would try. ``Refused`` has ``VARS_BAD_ORDER`` or ``VARS_BAD_NEXT``."""
-        return set_plan(self._data)
+        return vars_plan(self._data)
 
     @property
     def at_risk(self) -> AtRisk:
         """The entries that a start of firmware may write over or delete. ``Refused`` as of :attr:`plan`."""
-        return set_at_risk(self._data)
+        return vars_at_risk(self._data)
 
     @property
     def named(self) -> Tuple[NamedEntry, ...]:
         """What BootNext and then BootOrder name, also where there is no such entry. ``Refused`` as of :attr:`plan`."""
-        return set_named(self._data)
+        return vars_named(self._data)
 
     @property
     def order(self) -> Tuple[EntryNumber, ...]:
@@ -344,7 +346,7 @@ class BootVariables(Value, Mapping[str, bytes]):
     @property
     def lowest_free(self) -> Optional[EntryNumber]:
         """The lowest number without an entry; ``None`` if all are taken."""
-        return set_lowest_free(self._data)
+        return vars_lowest_free(self._data)
 
     @property
     def entries(self) -> Tuple[Entry, ...]:
@@ -370,7 +372,7 @@ class BootVariables(Value, Mapping[str, bytes]):
             option = LoadOption.from_bytes(data)
         except Refused as why:
             fault = why
-        state = set_entry(self._data, number)
+        state = vars_entry(self._data, number)
         return Entry(number, data, state, option, fault, places.get(number), number == following)
 
     def option(self, number: int) -> LoadOption:
@@ -381,11 +383,11 @@ class BootVariables(Value, Mapping[str, bytes]):
 
     def with_variable(self, name: str, data: Union[LoadOption, Bytes]) -> BootVariables:
         """The set with this data for the variable of this name. ``Refused`` has a kind ``PUT_..``."""
-        return BootVariables.from_bytes(set_put(self._data, name, bytes_in(data)[0]))
+        return BootVariables.from_bytes(vars_put(self._data, name, bytes_in(data)[0]))
 
     def without(self, name: str) -> BootVariables:
         """The set without the variable of this name; ``KeyError`` if it has none."""
-        return BootVariables.from_bytes(set_remove(self._data, name))
+        return BootVariables.from_bytes(vars_remove(self._data, name))
 
     def with_entry(
         self,
@@ -396,50 +398,50 @@ class BootVariables(Value, Mapping[str, bytes]):
     ) -> WithEntry:
         """The set with this load option as an entry: under this number, or the lowest free one, and with this position in
         BootOrder. If an entry with its description and its paths is there, nothing is changed, unless it is added again.
-        ``Refused`` as of :func:`set_edit`."""
+        ``Refused`` as of :func:`vars_edit`."""
         edit = Edit(EditKind.ADD, option=option, number=number, position=position, again=again)
-        edited = set_edit(self._data, edit)
+        edited = vars_edit(self._data, edit)
         assert edited.entry is not None  # An entry is added, or is there.
         is_new = edited.kind == EditedKind.ADDED
         return WithEntry(BootVariables.from_bytes(edited.data), edited.entry, is_new)
 
     def without_entries(self, numbers: Sequence[int]) -> BootVariables:
         """The set without these entries, their numbers in BootOrder, and a BootNext that names one. ``Refused`` as of
-        :func:`set_edit`."""
+        :func:`vars_edit`."""
         return self._edited(Edit(EditKind.REMOVE, numbers))
 
     def with_first(self, numbers: Sequence[int]) -> BootVariables:
-        """The set with these entries first in BootOrder, in this sequence. ``Refused`` as of :func:`set_edit`."""
+        """The set with these entries first in BootOrder, in this sequence. ``Refused`` as of :func:`vars_edit`."""
         return self._edited(Edit(EditKind.FIRST, numbers))
 
     def with_order(
         self, numbers: Sequence[int], only: bool = False, stale: bool = False
     ) -> BootVariables:
         """The set with a BootOrder of these numbers, and unless they are to be the only ones those behind them that it had.
-        If it may be stale, a number needs no entry. ``Refused`` as of :func:`set_edit`.
+        If it may be stale, a number needs no entry. ``Refused`` as of :func:`vars_edit`.
         """
         return self._edited(Edit(EditKind.ORDER, numbers, only=only, stale=stale))
 
     def without_repeats(self) -> BootVariables:
-        """The set with each number of BootOrder once, where that is first. ``Refused`` as of :func:`set_edit`."""
+        """The set with each number of BootOrder once, where that is first. ``Refused`` as of :func:`vars_edit`."""
         return self._edited(Edit(EditKind.UNREPEAT))
 
     def with_next(self, number: Optional[int]) -> BootVariables:
-        """The set with this entry as BootNext, or without BootNext. ``Refused`` as of :func:`set_edit`."""
+        """The set with this entry as BootNext, or without BootNext. ``Refused`` as of :func:`vars_edit`."""
         return self._edited(Edit(EditKind.NEXT, number=number))
 
     def with_timeout(self, seconds: Optional[int]) -> BootVariables:
-        """The set with a Timeout of so many seconds, or without Timeout. ``Refused`` as of :func:`set_edit`."""
+        """The set with a Timeout of so many seconds, or without Timeout. ``Refused`` as of :func:`vars_edit`."""
         return self._edited(Edit(EditKind.TIMEOUT, number=seconds))
 
     def with_active(self, numbers: Sequence[int], active: bool = True) -> BootVariables:
-        """The set with these entries active, or not. ``Refused`` as of :func:`set_edit`."""
+        """The set with these entries active, or not. ``Refused`` as of :func:`vars_edit`."""
         kind = EditKind.ACTIVATE if active else EditKind.DEACTIVATE
         return self._edited(Edit(kind, numbers))
 
     def _edited(self, edit: Edit) -> BootVariables:
-        return BootVariables.from_bytes(set_edit(self._data, edit).data)
+        return BootVariables.from_bytes(vars_edit(self._data, edit).data)
 
     def changes_to(self, other: BootVariables) -> Tuple[Change, ...]:
-        """The changes that lead from here to the boot manager's variables of another set, as of :func:`set_changes`."""
-        return set_changes(self._data, bytes(other))
+        """The changes that lead from here to the boot manager's variables of another set, as of :func:`vars_changes`."""
+        return vars_changes(self._data, bytes(other))

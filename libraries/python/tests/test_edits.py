@@ -73,7 +73,7 @@ class Edits(unittest.TestCase):
         """What is told of the edit of a case."""
         before = variables_of(stated["vars"])
         try:
-            edited = bootkeep.set_edit(bytes(before), bootkeep.Edit(**asked_of(stated)))
+            edited = bootkeep.vars_edit(bytes(before), bootkeep.Edit(**asked_of(stated)))
         except bootkeep.Refused as why:
             self.assertNotIn("after", stated)
             return fault_words(why)

@@ -89,7 +89,7 @@ class Values(unittest.TestCase):
                 self.assertIsInstance(why, ValueError)
 
     def test_an_option_has_its_parts(self) -> None:
-        made = bootkeep.option_make(bootkeep.OPTION_ACTIVE, "Bööt", [TEXT, PATH], b"\1\0")
+        made = bootkeep.option_make(bootkeep.ATTRIBUTE_ACTIVE, "Bööt", [TEXT, PATH], b"\1\0")
         option = bootkeep.option_parts(made)
         self.assertEqual(option.description, "Bööt")
         self.assertEqual(option.description_line, "B\\00f6\\00f6t")
@@ -97,7 +97,7 @@ class Values(unittest.TestCase):
         self.assertEqual((option.paths, option.optional), ((PATH, PATH), b"\1\0"))
         self.assertTrue(option.is_normal)
         app = bootkeep.option_parts(
-            bootkeep.option_make(bootkeep.OPTION_CATEGORY_APP | 1, "", [PATH])
+            bootkeep.option_make(bootkeep.ATTRIBUTE_CATEGORY_APP | 1, "", [PATH])
         )
         self.assertEqual((app.is_active, app.is_normal), (True, False))
 
@@ -122,8 +122,8 @@ class Values(unittest.TestCase):
             self.assertRaises(TypeError, bootkeep.option_make, 5, none, [PATH])
 
     def test_each_option_is_made_again_of_its_parts(self) -> None:
-        for name, data in bootkeep.set_variables(SET).items():
-            if name.startswith("Boot0") and bootkeep.set_entry(SET, int(name[4:], 16)) != 2:
+        for name, data in bootkeep.vars_list(SET).items():
+            if name.startswith("Boot0") and bootkeep.vars_entry(SET, int(name[4:], 16)) != 2:
                 it = bootkeep.option_parts(data)
                 parts = (it.attributes, it.description_bytes, it.paths, it.optional)
                 self.assertEqual(bootkeep.option_make_units(*parts), data)
@@ -139,16 +139,16 @@ class Values(unittest.TestCase):
         self.assertEqual(bootkeep.option_parts(bootkeep.option_make(1, "", [text])).paths, (path,))
 
     def test_the_variables_are_those_that_are_got(self) -> None:
-        variables = bootkeep.set_variables(SET)
+        variables = bootkeep.vars_list(SET)
         self.assertEqual(list(variables), sorted(variables))
         for name, data in variables.items():
-            self.assertEqual(bootkeep.set_get(SET, name), data)
+            self.assertEqual(bootkeep.vars_get(SET, name), data)
             self.assertIs(type(data), bytes)
-        with_one = bootkeep.set_put(SET, "Nothing", b"1")
-        self.assertEqual(bootkeep.set_variables(with_one)["Nothing"], b"1")
-        self.assertEqual(bootkeep.set_remove(with_one, "Nothing"), SET)
-        self.assertRaises(KeyError, bootkeep.set_get, SET, "Nothing")
-        self.assertRaises(KeyError, bootkeep.set_remove, SET, "Nothing")
+        with_one = bootkeep.vars_put(SET, "Nothing", b"1")
+        self.assertEqual(bootkeep.vars_list(with_one)["Nothing"], b"1")
+        self.assertEqual(bootkeep.vars_remove(with_one, "Nothing"), SET)
+        self.assertRaises(KeyError, bootkeep.vars_get, SET, "Nothing")
+        self.assertRaises(KeyError, bootkeep.vars_remove, SET, "Nothing")
 
     def test_the_first_fault_of_an_image_is_told(self) -> None:
         found = bootkeep.image_check(b"")
@@ -197,8 +197,8 @@ class Values(unittest.TestCase):
         )
 
     def test_changes_have_names(self) -> None:
-        after = bootkeep.set_remove(bootkeep.set_put(SET, "Boot00AF", b"1"), "BootNext")
-        changes = [(it.name, it.kind) for it in bootkeep.set_changes(SET, after)]
+        after = bootkeep.vars_remove(bootkeep.vars_put(SET, "Boot00AF", b"1"), "BootNext")
+        changes = [(it.name, it.kind) for it in bootkeep.vars_changes(SET, after)]
         wanted = [("Boot00AF", 1), ("BootNext", 3)]
         self.assertEqual(changes, wanted)
 
@@ -215,14 +215,14 @@ class Values(unittest.TestCase):
         for number in (0x10000, 0x10004, 0xFFFFFFFF):
             name = _sets._variable_name(number)
             self.assertEqual(name, f"variable 0x{number:08x}")
-            self.assertRaises(KeyError, bootkeep.set_get, SET, name)
+            self.assertRaises(KeyError, bootkeep.vars_get, SET, name)
 
     def test_states_are_of_entries(self) -> None:
-        plan = bootkeep.set_plan(SET)
-        free = bootkeep.set_lowest_free(SET)
+        plan = bootkeep.vars_plan(SET)
+        free = bootkeep.vars_lowest_free(SET)
         assert free is not None
-        self.assertEqual(bootkeep.set_entry(SET, plan.normal[0]), bootkeep.EntryState.NORMAL)
-        self.assertEqual(bootkeep.set_entry(SET, free), bootkeep.EntryState.ABSENT)
+        self.assertEqual(bootkeep.vars_entry(SET, plan.normal[0]), bootkeep.EntryState.NORMAL)
+        self.assertEqual(bootkeep.vars_entry(SET, free), bootkeep.EntryState.ABSENT)
 
     def test_a_run_is_that_of_a_keeper(self) -> None:
         after, lines = bootkeep.run(SET, STREAM)
@@ -231,12 +231,12 @@ class Values(unittest.TestCase):
             self.assertEqual(keeper.set, after)
 
     def test_names_of_before_stay(self) -> None:
-        self.assertEqual(bootkeep.plan(SET), bootkeep.set_plan(SET))
-        self.assertEqual(bootkeep.entries_at_risk(SET), bootkeep.set_at_risk(SET))
+        self.assertEqual(bootkeep.plan(SET), bootkeep.vars_plan(SET))
+        self.assertEqual(bootkeep.entries_at_risk(SET), bootkeep.vars_at_risk(SET))
         self.assertEqual(bootkeep.check_path(PATH), bootkeep.path_check(PATH))
-        self.assertEqual(bootkeep.text_path(TEXT), bootkeep.path_parse(TEXT))
-        self.assertRaises(bootkeep.Refused, bootkeep.text_path, "Scsi(0x1,0x2)")
-        made = bootkeep.option_make(bootkeep.OPTION_ACTIVE, "", [PATH])
+        self.assertEqual(bootkeep.path_parse_exact(TEXT), bootkeep.path_parse(TEXT))
+        self.assertRaises(bootkeep.Refused, bootkeep.path_parse_exact, "Scsi(0x1,0x2)")
+        made = bootkeep.option_make(bootkeep.ATTRIBUTE_ACTIVE, "", [PATH])
         self.assertEqual(bootkeep.option(made), bootkeep.option_parts(made))
 
     def test_each_public_name_is_there(self) -> None:
@@ -296,9 +296,9 @@ class Faults(unittest.TestCase):
 
     def test_bytes_are_no_text_and_texts_no_bytes(self) -> None:
         wrong: Any = b"Boot0000"
-        for call in (bootkeep.set_get, bootkeep.set_remove):
+        for call in (bootkeep.vars_get, bootkeep.vars_remove):
             self.assertRaises(TypeError, call, SET, wrong)
-        self.assertRaises(TypeError, bootkeep.set_put, SET, wrong, b"1")
+        self.assertRaises(TypeError, bootkeep.vars_put, SET, wrong, b"1")
         self.assertRaises(TypeError, bootkeep.path_parse, wrong)
         self.assertRaises(TypeError, bootkeep.option_make, 1, wrong, [PATH])
         for text in ("text", None, 5):
@@ -307,12 +307,12 @@ class Faults(unittest.TestCase):
             self.assertRaises(TypeError, bootkeep.Keeper, given)
 
     def test_numbers_have_their_bits(self) -> None:
-        self.assertRaises(OverflowError, bootkeep.set_entry, SET, 0x10000)
+        self.assertRaises(OverflowError, bootkeep.vars_entry, SET, 0x10000)
         self.assertRaises(OverflowError, bootkeep.option_make, -1, "", [PATH])
         self.assertRaises(OverflowError, bootkeep.frame_make, 0, RequestKind.ORDER, order=[0x10000])
         self.assertRaises(OverflowError, bootkeep.frame_make, 0, RequestKind.REMOVE, entry=0x10000)
         fraction: Any = 1.5
-        self.assertRaises(TypeError, bootkeep.set_entry, SET, fraction)
+        self.assertRaises(TypeError, bootkeep.vars_entry, SET, fraction)
 
     def test_a_request_has_the_parts_of_its_kind_alone(self) -> None:
         parts = {"entry": 0, "option": bootkeep.option_make(1, "", [PATH]), "order": [0]}
@@ -383,7 +383,7 @@ class Keepers(unittest.TestCase):
         with bootkeep.Keeper(SET) as keeper:
             added = keeper.deliver(bootkeep.frame_make(0, RequestKind.ADD_FREE, option=option))
             self.assertEqual((added.kind, added.outcome), (ReplyKind.APPLIED, Outcome.DONE))
-            self.assertEqual((added.entry, added.next_number), (bootkeep.set_lowest_free(SET), 1))
+            self.assertEqual((added.entry, added.next_number), (bootkeep.vars_lowest_free(SET), 1))
             self.assertEqual(str(keeper.deliver(removal(2))), "waiting 1")
             malformed = keeper.deliver(b"")
             self.assertEqual(
@@ -394,14 +394,14 @@ class Keepers(unittest.TestCase):
 
     def test_a_request_puts_an_entry_first(self) -> None:
         option = bootkeep.option_make(1, "Mine", [PATH])
-        *others, last = bootkeep.set_plan(SET).normal
+        *others, last = bootkeep.vars_plan(SET).normal
         with bootkeep.Keeper(SET) as keeper:
             added = keeper.deliver(bootkeep.frame_make(0, RequestKind.ADD_FIRST, option=option))
             self.assertEqual((added.outcome, added.next_number), (Outcome.DONE, 1))
-            self.assertEqual(added.entry, bootkeep.set_lowest_free(SET))
+            self.assertEqual(added.entry, bootkeep.vars_lowest_free(SET))
             first = keeper.deliver(bootkeep.frame_make(1, RequestKind.FIRST, entry=last))
             self.assertEqual(str(first), "applied Done 2")
-            normal = bootkeep.set_plan(keeper.set).normal
+            normal = bootkeep.vars_plan(keeper.set).normal
             self.assertEqual(normal, (last, added.entry, *others))
 
     def test_a_plan_is_handed_out_once(self) -> None:
@@ -410,10 +410,10 @@ class Keepers(unittest.TestCase):
             prepared = keeper.prepare()
             plan = keeper.hand()
             assert plan is not None
-            self.assertEqual(plan, bootkeep.set_plan(SET))
+            self.assertEqual(plan, bootkeep.vars_plan(SET))
             self.assertEqual(prepared.count, len(plan.normal) + (plan.next is not None))
             self.assertIsNone(keeper.hand())
-            self.assertNotIn("BootNext", bootkeep.set_variables(keeper.set))
+            self.assertNotIn("BootNext", bootkeep.vars_list(keeper.set))
 
     def test_one_that_is_closed_says_so(self) -> None:
         keeper = bootkeep.Keeper(SET)

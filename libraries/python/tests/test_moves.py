@@ -7,10 +7,10 @@ import copy
 import unittest
 from dataclasses import dataclass, field
 from pathlib import Path
-from typing import Dict, Iterator, List, Optional
+from typing import Dict, Iterator, List, Optional, Union
 
 import bootkeep
-from bootkeep import Became, EndKind, Fault, MachineState, Move, MoveKind, Moves
+from bootkeep import Became, EndKind, Fault, MachineState, Move, MoveKind, Moves, Restore
 
 ROOT = Path(__file__).resolve().parents[3]
 
@@ -78,10 +78,12 @@ class Machine:
         else:
             self.variables[move.name or ""] = move.data or b""
 
-    def run(self, stream: Optional[bytes], answers: Iterator[Became]) -> Optional[bootkeep.End]:
+    def run(
+        self, wanted: Union[bytes, Restore, None], answers: Iterator[Became]
+    ) -> Optional[bootkeep.End]:
         """How a command ended whose moves become so; ``None`` if the answers ended before it, as if power failed. The move
         for which there is no answer isn't made."""
-        with Moves(self.state(), stream) as moves:
+        with Moves(self.state(), wanted) as moves:
             while (move := moves.next()) is not None:
                 became = next(answers, None)
                 if became is None:
@@ -191,6 +193,50 @@ class Commands(unittest.TestCase):
         )
         self.machine.run(None, all_done())
         self.assertIn(self.machine.variables, (self.old, self.new))
+
+
+class Restoring(unittest.TestCase):
+    """Commands that bring back what was there before a change."""
+
+    def setUp(self) -> None:
+        self.machine = new_machine()
+        self.old = dict(self.machine.variables)
+        self.back = Restore(self.machine.state().variables)
+        self.machine.run(frames(), all_done())
+        self.new = dict(self.machine.variables)
+
+    def test_it_undoes_a_change(self) -> None:
+        self.assertNotEqual(self.new, self.old)
+        end = self.machine.run(self.back, all_done())
+        assert end is not None
+        self.assertEqual((end.kind, end.replies), (EndKind.DONE, ()))
+        self.assertEqual(self.machine.variables, self.old)
+
+    def test_it_leaves_other_variables_alone(self) -> None:
+        self.machine.variables["Other"] = b"new"
+        self.machine.run(self.back, all_done())
+        self.assertEqual(self.machine.variables, {**self.old, "Other": b"new"})
+
+    def test_it_is_whole_wherever_it_is_cut(self) -> None:
+        whole = copy.deepcopy(self.machine)
+        whole.made = []
+        whole.run(self.back, all_done())
+        for place in range(len(whole.made)):
+            with self.subTest(place):
+                machine = copy.deepcopy(self.machine)
+                self.assertIsNone(machine.run(self.back, cut(place)))
+                machine.run(None, all_done())
+                self.assertEqual(machine.variables, self.old if place else self.new)
+
+    def test_what_is_no_set_with_data_is_refused(self) -> None:
+        for back, fault in (
+            (b"BVS2", Fault.SET_BAD_MAGIC),
+            (bytes(bootkeep.BootVariables({"Boot0001": NEW})), Fault.MACHINE_NO_DATA),
+            (bytes(bootkeep.BootVariables({"Timeout": b"1"})), Fault.MACHINE_NO_DATA),
+        ):
+            with self.subTest(back), self.assertRaises(bootkeep.Refused) as raised:
+                Moves(self.machine.state(), Restore(back))
+            self.assertEqual(raised.exception.kind, fault)
 
 
 class Values(unittest.TestCase):

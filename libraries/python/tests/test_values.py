@@ -298,7 +298,7 @@ class Sets(OfCases):
             self.assertEqual(entry.is_in_order, number in variables.order)
             if entry.order_place is not None:
                 self.assertEqual(variables.order[entry.order_place], number)
-            self.assertEqual(entry.state, bootkeep.set_entry(SET, number))
+            self.assertEqual(entry.state, bootkeep.vars_entry(SET, number))
             self.assertEqual(str(entry).split()[0], number.name)
         normal = [number for number in variables.order if number in entries]
         normal = [it for it in normal if entries[it].state == bootkeep.EntryState.NORMAL]
@@ -317,7 +317,7 @@ class Sets(OfCases):
 
     def test_it_is_a_mapping(self) -> None:
         variables = BootVariables.from_bytes(SET)
-        self.assertEqual(dict(variables), bootkeep.set_variables(SET))
+        self.assertEqual(dict(variables), bootkeep.vars_list(SET))
         self.assertIn("BootOrder", variables)
         self.assertRaises(KeyError, lambda: variables["Nothing"])
         with_one = variables.with_variable("Nothing", b"1")

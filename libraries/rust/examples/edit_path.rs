@@ -2,7 +2,7 @@
 //!
 //! edit_path SET 0001 '\EFI\BOOT\BOOTX64.EFI' >OTHER
 
-use bootkeep::{set, EntryNumber, Node};
+use bootkeep::{vars, EntryNumber, Node};
 use std::io::{self, Write};
 
 fn main() -> Result<(), Box<dyn std::error::Error>> {
@@ -12,11 +12,11 @@ fn main() -> Result<(), Box<dyn std::error::Error>> {
         _ => return Err("three words are wanted: SET 0001 FILE".into()),
     };
     let (variables, number) = (std::fs::read(file)?, entry.parse::<EntryNumber>()?);
-    let option = set::option(&variables, number)?;
+    let option = vars::option(&variables, number)?;
     let mut paths = option.paths();
     paths[0] = paths[0].replace_last(Node::file(name)?)?;
     let changed = option.with_paths(&paths)?;
     eprintln!("Boot{number} {changed}");
-    io::stdout().write_all(&set::put(&variables, &number.name(), changed.as_ref())?)?;
+    io::stdout().write_all(&vars::put(&variables, &number.name(), changed.as_ref())?)?;
     Ok(())
 }

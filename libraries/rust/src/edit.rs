@@ -5,7 +5,7 @@ use crate::error::Error;
 use crate::library::{self, RawEdit};
 use crate::numbers::*;
 use crate::option::LoadOption;
-use crate::set::entry_number;
+use crate::vars::entry_number;
 
 /// What is to be done with a set. A list of numbers names entries, no one twice.
 #[derive(Clone, Copy, Debug, PartialEq, Eq, Hash)]
@@ -101,7 +101,7 @@ pub enum EditOutcome {
 pub(crate) fn edited(set: &[u8], edit: Edit<'_>) -> Result<Edited, Error> {
     let (asked, numbers, option) = arguments(edit);
     let numbers: Vec<u16> = numbers.iter().map(|entry| entry.0).collect();
-    let (set, edited) = library::set_edit(&asked, &numbers, option, set)?;
+    let (set, edited) = library::vars_edit(&asked, &numbers, option, set)?;
     Ok(Edited { set, outcome: EditOutcome::of(edited.kind, edited.entry) })
 }
 

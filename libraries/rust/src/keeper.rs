@@ -5,7 +5,7 @@ use crate::error::{Error, Fault, Refusal};
 use crate::frame::{self, Request};
 use crate::library::{Event, Handle, RawReply, WordOf};
 use crate::numbers::*;
-use crate::set::{entry_number, Plan};
+use crate::vars::{entry_number, Plan};
 use std::fmt;
 
 /// What came of a request.

@@ -3,18 +3,18 @@
 //! what it has to be, with the number and the place of its first fault.
 //!
 //! Values are read of bytes, which they give again: [`DevicePath`], [`LoadOption`]. Sets are bytes, which the calls of
-//! [`set`] read and make:
+//! [`vars`] read and make:
 //!
 //! ```
-//! use bootkeep::{option, set, DevicePath, EntryNumber, LoadOption};
+//! use bootkeep::{option, vars, DevicePath, EntryNumber, LoadOption};
 //!
 //! # fn main() -> Result<(), Box<dyn std::error::Error>> {
 //! let path: DevicePath = r"PciRoot(0x0)/Pci(0x1,0x0)/\EFI\a.efi".parse()?;
 //! let option = LoadOption::new(option::ACTIVE, "Mine", &[path], b"")?;
-//! let variables = set::put(set::EMPTY, &EntryNumber(5).name(), option.as_ref())?;
-//! let variables = set::put(&variables, "BootOrder", &[5, 0])?;
-//! assert_eq!(set::plan(&variables)?.to_string(), "plan next - normal 0005");
-//! for entry in set::entries(&variables)? {
+//! let variables = vars::put(vars::EMPTY, &EntryNumber(5).name(), option.as_ref())?;
+//! let variables = vars::put(&variables, "BootOrder", &[5, 0])?;
+//! assert_eq!(vars::plan(&variables)?.to_string(), "plan next - normal 0005");
+//! for entry in vars::entries(&variables)? {
 //!     assert_eq!(entry.to_string(), r"Boot0005 normal Mine PciRoot(0x0)/Pci(0x1,0x0)/File(\EFI\a.efi)");
 //! }
 //! # Ok(())
@@ -25,13 +25,13 @@
 //!
 //! ```
 //! use bootkeep::frame::Request;
-//! use bootkeep::{set, EntryNumber, Keeper};
+//! use bootkeep::{vars, EntryNumber, Keeper};
 //!
 //! # fn main() -> Result<(), bootkeep::Error> {
-//! let mut keeper = Keeper::open(&set::put(set::EMPTY, "Boot0001", b"any")?)?;
+//! let mut keeper = Keeper::open(&vars::put(vars::EMPTY, "Boot0001", b"any")?)?;
 //! let reply = keeper.request(Request::Next(EntryNumber(1)))?;
 //! assert_eq!(reply.to_string(), "applied Done 1");
-//! assert_eq!(set::get(&keeper.set()?, "BootNext")?, [1, 0]);
+//! assert_eq!(vars::get(&keeper.set()?, "BootNext")?, [1, 0]);
 //! # Ok(())
 //! # }
 //! ```
@@ -63,7 +63,7 @@ mod moves;
 mod numbers;
 pub mod option;
 pub mod path;
-pub mod set;
+pub mod vars;
 
 pub use entry::{BadEntryNumber, EntryNumber};
 pub use error::{Error, Fault, Refusal};

@@ -162,24 +162,24 @@ extern "C" {
     fn bootkeep_path_names(bytes: *const u8, bytes_len: usize, out: *mut u8, cap: usize, len: *mut usize, taken: *mut usize, refusal: *mut RawRefusal) -> u32;
     fn bootkeep_path_check(bytes: *const u8, bytes_len: usize, taken: *mut usize, refusal: *mut RawRefusal) -> u32;
     fn bootkeep_path_parse(text: *const u8, text_len: usize, out: *mut u8, cap: usize, len: *mut usize, refusal: *mut RawRefusal) -> u32;
-    fn bootkeep_text_path(text: *const u8, text_len: usize, out: *mut u8, cap: usize, len: *mut usize, refusal: *mut RawRefusal) -> u32;
+    fn bootkeep_path_parse_exact(text: *const u8, text_len: usize, out: *mut u8, cap: usize, len: *mut usize, refusal: *mut RawRefusal) -> u32;
     fn bootkeep_option_parts(bytes: *const u8, bytes_len: usize, parts: *mut RawParts, refusal: *mut RawRefusal) -> u32;
     fn bootkeep_option_description(bytes: *const u8, bytes_len: usize, out: *mut u8, cap: usize, len: *mut usize, refusal: *mut RawRefusal) -> u32;
     fn bootkeep_option_description_utf8(bytes: *const u8, bytes_len: usize, out: *mut u8, cap: usize, len: *mut usize, refusal: *mut RawRefusal) -> u32;
     fn bootkeep_option_make(attributes: u32, description: *const u8, description_len: usize, list: *const u8, list_len: usize, optional: *const u8, optional_len: usize, out: *mut u8, cap: usize, len: *mut usize, refusal: *mut RawRefusal) -> u32;
     fn bootkeep_option_make_units(attributes: u32, units: *const u16, units_len: usize, list: *const u8, list_len: usize, optional: *const u8, optional_len: usize, out: *mut u8, cap: usize, len: *mut usize, refusal: *mut RawRefusal) -> u32;
     fn bootkeep_frame_make(number: u32, kind: u32, entry: u16, option: *const u8, option_len: usize, order: *const u16, order_len: usize, out: *mut u8, cap: usize, len: *mut usize, refusal: *mut RawRefusal) -> u32;
-    fn bootkeep_set_plan(set: *const u8, set_len: usize, numbers: *mut u16, cap: usize, len: *mut usize, next: *mut u32, refusal: *mut RawRefusal) -> u32;
-    fn bootkeep_set_at_risk(set: *const u8, set_len: usize, numbers: *mut u16, cap: usize, len: *mut usize, unnamed: *mut usize, refusal: *mut RawRefusal) -> u32;
-    fn bootkeep_set_get(set: *const u8, set_len: usize, name: *const u8, name_len: usize, out: *mut u8, cap: usize, len: *mut usize, refusal: *mut RawRefusal) -> u32;
-    fn bootkeep_set_put(set: *const u8, set_len: usize, name: *const u8, name_len: usize, data: *const u8, data_len: usize, out: *mut u8, cap: usize, len: *mut usize, refusal: *mut RawRefusal) -> u32;
-    fn bootkeep_set_remove(set: *const u8, set_len: usize, name: *const u8, name_len: usize, out: *mut u8, cap: usize, len: *mut usize, refusal: *mut RawRefusal) -> u32;
-    fn bootkeep_set_variables(set: *const u8, set_len: usize, variables: *mut RawVariable, cap: usize, len: *mut usize, refusal: *mut RawRefusal) -> u32;
-    fn bootkeep_set_named(set: *const u8, set_len: usize, named: *mut RawNamed, cap: usize, len: *mut usize, refusal: *mut RawRefusal) -> u32;
-    fn bootkeep_set_lowest_free(set: *const u8, set_len: usize, number: *mut u32, refusal: *mut RawRefusal) -> u32;
-    fn bootkeep_set_entry(set: *const u8, set_len: usize, number: u16, state: *mut u32, refusal: *mut RawRefusal) -> u32;
-    fn bootkeep_set_changes(from: *const u8, from_len: usize, to: *const u8, to_len: usize, changes: *mut RawChange, cap: usize, len: *mut usize, refusal: *mut RawRefusal) -> u32;
-    fn bootkeep_set_edit(edit: *const RawEdit, numbers: *const u16, numbers_len: usize, option: *const u8, option_len: usize, set: *const u8, set_len: usize, out: *mut u8, cap: usize, len: *mut usize, edited: *mut RawEdited, refusal: *mut RawRefusal) -> u32;
+    fn bootkeep_vars_plan(set: *const u8, set_len: usize, numbers: *mut u16, cap: usize, len: *mut usize, next: *mut u32, refusal: *mut RawRefusal) -> u32;
+    fn bootkeep_vars_at_risk(set: *const u8, set_len: usize, numbers: *mut u16, cap: usize, len: *mut usize, unnamed: *mut usize, refusal: *mut RawRefusal) -> u32;
+    fn bootkeep_vars_get(set: *const u8, set_len: usize, name: *const u8, name_len: usize, out: *mut u8, cap: usize, len: *mut usize, refusal: *mut RawRefusal) -> u32;
+    fn bootkeep_vars_put(set: *const u8, set_len: usize, name: *const u8, name_len: usize, data: *const u8, data_len: usize, out: *mut u8, cap: usize, len: *mut usize, refusal: *mut RawRefusal) -> u32;
+    fn bootkeep_vars_remove(set: *const u8, set_len: usize, name: *const u8, name_len: usize, out: *mut u8, cap: usize, len: *mut usize, refusal: *mut RawRefusal) -> u32;
+    fn bootkeep_vars_list(set: *const u8, set_len: usize, variables: *mut RawVariable, cap: usize, item_size: usize, len: *mut usize, refusal: *mut RawRefusal) -> u32;
+    fn bootkeep_vars_named(set: *const u8, set_len: usize, named: *mut RawNamed, cap: usize, item_size: usize, len: *mut usize, refusal: *mut RawRefusal) -> u32;
+    fn bootkeep_vars_lowest_free(set: *const u8, set_len: usize, number: *mut u32, refusal: *mut RawRefusal) -> u32;
+    fn bootkeep_vars_entry(set: *const u8, set_len: usize, number: u16, state: *mut u32, refusal: *mut RawRefusal) -> u32;
+    fn bootkeep_vars_changes(from: *const u8, from_len: usize, to: *const u8, to_len: usize, changes: *mut RawChange, cap: usize, item_size: usize, len: *mut usize, refusal: *mut RawRefusal) -> u32;
+    fn bootkeep_vars_edit(edit: *const RawEdit, numbers: *const u16, numbers_len: usize, option: *const u8, option_len: usize, set: *const u8, set_len: usize, out: *mut u8, cap: usize, len: *mut usize, edited: *mut RawEdited, refusal: *mut RawRefusal) -> u32;
     fn bootkeep_run(set: *const u8, set_len: usize, stream: *const u8, stream_len: usize, set_out: *mut u8, set_cap: usize, set_len_out: *mut usize, lines: *mut u8, lines_cap: usize, lines_len: *mut usize, refusal: *mut RawRefusal) -> u32;
     fn bootkeep_keeper_open(keeper: *mut RawKeeper, set: *const u8, set_len: usize, refusal: *mut RawRefusal) -> u32;
     fn bootkeep_keeper_deliver_reply(keeper: *mut RawKeeper, frame: *const u8, frame_len: usize, reply: *mut RawReply, numbers: *mut u16, cap: usize, len: *mut usize) -> u32;
@@ -191,6 +191,7 @@ extern "C" {
     fn bootkeep_keeper_close(keeper: *mut RawKeeper) -> u32;
     fn bootkeep_moves_requests(moves: *mut RawMoves, machine: *const u8, machine_len: usize, start: *const u8, start_len: usize, variables: *const u8, variables_len: usize, journal: *const u8, journal_len: usize, stream: *const u8, stream_len: usize, refusal: *mut RawRefusal) -> u32;
     fn bootkeep_moves_edit(moves: *mut RawMoves, machine: *const u8, machine_len: usize, start: *const u8, start_len: usize, variables: *const u8, variables_len: usize, journal: *const u8, journal_len: usize, edit: *const RawEdit, numbers: *const u16, numbers_len: usize, option: *const u8, option_len: usize, refusal: *mut RawRefusal) -> u32;
+    fn bootkeep_moves_restore(moves: *mut RawMoves, machine: *const u8, machine_len: usize, start: *const u8, start_len: usize, variables: *const u8, variables_len: usize, journal: *const u8, journal_len: usize, back: *const u8, back_len: usize, refusal: *mut RawRefusal) -> u32;
     fn bootkeep_moves_settle(moves: *mut RawMoves, machine: *const u8, machine_len: usize, start: *const u8, start_len: usize, variables: *const u8, variables_len: usize, journal: *const u8, journal_len: usize, refusal: *mut RawRefusal) -> u32;
     fn bootkeep_moves_next(moves: *mut RawMoves, kind: *mut u32) -> u32;
     fn bootkeep_moves_name(moves: *mut RawMoves, out: *mut u8, cap: usize, len: *mut usize) -> u32;
@@ -201,7 +202,7 @@ extern "C" {
     fn bootkeep_moves_close(moves: *mut RawMoves) -> u32;
     fn bootkeep_image_check(image: *const u8, image_len: usize, stage: *mut u32, effect: *mut u32, refusal: *mut RawRefusal) -> u32;
     fn bootkeep_image_digest(image: *const u8, image_len: usize, out: *mut u8, cap: usize, len: *mut usize, refusal: *mut RawRefusal) -> u32;
-    fn bootkeep_signature_lists(bytes: *const u8, bytes_len: usize, lists: *mut RawList, cap: usize, len: *mut usize, refusal: *mut RawRefusal) -> u32;
+    fn bootkeep_signature_lists(bytes: *const u8, bytes_len: usize, lists: *mut RawList, cap: usize, item_size: usize, len: *mut usize, refusal: *mut RawRefusal) -> u32;
 }
 
 /// The error of a status that isn't done.
@@ -249,6 +250,11 @@ fn given_alone<T: Copy + Default>(
     mut call: impl FnMut(&mut [T], &mut usize, &mut RawRefusal) -> u32,
 ) -> Result<Vec<T>, Error> {
     Ok(given(room, |items, len, _beside: &mut (), refusal| call(items, len, refusal))?.0)
+}
+
+/// How many bytes each of the items has.
+fn item_size<T>(_items: &[T]) -> usize {
+    size_of::<T>()
 }
 
 // In each call below, every pointer is to a value or a slice that lives until the call returns, its number is the
@@ -299,9 +305,9 @@ pub(crate) fn path_parse(text: &str) -> Result<Vec<u8>, Error> {
     })
 }
 
-pub(crate) fn text_path(text: &str) -> Result<Vec<u8>, Error> {
+pub(crate) fn path_parse_exact(text: &str) -> Result<Vec<u8>, Error> {
     given_alone(ROOM, |out, len, refusal| unsafe {
-        bootkeep_text_path(text.as_ptr(), text.len(), out.as_mut_ptr(), out.len(), len, refusal)
+        bootkeep_path_parse_exact(text.as_ptr(), text.len(), out.as_mut_ptr(), out.len(), len, refusal)
     })
 }
 
@@ -380,27 +386,27 @@ pub(crate) fn frame_make(number: u32, kind: u32, entry: u16, option: &[u8], orde
     })
 }
 
-pub(crate) fn set_plan(set: &[u8]) -> Result<(Vec<u16>, u32), Error> {
+pub(crate) fn vars_plan(set: &[u8]) -> Result<(Vec<u16>, u32), Error> {
     given(ROOM, |numbers, len, next, refusal| unsafe {
-        bootkeep_set_plan(set.as_ptr(), set.len(), numbers.as_mut_ptr(), numbers.len(), len, next, refusal)
+        bootkeep_vars_plan(set.as_ptr(), set.len(), numbers.as_mut_ptr(), numbers.len(), len, next, refusal)
     })
 }
 
-pub(crate) fn set_at_risk(set: &[u8]) -> Result<(Vec<u16>, usize), Error> {
+pub(crate) fn vars_at_risk(set: &[u8]) -> Result<(Vec<u16>, usize), Error> {
     given(ROOM, |numbers, len, unnamed, refusal| unsafe {
-        bootkeep_set_at_risk(set.as_ptr(), set.len(), numbers.as_mut_ptr(), numbers.len(), len, unnamed, refusal)
+        bootkeep_vars_at_risk(set.as_ptr(), set.len(), numbers.as_mut_ptr(), numbers.len(), len, unnamed, refusal)
     })
 }
 
-pub(crate) fn set_get(set: &[u8], name: &str) -> Result<Vec<u8>, Error> {
+pub(crate) fn vars_get(set: &[u8], name: &str) -> Result<Vec<u8>, Error> {
     given_alone(ROOM, |out, len, refusal| unsafe {
-        bootkeep_set_get(set.as_ptr(), set.len(), name.as_ptr(), name.len(), out.as_mut_ptr(), out.len(), len, refusal)
+        bootkeep_vars_get(set.as_ptr(), set.len(), name.as_ptr(), name.len(), out.as_mut_ptr(), out.len(), len, refusal)
     })
 }
 
-pub(crate) fn set_put(set: &[u8], name: &str, data: &[u8]) -> Result<Vec<u8>, Error> {
+pub(crate) fn vars_put(set: &[u8], name: &str, data: &[u8]) -> Result<Vec<u8>, Error> {
     given_alone(set.len() + data.len() + RECORD_MAX, |out, len, refusal| unsafe {
-        bootkeep_set_put(
+        bootkeep_vars_put(
             set.as_ptr(),
             set.len(),
             name.as_ptr(),
@@ -415,9 +421,9 @@ pub(crate) fn set_put(set: &[u8], name: &str, data: &[u8]) -> Result<Vec<u8>, Er
     })
 }
 
-pub(crate) fn set_remove(set: &[u8], name: &str) -> Result<Vec<u8>, Error> {
+pub(crate) fn vars_remove(set: &[u8], name: &str) -> Result<Vec<u8>, Error> {
     given_alone(set.len(), |out, len, refusal| unsafe {
-        bootkeep_set_remove(
+        bootkeep_vars_remove(
             set.as_ptr(),
             set.len(),
             name.as_ptr(),
@@ -431,7 +437,7 @@ pub(crate) fn set_remove(set: &[u8], name: &str) -> Result<Vec<u8>, Error> {
 }
 
 /// The set after an edit, and what came of that.
-pub(crate) fn set_edit(
+pub(crate) fn vars_edit(
     edit: &RawEdit,
     numbers: &[u16],
     option: &[u8],
@@ -440,7 +446,7 @@ pub(crate) fn set_edit(
     let room = set.len() + option.len() + 2 * numbers.len() + 4 * RECORD_MAX;
     given(room, |out, len, edited: &mut RawEdited, refusal| unsafe {
         edited.size = size_of::<RawEdited>();
-        bootkeep_set_edit(
+        bootkeep_vars_edit(
             edit,
             numbers.as_ptr(),
             numbers.len(),
@@ -457,15 +463,23 @@ pub(crate) fn set_edit(
     })
 }
 
-pub(crate) fn set_variables(set: &[u8]) -> Result<Vec<RawVariable>, Error> {
+pub(crate) fn vars_list(set: &[u8]) -> Result<Vec<RawVariable>, Error> {
     given_alone(ROOM, |variables, len, refusal| unsafe {
-        bootkeep_set_variables(set.as_ptr(), set.len(), variables.as_mut_ptr(), variables.len(), len, refusal)
+        bootkeep_vars_list(
+            set.as_ptr(),
+            set.len(),
+            variables.as_mut_ptr(),
+            variables.len(),
+            item_size(variables),
+            len,
+            refusal,
+        )
     })
 }
 
-pub(crate) fn set_named(set: &[u8]) -> Result<Vec<RawNamed>, Error> {
+pub(crate) fn vars_named(set: &[u8]) -> Result<Vec<RawNamed>, Error> {
     given_alone(ROOM, |named, len, refusal| unsafe {
-        bootkeep_set_named(set.as_ptr(), set.len(), named.as_mut_ptr(), named.len(), len, refusal)
+        bootkeep_vars_named(set.as_ptr(), set.len(), named.as_mut_ptr(), named.len(), item_size(named), len, refusal)
     })
 }
 
@@ -488,27 +502,36 @@ pub(crate) fn image_digest(image: &[u8]) -> Result<Vec<u8>, Error> {
 
 pub(crate) fn signature_lists(bytes: &[u8]) -> Result<Vec<RawList>, Error> {
     given_alone(ROOM, |lists, len, refusal| unsafe {
-        bootkeep_signature_lists(bytes.as_ptr(), bytes.len(), lists.as_mut_ptr(), lists.len(), len, refusal)
+        bootkeep_signature_lists(
+            bytes.as_ptr(),
+            bytes.len(),
+            lists.as_mut_ptr(),
+            lists.len(),
+            item_size(lists),
+            len,
+            refusal,
+        )
     })
 }
 
-pub(crate) fn set_lowest_free(set: &[u8]) -> Result<u32, Error> {
-    told(|number, refusal| unsafe { bootkeep_set_lowest_free(set.as_ptr(), set.len(), number, refusal) })
+pub(crate) fn vars_lowest_free(set: &[u8]) -> Result<u32, Error> {
+    told(|number, refusal| unsafe { bootkeep_vars_lowest_free(set.as_ptr(), set.len(), number, refusal) })
 }
 
-pub(crate) fn set_entry(set: &[u8], number: u16) -> Result<u32, Error> {
-    told(|state, refusal| unsafe { bootkeep_set_entry(set.as_ptr(), set.len(), number, state, refusal) })
+pub(crate) fn vars_entry(set: &[u8], number: u16) -> Result<u32, Error> {
+    told(|state, refusal| unsafe { bootkeep_vars_entry(set.as_ptr(), set.len(), number, state, refusal) })
 }
 
-pub(crate) fn set_changes(from: &[u8], to: &[u8]) -> Result<Vec<RawChange>, Error> {
+pub(crate) fn vars_changes(from: &[u8], to: &[u8]) -> Result<Vec<RawChange>, Error> {
     given_alone(ROOM, |changes, len, refusal| unsafe {
-        bootkeep_set_changes(
+        bootkeep_vars_changes(
             from.as_ptr(),
             from.len(),
             to.as_ptr(),
             to.len(),
             changes.as_mut_ptr(),
             changes.len(),
+            item_size(changes),
             len,
             refusal,
         )
@@ -619,6 +642,7 @@ pub(crate) enum Wanted<'a> {
     Nothing,
     Frames(&'a [u8]),
     Edit(RawEdit, &'a [u16], &'a [u8]),
+    Restore(&'a [u8]),
 }
 
 /// A command over a machine.
@@ -670,6 +694,20 @@ impl Command {
                     numbers.len(),
                     option.as_ptr(),
                     option.len(),
+                    refusal,
+                ),
+                Wanted::Restore(back) => bootkeep_moves_restore(
+                    moves,
+                    machine.as_ptr(),
+                    machine.len(),
+                    start.as_ptr(),
+                    start.len(),
+                    variables.as_ptr(),
+                    variables.len(),
+                    journal.as_ptr(),
+                    journal.len(),
+                    back.as_ptr(),
+                    back.len(),
                     refusal,
                 ),
                 Wanted::Nothing => bootkeep_moves_settle(

@@ -116,6 +116,18 @@ impl Moves {
         Moves::begin(state, Wanted::Edit(asked, &numbers, option))
     }
 
+    /// A command that brings the boot manager's variables back to those of a set, after what an earlier one has left is done:
+    /// what the set has is there then, and what it hasn't is gone. It has of each variable what the machine keeps, as
+    /// [`MachineState::variables`] has it: so what was read before a change undoes it.
+    ///
+    /// # Errors
+    ///
+    /// A fault `Set..` of `back`; otherwise [`Fault::MachineNoData`], if a variable in it has no data; otherwise as of
+    /// [`Moves::requests`], but none of a stream.
+    pub fn restore(state: MachineState<'_>, back: &[u8]) -> Result<Moves, Error> {
+        Moves::begin(state, Wanted::Restore(back))
+    }
+
     /// A command that does what an earlier one has left to do, and no more.
     ///
     /// # Errors

@@ -60,8 +60,8 @@ pub fn parse(text: &str) -> Result<Vec<u8>, Error> {
 /// # Errors
 ///
 /// Those of [`parse`].
-pub fn parse_text(text: &str) -> Result<Vec<u8>, Error> {
-    library::text_path(text)
+pub fn parse_exact(text: &str) -> Result<Vec<u8>, Error> {
+    library::path_parse_exact(text)
 }
 
 /// A node of a device path.

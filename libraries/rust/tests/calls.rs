@@ -2,8 +2,8 @@
 
 use bootkeep::frame::{self, Request};
 use bootkeep::image::{self, Effect, Stage};
-use bootkeep::set::{BootVariable, ChangeKind, EntryState};
-use bootkeep::{option, path, set, DevicePath, EntryNumber, Error, Fault, Keeper, LoadOption, Outcome, Reply};
+use bootkeep::vars::{BootVariable, ChangeKind, EntryState};
+use bootkeep::{option, path, vars, DevicePath, EntryNumber, Error, Fault, Keeper, LoadOption, Outcome, Reply};
 use std::collections::HashSet;
 
 const SET: &[u8] = include_bytes!("../../../docs/examples/set");
@@ -97,8 +97,8 @@ fn what_is_printed_for_a_person_is_read() {
     assert_eq!(bytes[..8], [3, 2, 8, 0, 1, 0, 2, 0]);
     assert_eq!(path::names(&bytes).unwrap(), (text.to_owned(), bytes.len()));
     let exact = path::text(&bytes).unwrap().0;
-    assert_eq!((path::parse(&exact), path::parse_text(&exact)), (Ok(bytes.clone()), Ok(bytes)));
-    assert!(path::parse_text(text).is_err());
+    assert_eq!((path::parse(&exact), path::parse_exact(&exact)), (Ok(bytes.clone()), Ok(bytes)));
+    assert!(path::parse_exact(text).is_err());
     let unknown = bootkeep::Refusal { fault: Fault::TextUnknownName, place: Some(14), within: None };
     assert_eq!(path::parse("Scsi(0x1,0x2)/Scssi(0x1,0x2)"), Err(Error::Refused(unknown)));
 }
@@ -123,38 +123,38 @@ fn what_is_no_option_is_refused() {
 
 #[test]
 fn a_variable_is_put_and_removed() {
-    let with = set::put(SET, "Nothing", b"1").unwrap();
-    assert_eq!(set::get(&with, "Nothing").unwrap(), b"1");
-    assert_eq!(set::remove(&with, "Nothing").unwrap(), SET);
-    assert_eq!(set::put(SET, "Nothing", b"").unwrap_err(), refused(Fault::PutEmptyData));
+    let with = vars::put(SET, "Nothing", b"1").unwrap();
+    assert_eq!(vars::get(&with, "Nothing").unwrap(), b"1");
+    assert_eq!(vars::remove(&with, "Nothing").unwrap(), SET);
+    assert_eq!(vars::put(SET, "Nothing", b"").unwrap_err(), refused(Fault::PutEmptyData));
 }
 
 #[test]
 fn an_entry_is_put_first() {
-    let number = set::lowest_free(SET).unwrap().unwrap();
+    let number = vars::lowest_free(SET).unwrap().unwrap();
     let frame = frame::make(0, Request::AddFirst(&new_option())).unwrap();
     let (after, _) = bootkeep::run(SET, &frame).unwrap();
-    let after = set::remove(&after, "BootKeepState").unwrap();
-    let order = set::get(&after, "BootOrder").unwrap();
+    let after = vars::remove(&after, "BootKeepState").unwrap();
+    let order = vars::get(&after, "BootOrder").unwrap();
     assert_eq!(order.chunks(2).filter(|one| *one == number.0.to_le_bytes()).count(), 1);
-    assert_eq!(set::plan(&after).unwrap().normal[0], number);
-    assert_eq!(set::entry(&after, number), Ok(EntryState::Normal));
+    assert_eq!(vars::plan(&after).unwrap().normal[0], number);
+    assert_eq!(vars::entry(&after, number), Ok(EntryState::Normal));
     // BootOrder has this number in front already, though there is no such entry before.
-    let changes = set::changes(SET, &after).unwrap();
+    let changes = vars::changes(SET, &after).unwrap();
     assert_eq!(changes.len(), 1);
     assert_eq!((changes[0].variable, changes[0].kind), (BootVariable::Entry(number), ChangeKind::Added));
     assert_eq!((changes[0].before, changes[0].after), (None, Some(new_option().as_ref())));
-    assert_eq!(set::option(&after, number), Ok(new_option()));
-    assert_eq!(set::entry(SET, number), Ok(EntryState::Absent));
-    assert_eq!(set::get(SET, "Nothing"), Err(Error::Absent));
+    assert_eq!(vars::option(&after, number), Ok(new_option()));
+    assert_eq!(vars::entry(SET, number), Ok(EntryState::Absent));
+    assert_eq!(vars::get(SET, "Nothing"), Err(Error::Absent));
 }
 
 #[test]
 fn the_variables_are_those_that_are_got() {
-    let variables = set::variables(SET).unwrap();
+    let variables = vars::list(SET).unwrap();
     assert!(variables.len() > 0);
     for (name, data) in variables {
-        assert_eq!(set::get(SET, name).unwrap(), data);
+        assert_eq!(vars::get(SET, name).unwrap(), data);
     }
 }
 
@@ -168,7 +168,7 @@ fn a_keeper_comes_to_what_a_run_comes_to() {
         frame::make(4, Request::Order(&[])).unwrap(),
     ];
     let mut keeper = Keeper::open(SET).unwrap();
-    let free = set::lowest_free(SET).unwrap();
+    let free = vars::lowest_free(SET).unwrap();
     let replies: Vec<_> = frames.iter().map(|frame| keeper.deliver(frame).unwrap()).collect();
     match &replies[0] {
         Reply::Applied { outcome, entry, next_number, .. } => {
@@ -187,14 +187,14 @@ fn a_keeper_comes_to_what_a_run_comes_to() {
 
 #[test]
 fn a_request_puts_an_entry_first() {
-    let mut others = set::plan(SET).unwrap().normal;
+    let mut others = vars::plan(SET).unwrap().normal;
     let last = others.pop().unwrap();
     let frames =
         [frame::make(0, Request::AddFirst(&new_option())).unwrap(), frame::make(1, Request::First(last)).unwrap()];
     let (after, lines) = bootkeep::run(SET, &frames.concat()).unwrap();
-    let number = set::lowest_free(SET).unwrap().unwrap();
+    let number = vars::lowest_free(SET).unwrap().unwrap();
     assert_eq!(lines, format!("applied Done {number} 1\napplied Done 2\n"));
-    assert_eq!(set::plan(&after).unwrap().normal, [vec![last, number], others].concat());
+    assert_eq!(vars::plan(&after).unwrap().normal, [vec![last, number], others].concat());
 }
 
 #[test]
@@ -224,8 +224,8 @@ fn a_file_has_its_letters() {
 
 #[test]
 fn what_is_named_has_its_state() {
-    let named = set::named(SET).unwrap();
-    let plan = set::plan(SET).unwrap();
+    let named = vars::named(SET).unwrap();
+    let plan = vars::plan(SET).unwrap();
     assert_eq!((named[0].variable, Some(named[0].number)), (BootVariable::Next, plan.next));
     let normal = named[1..].iter().filter(|one| one.state == EntryState::Normal).map(|one| one.number);
     assert_eq!(normal.collect::<Vec<_>>(), plan.normal);
@@ -251,7 +251,7 @@ fn a_keeper_goes_over_to_another_thread() {
         keeper.prepare().unwrap();
         keeper.hand().unwrap()
     });
-    assert_eq!(plan.join().unwrap(), Some(set::plan(SET).unwrap()));
+    assert_eq!(plan.join().unwrap(), Some(vars::plan(SET).unwrap()));
 }
 
 #[test]

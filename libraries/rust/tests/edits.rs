@@ -3,14 +3,14 @@
 
 mod cases;
 
-use bootkeep::set::{self, Addition, Edit, EditOutcome, NewOrder, Position};
+use bootkeep::vars::{self, Addition, Edit, EditOutcome, NewOrder, Position};
 use bootkeep::{EntryNumber, Error, LoadOption};
 use cases::{cases, Case, Json};
 
 /// The set that a case states.
 fn set_of(stated: &Json) -> Vec<u8> {
     let variables = stated.members().iter();
-    variables.fold(set::EMPTY.to_vec(), |set, (name, data)| set::put(&set, name, &data.bytes()).unwrap())
+    variables.fold(vars::EMPTY.to_vec(), |set, (name, data)| vars::put(&set, name, &data.bytes()).unwrap())
 }
 
 fn numbers_of(case: &Case) -> Vec<EntryNumber> {
@@ -60,7 +60,7 @@ fn made(case: &Case) -> String {
         "Deactivate" => Edit::Deactivate(&numbers),
         other => panic!("no edit: {other}"),
     };
-    match set::edit(&before, edit) {
+    match vars::edit(&before, edit) {
         Ok(edited) => {
             assert_eq!(edited.set, set_of(case.get("after")));
             match edited.outcome {
@@ -95,7 +95,7 @@ fn each_edit_leads_where_its_case_says() {
 
 #[test]
 fn a_timeout_is_set_and_deleted() {
-    let set = set::edit(set::EMPTY, Edit::Timeout(Some(0x0102))).unwrap().set;
-    assert_eq!(set::get(&set, "Timeout"), Ok(vec![2, 1]));
-    assert_eq!(set::edit(&set, Edit::Timeout(None)).unwrap().set, set::EMPTY);
+    let set = vars::edit(vars::EMPTY, Edit::Timeout(Some(0x0102))).unwrap().set;
+    assert_eq!(vars::get(&set, "Timeout"), Ok(vec![2, 1]));
+    assert_eq!(vars::edit(&set, Edit::Timeout(None)).unwrap().set, vars::EMPTY);
 }

@@ -1,8 +1,8 @@
 //! Commands over a machine whose moves their caller makes, over one in memory.
 
 use bootkeep::frame::{self, Request};
-use bootkeep::set::{Edit, EditOutcome};
-use bootkeep::{set, Became, End, EntryNumber, Error, Fault, MachineState, Move, Moves, Reply};
+use bootkeep::vars::{Edit, EditOutcome};
+use bootkeep::{vars, Became, End, EntryNumber, Error, Fault, MachineState, Move, Moves, Reply};
 use std::collections::BTreeMap;
 
 const NEW: [u8; 4] = [7, 0, 0, 0];
@@ -28,9 +28,9 @@ impl Machine {
     }
 
     fn set(&self) -> Vec<u8> {
-        let mut all = set::EMPTY.to_vec();
+        let mut all = vars::EMPTY.to_vec();
         for (name, data) in &self.variables {
-            all = set::put(&all, name, data).unwrap();
+            all = vars::put(&all, name, data).unwrap();
         }
         all
     }
@@ -56,6 +56,7 @@ impl Machine {
         let begun = match wanted {
             Wanted::Frames(stream) => Moves::requests(state, stream),
             Wanted::Edit(edit) => Moves::edit(state, edit),
+            Wanted::Restore(back) => Moves::restore(state, back),
             Wanted::Nothing => Moves::settle(state),
         };
         let mut moves = begun.unwrap();
@@ -76,6 +77,7 @@ enum Wanted<'a> {
     Nothing,
     Frames(&'a [u8]),
     Edit(Edit<'a>),
+    Restore(&'a [u8]),
 }
 
 /// The end of a command that had nothing to answer.
@@ -132,6 +134,27 @@ fn an_edit_changes_a_machine() {
 }
 
 #[test]
+fn what_was_read_before_a_change_undoes_it() {
+    let before = Machine::new();
+    let mut machine = before.clone();
+    machine.run(Wanted::Frames(&stream()), 100);
+    assert_ne!(machine.variables, before.variables);
+    assert_eq!(machine.run(Wanted::Restore(&before.set()), 100), Some(DONE));
+    assert_eq!(machine.variables, before.variables);
+}
+
+#[test]
+fn what_has_no_data_is_not_brought_back() {
+    let mut back = Machine::new();
+    back.put("BootNext", b"");
+    let state = MachineState { machine: b"m", start: b"s", variables: vars::EMPTY, journal: b"" };
+    match Moves::restore(state, &back.set()) {
+        Err(Error::Refused(refusal)) => assert_eq!(refusal.fault, Fault::MachineNoData),
+        other => panic!("{other:?}"),
+    }
+}
+
+#[test]
 fn an_edit_that_is_cut_off_is_settled() {
     let before = Machine::new();
     for count in 0..5 {
@@ -163,7 +186,7 @@ fn a_refusal_takes_the_change_back() {
 
 #[test]
 fn what_is_none_is_refused() {
-    let whole = MachineState { machine: b"m", start: b"s", variables: set::EMPTY, journal: b"" };
+    let whole = MachineState { machine: b"m", start: b"s", variables: vars::EMPTY, journal: b"" };
     let faults = [
         (MachineState { machine: b"", ..whole }, Fault::MachineBadName),
         (MachineState { start: b"a b", ..whole }, Fault::MachineBadStart),
@@ -181,7 +204,7 @@ fn what_is_none_is_refused() {
 
 #[test]
 fn nothing_is_told_of_no_move() {
-    let state = MachineState { machine: b"m", start: b"s", variables: set::EMPTY, journal: b"" };
+    let state = MachineState { machine: b"m", start: b"s", variables: vars::EMPTY, journal: b"" };
     let mut moves = Moves::settle(state).unwrap();
     assert_eq!(moves.tell(Became::Done), Err(Error::Absent));
     assert_eq!(moves.end(), Err(Error::Absent));

@@ -5,7 +5,7 @@ mod cases;
 
 use bootkeep::frame::{self, Request, StreamFault};
 use bootkeep::{
-    option, path, set, DevicePath, EntryNumber, Error, Fault, Keeper, LoadOption, Node, NodeFault, SetFile,
+    option, path, vars, DevicePath, EntryNumber, Error, Fault, Keeper, LoadOption, Node, NodeFault, SetFile,
 };
 use cases::{cases, Case, Json};
 use std::collections::HashSet;
@@ -32,7 +32,7 @@ fn told(given: Result<String, Error>, family: &str) -> String {
 
 /// The set that a case states. `Boot0000..Boot270F` are all entries from the one to the other.
 fn set_of(stated: &Json) -> Vec<u8> {
-    let mut variables = set::EMPTY.to_vec();
+    let mut variables = vars::EMPTY.to_vec();
     for (name, data) in stated.members() {
         let names: Vec<String> = match name.split_once("..") {
             None => vec![name.clone()],
@@ -42,7 +42,7 @@ fn set_of(stated: &Json) -> Vec<u8> {
             }
         };
         for name in names {
-            variables = set::put(&variables, &name, &data.bytes()).unwrap();
+            variables = vars::put(&variables, &name, &data.bytes()).unwrap();
         }
     }
     variables
@@ -172,10 +172,10 @@ fn names_have_their_numbers() {
 #[test]
 fn each_set_has_its_plan() {
     for case in cases("uefi_vars.json", "plan") {
-        let plan = set::plan(&set_of(case.get("vars")));
+        let plan = vars::plan(&set_of(case.get("vars")));
         assert_eq!(told(plan.map(|plan| plan.to_string()), "Vars"), case.answer());
     }
-    let plan = set::plan(SET).unwrap();
+    let plan = vars::plan(SET).unwrap();
     assert_eq!(plan.tried().count(), plan.normal.len() + 1);
     assert_eq!(plan.tried().next(), plan.next);
 }
@@ -187,7 +187,7 @@ fn changes_have_the_data_before_and_after() {
         let digits = |data: Option<&[u8]>| {
             data.map_or("-".to_owned(), |data| data.iter().map(|byte| format!("{byte:02x}")).collect())
         };
-        let changes = set::changes(&from, &to).unwrap();
+        let changes = vars::changes(&from, &to).unwrap();
         let lines = changes.iter().map(|it| format!("{} {} {}\n", it.variable, digits(it.before), digits(it.after)));
         assert_eq!(lines.collect::<String>(), case.answer());
     }
@@ -195,20 +195,20 @@ fn changes_have_the_data_before_and_after() {
 
 #[test]
 fn entries_have_their_options_and_places() {
-    let entries = set::entries(SET).unwrap();
-    let plan = set::plan(SET).unwrap();
-    let mut normal: Vec<_> = entries.iter().filter(|it| it.state == set::EntryState::Normal).collect();
+    let entries = vars::entries(SET).unwrap();
+    let plan = vars::plan(SET).unwrap();
+    let mut normal: Vec<_> = entries.iter().filter(|it| it.state == vars::EntryState::Normal).collect();
     normal.retain(|it| it.order_place.is_some());
     normal.sort_by_key(|it| it.order_place);
     assert_eq!(normal.iter().map(|it| it.number).collect::<Vec<_>>(), plan.normal);
     for entry in &entries {
-        assert_eq!(set::get(SET, &entry.number.name()).as_deref(), Ok(entry.data));
-        assert_eq!(set::option(SET, entry.number), entry.option.clone().map_err(Error::Refused));
+        assert_eq!(vars::get(SET, &entry.number.name()).as_deref(), Ok(entry.data));
+        assert_eq!(vars::option(SET, entry.number), entry.option.clone().map_err(Error::Refused));
         assert_eq!(entry.is_next, Some(entry.number) == plan.next);
     }
-    assert_eq!(set::option(SET, EntryNumber(0xffff)), Err(Error::Absent));
-    let odd = set::put(set::EMPTY, "BootOrder", b"1").unwrap();
-    assert_eq!(told(set::entries(&odd).map(|_| String::new()), "Vars"), "BadOrder");
+    assert_eq!(vars::option(SET, EntryNumber(0xffff)), Err(Error::Absent));
+    let odd = vars::put(vars::EMPTY, "BootOrder", b"1").unwrap();
+    assert_eq!(told(vars::entries(&odd).map(|_| String::new()), "Vars"), "BadOrder");
 }
 
 /// The frame of what a case asks for.

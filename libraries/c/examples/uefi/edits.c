@@ -56,7 +56,7 @@ uint32_t edit_active(struct variables *variables, uint32_t number)
     uint8_t *option = copy_of(variables, number, &len);
 
     if (option != NULL)
-        option[0] ^= BOOTKEEP_OPTION_ACTIVE;
+        option[0] ^= BOOTKEEP_ATTRIBUTE_ACTIVE;
     return put_and_free(variables, number, option, len);
 }
 

@@ -234,8 +234,8 @@ static void make(const struct variables *to, bool asks)
     struct bootkeep_refusal refusal;
     struct written written;
     size_t count = 0;
-    uint32_t status =
-        bootkeep_set_changes(machine.set, machine.set_len, to->set, to->set_len, changes, CHANGES, &count, &refusal);
+    uint32_t status = bootkeep_vars_changes(machine.set, machine.set_len, to->set, to->set_len, changes, CHANGES,
+                                            sizeof *changes, &count, &refusal);
 
     if (status != BOOTKEEP_DONE) {
         say_answer(L"nothing is changed", status, &refusal);

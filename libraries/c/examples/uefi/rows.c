@@ -47,7 +47,8 @@ static uint32_t read_named(const struct variables *variables, struct bootkeep_na
                            struct bootkeep_refusal *refusal)
 {
     size_t named_len = 0;
-    uint32_t status = bootkeep_set_named(variables->set, variables->set_len, NULL, 0, &named_len, refusal);
+    uint32_t status =
+        bootkeep_vars_named(variables->set, variables->set_len, NULL, 0, sizeof **named, &named_len, refusal);
 
     *count = 0;
     *named = NULL;
@@ -56,7 +57,7 @@ static uint32_t read_named(const struct variables *variables, struct bootkeep_na
     *named = bootkeep_allocate(named_len * sizeof **named);
     if (*named == NULL)
         return BOOTKEEP_NO_MEMORY;
-    return bootkeep_set_named(variables->set, variables->set_len, *named, named_len, count, refusal);
+    return bootkeep_vars_named(variables->set, variables->set_len, *named, named_len, sizeof **named, count, refusal);
 }
 
 uint32_t rows_make(const struct variables *variables, struct rows *rows, struct bootkeep_refusal *refusal)

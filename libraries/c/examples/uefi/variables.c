@@ -142,15 +142,16 @@ static EFI_STATUS append(struct variables *variables, size_t *room, uint32_t var
 static uint32_t find_places(struct variables *variables)
 {
     struct bootkeep_refusal refusal;
-    uint32_t status = bootkeep_set_variables(variables->set, variables->set_len, NULL, 0, &variables->count, &refusal);
+    uint32_t status = bootkeep_vars_list(variables->set, variables->set_len, NULL, 0, sizeof *variables->places,
+                                         &variables->count, &refusal);
 
     if (status != BOOTKEEP_NO_ROOM)
         return status;
     variables->places = bootkeep_allocate(variables->count * sizeof *variables->places);
     if (variables->places == NULL)
         return BOOTKEEP_NO_MEMORY;
-    return bootkeep_set_variables(variables->set, variables->set_len, variables->places, variables->count,
-                                  &variables->count, &refusal);
+    return bootkeep_vars_list(variables->set, variables->set_len, variables->places, variables->count,
+                              sizeof *variables->places, &variables->count, &refusal);
 }
 
 /* Makes the set of the entries that are noted, of BootNext and of BootOrder: their names rise in this order. */
@@ -267,11 +268,11 @@ uint32_t variables_put(struct variables *variables, uint32_t variable, const uin
     uint32_t status = BOOTKEEP_NO_MEMORY;
 
     if (set != NULL && len > 0)
-        status = bootkeep_set_put(variables->set, variables->set_len, (const uint8_t *)name, name_len, data, len, set,
-                                  room, &set_len, &refusal);
+        status = bootkeep_vars_put(variables->set, variables->set_len, (const uint8_t *)name, name_len, data, len, set,
+                                   room, &set_len, &refusal);
     else if (set != NULL)
-        status = bootkeep_set_remove(variables->set, variables->set_len, (const uint8_t *)name, name_len, set, room,
-                                     &set_len, &refusal);
+        status = bootkeep_vars_remove(variables->set, variables->set_len, (const uint8_t *)name, name_len, set, room,
+                                      &set_len, &refusal);
     if (status == BOOTKEEP_DONE)
         return take_set(variables, set, set_len);
     bootkeep_free(set);

@@ -5,7 +5,7 @@ use Rattle.bootkeep_c.specs.Refusals.{set_failure, put_failure}
 use Rattle.bootkeep_c.specs.Buffer.{Gives}
 use Rattle.bootkeep_c.proofs.Telling.{only_memory, only_failure, given}
 use Rattle.bootkeep_c.proofs.Failures.{put_failure_is_of_set, put_failure_is, no_put_failure}
-use Rattle.bootkeep_c.proofs.set.bootkeep_set_put.Goals as goal
+use Rattle.bootkeep_c.proofs.set.bootkeep_vars_put.Goals as goal
 
 pub returns-in-Ok-clause-fault : goal.returns-in-Ok-clause-fault
 returns-in-Ok-clause-fault c = λ fault first.

@@ -1,6 +1,6 @@
 use Rattle.std.proofs.Common.{inl, inr, arith}
 use Rattle.bootkeep_c.proofs.Telling.{given, not_absent}
-use Rattle.bootkeep_c.proofs.set.bootkeep_set_get.Goals as goal
+use Rattle.bootkeep_c.proofs.set.bootkeep_vars_get.Goals as goal
 
 pub returns-in-Ok-clause-found : goal.returns-in-Ok-clause-found
 returns-in-Ok-clause-found c = λ done. elim c.give_value.ensures [

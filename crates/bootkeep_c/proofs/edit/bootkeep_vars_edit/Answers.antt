@@ -1,6 +1,6 @@
 use Rattle.bootkeep_c.specs.Edits.{IsSetEdited, IsSetUnedited}
 use Rattle.bootkeep_c.proofs.Answering.{answers_edit}
-use Rattle.bootkeep_c.proofs.edit.bootkeep_set_edit.Goals as goal
+use Rattle.bootkeep_c.proofs.edit.bootkeep_vars_edit.Goals as goal
 
 pub returns-clause-answers : goal.returns-clause-answers
 returns-clause-answers c = λ large wide.

@@ -2,7 +2,7 @@ use Rattle.std.proofs.Common.{ℕ, List, inl, inr, refl, ap, subst, ◌∙◌}
 use Rattle.uefi_path.specs.Path.{path_bytes}
 use Rattle.bootkeep_c.specs.Buffer.{Gives}
 use Rattle.bootkeep_c.proofs.Telling.{only_memory}
-use Rattle.bootkeep_c.proofs.text.bootkeep_text_path.Goals as goal
+use Rattle.bootkeep_c.proofs.text.bootkeep_path_parse_exact.Goals as goal
 
 pub returns-in-Ok-clause-bytes : goal.returns-in-Ok-clause-bytes
 returns-in-Ok-clause-bytes c = λ path utf8 means.

@@ -188,7 +188,7 @@ fn entry_numbers(numbers: Vec<u16>) -> Vec<EntryNumber> {
 /// [`VarsBadOrder`](crate::Fault::VarsBadOrder) and [`VarsBadNext`](crate::Fault::VarsBadNext), besides those of all
 /// calls here.
 pub fn plan(set: &[u8]) -> Result<Plan, Error> {
-    let (normal, next) = library::set_plan(set)?;
+    let (normal, next) = library::vars_plan(set)?;
     Ok(Plan::of(next, normal))
 }
 
@@ -199,7 +199,7 @@ pub fn plan(set: &[u8]) -> Result<Plan, Error> {
 ///
 /// Those of [`plan`].
 pub fn at_risk(set: &[u8]) -> Result<AtRisk, Error> {
-    let (mut unnamed, count) = library::set_at_risk(set)?;
+    let (mut unnamed, count) = library::vars_at_risk(set)?;
     let undecodable = unnamed.split_off(count);
     Ok(AtRisk { unnamed: entry_numbers(unnamed), undecodable: entry_numbers(undecodable) })
 }
@@ -210,7 +210,7 @@ pub fn at_risk(set: &[u8]) -> Result<AtRisk, Error> {
 ///
 /// [`Error::Absent`] if the set has none, besides those of all calls here.
 pub fn get(set: &[u8], name: &str) -> Result<Vec<u8>, Error> {
-    library::set_get(set, name)
+    library::vars_get(set, name)
 }
 
 /// The set with this data for the variable of this name, in the place of what it had, if it had any.
@@ -220,7 +220,7 @@ pub fn get(set: &[u8], name: &str) -> Result<Vec<u8>, Error> {
 /// [`PutBadName`](crate::Fault::PutBadName), [`PutEmptyData`](crate::Fault::PutEmptyData) or
 /// [`PutDataTooLong`](crate::Fault::PutDataTooLong), besides those of all calls here.
 pub fn put(set: &[u8], name: &str, data: &[u8]) -> Result<Vec<u8>, Error> {
-    library::set_put(set, name, data)
+    library::vars_put(set, name, data)
 }
 
 /// The set without the variable of this name.
@@ -229,22 +229,22 @@ pub fn put(set: &[u8], name: &str, data: &[u8]) -> Result<Vec<u8>, Error> {
 ///
 /// [`Error::Absent`] if it has none, besides those of all calls here.
 pub fn remove(set: &[u8], name: &str) -> Result<Vec<u8>, Error> {
-    library::set_remove(set, name)
+    library::vars_remove(set, name)
 }
 
 /// What becomes of the set by an edit. Entries, BootOrder, BootNext and Timeout that it isn't of stay as they are, and so
 /// does every other variable.
 ///
 /// ```
-/// use bootkeep::set::{self, Addition, Edit, EditOutcome};
+/// use bootkeep::vars::{self, Addition, Edit, EditOutcome};
 /// use bootkeep::{option, EntryNumber, LoadOption};
 ///
 /// # fn main() -> Result<(), Box<dyn std::error::Error>> {
 /// let option = LoadOption::new(option::ACTIVE, "Mine", &["PciRoot(0x0)".parse()?], b"")?;
-/// let edited = set::edit(set::EMPTY, Edit::Add(Addition::new(&option)))?;
+/// let edited = vars::edit(vars::EMPTY, Edit::Add(Addition::new(&option)))?;
 /// assert_eq!(edited.outcome, EditOutcome::Added(EntryNumber(0)));
-/// let edited = set::edit(&edited.set, Edit::Next(Some(EntryNumber(0))))?;
-/// assert_eq!(set::plan(&edited.set)?.to_string(), "plan next 0000 normal 0000");
+/// let edited = vars::edit(&edited.set, Edit::Next(Some(EntryNumber(0))))?;
+/// assert_eq!(vars::plan(&edited.set)?.to_string(), "plan next 0000 normal 0000");
 /// # Ok(())
 /// # }
 /// ```
@@ -259,8 +259,8 @@ pub fn edit(set: &[u8], edit: Edit<'_>) -> Result<Edited, Error> {
 }
 
 /// The variables of the set, each as its name and its data, in the order of the names. Nothing of them is copied.
-pub fn variables(set: &[u8]) -> Result<impl ExactSizeIterator<Item = (&str, &[u8])>, Error> {
-    let places = library::set_variables(set)?;
+pub fn list(set: &[u8]) -> Result<impl ExactSizeIterator<Item = (&str, &[u8])>, Error> {
+    let places = library::vars_list(set)?;
     Ok(places.into_iter().map(move |place| {
         // A name is ASCII.
         let name = std::str::from_utf8(&set[place.name..place.name + place.name_len]).unwrap_or_default();
@@ -270,7 +270,7 @@ pub fn variables(set: &[u8]) -> Result<impl ExactSizeIterator<Item = (&str, &[u8
 
 /// The lowest number under which the set has no entry, if there is one.
 pub fn lowest_free(set: &[u8]) -> Result<Option<EntryNumber>, Error> {
-    let number = library::set_lowest_free(set)?;
+    let number = library::vars_lowest_free(set)?;
     debug_assert!(number <= NO_ENTRY);
     Ok(entry_number(number))
 }
@@ -281,7 +281,7 @@ pub fn lowest_free(set: &[u8]) -> Result<Option<EntryNumber>, Error> {
 ///
 /// Those of [`plan`].
 pub fn named(set: &[u8]) -> Result<Vec<NamedEntry>, Error> {
-    let named = library::set_named(set)?;
+    let named = library::vars_named(set)?;
     Ok(named.iter().map(named_entry).collect())
 }
 
@@ -294,7 +294,7 @@ fn named_entry(told: &RawNamed) -> NamedEntry {
 /// What a boot makes of the entry of this number if BootOrder names it: why it isn't in the plan, or that it is.
 /// BootNext's isn't if it is absent or undecodable.
 pub fn entry(set: &[u8], number: EntryNumber) -> Result<EntryState, Error> {
-    library::set_entry(set, number.0).map(EntryState::of)
+    library::vars_entry(set, number.0).map(EntryState::of)
 }
 
 /// The load option of the entry of this number.
@@ -349,7 +349,7 @@ pub fn entries(set: &[u8]) -> Result<Vec<Entry<'_>>, Error> {
         places.entry(one.number).or_insert(place);
     }
     let mut entries = Vec::new();
-    for (name, data) in variables(set)? {
+    for (name, data) in list(set)? {
         if let Ok(number) = EntryNumber::from_name(name) {
             let option = match LoadOption::try_from(data) {
                 Ok(option) => Ok(option),
@@ -371,8 +371,8 @@ pub fn entries(set: &[u8]) -> Result<Vec<Entry<'_>>, Error> {
 ///
 /// The fault of `from`, otherwise that of `to`.
 pub fn changes<'a>(from: &'a [u8], to: &'a [u8]) -> Result<Vec<Change<'a>>, Error> {
-    let changes = library::set_changes(from, to)?;
-    let (old, new): (HashMap<_, _>, HashMap<_, _>) = (variables(from)?.collect(), variables(to)?.collect());
+    let changes = library::vars_changes(from, to)?;
+    let (old, new): (HashMap<_, _>, HashMap<_, _>) = (list(from)?.collect(), list(to)?.collect());
     Ok(changes
         .iter()
         .map(|change| {

@@ -7,8 +7,8 @@ use Rattle.bootkeep_c.specs.Refusals.{set_failure, vars_failure}
 use Rattle.bootkeep_c.specs.Buffer.{Gives}
 use Rattle.bootkeep_c.proofs.Telling.{only_memory, only_failure, given}
 use Rattle.bootkeep_c.proofs.Failures.{plan_failure_is_of_set, plan_failure_is, no_vars_failure, risk_of}
-use Rattle.bootkeep_c.proofs.set.bootkeep_set_at_risk.Goals as goal
-use Rattle.bootkeep_c.proofs.set.bootkeep_set_at_risk.Goals.{then-status-eq-DONE, else-status-eq-DONE}
+use Rattle.bootkeep_c.proofs.set.bootkeep_vars_at_risk.Goals as goal
+use Rattle.bootkeep_c.proofs.set.bootkeep_vars_at_risk.Goals.{then-status-eq-DONE, else-status-eq-DONE}
 
 pub returns-after-status-eq-DONE-clause-numbers : goal.returns-after-status-eq-DONE-clause-numbers
 returns-after-status-eq-DONE-clause-numbers c = λ vars unnamed undecodable spelled are.

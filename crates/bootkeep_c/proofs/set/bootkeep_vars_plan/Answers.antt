@@ -7,8 +7,8 @@ use Rattle.bootkeep_c.specs.Refusals.{set_failure, vars_failure}
 use Rattle.bootkeep_c.specs.Buffer.{Gives}
 use Rattle.bootkeep_c.proofs.Telling.{only_memory, only_failure, given}
 use Rattle.bootkeep_c.proofs.Failures.{plan_failure_is_of_set, plan_failure_is, no_plan_failure, normal_of, next_of}
-use Rattle.bootkeep_c.proofs.set.bootkeep_set_plan.Goals as goal
-use Rattle.bootkeep_c.proofs.set.bootkeep_set_plan.Goals.{then-status-eq-DONE, else-status-eq-DONE}
+use Rattle.bootkeep_c.proofs.set.bootkeep_vars_plan.Goals as goal
+use Rattle.bootkeep_c.proofs.set.bootkeep_vars_plan.Goals.{then-status-eq-DONE, else-status-eq-DONE}
 
 pub returns-after-status-eq-DONE-clause-plan : goal.returns-after-status-eq-DONE-clause-plan
 returns-after-status-eq-DONE-clause-plan c = λ vars plan spelled has.

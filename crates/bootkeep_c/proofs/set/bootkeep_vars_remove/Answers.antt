@@ -4,7 +4,7 @@ use Rattle.bootkeep_c.specs.Refusals.{set_failure}
 use Rattle.bootkeep_c.specs.Buffer.{Gives}
 use Rattle.bootkeep_c.proofs.Telling.{only_memory, only_failure, given}
 use Rattle.bootkeep_c.proofs.Failures.{set_failure_is, no_set_failure}
-use Rattle.bootkeep_c.proofs.set.bootkeep_set_remove.Goals as goal
+use Rattle.bootkeep_c.proofs.set.bootkeep_vars_remove.Goals as goal
 
 pub returns-in-Ok-Some-clause-fault : goal.returns-in-Ok-Some-clause-fault
 returns-in-Ok-Some-clause-fault c = λ fault first.

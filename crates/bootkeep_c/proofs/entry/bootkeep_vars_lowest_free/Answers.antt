@@ -1,7 +1,7 @@
 use Rattle.bootkeep_c.specs.Sets.{IsSetFailure}
 use Rattle.bootkeep_c.specs.Entries.{IsFreeIn}
 use Rattle.bootkeep_c.proofs.Answering.{tells_number}
-use Rattle.bootkeep_c.proofs.entry.bootkeep_set_lowest_free.Goals as goal
+use Rattle.bootkeep_c.proofs.entry.bootkeep_vars_lowest_free.Goals as goal
 
 pub returns : goal.returns
 returns c =
