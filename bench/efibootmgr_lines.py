@@ -118,8 +118,35 @@ FIXED: List[List[str]] = [
     ["-c", "-d", "@vde@", "-p", "2", "-l", r"\EFI\BOOT\BOOTX64.EFI", "-L", "4096"],
     ["-C", "-d", "@vdc@", "-l", r"\EFI\x.efi", "-L", "only", "-b", "00AB", "more", "words"],
     ["-v"],
+    ["-r"],
+    ["-y", "-v"],
+    ["-r", "-O"],
+    ["-r", "-c", "-d", "@vdc@", "-p", "1", "-l", r"\EFI\drivers\ext4.efi", "-L", "ext4"],
+    ["-r", "-c", "-d", "@vdd@", "-p", "2", "-l", r"\EFI\drivers\btrfs.efi", "-L", "btrfs"],
+    ["-y", "-c", "-d", "@vde@", "-p", "2", "-l", r"\EFI\prepare.efi", "-L", "prepare", "-b", "2"],
+    ["-y", "-C", "-d", "@vdc@", "-l", r"\EFI\only.efi", "-L", "only", "-b", "00AB", "-u", "word"],
+    ["-r", "-o", "1,0"],
+    ["-r", "-v"],
+    ["-y"],
 ]
 """The lines that come before those that are drawn: first what refind-install and rauc call."""
+
+FAMILIES = {
+    "-r": "Driver",
+    "--driver": "Driver",
+    "-y": "SysPrep",
+    "--sysprep": "SysPrep",
+    "--sys": "SysPrep",
+}
+"""What the names of variables begin with by the words that mean another family than the boot manager's."""
+
+ENTRY = r"(?:Boot|Driver|SysPrep)[0-9A-F]{4}"
+"""The names of entries."""
+
+
+def family_of(words: List[str]) -> str:
+    """What the names of the variables begin with that a line is about."""
+    return next((FAMILIES[word] for word in words if word in FAMILIES), "Boot")
 
 
 def drawn_entry(draw: random.Random) -> str:
@@ -139,6 +166,9 @@ NO_PART = "177"
 
 VERBOSE = {"-v", "--verb"}
 """The words by which paths and optional data are listed."""
+
+NO_FIRST = 17
+"""The other program's status for `-N` if there is no Boot0001, whatever BootNext names: nothing is compared then."""
 
 OTHERS = {"more", "words", "quiet", "root=/dev/x", "ro"}
 """The words that belong to no option: optional data."""
@@ -177,6 +207,27 @@ def drawn_action(draw: random.Random) -> List[str]:
     return draw.choice(kinds)
 
 
+def drawn_of_family(draw: random.Random) -> List[str]:
+    """The words of one action on drivers or on what prepares the system: of few entries, so that many are there, and now
+    and then one that the boot manager's alone have."""
+    entry = format(draw.randrange(4), draw.choice(["04X", "x"]))
+    order = ",".join(f"{number:X}" for number in draw.sample(range(4), draw.randrange(1, 3)))
+    kinds: List[List[str]] = [
+        ["-o", order],
+        ["-o", order, "--keep"],
+        ["-O"],
+        ["-D"],
+        ["-b", entry, "-B"],
+        ["-b", entry, draw.choice(["-a", "-A"])],
+        ["-b", entry, draw.choice(["-a", "-A"])],
+        drawn_new(draw),
+        drawn_new(draw),
+        drawn_new(draw),
+        drawn_action(draw),
+    ]
+    return [draw.choice(list(FAMILIES)), *draw.choice(kinds)]
+
+
 WRONG: List[List[str]] = [
     ["-B"],
     ["-a"],
@@ -198,6 +249,19 @@ WRONG: List[List[str]] = [
     ["-n"],
     ["--active=1"],
     ["-V"],
+    ["-r", "-y"],
+    ["-y", "-r", "-n", "0"],
+    ["-r", "-y", "-V"],
+    ["-r", "-n", "0"],
+    ["-y", "-N"],
+    ["-r", "-N", "-T"],
+    ["-y", "-t", "5"],
+    ["--driver", "-T"],
+    ["-r", "-n", "x"],
+    ["-r", "-B"],
+    ["-y", "-A"],
+    ["-r", "-B", "-t", "5"],
+    ["--driver=1"],
 ]
 
 
@@ -207,10 +271,12 @@ def drawn_line(draw: random.Random) -> List[str]:
     if kind == 0:
         return draw.choice(WRONG)
     if kind < 4:
-        return draw.choice([[], ["-v"], ["-v1"], ["--verbose"], ["-q"]])
-    words = drawn_action(draw)
-    if kind > 16:
-        more = drawn_action(draw)
+        family: List[str] = draw.choice([[], [], ["-r"], ["-y"]])
+        listed: List[str] = draw.choice([[], ["-v"], ["-v1"], ["--verbose"], ["-q"]])
+        return [*family, *listed]
+    words = drawn_of_family(draw) if kind < 11 else drawn_action(draw)
+    if kind == 10 or kind > 16:
+        more = drawn_of_family(draw)[1:] if kind == 10 else drawn_action(draw)
         words = words if NO_PART in words + more else [*words, *more]
     fronts: List[List[str]] = [[], ["-q"], ["-v"], ["--verb"]]
     return [*draw.choice(fronts), *words]
@@ -263,7 +329,7 @@ def order_of(numbers: List[int]) -> bytes:
 def in_order(text: str) -> str:
     """A listing, with the entries in the order of their numbers: the other program lists a new one last."""
     lines = text.splitlines(keepends=True)
-    entries = [line for line in lines if re.match("Boot[0-9A-F]{4}[* ] ", line)]
+    entries = [line for line in lines if re.match(f"{ENTRY}[* ] ", line)]
     others = lines[: len(lines) - len(entries)]
     return "".join([*others, *sorted(entries)])
 
@@ -272,6 +338,11 @@ def with_optional(data: bytes, optional: bytes) -> bytes:
     """The data of an entry, with these optional data; those of another variable as they are."""
     end = data.find(b"\x7f\xff\x04\x00")
     return data if end < 0 else data[: end + 4] + optional
+
+
+def is_new(words: List[str], before: Dict[str, bytes], name: str, data: bytes) -> bool:
+    """Whether a variable was made by a line, perhaps in the place of one that the line took out before."""
+    return name not in before or ("-B" in words and before[name] != data)
 
 
 def expected(words: List[str], before: Dict[str, bytes], theirs: Run) -> Run:
@@ -287,7 +358,7 @@ def expected(words: List[str], before: Dict[str, bytes], theirs: Run) -> Run:
     if len(others) > 1:
         optional = " ".join(others).encode("utf-16-le" if "-u" in words else "ascii")
         variables = {
-            name: data if name in before else with_optional(data, optional)
+            name: with_optional(data, optional) if is_new(words, before, name, data) else data
             for name, data in variables.items()
         }
         stdout = "?" if stdout else ""
@@ -303,24 +374,27 @@ def expected(words: List[str], before: Dict[str, bytes], theirs: Run) -> Run:
         del variables["BootNext"]
         stdout = re.sub(r"^BootNext: .*\n", "", stdout)
     # A new entry is in the order once, though a stale number of it was there.
-    order = numbers_of(variables.get("BootOrder"))
+    name_of_order = f"{family_of(words)}Order"
+    order = numbers_of(variables.get(name_of_order))
     once = list(dict.fromkeys(order))
     if once != order and any(name not in before for name in variables):
-        variables["BootOrder"] = order_of(once)
+        variables[name_of_order] = order_of(once)
         stdout = re.sub(
-            r"^BootOrder: .*$",
-            "BootOrder: " + ",".join(f"{number:04X}" for number in once),
+            rf"^{name_of_order}: .*$",
+            f"{name_of_order}: " + ",".join(f"{number:04X}" for number in once),
             stdout,
             flags=re.M,
         )
     # To take an order out that isn't there is nothing.
-    if "-O" in words and status == 1 and "BootOrder" not in before and not theirs.stdout:
+    if "-O" in words and status == 1 and name_of_order not in before and not theirs.stdout:
         status, stdout = 0, "?"
     return Run(status, stdout, stderr, variables)
 
 
 def differences(words: List[str], before: Dict[str, bytes], ours: Run, theirs: Run) -> List[str]:
     """Where Bootkeep's program did something else than it has to."""
+    if theirs.status == NO_FIRST:
+        return []
     wanted = expected(words, before, theirs)
     found = []
     if ours.status != wanted.status:

@@ -8,10 +8,25 @@ use std::io::{self, ErrorKind};
 use std::os::unix::fs::DirBuilderExt;
 use std::path::{Path, PathBuf};
 use std::rt::Files;
+use uefi_vars::EntryFamily;
 use whole_files::{folder_of, sync_folder};
 
 /// The state folder, unless another is given.
 pub const DEFAULT_STATE: &str = "/var/lib/bootkeep";
+
+/// The path of the folder with the journal of changes of entries of a family, for a machine with this state folder: that one
+/// itself of the boot manager's, and a folder in it of another family.
+///
+/// # Errors
+///
+/// [`AllocError`] if memory was refused.
+pub fn family_state(alloc: Global, state: &str, family: EntryFamily) -> Result<String, AllocError> {
+    match family {
+        EntryFamily::Boot => String::from_str(alloc, state),
+        EntryFamily::Driver => format!(in alloc; "{state}/driver"),
+        EntryFamily::SysPrep => format!(in alloc; "{state}/sysprep"),
+    }
+}
 
 /// The name of the folder of the records in a state folder.
 const HISTORY: &str = "history";

@@ -26,7 +26,7 @@ mod writer;
 mod written;
 
 pub use fault::{RecordFault, WriteFault};
-pub use folder::{DEFAULT_STATE, make_state_folder};
+pub use folder::{DEFAULT_STATE, family_state, make_state_folder};
 pub use history::{KeptRecord, kept_numbers, kept_record, newest, push, records_to_undo, remove};
 pub use numbers::KEPT_MAX;
 pub use reader::read_record;

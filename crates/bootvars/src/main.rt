@@ -12,8 +12,8 @@ use std::process::ExitCode;
 use std::rt::{Clock, Env, Files};
 use trial_changes::{TrialForm, begin_trial, confirm_trial, end_trial, trial_view};
 use uefi_vars::Vars;
-use var_commands::{OtherProgram, ProfileWords, Profiles, Trials};
-use wanted_changes::MachineWords;
+use var_commands::{OtherProgram, Profiles, Trials};
+use wanted_changes::{MachineWords, ProfileWords};
 use whole_files::OutputFile;
 
 /// What is done for the words of `efibootmgr`, and for those of starts on trial and of profiles.
@@ -71,12 +71,7 @@ impl<R: Files<File: OutputFile> + Clock + Input + Print + Eprint + AllocGlobal> 
         options: &ChangeOptions<'_>,
         words: &ProfileWords<'_>,
     ) -> Result<bool, Failure> {
-        let words = profile_changes::ProfileWords {
-            file: words.file,
-            root: words.root,
-            json: words.json,
-        };
-        apply_profile(rt, options, &words)
+        apply_profile(rt, options, words)
     }
 
     fn show(&self, rt: &R, place: &str) -> Result<(), Failure> {

@@ -1,9 +1,11 @@
 //! The machine whose variables are changed and listed.
 
-use boot_history::DEFAULT_STATE;
+use boot_history::{DEFAULT_STATE, family_state};
 use messages::Failure;
+use std::alloc::{AllocError, Global};
 use std::env::{self, VarError};
 use std::rt::{Env, Files};
+use uefi_vars::EntryFamily;
 use var_places::{Folder, read_folder};
 use wanted_changes::MachineWords;
 
@@ -30,6 +32,12 @@ pub(crate) fn place<R: Env + AllocGlobal>(rt: &R) -> Result<String, Failure> {
     }
 }
 
+/// The path of the folder with the journal of changes of entries of a family: of another one than the boot manager's it is in
+/// the folder of that. This fails only when out of memory.
+pub(crate) fn state_of(alloc: Global, family: EntryFamily) -> Result<String, AllocError> {
+    family_state(alloc, DEFAULT_STATE, family)
+}
+
 /// A machine, and the words of the command that is run over it.
 #[derive(Clone, Copy, Debug)]
 pub(crate) struct Machine<'a> {
@@ -37,18 +45,32 @@ pub(crate) struct Machine<'a> {
     pub(crate) place: &'a str,
     /// The words of the command.
     pub(crate) command: &'a [String],
+    /// Whose entries are meant.
+    pub(crate) family: EntryFamily,
+    /// The path of the folder with the journal of their changes.
+    pub(crate) state: &'a str,
 }
 
 impl<'a> Machine<'a> {
     /// The machine as what changes its entries takes it.
     pub(crate) fn words(&self) -> MachineWords<'a> {
         MachineWords {
-            state: DEFAULT_STATE,
+            state: self.state,
             place: self.place,
             boot_id: None,
             machine: None,
             adopt: false,
             force: false,
+            family: self.family,
+        }
+    }
+
+    /// The words by which a change can be undone: none of another family than the boot manager's, of which nothing is kept.
+    pub(crate) fn kept_command(&self) -> Option<&'a [String]> {
+        if self.family == EntryFamily::Boot {
+            Some(self.command)
+        } else {
+            None
         }
     }
 
@@ -58,6 +80,6 @@ impl<'a> Machine<'a> {
     ///
     /// Those of [`read_folder`].
     pub(crate) fn read<R: Files + Eprint + AllocGlobal>(&self, rt: &R) -> Result<Folder, Failure> {
-        read_folder(rt, self.place)
+        read_folder(rt, self.place, self.family)
     }
 }

@@ -1,18 +1,18 @@
 //! A run of the program.
 
 use crate::fault_words::FaultWords;
-use crate::machine::{Machine, place};
+use crate::machine::{Machine, place, state_of};
 use crate::steps::make_changes;
 use crate::stopped::{Step, Stopped};
 use crate::told_once::ToldOnce;
 use boot_texts::option_reason;
-use efibootmgr_words::{Asked, HELP, VERSION, WordFault, list_vars, options, read_words};
+use efibootmgr_words::{Asked, HELP, ListForm, VERSION, WordFault, list_vars, options, read_words};
 use messages::{Failure, note, print};
 use std::alloc::AllocError;
 use std::fmt::Display;
 use std::rt::{Clock, Env, Files};
 use uefi_option::check_option;
-use uefi_vars::{EntryName, Vars};
+use uefi_vars::{EntryNameIn, Vars};
 use whole_files::OutputFile;
 
 /// Does what the words ask for, of which the first is the name by which the program is called, and returns the status to end
@@ -79,9 +79,13 @@ fn answer<R: Env + Files<File: OutputFile> + Clock + Input + Print + Eprint + Al
         Ok(place) => place,
         Err(failure) => return Err(Stopped::at(Step::Read, failure)),
     };
+    let family = asked.family();
+    let state = state_of(rt.alloc(), family)?;
     let machine = Machine {
         place: place.as_str(),
         command: words,
+        family,
+        state: state.as_str(),
     };
     run_steps(&ToldOnce::new(rt), &machine, asked)
 }
@@ -99,7 +103,11 @@ fn run_steps<R: Files<File: OutputFile> + Clock + Input + Print + Eprint + Alloc
     if asked.quiet {
         return Ok(());
     }
-    list(rt, machine, asked.verbose)
+    let form = ListForm {
+        family: machine.family,
+        verbose: asked.verbose,
+    };
+    list(rt, machine, form)
 }
 
 /// Prints a text.
@@ -114,31 +122,31 @@ fn show<R: Print + AllocGlobal>(rt: &R, text: &str) -> Result<(), Stopped> {
 fn list<R: Files + Print + Eprint + AllocGlobal>(
     rt: &R,
     machine: &Machine<'_>,
-    verbose: bool,
+    form: ListForm,
 ) -> Result<(), Stopped> {
     let vars = match machine.read(rt) {
         Ok(folder) => folder.found.vars,
         Err(failure) => return Err(Stopped::at(Step::List, failure)),
     };
-    let listing = list_vars(rt.alloc(), &vars, verbose)?;
+    let listing = list_vars(rt.alloc(), &vars, form)?;
     show(rt, &listing.text)?;
-    if verbose {
-        tell_of_faulty(rt, machine.place, &vars, &listing.faulty);
+    if form.verbose {
+        tell_of_faulty(rt, machine, &vars, &listing.faulty);
     }
     Ok(())
 }
 
 /// Tells which entries are no load options, and why.
-fn tell_of_faulty<R: Eprint>(rt: &R, place: &str, vars: &Vars, faulty: &[u16]) {
+fn tell_of_faulty<R: Eprint>(rt: &R, machine: &Machine<'_>, vars: &Vars, faulty: &[u16]) {
     for entry in faulty {
         if let Some(data) = vars.entry(*entry)
             && let Err(fault) = check_option(data)
         {
-            let name = EntryName(*entry);
+            let name = EntryNameIn(machine.family, *entry);
             let reason = option_reason(data, &fault);
             note(
                 rt,
-                place,
+                machine.place,
                 format_args!("{name} is no load option: {reason}"),
             );
         }

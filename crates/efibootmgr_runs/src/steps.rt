@@ -10,13 +10,16 @@ use crate::new_entry::option_bytes;
 use crate::planned::{Planned, plan_changes};
 use crate::stopped::{Step, Stopped};
 use boot_edits::Edit;
+use boot_history::{DEFAULT_STATE, make_state_folder};
 use efibootmgr_words::Asked;
-use machine_changes::{ChangeOptions, PlaceKind, StateUse, change_machine};
+use machine_changes::{
+    ChangeOptions, PlaceKind, StateFolder, StateUse, change_machine, lock_folder,
+};
 use messages::{Failure, IsThere, NoSuch};
 use place_edits::{EditForm, WantedEdit};
 use std::alloc::Global;
 use std::rt::{Clock, Files};
-use uefi_vars::{BOOT_NEXT, EntryName, TIMEOUT};
+use uefi_vars::{BOOT_NEXT, EntryFamily, EntryNameIn, TIMEOUT};
 use var_places::PlaceVars;
 use wanted_changes::is_one_of;
 use whole_files::OutputFile;
@@ -75,7 +78,7 @@ fn check_free<R: Files + Eprint + AllocGlobal>(
     if is_free(&found_at(rt, machine, Step::Create)?, entry) {
         return Ok(());
     }
-    let fault = format!(in rt.alloc(); "{}", IsThere(EntryName(entry)))?;
+    let fault = format!(in rt.alloc(); "{}", IsThere(EntryNameIn(machine.family, entry)))?;
     Err(refused(rt.alloc(), machine, Step::CreateTaken, fault.as_str()))
 }
 
@@ -124,6 +127,30 @@ fn refused(alloc: Global, machine: &Machine<'_>, step: Step, fault: &str) -> Sto
     Stopped::at(step, Failure::from_run(alloc, machine.place, fault))
 }
 
+/// The folder in which the state folder of another family than the boot manager's is, locked. It is made if nothing is there,
+/// and refused if others may write it, who could put another one in the place of what is in it.
+fn parent_of<R: Files<File: OutputFile> + AllocGlobal>(
+    rt: &R,
+    machine: &Machine<'_>,
+    step: Step,
+) -> Result<Option<StateFolder<R::File>>, Stopped> {
+    if machine.family == EntryFamily::Boot {
+        return Ok(None);
+    }
+    match made_parent(rt) {
+        Ok(folder) => Ok(Some(folder)),
+        Err(failure) => Err(Stopped::at(step, failure)),
+    }
+}
+
+/// Makes the state folder of the boot manager's entries, if nothing is there, and locks it.
+fn made_parent<R: Files<File: OutputFile> + AllocGlobal>(
+    rt: &R,
+) -> Result<StateFolder<R::File>, Failure> {
+    make_state_folder(rt, DEFAULT_STATE)?;
+    lock_folder(rt, DEFAULT_STATE)
+}
+
 /// Makes a change of boot entries, and tells standard error what there is to tell of it.
 fn edit<R: Files<File: OutputFile> + Clock + Input + Print + Eprint + AllocGlobal>(
     rt: &R,
@@ -131,14 +158,16 @@ fn edit<R: Files<File: OutputFile> + Clock + Input + Print + Eprint + AllocGloba
     step: Step,
     edit: Edit<'_>,
 ) -> Result<(), Stopped> {
+    // Held until the change is made.
+    let _parent = parent_of(rt, machine, step)?;
     let wanted = WantedEdit {
         place: machine.place,
         edit,
-        form: EditForm::Silent,
+        form: EditForm::Silent(machine.family),
     };
     let options = ChangeOptions {
         machine: machine.words(),
-        command: Some(machine.command),
+        command: machine.kept_command(),
         dry_run: false,
         state: StateUse::Made,
     };

@@ -2,7 +2,6 @@
 pub mod Cuts
 pub mod Digits
 pub mod FirstUnits
-pub mod Joined
 pub mod Letters
 pub mod Listings
 pub mod Orders

@@ -1,7 +1,9 @@
 -- What words ask for.
-use Rattle.std.specs.Prelude.{ℕ, Bool, true, false, ◌||◌, is_some, List, [], ◌∷◌, ◌++◌, map, codes, Option, Some, None, Result, Ok, Err, if◌then◌else◌}
+use Rattle.std.specs.Prelude.{ℕ, Bool, true, false, ◌||◌, ◌&&◌, is_some, List, [], ◌∷◌, ◌++◌, map, codes, Option, Some, None, Result, Ok, Err, if◌then◌else◌}
 use Rattle.std.specs.Option.{option_map}
-use Rattle.efibootmgr_words.specs.Parts.{FaultParts, NotDone, NoneToDelete, NoneToActivate, OptionParts, GivenParts}
+use Rattle.uefi_vars.specs.declared.family.EntryFamily.{EntryFamily}
+use Rattle.uefi_vars.specs.declared.family.EntryFamily.TheVariants as family
+use Rattle.efibootmgr_words.specs.Parts.{FaultParts, NotDone, BothFamilies, NoNext, NoTimeout, NoneToDelete, NoneToActivate, OptionParts, GivenParts}
 use Rattle.efibootmgr_words.specs.Values.{◌>>◌, entry_of, next_of, timeout_of, part_of, verbose_of, edd_fault, order_of}
 use Rattle.efibootmgr_words.specs.declared.asked_words.Asked.{Asked}
 use Rattle.efibootmgr_words.specs.declared.asked_words.EntryWords.{EntryWords}
@@ -35,6 +37,8 @@ pub record AskedParts : Type 0 where
   pub version : Bool
   pub quiet : Bool
   pub verbose : Bool
+  pub driver : Bool
+  pub sysprep : Bool
   pub entry : Option ℕ
   pub delete : Bool
   pub active : Option Bool
@@ -57,6 +61,8 @@ asked_parts asked = record {
   version = asked.version;
   quiet = asked.quiet;
   verbose = asked.verbose;
+  driver = asked.driver;
+  sysprep = asked.sysprep;
   entry = asked.entry;
   delete = asked.delete;
   active = asked.active;
@@ -87,6 +93,8 @@ nothing_asked = record {
   version = false;
   quiet = false;
   verbose = false;
+  driver = false;
+  sysprep = false;
   entry = None;
   delete = false;
   active = None;
@@ -129,6 +137,8 @@ plainly_asked choice.Quiet asked = record asked { quiet = true }
 plainly_asked choice.DeleteTimeout asked = record asked { delete_timeout = true }
 plainly_asked choice.Unicode asked = with_entry asked (record asked.new { unicode = true })
 plainly_asked choice.Verbose asked = record asked { verbose = true }
+plainly_asked choice.Driver asked = record asked { driver = true }
+plainly_asked choice.SysPrep asked = record asked { sysprep = true }
 plainly_asked choice.Version asked = record asked { version = true }
 plainly_asked choice.Help asked = record asked { help = true }
 plainly_asked _ asked = asked
@@ -154,8 +164,6 @@ asked_with _ value asked = Ok asked
 
 -- the name of an option that isn't done here
 abbrev pub not_done : Choice → Option (List ℕ)
-not_done choice.Driver = Some (codes "driver")
-not_done choice.SysPrep = Some (codes "sysprep")
 not_done choice.EddDevice = Some (codes "edd-device")
 not_done choice.Interface = Some (codes "iface")
 not_done choice.MirrorBelow = Some (codes "mirror-below-4G")
@@ -172,15 +180,48 @@ asked_and option asked = asked_by (not_done option.choice) option.choice option.
 
 -- ---- all words
 
--- what is wrong with words together: an entry is to be changed, and none is named
+-- an entry is to be changed, and none is named
 abbrev pub fault_for : Bool → Bool → Bool → Option FaultParts
 fault_for true delete active = None
 fault_for false true active = Some NoneToDelete
 fault_for false false true = Some NoneToActivate
 fault_for false false false = None
 
+-- the name of the option for entries of another family, if one of the two is given
+abbrev pub family_option : Bool → Bool → Option (List ℕ)
+family_option false false = None
+family_option true sysprep = Some (codes "driver")
+family_option false true = Some (codes "sysprep")
+
+-- whose entries are meant
+abbrev pub family_meant : Bool → Bool → EntryFamily
+family_meant false false = family.Boot
+family_meant true sysprep = family.Driver
+family_meant false true = family.SysPrep
+
+-- entries of another family are meant, which have neither a BootNext nor a Timeout
+abbrev pub fault_of_family : Option (List ℕ) → Bool → Bool → Option FaultParts
+fault_of_family None next timeout = None
+fault_of_family (Some name) true timeout = Some (NoNext name)
+fault_of_family (Some name) false true = Some (NoTimeout name)
+fault_of_family (Some name) false false = None
+
+abbrev pub first_fault : Option FaultParts → Option FaultParts → Option FaultParts
+first_fault (Some fault) other = Some fault
+first_fault None other = other
+
+-- what is wrong with the families that words mean
+abbrev pub family_fault : AskedParts → Option FaultParts
+family_fault asked =
+    if asked.driver && asked.sysprep then Some BothFamilies
+    else fault_of_family (family_option asked.driver asked.sysprep)
+    (is_some asked.next || asked.delete_next) (is_some asked.timeout || asked.delete_timeout)
+
+-- what is wrong with words together
 abbrev pub fault_together : AskedParts → Option FaultParts
-fault_together asked = fault_for (asked.version || is_some asked.entry) asked.delete (is_some asked.active)
+fault_together asked =
+    if asked.version then None
+    else first_fault (family_fault asked) (fault_for (is_some asked.entry) asked.delete (is_some asked.active))
 
 -- what words ask for in the end, if no option is left: what is wrong with a word comes before what is wrong with them together
 abbrev pub asked_unless : Option FaultParts → Option FaultParts → List (List ℕ) → AskedParts → Result AskedParts FaultParts

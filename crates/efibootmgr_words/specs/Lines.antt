@@ -4,6 +4,9 @@ use Rattle.std.specs.Int.{w16, from_le_bytes}
 use Rattle.std.specs.Fmt.{decimal}
 use Rattle.std.specs.FinMap.{get}
 use Rattle.uefi_vars.specs.Name.{four_digits, next_text, timeout_text}
+use Rattle.uefi_vars.specs.declared.family.EntryFamily.{EntryFamily}
+use Rattle.uefi_vars.specs.declared.family.EntryFamily.TheVariants as family
+use Rattle.uefi_vars.specs.Family.{prefix_of}
 use Rattle.uefi_vars.specs.Vars.{Variables}
 
 -- the number that data of two bytes is, little-endian
@@ -37,7 +40,13 @@ order_words before (low ∷ []) = []
 order_words before (low ∷ high ∷ rest) =
     before ++ (four_digits (from_le_bytes w16 (low ∷ high ∷ [])) ++ order_words (codes ",") rest)
 
--- the line of BootOrder
-abbrev pub order_line : Option (List ℕ) → List ℕ
-order_line None = codes "No BootOrder is set; firmware will attempt recovery" ++ 10 ∷ []
-order_line (Some bytes) = codes "BootOrder: " ++ (order_words [] bytes ++ 10 ∷ [])
+-- the line of an order that isn't there
+abbrev pub no_order : EntryFamily → List ℕ
+no_order family.Boot = codes "No BootOrder is set; firmware will attempt recovery" ++ 10 ∷ []
+no_order family.Driver = codes "No DriverOrder is set" ++ 10 ∷ []
+no_order family.SysPrep = codes "No SysPrepOrder is set" ++ 10 ∷ []
+
+-- the line of the order of a family
+abbrev pub order_line : EntryFamily → Option (List ℕ) → List ℕ
+order_line family None = no_order family
+order_line family (Some bytes) = prefix_of family ++ (codes "Order: " ++ (order_words [] bytes ++ 10 ∷ []))

@@ -26,6 +26,9 @@ pub data FaultParts : Type 0 where
   BadTimeout : List ℕ → FaultParts
   BadVerbose : List ℕ → FaultParts
   BadOrder : List ℕ → FaultParts
+  BothFamilies : FaultParts
+  NoNext : List ℕ → FaultParts
+  NoTimeout : List ℕ → FaultParts
   NoneToDelete : FaultParts
   NoneToActivate : FaultParts
 
@@ -47,6 +50,9 @@ fault_parts (fault.BadPart value) = BadPart value.now
 fault_parts (fault.BadTimeout value) = BadTimeout value.now
 fault_parts (fault.BadVerbose value) = BadVerbose value.now
 fault_parts (fault.BadOrder value) = BadOrder value.now
+fault_parts fault.BothFamilies = BothFamilies
+fault_parts (fault.NoNext name) = NoNext name.now
+fault_parts (fault.NoTimeout name) = NoTimeout name.now
 fault_parts fault.NoneToDelete = NoneToDelete
 fault_parts fault.NoneToActivate = NoneToActivate
 

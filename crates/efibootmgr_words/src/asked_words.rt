@@ -1,10 +1,10 @@
 //! What words ask for.
 
-ghost use Rattle.std.specs.Prelude.{◌≡◌, Ok, MatchResult, Err, IfOk};
+ghost use Rattle.std.specs.Prelude.{◌≡◌, Ok, MatchResult, Err, IfOk, is_some};
 ghost use Rattle.std.specs.Option.{option_map};
 ghost use Rattle.efibootmgr_words.specs.Parts.{fault_parts, given_parts, option_parts};
 ghost use Rattle.efibootmgr_words.specs.Values.{IsRefusal};
-ghost use Rattle.efibootmgr_words.specs.Asked.{asked_parts, nothing_asked, plainly_asked, asked_with, asked_and, not_done, fault_together, asked_of};
+ghost use Rattle.efibootmgr_words.specs.Asked.{asked_parts, nothing_asked, plainly_asked, asked_with, asked_and, not_done, family_option, family_meant, family_fault, fault_for, fault_together, asked_of};
 
 use crate::fault::WordFault;
 use crate::given_words::{Given, GivenOption};
@@ -14,6 +14,7 @@ use crate::values::{
     verbose_value,
 };
 use std::alloc::{AllocError, Global};
+use uefi_vars::EntryFamily;
 
 /// The disk if none is named.
 const DISK: &str = "/dev/sda";
@@ -35,6 +36,10 @@ pub struct Asked<'a> {
     pub quiet: bool,
     /// Whether paths and optional data are to be listed too.
     pub verbose: bool,
+    /// Whether entries of drivers are meant.
+    pub driver: bool,
+    /// Whether entries of what prepares the system are meant.
+    pub sysprep: bool,
     /// The entry that is named by `-b`.
     pub entry: Option<u16>,
     /// Whether that entry is to be taken out.
@@ -106,6 +111,19 @@ impl<'a> Asked<'a> {
         }
     }
 
+    /// Whose entries are meant.
+    pub fn family(&self) -> EntryFamily
+        ensures { result ≡ family_meant self.now.driver self.now.sysprep }
+    {
+        if self.driver {
+            EntryFamily::Driver
+        } else if self.sysprep {
+            EntryFamily::SysPrep
+        } else {
+            EntryFamily::Boot
+        }
+    }
+
     /// What is asked for by no word.
     fn nothing(alloc: Global) -> Asked<'a>
         ensures { asked_parts result ≡ nothing_asked }
@@ -115,6 +133,8 @@ impl<'a> Asked<'a> {
             version: false,
             quiet: false,
             verbose: false,
+            driver: false,
+            sysprep: false,
             entry: None,
             delete: false,
             active: None,
@@ -179,6 +199,8 @@ impl<'a> Asked<'a> {
             Choice::DeleteTimeout => self.delete_timeout = true,
             Choice::Unicode => self.new.unicode = true,
             Choice::Verbose => self.verbose = true,
+            Choice::Driver => self.driver = true,
+            Choice::SysPrep => self.sysprep = true,
             Choice::Version => self.version = true,
             Choice::Help => self.help = true,
             _ => {}
@@ -217,7 +239,38 @@ impl<'a> Asked<'a> {
     fn fault_together(&self) -> Option<WordFault<'a>>
         ensures { option_map fault_parts result ≡ fault_together (asked_parts self.now) }
     {
-        if self.version || self.entry.is_some() {
+        if self.version {
+            return None;
+        }
+        match self.family_fault() {
+            Some(fault) => Some(fault),
+            None => self.entry_fault(),
+        }
+    }
+
+    /// What is wrong with the families that the words mean.
+    fn family_fault(&self) -> Option<WordFault<'a>>
+        ensures { option_map fault_parts result ≡ family_fault (asked_parts self.now) }
+    {
+        if self.driver && self.sysprep {
+            return Some(WordFault::BothFamilies);
+        }
+        let name = family_option(self.driver, self.sysprep)?;
+        if self.next.is_some() || self.delete_next {
+            Some(WordFault::NoNext(name))
+        } else if self.timeout.is_some() || self.delete_timeout {
+            Some(WordFault::NoTimeout(name))
+        } else {
+            None
+        }
+    }
+
+    /// Which entry is to be changed and isn't named.
+    fn entry_fault(&self) -> Option<WordFault<'a>>
+        ensures { option_map fault_parts result
+            ≡ fault_for (is_some self.now.entry) self.now.delete (is_some self.now.active) }
+    {
+        if self.entry.is_some() {
             None
         } else if self.delete {
             Some(WordFault::NoneToDelete)
@@ -229,13 +282,24 @@ impl<'a> Asked<'a> {
     }
 }
 
+/// The name of the option for entries of another family than the boot manager's, if one of the two is given.
+fn family_option(driver: bool, sysprep: bool) -> Option<&'static str>
+    ensures { option_map (λ name. name.now) result ≡ family_option driver sysprep }
+{
+    if driver {
+        Some("driver")
+    } else if sysprep {
+        Some("sysprep")
+    } else {
+        None
+    }
+}
+
 /// The name of an option that isn't done here.
 fn not_done(choice: Choice) -> Option<&'static str>
     ensures { option_map (λ name. name.now) result ≡ not_done choice }
 {
     match choice {
-        Choice::Driver => Some("driver"),
-        Choice::SysPrep => Some("sysprep"),
         Choice::EddDevice => Some("edd-device"),
         Choice::Interface => Some("iface"),
         Choice::MirrorBelow => Some("mirror-below-4G"),

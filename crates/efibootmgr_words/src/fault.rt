@@ -40,6 +40,12 @@ pub enum WordFault<'a> {
     BadVerbose(&'a str),
     /// What is between two commas of the value of `-o` is no number of an entry.
     BadOrder(&'a str),
+    /// Entries of drivers are meant, and those of what prepares the system too.
+    BothFamilies,
+    /// BootNext is to be set or taken out by the words for entries of another family, whose option has this name.
+    NoNext(&'static str),
+    /// Timeout is to be set or taken out by the words for entries of another family, whose option has this name.
+    NoTimeout(&'static str),
     /// An entry is to be taken out, and none is named.
     NoneToDelete,
     /// An entry is to be made active or inactive, and none is named.
@@ -59,6 +65,9 @@ impl WordFault<'_> {
             | WordFault::ExtraValue(_)
             | WordFault::NotDone(_)
             | WordFault::LongPath(_) => 1,
+            WordFault::BothFamilies => 25,
+            WordFault::NoNext(_) => 26,
+            WordFault::NoTimeout(_) => 27,
             WordFault::NoneToDelete => 3,
             WordFault::NoneToActivate => 4,
             WordFault::BadOrder(_) => 8,

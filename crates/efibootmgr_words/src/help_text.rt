@@ -25,12 +25,14 @@ usage: efibootmgr [options]
 \t-O | --delete-bootorder takes BootOrder out
 \t-p | --part part      the number of the partition with the loader (1)
 \t-q | --quiet          lists nothing
+\t-r | --driver         the same of drivers: DriverXXXX and DriverOrder
 \t-t | --timeout seconds sets Timeout
 \t-T | --delete-timeout takes Timeout out
 \t-u | --unicode | --UCS-2 stores other words in UTF-16
 \t-v | --verbose        lists paths and optional data too
 \t-V | --version        prints the version whose words are taken
 \t-w | --write-signature as without it: the disk needs its signature
+\t-y | --sysprep        the same of SysPrepXXXX and SysPrepOrder
 \t-@ | --append-binary-args file optional data (\"-\" is standard input)
 \t-h | --help           prints this
 ";

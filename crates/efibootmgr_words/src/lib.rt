@@ -28,5 +28,5 @@ pub use efivar_path::efivar_text;
 pub use fault::WordFault;
 pub use given_words::{Given, GivenOption, read_words};
 pub use help_text::{HELP, VERSION};
-pub use lines::{Listing, list_vars};
+pub use lines::{ListForm, Listing, list_vars};
 pub use option_table::{Choice, OptionRow, Takes, options};

@@ -8,7 +8,7 @@ ghost use Rattle.std.specs.String.{string_bytes};
 ghost use Rattle.uefi_vars.specs.Name.{four_digits};
 ghost use Rattle.uefi_option.specs.LoadOption.{OptionParts};
 ghost use Rattle.uefi_option.specs.View.{ShowsOption};
-ghost use Rattle.efibootmgr_words.specs.Lines.{number_in, digits_line, seconds_line, number_lines, order_words, order_line};
+ghost use Rattle.efibootmgr_words.specs.Lines.{number_in, digits_line, seconds_line, number_lines, order_words, no_order, order_line};
 ghost use Rattle.efibootmgr_words.specs.Listing.{star_of, front_text, printable, printed, IsFirstPath, IsPartsText, IsOptionText, IsEntry, Appends, AppendsVariable, AppendsEntries, IsListing};
 
 use crate::efivar_path::efivar_text;
@@ -16,7 +16,9 @@ use crate::units::append_units;
 use std::alloc::{AllocError, Global};
 use uefi_option::{OptionView, check_option, is_active};
 use uefi_path::{read_path, read_units};
-use uefi_vars::{BOOT_NEXT, BOOT_ORDER, TIMEOUT, Vars, entry_name, entry_number};
+use uefi_vars::{
+    BOOT_NEXT, BOOT_ORDER, EntryFamily, EntryNameIn, TIMEOUT, Vars, entry_name, entry_number,
+};
 
 /// The variable with the entry that was started, which firmware sets (UEFI 2.10, 3.3).
 const BOOT_CURRENT: &str = "BootCurrent";
@@ -33,20 +35,29 @@ pub struct Listing {
     pub faulty: Vec<u16>,
 }
 
+/// How variables are listed.
+#[derive(Clone, Copy, Debug, PartialEq, Eq)]
+pub struct ListForm {
+    /// Whose entries they are. Those of another family than the boot manager's have its names, and are listed by their own.
+    pub family: EntryFamily,
+    /// Whether paths and optional data are listed too.
+    pub verbose: bool,
+}
+
 /// The lines that show the variables of a machine: BootNext, BootCurrent, Timeout and BootOrder, each if it is there and as long
 /// as it has to be, and then each entry, with a star if it is active. If it is asked for, an entry's first path follows its
 /// description, behind a tab, and right behind the path its optional data, with a dot for each byte that doesn't print. An entry
 /// that is no load option is shown as far as it can be read. This fails only when out of memory.
-pub fn list_vars(alloc: Global, vars: &Vars, verbose: bool) -> Result<Listing, AllocError>
-    ensures { IfOk result (λ listing. IsListing verbose vars.now listing) }
+pub fn list_vars(alloc: Global, vars: &Vars, form: ListForm) -> Result<Listing, AllocError>
+    ensures { IfOk result (λ listing. IsListing form vars.now listing) }
 {
     let mut listing = Listing {
         text: String::new(alloc),
         faulty: Vec::new(alloc),
     };
     append_numbers(vars, &mut listing.text)?;
-    append_order(vars.get(BOOT_ORDER), &mut listing.text)?;
-    append_entries(alloc, &mut listing, vars, verbose)?;
+    append_order(form.family, vars.get(BOOT_ORDER), &mut listing.text)?;
+    append_entries(alloc, &mut listing, vars, form)?;
     Ok(listing)
 }
 
@@ -55,12 +66,12 @@ fn append_entries(
     alloc: Global,
     listing: &mut Listing,
     vars: &Vars,
-    verbose: bool,
+    form: ListForm,
 ) -> Result<(), AllocError>
-    ensures { OnOk result (AppendsEntries verbose (entries vars.now) listing.old listing.new) }
+    ensures { OnOk result (AppendsEntries form (entries vars.now) listing.old listing.new) }
 {
     for (name, bytes) in vars.iter() {
-        append_variable(alloc, listing, name, bytes, verbose)?;
+        append_variable(alloc, listing, name, bytes, form)?;
     }
     Ok(())
 }
@@ -71,12 +82,12 @@ fn append_variable(
     listing: &mut Listing,
     name: &str,
     bytes: &[u8],
-    verbose: bool,
+    form: ListForm,
 ) -> Result<(), AllocError>
-    ensures { OnOk result (AppendsVariable verbose (name.now, bytes.now) listing.old listing.new) }
+    ensures { OnOk result (AppendsVariable form (name.now, bytes.now) listing.old listing.new) }
 {
     match entry_number(name) {
-        Some(number) => append_entry(alloc, listing, number, bytes, verbose),
+        Some(number) => append_entry(alloc, listing, number, bytes, form),
         None => Ok(()),
     }
 }
@@ -135,21 +146,38 @@ fn append_digits(number: u16, text: &mut String) -> Result<(), AllocError>
     text.push(char::from(d))
 }
 
-/// Appends the line of BootOrder, which has these bytes.
-fn append_order(bytes: Option<&[u8]>, text: &mut String) -> Result<(), AllocError>
-    ensures { OnOk result (string_bytes text.new ≡ string_bytes text.old ++ order_line (option_map (λ b. b.now) bytes.entry)) }
+/// Appends the line of the order of a family, which has these bytes.
+fn append_order(
+    family: EntryFamily,
+    bytes: Option<&[u8]>,
+    text: &mut String,
+) -> Result<(), AllocError>
+    ensures { OnOk result (string_bytes text.new
+        ≡ string_bytes text.old ++ order_line family (option_map (λ b. b.now) bytes.entry)) }
 {
     match bytes {
-        Some(bytes) => append_order_of(bytes, text),
-        None => text.push_str("No BootOrder is set; firmware will attempt recovery\n"),
+        Some(bytes) => append_order_of(family, bytes, text),
+        None => text.push_str(no_order(family)),
+    }
+}
+
+/// The line of an order that isn't there.
+fn no_order(family: EntryFamily) -> &'static str
+    ensures { result.now ≡ no_order family }
+{
+    match family {
+        EntryFamily::Boot => "No BootOrder is set; firmware will attempt recovery\n",
+        EntryFamily::Driver => "No DriverOrder is set\n",
+        EntryFamily::SysPrep => "No SysPrepOrder is set\n",
     }
 }
 
 /// Appends the line of an order that is there.
-fn append_order_of(bytes: &[u8], text: &mut String) -> Result<(), AllocError>
-    ensures { OnOk result (string_bytes text.new ≡ string_bytes text.old ++ order_line (Some bytes.now)) }
+fn append_order_of(family: EntryFamily, bytes: &[u8], text: &mut String) -> Result<(), AllocError>
+    ensures { OnOk result (string_bytes text.new ≡ string_bytes text.old ++ order_line family (Some bytes.now)) }
 {
-    text.push_str("BootOrder: ")?;
+    text.push_str(family.prefix())?;
+    text.push_str("Order: ")?;
     append_order_words(bytes, text)?;
     text.push('\n')
 }
@@ -187,13 +215,18 @@ fn append_entry(
     listing: &mut Listing,
     number: u16,
     bytes: &[u8],
-    verbose: bool,
+    form: ListForm,
 ) -> Result<(), AllocError>
-    ensures { OnOk result ((line : List ℕ) × (bad : List ℕ) × IsEntry verbose number bytes.now line bad
+    ensures { OnOk result ((line : List ℕ) × (bad : List ℕ) × IsEntry form number bytes.now line bad
         × Appends line bad listing.old listing.new) }
 {
-    append_front(alloc, number, bytes, &mut listing.text)?;
-    append_option(alloc, listing, number, bytes, verbose)?;
+    append_front(
+        alloc,
+        EntryNameIn(form.family, number),
+        bytes,
+        &mut listing.text,
+    )?;
+    append_option(alloc, listing, number, bytes, form.verbose)?;
     listing.text.push('\n')
 }
 
@@ -217,13 +250,14 @@ fn append_option(
 /// Appends the name of an entry, a star if it is active, and its description.
 fn append_front(
     alloc: Global,
-    number: u16,
+    name: EntryNameIn,
     bytes: &[u8],
     text: &mut String,
 ) -> Result<(), AllocError>
-    ensures { OnOk result (string_bytes text.new ≡ string_bytes text.old ++ front_text number bytes.now) }
+    ensures { OnOk result (string_bytes text.new ≡ string_bytes text.old ++ front_text name.0 name.1 bytes.now) }
 {
-    text.push_str("Boot")?;
+    let EntryNameIn(family, number) = name;
+    text.push_str(family.prefix())?;
     append_digits(number, text)?;
     text.push(star_of(bytes))?;
     text.push(' ')?;

@@ -84,7 +84,12 @@ pub(crate) fn read_kept<R: Files + Input + Eprint + AllocGlobal>(
 ) -> Result<KeptVars, Failure> {
     let path = words.place;
     if is_folder(rt, path)? {
-        kept_of(rt.alloc(), path, true, read_folder(rt, path)?.found)
+        kept_of(
+            rt.alloc(),
+            path,
+            true,
+            read_folder(rt, path, words.family)?.found,
+        )
     } else {
         kept_of_file(rt, words)
     }
@@ -166,7 +171,7 @@ fn journal_for<R: Files<File: OutputFile> + Input + Print + Eprint + AllocGlobal
         None => None,
     };
     let journal = own_journal(words, storage, stored, vars)?;
-    tell_of_settling(storage.rt, words.place, vars, &journal, boot)?;
+    tell_of_settling(storage.rt, words, vars, &journal, boot)?;
     Ok(journal)
 }
 
@@ -185,7 +190,7 @@ fn open_folder<R: Files<File: OutputFile> + Eprint + AllocGlobal>(
     let alloc = rt.alloc();
     let path = words.place;
     let lock = lock_place_folder(rt, path)?;
-    let folder = read_folder(rt, path)?;
+    let folder = read_folder(rt, path, words.family)?;
     let kept = kept_of(alloc, path, true, folder.found.copy(alloc)?)?;
     let path = String::from_str(alloc, path)?;
     Ok(OpenedPlace {

@@ -11,7 +11,7 @@ use messages::{Failure, Quoted};
 use std::alloc::Global;
 use std::io;
 use std::rt::Files;
-use uefi_vars::Vars;
+use uefi_vars::{EntryFamily, Vars};
 use var_places::{MachineIdentity, PRODUCT_UUID, machine_identity};
 use wanted_changes::MachineWords;
 use whole_files::OutputFile;
@@ -53,7 +53,7 @@ pub(crate) fn identity_of<R: Files + AllocGlobal>(
     let alloc = rt.alloc();
     match words.machine {
         Some(text) => Ok(Identity {
-            name: name_of_text(alloc, text)?,
+            name: name_in(alloc, words.family, text)?,
             former: Vec::new(alloc),
             unread: None,
         }),
@@ -64,12 +64,27 @@ pub(crate) fn identity_of<R: Files + AllocGlobal>(
                 unread,
             } = machine_identity(rt, words.place, is_folder)?;
             Ok(Identity {
-                name: name_of_text(alloc, name.as_str())?,
-                former,
+                name: name_in(alloc, words.family, name.as_str())?,
+                // No earlier version had a journal of another family than the boot manager's.
+                former: if words.family == EntryFamily::Boot {
+                    former
+                } else {
+                    Vec::new(alloc)
+                },
                 unread,
             })
         }
     }
+}
+
+/// The name by which the journal of a family knows the machine of this text: of another family than the boot manager's the
+/// family is told in it, so that no command takes the one journal for the other.
+fn name_in(alloc: Global, family: EntryFamily, text: &str) -> Result<MachineName, Failure> {
+    if family == EntryFamily::Boot {
+        return name_of_text(alloc, text);
+    }
+    let name = format!(in alloc; "{text} {}", family.prefix())?;
+    name_of_text(alloc, name.as_str())
 }
 
 /// The name of a machine that is this text.

@@ -7,6 +7,7 @@ use boot_journal::{CallError, Change, Journal, Storage, write_journal};
 use boot_notes::{Notes, with_notes};
 use messages::{Failure, Reason};
 use std::alloc::{AllocError, Global};
+use std::fmt::Display;
 use std::io::ErrorKind;
 use std::rc::Rc;
 use std::rt::Files;
@@ -237,7 +238,7 @@ fn make_first_in<R: Files<File: OutputFile> + Input + Print + AllocGlobal>(
         }
         Place::Folder { path, folder, .. } => match change_variable(rt, folder, path, &kept) {
             Ok(()) => Ok(()),
-            Err(fault) => Err(from_change(rt.alloc(), path, kept.name, fault)),
+            Err(fault) => Err(from_change(rt.alloc(), path, folder.shown(kept.name), fault)),
         },
         Place::File { due, .. } => Ok(due.push(DueChange::new(rt.alloc(), change, true)?)?),
     }
@@ -274,7 +275,7 @@ fn set_in_folder<R: Files + AllocGlobal>(
 ) -> Result<(), Failure> {
     match set_variable(rt, folder, path, name, kept) {
         Ok(()) => Ok(()),
-        Err(fault) => Err(from_change(rt.alloc(), path, name, fault)),
+        Err(fault) => Err(from_change(rt.alloc(), path, folder.shown(name), fault)),
     }
 }
 
@@ -311,7 +312,12 @@ fn call_error(failure: Failure) -> CallError<Failure> {
 }
 
 /// What it is to the program that the variable of this name can't be changed in the folder at this path.
-pub fn from_change(alloc: Global, path: &str, name: &str, fault: ChangeFault) -> Failure {
+pub fn from_change<N: Display + Drop>(
+    alloc: Global,
+    path: &str,
+    name: N,
+    fault: ChangeFault,
+) -> Failure {
     let Ok(name) = format!(in alloc; "{path}: {name}") else {
         return Failure::Memory;
     };

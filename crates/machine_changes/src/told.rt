@@ -3,7 +3,8 @@
 use boot_journal::{BootId, Change, Journal};
 use messages::note;
 use std::alloc::AllocError;
-use uefi_vars::{BOOT_NEXT, Vars};
+use uefi_vars::{BOOT_NEXT, NameIn, Vars};
+use wanted_changes::MachineWords;
 
 /// Tells on standard error what finishing an earlier update, by this journal and under this identity, will do that wasn't
 /// meant: which variables it changes although somebody else changed them since, and that BootNext isn't set again.
@@ -13,7 +14,7 @@ use uefi_vars::{BOOT_NEXT, Vars};
 /// [`AllocError`] if memory was refused.
 pub(crate) fn tell_of_settling<R: Eprint + AllocGlobal>(
     rt: &R,
-    place: &str,
+    words: &MachineWords<'_>,
     vars: &Vars,
     journal: &Journal,
     boot: &BootId,
@@ -25,10 +26,10 @@ pub(crate) fn tell_of_settling<R: Eprint + AllocGlobal>(
     let begun = journal.due(alloc, began)?;
     for (due, begun) in journal.due(alloc, boot)?.iter().zip(&begun) {
         if is_overwriting(vars, due, begun) {
-            let name = due.name();
+            let name = NameIn(words.family, due.name());
             note(
                 rt,
-                place,
+                words.place,
                 format_args!(
                     "{name} was changed meanwhile, and is overwritten by what an earlier update has left to do"
                 ),
@@ -38,7 +39,7 @@ pub(crate) fn tell_of_settling<R: Eprint + AllocGlobal>(
     if began.as_str() != boot.as_str() && sets_next(&begun) {
         note(
             rt,
-            place,
+            words.place,
             "BootNext not set again: the machine was started in between",
         );
     }

@@ -4,7 +4,7 @@ use messages::Failure;
 use std::alloc::AllocError;
 use std::io::ErrorKind;
 use std::rt::Files;
-use uefi_vars::Vars;
+use uefi_vars::{EntryFamily, Vars};
 use var_places::{
     FileKind, STANDARD, file_kind, file_vars, is_folder, name_of, read_folder, read_variables,
 };
@@ -41,7 +41,7 @@ pub(crate) fn read_with_source<'a, R: Files + Input + Eprint + AllocGlobal>(
 ) -> Result<ReadPlace<'a>, Failure> {
     if is_folder(rt, path)? {
         return Ok(ReadPlace {
-            vars: read_folder(rt, path)?.found.vars,
+            vars: read_folder(rt, path, EntryFamily::Boot)?.found.vars,
             source: Source::Folder(path),
         });
     }

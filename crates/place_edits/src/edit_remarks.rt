@@ -8,7 +8,8 @@ use messages::Shortened;
 use std::alloc::{AllocError, Global};
 use uefi_option::check_option;
 use uefi_vars::{
-    BOOT_NEXT, BOOT_ORDER, EntryName, VarFault, boot_changes, boot_next, boot_order, entry_number,
+    BOOT_NEXT, BOOT_ORDER, EntryFamily, EntryNameIn, NameIn, VarFault, boot_changes, boot_next,
+    boot_order, entry_number,
 };
 use wanted_changes::{Remarks, SetChange, Told};
 
@@ -27,12 +28,13 @@ pub(crate) fn told_of(
 ) -> Result<Told, AllocError> {
     let place = wanted.place;
     let mut remarks = Remarks::new(alloc);
-    remark_present(alloc, &mut remarks, place, answer)?;
-    remark_repairs(alloc, &mut remarks, place, change)?;
+    let family = wanted.form.voice().family();
+    remark_present(alloc, &mut remarks, (place, family), answer)?;
+    remark_repairs_of(alloc, &mut remarks, (place, family), change)?;
     if is_folder {
-        remark_losses(alloc, &mut remarks, place, change)?;
+        remark_losses(alloc, &mut remarks, (place, family), change)?;
     }
-    if wanted.form == EditForm::Silent {
+    if wanted.form == EditForm::Silent(EntryFamily::Boot) {
         remark_unnamed(alloc, &mut remarks, place, change)?;
     }
     Ok(Told {
@@ -48,7 +50,7 @@ fn printed(
     change: SetChange<'_>,
     answer: EditAnswer,
 ) -> Result<String, AllocError> {
-    if form == EditForm::Silent {
+    if matches!(form, EditForm::Silent(_)) {
         return Ok(String::new(alloc));
     }
     let json = form == EditForm::Json;
@@ -76,11 +78,11 @@ fn name_line(alloc: Global, json: bool, answer: EditAnswer) -> Result<String, Al
 fn remark_present(
     alloc: Global,
     remarks: &mut Remarks,
-    place: &str,
+    (place, family): (&str, EntryFamily),
     answer: EditAnswer,
 ) -> Result<(), AllocError> {
     if let EditAnswer::Present(entry) = answer {
-        let name = EntryName(entry);
+        let name = EntryNameIn(family, entry);
         remarks.push(
             place,
             format!(in alloc;
@@ -102,14 +104,24 @@ pub fn remark_repairs(
     place: &str,
     change: SetChange<'_>,
 ) -> Result<(), AllocError> {
+    remark_repairs_of(alloc, remarks, (place, EntryFamily::Boot), change)
+}
+
+/// The same of a family.
+fn remark_repairs_of(
+    alloc: Global,
+    remarks: &mut Remarks,
+    at: (&str, EntryFamily),
+    change: SetChange<'_>,
+) -> Result<(), AllocError> {
     let from = change.from;
     match boot_order(alloc, from) {
         Err(VarFault::OutOfMemory) => return Err(AllocError),
-        Err(_) => remark_repair(alloc, remarks, place, BOOT_ORDER, change)?,
+        Err(_) => remark_repair(alloc, remarks, at, BOOT_ORDER, change)?,
         Ok(_) => {}
     }
     if boot_next(from).is_err() {
-        remark_repair(alloc, remarks, place, BOOT_NEXT, change)?;
+        remark_repair(alloc, remarks, at, BOOT_NEXT, change)?;
     }
     Ok(())
 }
@@ -118,7 +130,7 @@ pub fn remark_repairs(
 fn remark_repair(
     alloc: Global,
     remarks: &mut Remarks,
-    place: &str,
+    (place, family): (&str, EntryFamily),
     name: &str,
     change: SetChange<'_>,
 ) -> Result<(), AllocError> {
@@ -129,6 +141,7 @@ fn remark_repair(
         let digits = hex::encode(alloc, bytes)?;
         let count = bytes.len();
         let digits = Shortened(&digits);
+        let name = NameIn(family, name);
         remarks.push(
             place,
             format!(in alloc;
@@ -143,7 +156,7 @@ fn remark_repair(
 fn remark_losses(
     alloc: Global,
     remarks: &mut Remarks,
-    place: &str,
+    (place, family): (&str, EntryFamily),
     change: SetChange<'_>,
 ) -> Result<(), AllocError> {
     for change in &boot_changes(alloc, change.from, change.to)? {
@@ -154,7 +167,7 @@ fn remark_losses(
         )
             && check_option(before).is_err()
         {
-            let name = EntryName(entry);
+            let name = EntryNameIn(family, entry);
             remarks.push(
                 place,
                 format!(in alloc;

@@ -1,24 +1,36 @@
 //! Edits that are wanted of a machine.
 
 use crate::edit_remarks::told_of;
-use crate::fault_words::from_edit_run;
+use crate::fault_words::from_edit_run_in;
 use crate::left_out::check_edit;
+use crate::voice::Voice;
 use boot_edits::{Edit, EditAnswer, EditRun, EditRunFault};
 use boot_journal::{CallError, Run};
 use messages::Failure;
 use std::alloc::Global;
-use uefi_vars::Vars;
+use uefi_vars::{EntryFamily, Vars};
 use wanted_changes::{Seen, SetChange, Told, Wanted};
 
 /// How an edit is printed: the name of an entry that is added, and then what differs, as `diff` has it.
 #[derive(Clone, Copy, Debug, PartialEq, Eq)]
 pub enum EditForm {
-    /// Not at all. Standard error is told which entries are left in no order.
-    Silent,
+    /// Not at all: standard error is told in the words of `efibootmgr`, of entries of this family, and which of the boot
+    /// manager's are left in no order.
+    Silent(EntryFamily),
     /// As lines.
     Lines,
     /// As JSON.
     Json,
+}
+
+impl EditForm {
+    /// Whose words it is told in.
+    pub(crate) fn voice(self) -> Voice {
+        match self {
+            EditForm::Silent(family) => Voice::Efibootmgr(family),
+            EditForm::Lines | EditForm::Json => Voice::Bootvars,
+        }
+    }
 }
 
 /// An edit that is wanted of a machine. Standard error is told what it loses and repairs.
@@ -46,7 +58,7 @@ impl Wanted for WantedEdit<'_> {
     ghost refuses = { λ wanted seen from fault. IsRunFault wanted.edit from fault };
 
     fn check(&self, alloc: Global, left_out: &[String]) -> Result<(), Failure> {
-        check_edit(alloc, self.place, &self.edit, left_out)
+        check_edit(alloc, (self.place, self.form.voice()), &self.edit, left_out)
     }
 
     fn replaced(&self) -> Option<&Vars> {
@@ -77,7 +89,7 @@ impl Wanted for WantedEdit<'_> {
     }
 
     fn refusal(&self, alloc: Global, fault: EditRunFault) -> Failure {
-        from_edit_run(alloc, self.place, fault)
+        from_edit_run_in(alloc, self.place, self.form.voice(), fault)
     }
 
     fn end(&self, _answer: &EditAnswer) {}

@@ -4,27 +4,29 @@ ghost use Rattle.std.specs.Prelude.{◌↔◌, All, Contains, map, IfSome, IfNon
 ghost use Rattle.std.specs.String.{string_bytes};
 ghost use Rattle.place_edits.specs.LeftOut.{IsTouched};
 
+use crate::voice::Voice;
 use boot_edits::{Edit, Position};
 use messages::Failure;
 use std::alloc::Global;
-use uefi_vars::{BOOT_NEXT, BOOT_ORDER, TIMEOUT, laws as vars_laws};
+use uefi_vars::{BOOT_NEXT, BOOT_ORDER, NameIn, TIMEOUT, laws as vars_laws};
 use wanted_changes::{LEFT_OUT, is_one_of};
 
-/// Refuses a change of one of the variables of these names, which no set can hold, in the place of this name.
+/// Refuses a change of one of the variables of these names, which no set can hold, in the place of this name, in these words.
 ///
 /// # Errors
 ///
 /// [`Failure::Run`] with the first such variable, and [`Failure::Memory`] if memory was refused.
 pub(crate) fn check_edit(
     alloc: Global,
-    place: &str,
+    (place, voice): (&str, Voice),
     edit: &Edit<'_>,
     left_out: &[String],
 ) -> Result<(), Failure> {
     let Some(variable) = changed_by(edit, left_out) else {
         return Ok(());
     };
-    let fault = format!(in alloc; "{variable} {LEFT_OUT}")?;
+    let name = NameIn(voice.family(), variable);
+    let fault = format!(in alloc; "{name} {LEFT_OUT}")?;
     Err(Failure::from_run(alloc, place, fault.as_str()))
 }
 

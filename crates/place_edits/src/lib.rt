@@ -17,6 +17,7 @@ mod takeable;
 mod undo;
 mod undo_run;
 mod unnamed;
+mod voice;
 mod wanted_set;
 
 pub use edit_remarks::remark_repairs;

@@ -9,18 +9,8 @@ use profile_files::{FileError, read_profile};
 use std::alloc::Global;
 use std::rt::{Clock, Files};
 use var_places::{name_of, read, read_place};
+use wanted_changes::ProfileWords;
 use whole_files::OutputFile;
-
-/// The words that say a profile, and how what it changes is told.
-#[derive(Clone, Copy, Debug)]
-pub struct ProfileWords<'a> {
-    /// The path of the file.
-    pub file: &'a str,
-    /// The path of the folder that stands for the root of the system whose files are loaders, or nothing.
-    pub root: &'a str,
-    /// Whether JSON is printed.
-    pub json: bool,
-}
 
 /// Makes the boot variables of a place what the file says, and prints the changes. Gives whether there are some.
 ///

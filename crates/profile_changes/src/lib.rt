@@ -13,5 +13,5 @@ mod telling;
 mod toml_words;
 mod wanted_profile;
 
-pub use commands::{ProfileWords, apply_profile, show_profile};
+pub use commands::{apply_profile, show_profile};
 pub use showing::{ShownProfile, shown_profile};

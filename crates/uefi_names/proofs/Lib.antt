@@ -1,5 +1,5 @@
 -- what the proofs of functions use
-mod Texts
+pub mod Texts
 mod Chars
 mod Left
 mod Standard

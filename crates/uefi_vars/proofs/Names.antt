@@ -1,5 +1,5 @@
 -- The names of entries.
-use Rattle.std.proofs.Common.{◌≡◌, ◌≢◌, ℕ, zero, suc, ◌+◌, ◌*◌, ◌/◌, ◌%◌, ◌<◌, ◌≤◌, ◌^◌, List, [], ◌∷◌, Some, None, ◌↔◌, sym, ap, ◌∙◌, ⊎_elim, arith, false}
+use Rattle.std.proofs.Common.{◌≡◌, ◌≢◌, ℕ, zero, suc, ◌+◌, ◌*◌, ◌/◌, ◌%◌, ◌<◌, ◌≤◌, ◌^◌, List, [], ◌∷◌, Some, None, sym, ◌∙◌, ⊎_elim, arith, false}
 use Rattle.std.specs.Ordering.{nat_cmp, ordering_then, eq_by_cmp}
 use Rattle.std.specs.declared.cmp.Ordering.{Ordering}
 use Rattle.std.specs.declared.cmp.Ordering.TheVariants.{Less}
@@ -46,25 +46,6 @@ names_apart m n p q e =
     let c : m / 0x10 % 0x10 ≡ n / 0x10 % 0x10 = digits_apart _ _ (cc e) in
     let d : m % 0x10 ≡ n % 0x10 = digits_apart _ _ (cc e) in
     omega arith
-
--- the number whose digits these are
-abbrev pub of_digits : ℕ → ℕ → ℕ → ℕ → ℕ
-of_digits a b c d = a * 0x1000 + b * 0x100 + (c * 0x10 + d)
-
-pub four_digits-of_digits : (a b c d : ℕ) → a < 16 → b < 16 → c < 16 → d < 16 →
-    four_digits (of_digits a b c d) ≡ upper_digit a ∷ upper_digit b ∷ upper_digit c ∷ upper_digit d ∷ []
-four_digits-of_digits a b c d p q r s =
-    let first : of_digits a b c d / 0x1000 ≡ a = omega arith in
-    let second : of_digits a b c d / 0x100 % 0x10 ≡ b = omega arith in
-    let third : of_digits a b c d / 0x10 % 0x10 ≡ c = omega arith in
-    let fourth : of_digits a b c d % 0x10 ≡ d = omega arith in
-    cc
-
--- the one number that has the name
-pub number_of_name : (name : List ℕ) (m : ℕ) → m < 2 ^ 16 → name ≡ entry_text m → (number : ℕ) →
-    (Some m ≡ Some number) ↔ ((number < 2 ^ 16) × (name ≡ entry_text number))
-number_of_name name m fits is number =
-    (λ e. let same : m ≡ number = cc in (omega arith, is ∙ ap entry_text same), λ h. ap (λ (n : ℕ). Some n) (names_apart m number fits h.0 (sym is ∙ h.1)))
 
 -- ---- names as text
 

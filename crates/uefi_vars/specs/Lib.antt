@@ -1,5 +1,6 @@
 -- what public contracts and the laws cite
 pub mod Name
+pub mod Family
 pub mod Attributes
 pub mod Vars
 pub mod NameChanges

@@ -19,6 +19,7 @@ mod boot_change;
 mod boot_plan;
 mod by_number;
 mod changes;
+mod family;
 mod fault;
 mod free;
 pub mod laws;
@@ -38,6 +39,7 @@ pub use attributes::{ATTRIBUTES_LEN, BOOT_ATTRIBUTES};
 pub use boot_change::{BootChange, boot_changes, is_boot_name};
 pub use boot_plan::{BootPlan, Choice, PlanNumbers};
 pub use changes::Changes;
+pub use family::{EntryFamily, EntryNameIn, NameIn};
 pub use fault::{PutFault, PutRefusal, SetFault, VarFault};
 pub use free::lowest_free;
 pub use name::{

@@ -99,7 +99,18 @@ pub fn entry_number(name: &str) -> Option<u16>
     ensures { (number : ℕ) →
         (result ≡ Some number) ↔ ((number < 2 ^ 16) × (name.now ≡ entry_text number)) }
 {
-    let [b'B', b'o', b'o', b't', a, b, c, d] = name.as_bytes() else {
+    let [b'B', b'o', b'o', b't', digits @ ..] = name.as_bytes() else {
+        return None;
+    };
+    number_of(digits)
+}
+
+/// The number whose four hexadecimal digits in upper case these are.
+pub(crate) fn number_of(digits: &[u8]) -> Option<u16>
+    ensures { (number : ℕ) →
+        (result ≡ Some number) ↔ ((number < 2 ^ 16) × (digits.now ≡ four_digits number)) }
+{
+    let [a, b, c, d] = digits else {
         return None;
     };
     let high = digit_value(*a)? * 0x1000 + digit_value(*b)? * 0x100;

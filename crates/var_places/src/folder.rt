@@ -20,7 +20,9 @@ use std::path::{Path, PathBuf};
 use std::rt::Files;
 use thiserror::Error;
 use uefi_text::{GuidText, laws as text_laws, read_guid};
-use uefi_vars::{ATTRIBUTES_LEN, DATA_MAX, GLOBAL_VENDOR, KEEP_STATE, PutFault, Vars};
+use uefi_vars::{
+    ATTRIBUTES_LEN, DATA_MAX, EntryFamily, GLOBAL_VENDOR, KEEP_STATE, NameIn, PutFault, Vars,
+};
 use whole_files::{RegularFile, read_regular};
 
 /// How many bytes a GUID and the hyphen before it have in a file's name.
@@ -31,9 +33,11 @@ const VENDOR_LEN: usize = 37;
 pub struct Folder {
     /// The variables that were found in it.
     pub found: PlaceVars,
-    /// The name of the file of each variable of the standard's vendor, by the variable's name: also of those that are
-    /// left out.
+    /// The name of the file of each variable of the standard's vendor, by the name that the variable has here: also of those
+    /// that are left out.
     files: BTreeMap<String, String>,
+    /// Whose entries have the names of the boot manager's here.
+    family: EntryFamily,
 }
 
 /// Why a variable isn't read.
@@ -53,18 +57,24 @@ pub enum LeftOut {
     KeepState,
 }
 
-/// The variables that the folder at this path shows. Tells on standard error what is left out. A variable that goes away
-/// while the folder is read isn't there.
+/// The variables that the folder at this path shows; of another family of load options than the boot manager's its entries and
+/// their order alone, under the names Boot#### and BootOrder. Tells on standard error what is left out. A variable that goes
+/// away while the folder is read isn't there.
 ///
 /// # Errors
 ///
 /// [`Failure::Read`] if the folder or the file of one of its variables can't be read, [`Failure::Refused`] if what shows a
 /// variable is a pipe, a device or a socket, if it has a variable twice, or no file of a variable and isn't on an efivarfs,
 /// and [`Failure::Memory`] if memory was refused.
-pub fn read_folder<R: Files + Eprint + AllocGlobal>(rt: &R, path: &str) -> Result<Folder, Failure> {
+pub fn read_folder<R: Files + Eprint + AllocGlobal>(
+    rt: &R,
+    path: &str,
+    family: EntryFamily,
+) -> Result<Folder, Failure> {
     let mut folder = Folder {
         found: PlaceVars::new(rt.alloc()),
         files: BTreeMap::new(rt.alloc()),
+        family,
     };
     let files = file_names(rt, path)?;
     // A machine may have no entry, and then none of these variables, until it gets one.
@@ -73,10 +83,28 @@ pub fn read_folder<R: Files + Eprint + AllocGlobal>(rt: &R, path: &str) -> Resul
     }
     for file in &files {
         if let Some(name) = variable_name(file) {
-            add_variable(rt, path, &mut folder, name, file)?;
+            add_if_of_family(rt, path, &mut folder, name, file)?;
         }
     }
     Ok(folder)
+}
+
+/// Adds the variable of this name that a file shows, unless another family of load options is meant: then only one of that,
+/// under the name that it would have in the boot manager's.
+fn add_if_of_family<R: Files + Eprint + AllocGlobal>(
+    rt: &R,
+    path: &str,
+    folder: &mut Folder,
+    name: &str,
+    file: &str,
+) -> Result<(), Failure> {
+    if folder.family == EntryFamily::Boot {
+        return add_variable(rt, path, folder, name, file);
+    }
+    match folder.family.name_in(rt.alloc(), EntryFamily::Boot, name)? {
+        Some(name) => add_variable(rt, path, folder, name.as_str(), file),
+        None => Ok(()),
+    }
 }
 
 /// The names of the files in the folder, in the order of their bytes.
@@ -276,7 +304,20 @@ impl Folder {
         let path = Path::new(path);
         match self.files.get(name) {
             Some(file) => path.join(alloc, file.as_str()),
-            None => path.join(alloc, new_file_name(alloc, name)?.as_str()),
+            None => path.join(alloc, self.new_file(alloc, name)?.as_str()),
+        }
+    }
+
+    /// The name that a variable has in the folder that has this one here, shown.
+    pub fn shown<'a>(&self, name: &'a str) -> NameIn<'a> {
+        NameIn(self.family, name)
+    }
+
+    /// The name that the file of a variable gets that has this name here.
+    fn new_file(&self, alloc: Global, name: &str) -> Result<String, AllocError> {
+        match EntryFamily::Boot.name_in(alloc, self.family, name)? {
+            Some(name) => new_file_name(alloc, name.as_str()),
+            None => new_file_name(alloc, name),
         }
     }
 }

@@ -6,7 +6,7 @@ use crate::input::{STANDARD, name_of, read_variables};
 use messages::Failure;
 use std::fs;
 use std::rt::Files;
-use uefi_vars::Vars;
+use uefi_vars::{EntryFamily, Vars};
 
 /// Whether a folder is at this path. The path `-` is that of standard input, and of no folder.
 ///
@@ -35,7 +35,7 @@ pub fn read_place<R: Files + Input + Eprint + AllocGlobal>(
     path: &str,
 ) -> Result<Vars, Failure> {
     if is_folder(rt, path)? {
-        return Ok(read_folder(rt, path)?.found.vars);
+        return Ok(read_folder(rt, path, EntryFamily::Boot)?.found.vars);
     }
     let bytes = read_variables(rt, path)?;
     file_vars(rt, name_of(path), &bytes)

@@ -3,12 +3,13 @@
 //!
 //! A [`Wanted`] says what is to become of the variables, and what is [`Told`] of that; [`Seen`] is what it may know of the
 //! machine beside them. [`set_of`] takes the attributes off what a machine keeps, and [`leave_out`] takes out what no set
-//! can hold. [`MachineWords`] names a machine's place, and the folder with its journal.
+//! can hold. [`MachineWords`] names a machine's place, and the folder with its journal, and [`ProfileWords`] a profile.
 #![tactic(auto)]
 
 mod kept_notes;
 mod left_out;
 mod machine_words;
+mod profile_words;
 mod sets;
 mod told;
 mod wanted;
@@ -16,6 +17,7 @@ mod wanted;
 pub use kept_notes::{KeptNotes, digits_of, identity_digits, journal_identity};
 pub use left_out::{LEFT_OUT, is_one_of, leave_out};
 pub use machine_words::MachineWords;
+pub use profile_words::ProfileWords;
 pub use sets::{SetChange, set_of};
 pub use told::{Remarks, Told};
 pub use wanted::{Seen, Wanted};

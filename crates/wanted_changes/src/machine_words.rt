@@ -1,5 +1,7 @@
 //! What names a machine's place, and the folder with its journal.
 
+use uefi_vars::EntryFamily;
+
 /// Where a machine's variables are, and its journal.
 #[derive(Clone, Copy, Debug)]
 pub struct MachineWords<'a> {
@@ -15,4 +17,7 @@ pub struct MachineWords<'a> {
     pub adopt: bool,
     /// Whether a variable file is written that is damaged.
     pub force: bool,
+    /// Which load options of a folder are meant. Those of another family than the boot manager's are seen under its names, as
+    /// if there were no other variables, and have a journal of their own.
+    pub family: EntryFamily,
 }

@@ -1,7 +1,7 @@
 use Rattle.std.proofs.Common.{◌≡◌, ◌∷◌, ◌++◌, List, ℕ, take, ap, append_assoc, ◌∙◌, flat_map}
 use Rattle.std.specs.String.{string_bytes}
 use Rattle.uefi_text.specs.Segment.{slash}
-use Rattle.efibootmgr_words.proofs.Joined.{joined}
+use Rattle.uefi_names.proofs.Texts.{joined}
 use Rattle.efibootmgr_words.specs.EfivarText.{node_text}
 use Rattle.efibootmgr_words.proofs.efivar_path.append_instance.Goals as goal
 

@@ -8,7 +8,7 @@ use Rattle.efibootmgr_words.proofs.lines.append_entries.Given as goal
 
 abbrev pub invariant-loop-name : goal.invariant-loop-name
 invariant-loop-name l =
-    (lines bad : List ℕ) → AreEntries l.verbose (variables_left l.name-iterator) lines bad
-    → (all : List ℕ) × (faulty : List ℕ) × AreEntries l.verbose (entries l.vars) all faulty
+    (lines bad : List ℕ) → AreEntries l.form (variables_left l.name-iterator) lines bad
+    → (all : List ℕ) × (faulty : List ℕ) × AreEntries l.form (entries l.vars) all faulty
     × (string_bytes l.listing.text ++ lines ≡ string_bytes l.fn.listing.text ++ all)
     × (l.listing.faulty.items ++ bad ≡ l.fn.listing.faulty.items ++ faulty)

@@ -12,7 +12,7 @@ returns c =
     on_ok_weaker c.push.result
     (λ pushed.
     let line =
-    line_ends c.args.verbose c.args.number c.args.bytes.now (string_bytes c.args.listing.now.text) (string_bytes c.append_front.new.text)
+    line_ends c.args.form c.args.number c.args.bytes.now (string_bytes c.args.listing.now.text) (string_bytes c.append_front.new.text)
     (string_bytes c.append_option.new.listing.text) (string_bytes c.push.new.self) option.0 option.1 option.2
     c.in_ok-append_front.ensures option.3.0 pushed
     in

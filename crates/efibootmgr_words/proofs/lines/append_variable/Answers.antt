@@ -8,7 +8,7 @@ pub returns-in-Some : goal.returns-in-Some
 returns-in-Some c =
     let is = (c.entry_number.ensures c.in-Some.number).0 c.in-Some.is in
     on_ok_weaker c.append_entry.result
-    (an_entry c.args.verbose c.args.name.now c.args.bytes.now c.in-Some.number c.args.listing.now c.append_entry.new.listing is.0 is.1)
+    (an_entry c.args.form c.args.name.now c.args.bytes.now c.in-Some.number c.args.listing.now c.append_entry.new.listing is.0 is.1)
     c.append_entry.ensures
 
 pub returns-in-None : goal.returns-in-None
