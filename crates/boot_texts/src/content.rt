@@ -39,6 +39,22 @@ pub(crate) struct ShownFault {
     pub(crate) data: String,
 }
 
+impl ShownFault {
+    /// Bytes that are no load option, for this fault. This fails only when out of memory.
+    pub(crate) fn from_option(
+        alloc: Global,
+        bytes: &[u8],
+        fault: &OptionFault,
+    ) -> Result<ShownFault, AllocError> {
+        Ok(ShownFault {
+            fault: fault.words(alloc)?,
+            place: option_place(fault),
+            reason: option_reason(bytes, fault),
+            data: hex::encode(alloc, bytes)?,
+        })
+    }
+}
+
 impl JsonObject for ShownFault {
     fn append_members(&self, out: &mut JsonWriter) -> Result<(), AllocError> {
         append_leaves(
@@ -95,12 +111,9 @@ impl Content {
         match read_option(alloc, bytes) {
             Ok(option) => Ok(Content::LoadOption(ShownOption::new(alloc, option)?)),
             Err(OptionFault::OutOfMemory) => Err(AllocError),
-            Err(fault) => Ok(Content::Undecodable(ShownFault {
-                fault: fault.words(alloc)?,
-                place: option_place(&fault),
-                reason: option_reason(bytes, &fault),
-                data: hex::encode(alloc, bytes)?,
-            })),
+            Err(fault) => {
+                Ok(Content::Undecodable(ShownFault::from_option(alloc, bytes, &fault)?))
+            }
         }
     }
 

@@ -1,5 +1,7 @@
 //! Load options as they are shown.
 
+ghost use Rattle.std.specs.Prelude.{◌<◌, IfSome, length};
+
 use crate::description::description_digits;
 use crate::json::{JsonObject, JsonWriter, Leaf, append_leaf, append_leaves};
 use std::alloc::{AllocError, Global};
@@ -9,7 +11,7 @@ use uefi_option::{
     ACTIVE, CATEGORY, CATEGORY_APP, CATEGORY_BOOT, FORCE_RECONNECT, HIDDEN, LoadOption, category,
     description_text, is_active, is_normal,
 };
-use uefi_path::{Path, read_units};
+use uefi_path::{NodeIter, Path, check_path, nodes, read_units};
 use uefi_text::path_text;
 
 /// A load option (UEFI 2.10, 3.1.3) as it is shown. What JSON alone has is made when JSON is.
@@ -122,8 +124,30 @@ fn exact_texts(alloc: Global, paths: &[Path]) -> Result<Vec<String>, AllocError>
     Ok(texts)
 }
 
+/// The path at the start of a list of paths, and the list behind it.
+#[derive(Clone, Copy)]
+pub(crate) struct FirstPath<'a> {
+    /// The nodes of the path, where they are.
+    pub(crate) nodes: NodeIter<'a>,
+    /// The paths behind it.
+    pub(crate) rest: &'a [u8],
+}
+
+/// The path at the start of the list of an option, if there is one.
+pub(crate) fn first_path(list: &[u8]) -> Option<FirstPath<'_>>
+    ensures { IfSome result (λ first. length first.rest.now < length list.now) }
+{
+    let len = check_path(list).ok()?;
+    let rest = list.get(len..)?;
+    if rest.len() == list.len() {
+        return None;
+    }
+    let nodes = nodes(list).ok()?;
+    Some(FirstPath { nodes, rest })
+}
+
 /// Data in hexadecimal digits, or `None` if there are none.
-fn optional_digits(alloc: Global, bytes: &[u8]) -> Result<Option<String>, AllocError> {
+pub(crate) fn optional_digits(alloc: Global, bytes: &[u8]) -> Result<Option<String>, AllocError> {
     if bytes.is_empty() {
         return Ok(None);
     }
@@ -132,7 +156,7 @@ fn optional_digits(alloc: Global, bytes: &[u8]) -> Result<Option<String>, AllocE
 
 /// The text that the bytes are, if they are units of two bytes, one at least and each from 0x20 to 0x7E, with perhaps a
 /// zero unit after them.
-fn printed_text(alloc: Global, bytes: &[u8]) -> Result<Option<String>, AllocError> {
+pub(crate) fn printed_text(alloc: Global, bytes: &[u8]) -> Result<Option<String>, AllocError> {
     if bytes.len() % 2 != 0 {
         return Ok(None);
     }

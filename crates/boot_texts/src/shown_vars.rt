@@ -8,11 +8,12 @@ use crate::json::{
 };
 use crate::plan::{append_plan, shown_plan};
 use crate::settings::{BOOT_CURRENT, Timeout, bad_current, bad_timeout, number_of};
-use crate::shown_option::{AttributeWords, ShownOption};
+use crate::shown_option::{AttributeWords, first_path, optional_digits, printed_text};
 use crate::shown_order::OrderMarks;
 use crate::shown_trial::{TrialView, append_trial, append_trial_member};
 use std::alloc::{AllocError, Global};
-use uefi_option::{check_option, is_active};
+use uefi_names::named_nodes_text;
+use uefi_option::{OptionView, check_option, is_active, is_normal};
 use uefi_vars::{
     AtRisk, BOOT_NEXT, BOOT_ORDER, EntryDigits, PlanNumbers, TIMEOUT, VarFault, Vars, entry_number,
     known_risks, plan_numbers,
@@ -338,7 +339,7 @@ fn append_vars(
 ) -> Result<(), AllocError> {
     writeln!(report, "variables {}", shown.variables)?;
     for entry in &shown.entries {
-        append_entry(entry.name, &Content::from_entry(alloc, entry.data)?, report)?;
+        append_entry(alloc, entry.name, entry.data, report)?;
     }
     append_order(shown, report)?;
     append_numbers(
@@ -419,37 +420,59 @@ fn append_numbers(
     }
 }
 
-/// Appends the lines of the entry of this name, which holds this.
-fn append_entry(name: &str, content: &Content, report: &mut String) -> Result<(), AllocError> {
-    match content {
-        Content::LoadOption(option) => {
-            let kind = if option.is_normal() {
-                "normal"
-            } else {
-                "other"
-            };
-            writeln!(report, "{name} {kind} {}", option.description)?;
-            append_option(option, report)
-        }
-        Content::Undecodable(fault) => append_fault(name, fault, report),
-        Content::Order { .. } | Content::Next { .. } | Content::Timeout(_) => Ok(()),
+/// Appends the lines of the entry of this name, which has these data.
+fn append_entry(
+    alloc: Global,
+    name: &str,
+    data: &[u8],
+    report: &mut String,
+) -> Result<(), AllocError> {
+    match check_option(data) {
+        Ok(option) => append_option(alloc, name, &option, report),
+        Err(fault) => append_fault(name, &ShownFault::from_option(alloc, data, &fault)?, report),
     }
 }
 
-/// Appends the indented lines of an option.
-fn append_option(option: &ShownOption, report: &mut String) -> Result<(), AllocError> {
+/// Appends the lines of the entry of this name, which is this option: of many entries it takes time to make values of their
+/// paths, so these are printed where they are.
+fn append_option(
+    alloc: Global,
+    name: &str,
+    option: &OptionView<'_>,
+    report: &mut String,
+) -> Result<(), AllocError> {
+    let kind = if is_normal(option.attributes) {
+        "normal"
+    } else {
+        "other"
+    };
+    let description = option.description_text(alloc)?;
+    let attributes = AttributeWords(option.attributes);
     writeln!(
         report,
-        "  attributes {}",
-        AttributeWords(option.attributes())
+        "{name} {kind} {description}\n  attributes {attributes}"
     )?;
-    for path in &option.named_paths {
+    append_paths(alloc, option.list, report)?;
+    append_optional(alloc, option.optional, report)
+}
+
+/// Appends an indented line for each path of the list.
+fn append_paths(alloc: Global, list: &[u8], report: &mut String) -> Result<(), AllocError> {
+    let mut rest = list;
+    while let Some(first) = first_path(rest) {
+        let path = named_nodes_text(alloc, first.nodes)?;
         writeln!(report, "  path {path}")?;
+        rest = first.rest;
     }
-    if let Some(digits) = &option.optional {
-        writeln!(report, "  optional {}", DataText(digits))?;
+    Ok(())
+}
+
+/// Appends the indented lines of optional data, if there are some.
+fn append_optional(alloc: Global, optional: &[u8], report: &mut String) -> Result<(), AllocError> {
+    if let Some(digits) = optional_digits(alloc, optional)? {
+        writeln!(report, "  optional {}", DataText(&digits))?;
     }
-    if let Some(text) = &option.optional_text {
+    if let Some(text) = printed_text(alloc, optional)? {
         writeln!(report, "  optional text {text}")?;
     }
     Ok(())

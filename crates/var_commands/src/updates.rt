@@ -143,16 +143,35 @@ fn do_job<R: Files<File: OutputFile> + Clock + Input + Print + Eprint + AllocGlo
 }
 
 /// Does what earlier changes have left to do: of the boot manager's entries, and in a folder of those of other families too.
+/// A family is settled also if another one can't be. The first failure is given, and others are told on standard error.
 fn settle_all<R: Files<File: OutputFile> + Clock + Input + Print + Eprint + AllocGlobal>(
     rt: &R,
     machine: &MachineWords<'_>,
 ) -> Result<(), Failure> {
-    settle_machine(rt, machine)?;
-    if is_folder(rt, machine.place)? {
-        settle_family(rt, machine, EntryFamily::Driver)?;
-        settle_family(rt, machine, EntryFamily::SysPrep)?;
+    let boot = settle_machine(rt, machine);
+    if !matches!(is_folder(rt, machine.place), Ok(true)) {
+        return boot;
     }
-    Ok(())
+    let boot_or_driver = first_failure(rt, boot, settle_family(rt, machine, EntryFamily::Driver));
+    let prepared = settle_family(rt, machine, EntryFamily::SysPrep);
+    first_failure(rt, boot_or_driver, prepared)
+}
+
+/// The first of two failures, if there is one. If both are there, the second is told on standard error.
+fn first_failure<R: Eprint>(
+    rt: &R,
+    first: Result<(), Failure>,
+    second: Result<(), Failure>,
+) -> Result<(), Failure> {
+    match (first, second) {
+        (Ok(()), second) => second,
+        (Err(failure), Ok(())) => Err(failure),
+        (Err(failure), Err(other)) => {
+            // If standard error takes nothing, there is no place left to say so.
+            let _ = eprintln!(rt; "bootvars: {other}");
+            Err(failure)
+        }
+    }
 }
 
 /// The same of a family that has a journal of its own.
