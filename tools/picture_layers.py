@@ -66,8 +66,8 @@ COVERS = (
         (
             *("uefi_path", "uefi_text", "uefi_names", "partitions", "efi_images", "uefi_option"),
             *("uefi_vars", "var_stores", "entry_checks", "boot_requests", "boot_notes"),
-            *("boot_journal", "journaled_requests", "boot_moves", "boot_edits", "boot_profiles"),
-            *("boot_trials", "efibootmgr_words", "bootkeep_c"),
+            *("boot_journal", "change_records", "journaled_requests", "boot_moves", "boot_edits"),
+            *("boot_profiles", "boot_trials", "efibootmgr_words", "bootkeep_c"),
         ),
     ),
     Cover(

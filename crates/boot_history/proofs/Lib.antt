@@ -1,5 +1,1 @@
-pub mod FieldLists
 pub mod FileNames
-pub mod Spellings
-pub mod BootParts
-mod Standings

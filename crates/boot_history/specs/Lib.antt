@@ -1,9 +1,3 @@
-pub mod BootPart
-pub mod Fault
-pub mod Fields
+pub mod Counted
 pub mod FileNames
 pub mod Numbers
-pub mod Owner
-pub mod Record
-pub mod Timeout
-pub mod Words

@@ -2,17 +2,15 @@
 
 ghost use Rattle.std.specs.Prelude.{◌≡◌, IfOk, reverse};
 ghost use Rattle.std.specs.List.Sorted.{IsNonDecreasing};
-ghost use Rattle.boot_history.specs.Owner.{counted};
+ghost use Rattle.boot_history.specs.Counted.{counted};
 
-use crate::fault::RecordFault;
 use crate::folder::{file_path, history_path, make_history};
 use crate::numbers::{next_number, numbers_of, oldest};
-use crate::owner::{HEAD_MAX, Owner, owner_of};
-use crate::reader::read_record;
-use crate::record::Record;
-use crate::stands::{Standing, standing_of};
 use crate::written::Written;
 use boot_journal::MachineName;
+use change_records::{
+    HEAD_MAX, Owner, Record, RecordFault, Standing, owner_of, read_record, standing_of,
+};
 use messages::{Failure, Reason};
 use std::alloc::Global;
 use std::fs;

@@ -1,9 +1,7 @@
 //! Records whose files are on the disk.
 
-use crate::fault::WriteFault;
 use crate::folder::file_path;
-use crate::record::Record;
-use crate::writer::write_record;
+use change_records::{Record, WriteFault, write_record};
 use messages::{Failure, Reason};
 use std::path::Path;
 use std::rt::Files;

@@ -4,8 +4,9 @@ ghost use Rattle.std.specs.Prelude.{◌≡◌, ◌≢◌, ◌↔◌, [], IsTrue,
 ghost use Rattle.uefi_vars.specs.BootChange.{changes_from};
 ghost use Rattle.boot_journal.specs.Cause.{IfRefused};
 
-use boot_history::{Record, Standing, newest, push, remove, standing_of, time_now};
+use boot_history::{newest, push, remove, time_now};
 use boot_journal::{CallError, MachineName};
+use change_records::{Record, Standing, standing_of};
 use messages::Failure;
 use std::alloc::{AllocError, Global};
 use std::rt::{Clock, Files};

@@ -15,8 +15,8 @@ use Rattle.uefi_vars.specs.Vars.{Variables, name_cmp}
 use Rattle.messages.specs.declared.failure.Failure.{Failure as PlaceFailure}
 use Rattle.messages.specs.declared.failure.Failure.TheVariants.{Memory}
 use Rattle.boot_history.specs.declared.history.KeptRecord.{KeptRecord}
-use Rattle.boot_history.specs.declared.record.Record.{Record}
-use Rattle.boot_history.specs.declared.stands.Standing.TheVariants as standing
+use Rattle.change_records.specs.declared.record.Record.{Record}
+use Rattle.change_records.specs.declared.stands.Standing.TheVariants as standing
 use Rattle.boot_journal.specs.Cause.{IfRefused}
 use Rattle.boot_journal.specs.declared.machine.CallError.{CallError}
 use Rattle.boot_journal.specs.declared.machine.CallError.TheVariants.{OutOfMemory, Refused}

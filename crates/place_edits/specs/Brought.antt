@@ -5,7 +5,7 @@ use Rattle.uefi_vars.specs.Vars.{Variables}
 use Rattle.messages.specs.declared.failure.Failure.{Failure}
 use Rattle.messages.specs.declared.failure.Failure.TheVariants.{Memory}
 use Rattle.boot_edits.specs.Restore.{IsRestored}
-use Rattle.boot_history.specs.Timeout.{or_timeout_of}
+use Rattle.change_records.specs.Timeout.{or_timeout_of}
 use Rattle.boot_journal.specs.Attributes.{with_attributes}
 use Rattle.place_edits.specs.Takeable.{IsTaken}
 use Rattle.place_edits.specs.declared.takeable.Takeable.{Takeable}

@@ -7,11 +7,11 @@ use Rattle.uefi_vars.specs.Name.{next_text}
 use Rattle.uefi_vars.specs.Vars.{Variables}
 use Rattle.messages.specs.declared.failure.Failure.TheVariants.{Memory}
 use Rattle.boot_history.specs.declared.history.KeptRecord.{KeptRecord}
-use Rattle.boot_history.specs.declared.record.Record.{Record}
-use Rattle.boot_history.specs.declared.stands.Standing.{Standing}
-use Rattle.boot_history.specs.declared.stands.Standing.TheVariants as standing
-use Rattle.boot_history.specs.BootPart.{IsStanding, as_used}
-use Rattle.boot_history.specs.Record.{record_parts}
+use Rattle.change_records.specs.declared.record.Record.{Record}
+use Rattle.change_records.specs.declared.stands.Standing.{Standing}
+use Rattle.change_records.specs.declared.stands.Standing.TheVariants as standing
+use Rattle.change_records.specs.BootPart.{IsStanding, as_used}
+use Rattle.change_records.specs.Record.{record_parts}
 use Rattle.boot_edits.specs.Restore.{IsRestored}
 use Rattle.place_edits.specs.Brought.{IsBrought}
 use Rattle.place_edits.specs.declared.takeable.Takeable.{Takeable}

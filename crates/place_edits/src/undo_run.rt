@@ -13,8 +13,9 @@ ghost use Rattle.place_edits.specs.Undo.{CanBeUndone, IsPassedOver, IsLast, IsNe
 use crate::brought::{brought, restored};
 use crate::takeable::{Takeable, check_numbers, is_value};
 use crate::undo::UndoWords;
-use boot_history::{KeptRecord, Record, Standing, as_used, remove, standing_of, without_next};
+use boot_history::{KeptRecord, remove};
 use boot_journal::{CallError, Run};
+use change_records::{Record, Standing, as_used, standing_of, without_next};
 use messages::Failure;
 use std::alloc::{AllocError, Global};
 use std::rt::Files;

@@ -2,16 +2,16 @@
 
 ghost use Rattle.std.specs.Prelude.{◌≡◌, IfOk, IfErr};
 ghost use Rattle.boot_journal.specs.Attributes.{with_attributes};
-ghost use Rattle.boot_history.specs.Timeout.{or_timeout_of};
+ghost use Rattle.change_records.specs.Timeout.{or_timeout_of};
 ghost use Rattle.boot_journal.specs.Cause.{IfRefused};
 ghost use Rattle.place_edits.specs.Brought.{IsNoMemory};
 
 use crate::brought::{brought, restored};
 use crate::takeable::{Takeable, check_numbers, remark_missing};
 use crate::unnamed::remark_unnamed;
-use boot_history::or_timeout_of;
 use boot_journal::{AttributesFault, CallError, with_attributes};
 use boot_texts::{change_report, changes_text};
+use change_records::or_timeout_of;
 use messages::Failure;
 use std::alloc::{AllocError, Global};
 use uefi_vars::{KEEP_STATE, Vars, boot_changes};

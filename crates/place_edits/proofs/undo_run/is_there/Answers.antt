@@ -3,7 +3,7 @@ use Rattle.std.proofs.Common.{◌≡◌, ◌↔◌, [], subst}
 use Rattle.std.specs.Prelude.{IsTrue}
 use Rattle.uefi_vars.specs.BootChange.{changes_from}
 use Rattle.uefi_vars.specs.Vars.{Variables}
-use Rattle.boot_history.specs.BootPart.{as_used}
+use Rattle.change_records.specs.BootPart.{as_used}
 use Rattle.place_edits.proofs.undo_run.is_there.Goals as goal
 
 pub returns : goal.returns

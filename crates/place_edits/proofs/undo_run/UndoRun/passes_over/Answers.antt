@@ -1,7 +1,7 @@
 -- What is kept of a change that is passed over can't be taken away.
 use Rattle.std.proofs.Common.{map, subst}
 use Rattle.std.specs.String.{string_bytes}
-use Rattle.boot_history.specs.declared.stands.Standing.{Standing}
+use Rattle.change_records.specs.declared.stands.Standing.{Standing}
 use Rattle.place_edits.specs.Undo.{IsCounted}
 use Rattle.place_edits.proofs.Undoing.{not_forgotten}
 use Rattle.place_edits.proofs.undo_run.UndoRun.passes_over.Goals as goal

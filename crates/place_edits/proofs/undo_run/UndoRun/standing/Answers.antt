@@ -1,7 +1,7 @@
 -- Where something else has changed, it may be what undoing the change brought back.
 use Rattle.std.proofs.Common.{map, subst}
 use Rattle.std.specs.String.{string_bytes}
-use Rattle.boot_history.specs.declared.stands.Standing.{Standing}
+use Rattle.change_records.specs.declared.stands.Standing.{Standing}
 use Rattle.place_edits.specs.Undo.{Stands}
 use Rattle.place_edits.proofs.Undoing.{undone_over, not_undone}
 use Rattle.place_edits.proofs.undo_run.UndoRun.standing.Goals as goal

@@ -1,0 +1,4 @@
+pub mod FieldLists
+pub mod Spellings
+pub mod BootParts
+mod Standings
