@@ -1,3 +1,4 @@
+pub mod Back
 pub mod BootPart
 pub mod Fault
 pub mod Fields

@@ -76,7 +76,7 @@ pub fn as_used(alloc: Global, now: &Vars, vars: &Vars) -> Result<Vars, AllocErro
 }
 
 /// The variables without BootNext.
-pub fn without_next(vars: Vars) -> Vars
+pub(crate) fn without_next(vars: Vars) -> Vars
     ensures { result ≡ remove vars next_text }
 {
     vars_laws::constants_are_those_of_the_definitions();

@@ -1,15 +1,15 @@
 -- Which change an undoing undoes, of those that are kept of a machine, and what it brings back. The last change comes first.
-use Rattle.std.specs.Prelude.{◌≡◌, ◌≢◌, ◌⊎◌, ℕ, ◌<◌, Bool, true, false, List, length, Some, None, Contains}
-use Rattle.std.specs.FinMap.{get, remove}
+use Rattle.std.specs.Prelude.{◌≡◌, ◌≢◌, ◌⊎◌, ℕ, ◌<◌, Bool, true, false, List, length, Some, Contains}
+use Rattle.std.specs.FinMap.{get}
 use Rattle.std.specs.List.{slice_get}
 use Rattle.uefi_vars.specs.BootChange.{is_boot_name}
-use Rattle.uefi_vars.specs.Name.{next_text}
 use Rattle.uefi_vars.specs.Vars.{Variables}
 use Rattle.messages.specs.declared.failure.Failure.TheVariants.{Memory}
 use Rattle.boot_history.specs.declared.history.KeptRecord.{KeptRecord}
 use Rattle.change_records.specs.declared.record.Record.{Record}
 use Rattle.change_records.specs.declared.stands.Standing.{Standing}
 use Rattle.change_records.specs.declared.stands.Standing.TheVariants as standing
+use Rattle.change_records.specs.Back.{IsWanted}
 use Rattle.change_records.specs.BootPart.{IsStanding, as_used}
 use Rattle.change_records.specs.Record.{record_parts}
 use Rattle.boot_edits.specs.Restore.{IsRestored}
@@ -26,20 +26,10 @@ Stands change vars is = IsStanding (record_parts change) vars is
 
 -- ---- what is brought back
 
--- The BootNext that the change left isn't there any more, and the one before it isn't there again: a start may have used it.
-abbrev pub IsNextGone : Record → Variables → Type 0
-IsNextGone change now =
-    (get change.after next_text ≢ None) × (get now next_text ≢ get change.after next_text) × (get now next_text ≢ get change.before next_text)
-
--- what is to be there again: what was there before the change, but for a BootNext if one may have been used since
-abbrev pub IsWanted : Record → Variables → Variables → Type 0
-IsWanted change now wanted =
-    (IsNextGone change now × (wanted ≡ remove change.before next_text)) ⊎ ((IsNextGone change now → ⊥) × (wanted ≡ change.before))
-
 -- what undoing the change brings back, where these variables are now
 pub record IsBroughtBack (left_out : List (List ℕ)) (change : Record) (now : Variables) (back : Takeable) : Type 0 where
   pub wanted : Variables
-  pub is : IsWanted change now wanted
+  pub is : IsWanted (record_parts change) now wanted
   pub brought : IsBrought left_out now wanted back
 
 -- ---- which change is undone

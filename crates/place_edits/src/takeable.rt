@@ -108,7 +108,7 @@ fn is_refused(there: &Vars, wanted: &Vars, entry: u16) -> bool
 }
 
 /// Whether what was found is this value.
-pub(crate) fn is_value(found: Option<&[u8]>, value: &[u8]) -> bool
+fn is_value(found: Option<&[u8]>, value: &[u8]) -> bool
     ensures { IsTrue result ↔ (option_map (λ b. b.now) found.entry ≡ Some value.now) }
 {
     match found {

@@ -1,25 +1,24 @@
 //! Runs that bring back what was there before the last change of a machine.
 
 ghost use Rattle.std.specs.Prelude.{◌≡◌, ◌≢◌, ◌↔◌, true, false, [], map, IfOk, IfErr, IsTrue};
-ghost use Rattle.std.specs.Option.{option_map};
 ghost use Rattle.std.specs.String.{string_bytes};
 ghost use Rattle.uefi_vars.specs.BootChange.{changes_from};
 ghost use Rattle.boot_journal.specs.Cause.{IfRefused};
 ghost use Rattle.messages.specs.declared.failure.Failure.{Failure};
 ghost use Rattle.place_edits.specs.declared.takeable.Takeable.{Takeable};
 ghost use Rattle.place_edits.specs.declared.undo_run.UndoFault.{UndoFault};
-ghost use Rattle.place_edits.specs.Undo.{CanBeUndone, IsPassedOver, IsLast, IsNextGone, IsWanted, IsBroughtBack, IsThere, IsFailure, IsChangeFault, IsUndoFault, IsCounted};
+ghost use Rattle.place_edits.specs.Undo.{CanBeUndone, IsPassedOver, IsLast, IsBroughtBack, IsThere, IsFailure, IsChangeFault, IsUndoFault, IsCounted};
 
 use crate::brought::{brought, restored};
-use crate::takeable::{Takeable, check_numbers, is_value};
+use crate::takeable::{Takeable, check_numbers};
 use crate::undo::UndoWords;
 use boot_history::{KeptRecord, remove};
 use boot_journal::{CallError, Run};
-use change_records::{Record, Standing, as_used, standing_of, without_next};
+use change_records::{Record, Standing, as_used, standing_of, wanted_back};
 use messages::Failure;
 use std::alloc::{AllocError, Global};
 use std::rt::Files;
-use uefi_vars::{BOOT_NEXT, Vars, boot_changes, laws as vars_laws};
+use uefi_vars::{Vars, boot_changes, laws as vars_laws};
 use wanted_changes::Seen;
 use whole_files::OutputFile;
 
@@ -234,47 +233,9 @@ impl<R: Files<File: OutputFile> + AllocGlobal> UndoRun<'_, '_, R> {
     fn back(&self, alloc: Global, vars: &Vars, change: &Record) -> Result<Takeable, AllocError>
         ensures { IfOk result (IsBroughtBack (map string_bytes self.now.seen.now.left_out.now) change.now vars.now) }
     {
-        let wanted = wanted(alloc, vars, change)?;
+        let wanted = wanted_back(alloc, change, vars)?;
         let back = brought(alloc, self.seen, vars, wanted)?;
         Ok(back)
-    }
-}
-
-/// What is to be there again where these variables are now: what was there before the change, without a BootNext if the one
-/// that the change left isn't there any more, nor the one before it. A start may have used that, and would otherwise be made
-/// by it once more.
-fn wanted(alloc: Global, vars: &Vars, change: &Record) -> Result<Vars, AllocError>
-    ensures { IfOk result (IsWanted change.now vars.now) }
-{
-    let before = change.before.copy(alloc)?;
-    if is_next_gone(change, vars) {
-        Ok(without_next(before))
-    } else {
-        Ok(before)
-    }
-}
-
-/// Whether the BootNext that a change left isn't there any more, and the one before it isn't there again.
-fn is_next_gone(change: &Record, now: &Vars) -> bool
-    ensures { IsTrue result ↔ IsNextGone change.now now.now }
-{
-    vars_laws::constants_are_those_of_the_definitions();
-    match change.after.get(BOOT_NEXT) {
-        Some(left) => {
-            let next = now.get(BOOT_NEXT);
-            !is_value(next, left) && !is_same(next, change.before.get(BOOT_NEXT))
-        }
-        None => false,
-    }
-}
-
-/// Whether the two are the same value, or there is neither.
-fn is_same(one: Option<&[u8]>, other: Option<&[u8]>) -> bool
-    ensures { IsTrue result ↔ (option_map (λ b. b.now) one.entry ≡ option_map (λ b. b.now) other.entry) }
-{
-    match other {
-        Some(other) => is_value(one, other),
-        None => one.is_none(),
     }
 }
 

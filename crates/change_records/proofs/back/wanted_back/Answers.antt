@@ -4,7 +4,7 @@ use Rattle.std.proofs.lemmas.Bool.{false≢true}
 use Rattle.std.specs.FinMap.{remove}
 use Rattle.uefi_vars.specs.Name.{next_text}
 use Rattle.uefi_vars.specs.Vars.{Variables}
-use Rattle.place_edits.proofs.undo_run.wanted.Goals as goal
+use Rattle.change_records.proofs.back.wanted_back.Goals as goal
 
 pub returns-then-is_next_gone : goal.returns-then-is_next_gone
 returns-then-is_next_gone c = inl (
