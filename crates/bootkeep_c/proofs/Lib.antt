@@ -4,6 +4,7 @@ pub mod Beginnings
 pub mod PartsOfOptions
 pub mod Failures
 pub mod FramesMade
+pub mod AnsweringFrames
 pub mod Changes
 pub mod Openings
 pub mod Boxes
@@ -16,3 +17,6 @@ pub mod PlacesInSets
 pub mod NamedTexts
 pub mod PlacesOfLists
 pub mod SessionBoxes
+pub mod WordsOfLines
+pub mod RecordFields
+pub mod RecordsMade

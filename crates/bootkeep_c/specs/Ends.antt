@@ -77,7 +77,8 @@ end_of size kind reason second fault = record {
 
 -- of a change that has happened
 abbrev pub happened : ℕ → RunAnswer → EndNumbers
-happened size (answer.Replies answers) = record (end_of size 1 0 0 no_kind) { replies = length answers.items }
+happened size answer.Done = end_of size 1 0 0 no_kind
+happened size (answer.Replies replied) = record (end_of size 1 0 0 no_kind) { replies = length replied.answers.items }
 happened size (answer.Edited edited.Done) = end_of size 1 0 0 no_kind
 happened size (answer.Edited (edited.Added entry)) = record (end_of size 1 0 0 no_kind) { edited = 1; entry = entry }
 happened size (answer.Edited (edited.Present entry)) = record (end_of size 1 0 0 no_kind) { edited = 2; entry = entry }
@@ -104,7 +105,7 @@ TellsEnd None status old new = (status ≡ absent) × (new ≡ old)
 
 -- the answer at this place, if there is one
 abbrev pub answer_at : Option Outcome → ℕ → Option Answer
-answer_at (Some (Ok (answer.Replies answers))) at = slice_get answers.items at
+answer_at (Some (Ok (answer.Replies replied))) at = slice_get replied.answers.items at
 answer_at _ at = None
 
 -- what comes of a call that tells a reply

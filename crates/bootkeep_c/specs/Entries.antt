@@ -1,5 +1,5 @@
 -- Numbers that are told of a set: a free one, and what a boot would make of an entry.
-use Rattle.std.specs.Prelude.{◌≡◌, ◌≢◌, ◌⊎◌, ℕ, List, Option, Some, None}
+use Rattle.std.specs.Prelude.{◌≡◌, ◌≢◌, ℕ, List, Option, Some, None}
 use Rattle.uefi_option.specs.LoadOption.{OptionParts, SpellsOption}
 use Rattle.uefi_option.specs.Attributes.{IsActive, category_of, category_boot, IsNormal}
 use Rattle.uefi_vars.specs.Vars.{Variables, entry_of}
@@ -8,18 +8,7 @@ use Rattle.uefi_vars.specs.Free.{IsLowestFreeIfAny}
 use Rattle.uefi_vars.specs.Plan.{HasOption}
 use Rattle.bootkeep_c.specs.declared.entry.EntryState.{EntryState}
 use Rattle.bootkeep_c.specs.declared.entry.EntryState.TheVariants as state
-use Rattle.bootkeep_c.specs.declared.refusal.Refusal.{Refusal}
-use Rattle.bootkeep_c.specs.declared.failure.Failure.{Failure}
-use Rattle.bootkeep_c.specs.Status.{done, no_memory}
-use Rattle.bootkeep_c.specs.Refusals.{Tells}
 use Rattle.bootkeep_c.specs.Plans.{number_or_none}
-
--- a number is told of which this holds, or a failure, or memory was refused
-abbrev pub TellsNumber : (ℕ → Type 0) → (Failure → Type 0) → ℕ → ℕ → ℕ → Refusal → Refusal → Type 0
-TellsNumber Is Fails status old new old_why why =
-    ((status ≡ done) × Is new × (why ≡ old_why))
-    ⊎ (((failed : Failure) × Fails failed × Tells failed status old_why why × (new ≡ old))
-    ⊎ ((status ≡ no_memory) × (new ≡ old) × (why ≡ old_why)))
 
 -- this is the lowest number under which the set has no entry, or what stands for none
 abbrev pub IsFreeIn : List ℕ → ℕ → Type 0

@@ -9,6 +9,7 @@ pub mod Parts
 pub mod Descriptions
 pub mod Making
 pub mod Frames
+pub mod FrameParts
 pub mod Plans
 pub mod Sets
 pub mod Variables
@@ -27,3 +28,8 @@ pub mod Wanted
 pub mod SessionHandle
 pub mod Sessions
 pub mod Ends
+pub mod Journals
+pub mod Notes
+pub mod Noted
+pub mod CommandLines
+pub mod Records

@@ -38,6 +38,12 @@ use Rattle.efi_images.specs.declared.signatures.ListFault.{ListFault}
 use Rattle.efi_images.specs.declared.signatures.ListFault.TheVariants as listed
 use Rattle.boot_journal.specs.declared.fault.JournalFault.{JournalFault}
 use Rattle.boot_journal.specs.declared.fault.JournalFault.TheVariants as journal
+use Rattle.boot_notes.specs.declared.fault.NotesFault.{NotesFault}
+use Rattle.boot_notes.specs.declared.fault.NotesFault.TheVariants as notes
+use Rattle.change_records.specs.declared.fault.RecordFault.{RecordFault}
+use Rattle.change_records.specs.declared.fault.RecordFault.TheVariants as recorded
+use Rattle.change_records.specs.declared.fault.WriteFault.{WriteFault}
+use Rattle.change_records.specs.declared.fault.WriteFault.TheVariants as writing
 use Rattle.efi_images.specs.Words.{place_of}
 use Rattle.bootkeep_c.specs.declared.refusal.Refusal.{Refusal}
 use Rattle.bootkeep_c.specs.declared.failure.Failure.{Failure}
@@ -92,10 +98,14 @@ named_failure named.OutOfMemory = failure.Memory
 abbrev pub not_utf8 : ℕ → Failure
 not_utf8 place = at_place 0x0205 place
 
+-- the fault of a part, by this number of the whole, where that has the part's bytes at this place
+abbrev pub part_failure : ℕ → ℕ → Failure → Failure
+part_failure kind place (failure.Refused inner) = failure.Refused (refusal kind inner.kind place inner.place)
+part_failure kind place failure.Memory = failure.Memory
+
 -- the fault of a path within a load option, whose list has these bytes at this place
 abbrev pub list_failure : ℕ → Failure → Failure
-list_failure place (failure.Refused inner) = failure.Refused (refusal 0x0305 inner.kind place inner.place)
-list_failure place failure.Memory = failure.Memory
+list_failure place failed = part_failure 0x0305 place failed
 
 abbrev pub option_failure : OptionFault → Failure
 option_failure (option.Short found) = bare 0x0301
@@ -260,6 +270,29 @@ journal_failure (journal.BadCourse place) = at_place 0x0C05 place
 journal_failure (journal.BadIdentity place) = at_place 0x0C06 place
 journal_failure (journal.BadName place) = at_place 0x0C07 place
 journal_failure journal.OutOfMemory = failure.Memory
+
+-- bytes that begin as notes do, and aren't any
+abbrev pub notes_failure : NotesFault → Failure
+notes_failure (notes.Truncated place) = at_place 0x0F01 place
+notes_failure (notes.TooMany place) = at_place 0x0F02 place
+notes_failure notes.OutOfMemory = failure.Memory
+
+-- bytes that aren't a record: a word is told by its number, and the place in a set counts from the start of that
+abbrev pub record_failure : RecordFault → Failure
+record_failure recorded.BadMagic = bare 0x1001
+record_failure (recorded.Truncated place) = at_place 0x1002 place
+record_failure recorded.TooFewFields = bare 0x1003
+record_failure recorded.BadMachine = bare 0x1004
+record_failure recorded.BadTime = bare 0x1005
+record_failure (recorded.BadBefore fault) = part_failure 0x1006 no_place (set_failure fault)
+record_failure (recorded.BadAfter fault) = part_failure 0x1007 no_place (set_failure fault)
+record_failure (recorded.BadWord number) = at_place 0x1008 number
+record_failure recorded.OutOfMemory = failure.Memory
+
+-- a record that can't be written
+abbrev pub write_failure : WriteFault → Failure
+write_failure writing.TooLong = bare 0x100A
+write_failure writing.OutOfMemory = failure.Memory
 
 -- ---- what a call tells
 

@@ -1,12 +1,13 @@
 -- What is run over a machine whose moves C makes: where it leads, and why it refuses the variables. They are those that a
 -- machine keeps, with attributes.
-use Rattle.std.specs.Prelude.{◌≡◌, ℕ, List, []}
+use Rattle.std.specs.Prelude.{◌≡◌, ℕ, List}
 use Rattle.uefi_vars.specs.Vars.{Variables}
 use Rattle.boot_requests.specs.declared.event.Event.{Event}
+use Rattle.boot_requests.specs.State.{State}
 use Rattle.boot_edits.specs.declared.edit.Edit.{Edit}
 use Rattle.boot_edits.specs.Restore.{IsRestored}
 use Rattle.boot_edits.specs.Run.{IsRun, IsRunFault as IsEditRunFault}
-use Rattle.journaled_requests.specs.Requests.{IsAnswered}
+use Rattle.journaled_requests.specs.Requests.{KeepsState, IsAnswered}
 use Rattle.journaled_requests.specs.RunFault.{IsRunFault}
 use Rattle.bootkeep_c.specs.declared.wanted_run.OwnedEdit.{OwnedEdit}
 use Rattle.bootkeep_c.specs.declared.wanted_run.WantedRun.{WantedRun}
@@ -17,9 +18,14 @@ use Rattle.bootkeep_c.specs.declared.wanted_run.RunRefusal.{RunRefusal}
 use Rattle.bootkeep_c.specs.declared.wanted_run.RunRefusal.TheVariants as refusal
 use Rattle.bootkeep_c.specs.Edits.{IsEditAsked}
 
+-- the number is that of the request that is to be applied next over the variables
+abbrev pub IsNextOf : Variables → ℕ → Type 0
+IsNextOf vars number = (m : State) → KeepsState vars m → number ≡ m.next_number
+
 -- by the deliveries of frames the one lead to the others, and this is answered
 abbrev pub LeadsByFrames : List Event → Variables → Variables → RunAnswer → Type 0
-LeadsByFrames events from to (answer.Replies answers) = IsAnswered events from to answers.items
+LeadsByFrames events from to answer.Done = ⊥
+LeadsByFrames events from to (answer.Replies replied) = IsAnswered events from to replied.answers.items × IsNextOf from replied.first
 LeadsByFrames events from to (answer.Edited told) = ⊥
 
 -- why variables refuse them
@@ -29,7 +35,8 @@ RefusesFrames events from (refusal.Edit fault) = ⊥
 
 -- by an edit
 abbrev pub LeadsByEdit : OwnedEdit → Variables → Variables → RunAnswer → Type 0
-LeadsByEdit owned from to (answer.Replies answers) = ⊥
+LeadsByEdit owned from to answer.Done = ⊥
+LeadsByEdit owned from to (answer.Replies replied) = ⊥
 LeadsByEdit owned from to (answer.Edited told) =
     (edit : Edit) × IsEditAsked owned.asked owned.numbers.items owned.option.items edit × IsRun edit from to told
 
@@ -41,12 +48,14 @@ RefusesEdit owned from (refusal.Edit fault) =
 
 -- by bringing back those of a set, and nothing is answered
 abbrev pub LeadsBack : Variables → Variables → Variables → RunAnswer → Type 0
-LeadsBack back from to (answer.Replies answers) = IsRestored back from to × (answers.items ≡ [])
+LeadsBack back from to answer.Done = IsRestored back from to
+LeadsBack back from to (answer.Replies replied) = ⊥
 LeadsBack back from to (answer.Edited told) = ⊥
 
 -- by nothing the variables stay as they are, and nothing is answered
 abbrev pub LeadsNowhere : Variables → Variables → RunAnswer → Type 0
-LeadsNowhere from to (answer.Replies answers) = (to ≡ from) × (answers.items ≡ [])
+LeadsNowhere from to answer.Done = to ≡ from
+LeadsNowhere from to (answer.Replies replied) = ⊥
 LeadsNowhere from to (answer.Edited told) = ⊥
 
 -- ---- all that is run

@@ -202,13 +202,37 @@ edit_word kind =
     else (if kind == 0x0E0B then Some (codes "UneditedBadPosition")
     else None))))))))))
 
--- of a change of a machine or of a set
+-- of notes, and of a record
+abbrev pub notes_word : ℕ → Option (List ℕ)
+notes_word kind =
+    if kind == 0x0F01 then Some (codes "NotesTruncated")
+    else (if kind == 0x0F02 then Some (codes "NotesTooMany")
+    else (if kind == 0x0F03 then Some (codes "NotesBadIdentity")
+    else None))
+
+abbrev pub record_word : ℕ → Option (List ℕ)
+record_word kind =
+    if kind == 0x1001 then Some (codes "RecordBadMagic")
+    else (if kind == 0x1002 then Some (codes "RecordTruncated")
+    else (if kind == 0x1003 then Some (codes "RecordTooFewFields")
+    else (if kind == 0x1004 then Some (codes "RecordBadMachine")
+    else (if kind == 0x1005 then Some (codes "RecordBadTime")
+    else (if kind == 0x1006 then Some (codes "RecordBadBefore")
+    else (if kind == 0x1007 then Some (codes "RecordBadAfter")
+    else (if kind == 0x1008 then Some (codes "RecordBadWord")
+    else (if kind == 0x1009 then Some (codes "RecordOpenWord")
+    else (if kind == 0x100A then Some (codes "RecordTooLong")
+    else None)))))))))
+
+-- of a change of a machine or of a set, and of what is kept of it
 unfoldable pub change_word : ℕ → Option (List ℕ)
 change_word kind =
     if kind / 0x100 == 12 then journal_word kind
     else (if kind / 0x100 == 13 then machine_word kind
     else (if kind / 0x100 == 14 then edit_word kind
-    else None))
+    else (if kind / 0x100 == 15 then notes_word kind
+    else (if kind / 0x100 == 16 then record_word kind
+    else None))))
 
 -- of what a file has, and of a change
 unfoldable pub file_word : ℕ → Option (List ℕ)

@@ -92,11 +92,11 @@ impl EndNumbers {
     {
         let done = EndNumbers::new(size, END_DONE, 0, 0, NO_KIND);
         match answer {
-            RunAnswer::Replies(answers) => EndNumbers {
-                replies: answers.len(),
+            RunAnswer::Done | RunAnswer::Edited(EditAnswer::Done) => done,
+            RunAnswer::Replies(replied) => EndNumbers {
+                replies: replied.answers.len(),
                 ..done
             },
-            RunAnswer::Edited(EditAnswer::Done) => done,
             RunAnswer::Edited(EditAnswer::Added(entry)) => EndNumbers {
                 edited: EDITED_ADDED,
                 entry: u32::from(*entry),
@@ -220,10 +220,10 @@ pub(crate) fn tell_reply(
 ) -> u32
     ensures { TellsReply (answer_at ended.now place) result reply.old reply.new }
 {
-    let Some(Ok(RunAnswer::Replies(answers))) = ended else {
+    let Some(Ok(RunAnswer::Replies(replied))) = ended else {
         return ABSENT;
     };
-    match answers.get(place) {
+    match replied.answers.get(place) {
         Some(answer) => {
             *reply = ReplyNumbers::of(reply.size, &answer.reply);
             DONE

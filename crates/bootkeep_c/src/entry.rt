@@ -3,15 +3,14 @@
 ghost use Rattle.std.specs.Prelude.{◌≡◌, ◌≢◌, ℕ, IfOk, IfErr};
 ghost use Rattle.uefi_vars.specs.Vars.{entry_of};
 ghost use Rattle.bootkeep_c.specs.declared.failure.Failure.{Failure};
-ghost use Rattle.bootkeep_c.specs.Status.{done};
-ghost use Rattle.bootkeep_c.specs.Refusals.{Tells};
+ghost use Rattle.bootkeep_c.specs.Answers.{TellsValue};
 ghost use Rattle.bootkeep_c.specs.Sets.{IsSetFailure};
-ghost use Rattle.bootkeep_c.specs.Entries.{TellsNumber, IsFreeIn, state_number, IsStateOf, IsEntryState, IsStateIn};
+ghost use Rattle.bootkeep_c.specs.Entries.{IsFreeIn, state_number, IsStateOf, IsEntryState, IsStateIn};
 
+use crate::answer::tell;
 use crate::failure::Failure;
 use crate::refusal::Refusal;
 use crate::set::number_or_none;
-use crate::status::DONE;
 use std::alloc::Global;
 use uefi_option::{check_option, is_active, is_normal, laws};
 use uefi_vars::{Vars, lowest_free, read_set};
@@ -82,9 +81,9 @@ pub extern "C" fn bootkeep_vars_lowest_free(
     number: &mut u32,
     refusal: &mut Refusal,
 ) -> u32
-    ensures { TellsNumber (IsFreeIn set.now) (IsSetFailure set.now) result number.old number.new refusal.old refusal.new }
+    ensures { TellsValue (IsFreeIn set.now) (IsSetFailure set.now) result number.old number.new refusal.old refusal.new }
 {
-    tell_number(free_in(alloc, set), number, refusal)
+    tell(free_in(alloc, set), number, refusal)
 }
 
 /// What a boot makes of the entry of this number, if BootOrder names it (UEFI 2.10, 3.1.3 and 3.3).
@@ -96,24 +95,10 @@ pub extern "C" fn bootkeep_vars_entry(
     state: &mut u32,
     refusal: &mut Refusal,
 ) -> u32
-    ensures { TellsNumber (IsStateIn set.now number) (IsSetFailure set.now)
+    ensures { TellsValue (IsStateIn set.now number) (IsSetFailure set.now)
         result state.old state.new refusal.old refusal.new }
 {
-    tell_number(state_in(alloc, set, number), state, refusal)
-}
-
-/// Tells the number, if there is one, or why there is none.
-fn tell_number(found: Result<u32, Failure>, number: &mut u32, refusal: &mut Refusal) -> u32
-    ensures told { IfOk found (λ told. (result ≡ done) × (number.new ≡ told) × (refusal.new ≡ refusal.old)) }
-    ensures fault { IfErr found (λ failed. Tells failed result refusal.old refusal.new × (number.new ≡ number.old)) }
-{
-    match found {
-        Ok(told) => {
-            *number = told;
-            DONE
-        }
-        Err(failure) => failure.tell(refusal),
-    }
+    tell(state_in(alloc, set, number), state, refusal)
 }
 
 /// The lowest number under which the set has no entry, or what stands for none.

@@ -2,7 +2,7 @@
 
 ghost use Rattle.std.specs.Prelude.{◌≡◌};
 ghost use Rattle.bootkeep_c.specs.declared.failure.Failure.TheVariants as failure;
-ghost use Rattle.bootkeep_c.specs.Refusals.{at_place, bare, path_failure, text_failure, named_failure, list_failure, option_failure, set_failure, vars_failure, open_failure, put_failure, edit_failure, feed_failure, frame_failure, image_failure, digest_failure, lists_failure, journal_failure, Tells};
+ghost use Rattle.bootkeep_c.specs.Refusals.{at_place, bare, path_failure, text_failure, named_failure, list_failure, option_failure, set_failure, vars_failure, open_failure, put_failure, edit_failure, feed_failure, frame_failure, image_failure, digest_failure, lists_failure, journal_failure, notes_failure, record_failure, write_failure, part_failure, Tells};
 
 use crate::image_number::image_number;
 use crate::refusal::{
@@ -10,20 +10,25 @@ use crate::refusal::{
     FRAME_BAD_VERSION, FRAME_SHORT, FRAME_TOO_LONG, IMAGE_CERTIFICATES_OVERLAP, IMAGE_OVERLAP,
     JOURNAL_BAD_COURSE, JOURNAL_BAD_IDENTITY, JOURNAL_BAD_MACHINE, JOURNAL_BAD_MAGIC,
     JOURNAL_BAD_NAME, JOURNAL_TRUNCATED, JOURNAL_VALUE_TOO_LONG, LISTS_BAD_LIST_SIZE,
-    LISTS_BAD_SIGNATURE_SIZE, LISTS_CUT_HEADER, NO_KIND, NO_PLACE, OPTION_EMPTY_LIST,
-    OPTION_LIST_PAST_END, OPTION_LIST_TOO_LONG, OPTION_NO_TERMINATOR, OPTION_PATH, OPTION_SHORT,
-    OPTION_ZERO_UNIT, PATH_BAD_END, PATH_BAD_LENGTH, PATH_NO_END, PATH_PAST_END, PATH_SHORT_HEADER,
-    PUT_BAD_NAME, PUT_DATA_TOO_LONG, PUT_EMPTY_DATA, Refusal, SET_BAD_DATA, SET_BAD_MAGIC,
-    SET_BAD_NAME, SET_NOT_RISING, SET_TRUNCATED, STREAM_BAD_MAGIC, STREAM_BAD_VERSION,
-    STREAM_TOO_LONG, TEXT_BAD_ARGUMENT, TEXT_BAD_COUNT, TEXT_BAD_DATA, TEXT_BAD_END,
-    TEXT_BAD_NUMBER, TEXT_BAD_SEGMENT, TEXT_OUT_OF_RANGE, TEXT_UNKNOWN_NAME, UNEDITED_MISSING,
-    UNEDITED_NO_FREE, UNEDITED_NO_OPTION, UNEDITED_OPTION_TOO_LONG, UNEDITED_ORDER_TOO_LONG,
-    UNEDITED_STALE, UNEDITED_TAKEN, UNEDITED_TWICE, VARS_BAD_NEXT, VARS_BAD_ORDER, VARS_BAD_STATE,
+    LISTS_BAD_SIGNATURE_SIZE, LISTS_CUT_HEADER, NO_KIND, NO_PLACE, NOTES_TOO_MANY, NOTES_TRUNCATED,
+    OPTION_EMPTY_LIST, OPTION_LIST_PAST_END, OPTION_LIST_TOO_LONG, OPTION_NO_TERMINATOR,
+    OPTION_PATH, OPTION_SHORT, OPTION_ZERO_UNIT, PATH_BAD_END, PATH_BAD_LENGTH, PATH_NO_END,
+    PATH_PAST_END, PATH_SHORT_HEADER, PUT_BAD_NAME, PUT_DATA_TOO_LONG, PUT_EMPTY_DATA,
+    RECORD_BAD_AFTER, RECORD_BAD_BEFORE, RECORD_BAD_MACHINE, RECORD_BAD_MAGIC, RECORD_BAD_TIME,
+    RECORD_BAD_WORD, RECORD_TOO_FEW_FIELDS, RECORD_TOO_LONG, RECORD_TRUNCATED, Refusal,
+    SET_BAD_DATA, SET_BAD_MAGIC, SET_BAD_NAME, SET_NOT_RISING, SET_TRUNCATED, STREAM_BAD_MAGIC,
+    STREAM_BAD_VERSION, STREAM_TOO_LONG, TEXT_BAD_ARGUMENT, TEXT_BAD_COUNT, TEXT_BAD_DATA,
+    TEXT_BAD_END, TEXT_BAD_NUMBER, TEXT_BAD_SEGMENT, TEXT_OUT_OF_RANGE, TEXT_UNKNOWN_NAME,
+    UNEDITED_MISSING, UNEDITED_NO_FREE, UNEDITED_NO_OPTION, UNEDITED_OPTION_TOO_LONG,
+    UNEDITED_ORDER_TOO_LONG, UNEDITED_STALE, UNEDITED_TAKEN, UNEDITED_TWICE, VARS_BAD_NEXT,
+    VARS_BAD_ORDER, VARS_BAD_STATE,
 };
 use crate::status::{NO_MEMORY, REFUSED};
 use boot_edits::EditFault;
 use boot_journal::JournalFault;
+use boot_notes::NotesFault;
 use boot_requests::{FeedFault, FrameFault, OpenFault};
+use change_records::{RecordFault, WriteFault};
 use efi_images::{DigestFault, ImageFault, ListFault};
 use std::alloc::{AllocError, AllocFailed};
 use uefi_names::NamedFault;
@@ -65,9 +70,16 @@ impl Failure {
     pub(crate) fn in_list(self, place: usize) -> Failure
         ensures { result ≡ list_failure place self }
     {
+        self.in_part(OPTION_PATH, place)
+    }
+
+    /// The refusal by this number of what has, at this place, a part with bytes that fail so.
+    fn in_part(self, kind: u32, place: usize) -> Failure
+        ensures { result ≡ part_failure kind place self }
+    {
         match self {
             Failure::Refused(inner) => Failure::Refused(Refusal {
-                kind: OPTION_PATH,
+                kind,
                 inner_kind: inner.kind,
                 place,
                 inner_place: inner.place,
@@ -321,6 +333,53 @@ impl From<JournalFault> for Failure {
             JournalFault::BadIdentity(place) => Failure::at(JOURNAL_BAD_IDENTITY, place),
             JournalFault::BadName(place) => Failure::at(JOURNAL_BAD_NAME, place),
             JournalFault::OutOfMemory => Failure::Memory,
+        }
+    }
+}
+
+impl From<NotesFault> for Failure {
+    ghost from_gives = { λ fault made. made ≡ notes_failure fault };
+
+    fn from(fault: NotesFault) -> Failure {
+        match fault {
+            NotesFault::Truncated(place) => Failure::at(NOTES_TRUNCATED, place),
+            NotesFault::TooMany(place) => Failure::at(NOTES_TOO_MANY, place),
+            NotesFault::OutOfMemory => Failure::Memory,
+        }
+    }
+}
+
+impl From<RecordFault> for Failure {
+    ghost from_gives = { λ fault made. made ≡ record_failure fault };
+
+    fn from(fault: RecordFault) -> Failure {
+        match fault {
+            RecordFault::BadMagic => Failure::bare(RECORD_BAD_MAGIC),
+            RecordFault::Truncated(place) => Failure::at(RECORD_TRUNCATED, place),
+            RecordFault::TooFewFields => Failure::bare(RECORD_TOO_FEW_FIELDS),
+            RecordFault::BadMachine => Failure::bare(RECORD_BAD_MACHINE),
+            RecordFault::BadTime => Failure::bare(RECORD_BAD_TIME),
+            RecordFault::BadBefore(fault) => Failure::from(fault).in_part(
+                RECORD_BAD_BEFORE,
+                NO_PLACE,
+            ),
+            RecordFault::BadAfter(fault) => Failure::from(fault).in_part(
+                RECORD_BAD_AFTER,
+                NO_PLACE,
+            ),
+            RecordFault::BadWord(number) => Failure::at(RECORD_BAD_WORD, number),
+            RecordFault::OutOfMemory => Failure::Memory,
+        }
+    }
+}
+
+impl From<WriteFault> for Failure {
+    ghost from_gives = { λ fault made. made ≡ write_failure fault };
+
+    fn from(fault: WriteFault) -> Failure {
+        match fault {
+            WriteFault::TooLong => Failure::bare(RECORD_TOO_LONG),
+            WriteFault::OutOfMemory => Failure::Memory,
         }
     }
 }

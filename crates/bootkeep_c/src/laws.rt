@@ -82,6 +82,9 @@ use crate::refusal::MACHINE_NO_DATA;
 use crate::refusal::MACHINE_TOO_LONG;
 use crate::refusal::NO_KIND;
 use crate::refusal::NO_PLACE;
+use crate::refusal::NOTES_BAD_IDENTITY;
+use crate::refusal::NOTES_TOO_MANY;
+use crate::refusal::NOTES_TRUNCATED;
 use crate::refusal::OPTION_EMPTY_LIST;
 use crate::refusal::OPTION_LIST_PAST_END;
 use crate::refusal::OPTION_LIST_TOO_LONG;
@@ -99,6 +102,16 @@ use crate::refusal::PATH_SHORT_HEADER;
 use crate::refusal::PUT_BAD_NAME;
 use crate::refusal::PUT_DATA_TOO_LONG;
 use crate::refusal::PUT_EMPTY_DATA;
+use crate::refusal::RECORD_BAD_AFTER;
+use crate::refusal::RECORD_BAD_BEFORE;
+use crate::refusal::RECORD_BAD_MACHINE;
+use crate::refusal::RECORD_BAD_MAGIC;
+use crate::refusal::RECORD_BAD_TIME;
+use crate::refusal::RECORD_BAD_WORD;
+use crate::refusal::RECORD_OPEN_WORD;
+use crate::refusal::RECORD_TOO_FEW_FIELDS;
+use crate::refusal::RECORD_TOO_LONG;
+use crate::refusal::RECORD_TRUNCATED;
 use crate::refusal::SET_BAD_DATA;
 use crate::refusal::SET_BAD_MAGIC;
 use crate::refusal::SET_BAD_NAME;
@@ -281,5 +294,18 @@ pub fn numbers_of_refusals_stay()
     ensures unedited_bad_kind { UNEDITED_BAD_KIND ≡ 0x0E09 }
     ensures unedited_bad_number { UNEDITED_BAD_NUMBER ≡ 0x0E0A }
     ensures unedited_bad_position { UNEDITED_BAD_POSITION ≡ 0x0E0B }
+    ensures notes_truncated { NOTES_TRUNCATED ≡ 0x0F01 }
+    ensures notes_too_many { NOTES_TOO_MANY ≡ 0x0F02 }
+    ensures notes_bad_identity { NOTES_BAD_IDENTITY ≡ 0x0F03 }
+    ensures record_bad_magic { RECORD_BAD_MAGIC ≡ 0x1001 }
+    ensures record_truncated { RECORD_TRUNCATED ≡ 0x1002 }
+    ensures record_too_few_fields { RECORD_TOO_FEW_FIELDS ≡ 0x1003 }
+    ensures record_bad_machine { RECORD_BAD_MACHINE ≡ 0x1004 }
+    ensures record_bad_time { RECORD_BAD_TIME ≡ 0x1005 }
+    ensures record_bad_before { RECORD_BAD_BEFORE ≡ 0x1006 }
+    ensures record_bad_after { RECORD_BAD_AFTER ≡ 0x1007 }
+    ensures record_bad_word { RECORD_BAD_WORD ≡ 0x1008 }
+    ensures record_open_word { RECORD_OPEN_WORD ≡ 0x1009 }
+    ensures record_too_long { RECORD_TOO_LONG ≡ 0x100A }
     ensures no_place { NO_PLACE ≡ no_place }
 {}

@@ -21,6 +21,12 @@ pub const WORD_MAX: u32 = 32;
 /// The most bytes that the name of a machine has.
 pub const MACHINE_MAX: u32 = 4_096;
 
+/// How many bytes the identity in notes has.
+pub const IDENTITY_LEN: u32 = 16;
+
+/// The most bytes that notes have.
+pub const NOTES_MAX: u32 = 1_557;
+
 // The twelve bytes before a payload, and the payload.
 const _: () = prove!(FRAME_MAX as usize == 12 + boot_requests::PAYLOAD_MAX);
 
@@ -33,3 +39,14 @@ const _: () = prove!(ORDER_MAX as usize == uefi_vars::ORDER_MAX);
 const _: () = prove!(LIST_MAX as usize == uefi_option::LIST_MAX);
 
 const _: () = prove!(MACHINE_MAX as usize == boot_journal::MACHINE_NAME_MAX);
+
+const _: () = prove!(IDENTITY_LEN as usize == boot_notes::IDENTITY_LEN);
+
+// The magic, the identity, the count, and of each digest the number of its request before it: of those before the last run
+// and of those that it applied.
+const _: () = prove!(
+    NOTES_MAX as usize
+        == 4 + boot_notes::IDENTITY_LEN
+            + 1
+            + 2 * boot_notes::KEPT_MAX * (4 + boot_notes::DIGEST_LEN)
+);

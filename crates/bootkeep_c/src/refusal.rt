@@ -375,6 +375,45 @@ pub const UNEDITED_BAD_NUMBER: u32 = 0x0E0A;
 /// The position of a new entry is none.
 pub const UNEDITED_BAD_POSITION: u32 = 0x0E0B;
 
+/// [`NotesFault::Truncated`](boot_notes::NotesFault::Truncated).
+pub const NOTES_TRUNCATED: u32 = 0x0F01;
+
+/// [`NotesFault::TooMany`](boot_notes::NotesFault::TooMany).
+pub const NOTES_TOO_MANY: u32 = 0x0F02;
+
+/// An identity hasn't 16 bytes.
+pub const NOTES_BAD_IDENTITY: u32 = 0x0F03;
+
+/// [`RecordFault::BadMagic`](change_records::RecordFault::BadMagic).
+pub const RECORD_BAD_MAGIC: u32 = 0x1001;
+
+/// [`RecordFault::Truncated`](change_records::RecordFault::Truncated).
+pub const RECORD_TRUNCATED: u32 = 0x1002;
+
+/// [`RecordFault::TooFewFields`](change_records::RecordFault::TooFewFields).
+pub const RECORD_TOO_FEW_FIELDS: u32 = 0x1003;
+
+/// [`RecordFault::BadMachine`](change_records::RecordFault::BadMachine).
+pub const RECORD_BAD_MACHINE: u32 = 0x1004;
+
+/// [`RecordFault::BadTime`](change_records::RecordFault::BadTime).
+pub const RECORD_BAD_TIME: u32 = 0x1005;
+
+/// [`RecordFault::BadBefore`](change_records::RecordFault::BadBefore).
+pub const RECORD_BAD_BEFORE: u32 = 0x1006;
+
+/// [`RecordFault::BadAfter`](change_records::RecordFault::BadAfter).
+pub const RECORD_BAD_AFTER: u32 = 0x1007;
+
+/// [`RecordFault::BadWord`](change_records::RecordFault::BadWord).
+pub const RECORD_BAD_WORD: u32 = 0x1008;
+
+/// No zero ends the last word that is given.
+pub const RECORD_OPEN_WORD: u32 = 0x1009;
+
+/// [`WriteFault::TooLong`](change_records::WriteFault::TooLong).
+pub const RECORD_TOO_LONG: u32 = 0x100A;
+
 /// Why a call refuses: `struct bootkeep_refusal`.
 #[repr(C)]
 #[derive(Clone, Copy, Debug, PartialEq, Eq)]

@@ -128,7 +128,7 @@ pub(crate) fn begun(
 }
 
 /// The machine's name.
-fn machine_name(alloc: Global, bytes: &[u8]) -> Result<MachineName, Failure>
+pub(crate) fn machine_name(alloc: Global, bytes: &[u8]) -> Result<MachineName, Failure>
     ensures name { IfOk result (λ name. (name ≡ bytes.now) × IsMachineName bytes.now) }
     ensures fault { IfErr result (λ failed. failed ≢ Failure.Memory →
         (¬ IsMachineName bytes.now) × (failed ≡ bare 0x0D01)) }

@@ -3,14 +3,14 @@
 ghost use Rattle.std.specs.Prelude.{◌≡◌, IfOk, IfErr};
 ghost use Rattle.boot_journal.specs.Cause.{IfRefused};
 ghost use Rattle.boot_journal.specs.declared.machine.CallError.TheVariants.{OutOfMemory};
-ghost use Rattle.bootkeep_c.specs.Wanted.{LeadsByFrames, RefusesFrames, LeadsByEdit, RefusesEdit, LeadsBack};
+ghost use Rattle.bootkeep_c.specs.Wanted.{IsNextOf, LeadsByFrames, RefusesFrames, LeadsByEdit, RefusesEdit, LeadsBack};
 
 use crate::edit::{EditNumbers, edit_asked};
 use boot_edits::{EditAnswer, EditRun, EditRunFault, Restore};
 use boot_journal::{CallError, Run};
-use boot_requests::{Answer, Event};
-use journaled_requests::{Requests, RunFault};
-use std::alloc::Global;
+use boot_requests::{Answer, Event, Keeper};
+use journaled_requests::{Requests, RunFault, run_set};
+use std::alloc::{AllocError, Global};
 use uefi_vars::Vars;
 
 /// What is run over a machine.
@@ -40,10 +40,21 @@ pub struct OwnedEdit {
 /// What a run answers.
 #[derive(Debug, Drop)]
 pub enum RunAnswer {
+    /// Nothing more than that it has happened.
+    Done,
     /// The replies to frames.
-    Replies(Vec<Answer>),
+    Replies(Replied),
     /// What is told of an edit.
     Edited(EditAnswer),
+}
+
+/// What a run of frames answers.
+#[derive(Debug, Drop)]
+pub struct Replied {
+    /// The number of the request that was to be applied next before them.
+    pub(crate) first: u32,
+    /// The answer to each.
+    pub(crate) answers: Vec<Answer>,
 }
 
 /// Why a run refuses the variables.
@@ -75,7 +86,7 @@ impl Run for Running<'_> {
 
     fn run(self, alloc: Global, vars: &Vars) -> Result<(Vars, RunAnswer), CallError<RunRefusal>> {
         match self.wanted {
-            WantedRun::Nothing => Ok((vars.copy(alloc)?, RunAnswer::Replies(Vec::new(alloc)))),
+            WantedRun::Nothing => Ok((vars.copy(alloc)?, RunAnswer::Done)),
             WantedRun::Frames(events) => run_frames(alloc, vars, events),
             WantedRun::Edit(edit) => run_edit(alloc, vars, edit),
             WantedRun::Restore(back) => run_restore(alloc, vars, back),
@@ -93,9 +104,25 @@ fn run_frames(
     ensures refuses { IfErr result (λ error. IfRefused error (RefusesFrames events.now vars.now)) }
 {
     match (Requests { events }).run(alloc, vars) {
-        Ok((to, answers)) => Ok((to, RunAnswer::Replies(answers))),
+        Ok((to, answers)) => {
+            let first = next_number(alloc, vars)?;
+            Ok((to, RunAnswer::Replies(Replied { first, answers })))
+        }
         Err(CallError::Refused(fault)) => Err(CallError::Refused(RunRefusal::Frames(fault))),
         Err(CallError::OutOfMemory) => Err(CallError::OutOfMemory),
+    }
+}
+
+/// The number of the request that is to be applied next over the variables, which a keeper opens.
+fn next_number(alloc: Global, vars: &Vars) -> Result<u32, AllocError>
+    ensures { IfOk result (λ number. IsNextOf vars.now number) }
+{
+    let Ok(set) = run_set(alloc, vars) else {
+        return Err(AllocError);
+    };
+    match Keeper::open(alloc, set) {
+        Ok(keeper) => Ok(keeper.next_number()),
+        Err(_) => Err(AllocError),
     }
 }
 
@@ -129,7 +156,7 @@ fn run_restore(
     ensures refuses { IfErr result (λ error. error ≡ OutOfMemory) }
 {
     match (Restore { to: back }).run(alloc, vars) {
-        Ok((to, ())) => Ok((to, RunAnswer::Replies(Vec::new(alloc)))),
+        Ok((to, ())) => Ok((to, RunAnswer::Done)),
         Err(_) => Err(CallError::OutOfMemory),
     }
 }

@@ -1,0 +1,75 @@
+//! The words of a command line, each ended by a zero.
+
+ghost use Rattle.std.specs.Prelude.{◌≡◌, ◌≢◌, ◌<◌, ◌==◌, None, length, map, position, IfOk, IfErr, IfSome, IsUtf8};
+ghost use Rattle.std.specs.List.{AllByRecursion};
+ghost use Rattle.std.specs.String.{string_bytes};
+ghost use Rattle.change_records.specs.Fault.{IsWordFault};
+ghost use Rattle.change_records.specs.declared.fault.RecordFault.TheVariants as fault;
+ghost use Rattle.bootkeep_c.specs.declared.failure.Failure.{Failure};
+ghost use Rattle.bootkeep_c.specs.CommandLines.{HasNoZero, AreEnded, IsOpenFailure, AreWordsOf, IsWordsFailure, SplitsWord};
+
+use crate::failure::Failure;
+use crate::refusal::RECORD_OPEN_WORD;
+use change_records::RecordFault;
+use std::alloc::Global;
+
+/// The words of a command line with these bytes.
+pub(crate) fn command_words(alloc: Global, bytes: &[u8]) -> Result<Vec<String>, Failure>
+    ensures found { IfOk result (λ words. AreWordsOf bytes.now (map string_bytes words.items)) }
+    ensures fault { IfErr result (λ failed. failed ≢ Failure.Memory → IsWordsFailure bytes.now failed) }
+{
+    let parts = cut(alloc, bytes)?;
+    Ok(words_of(alloc, &parts)?)
+}
+
+/// The words that these bytes are, each in UTF-8.
+fn words_of(alloc: Global, parts: &[&[u8]]) -> Result<Vec<String>, RecordFault>
+    ensures found { IfOk result (λ words. map string_bytes words.items ≡ map (λ f. f.now) parts.now) }
+    ensures valid { IfOk result (λ words. AllByRecursion IsUtf8 (map (λ f. f.now) parts.now)) }
+    ensures fault { IfErr result (λ f. f ≢ fault.OutOfMemory → IsWordFault (map (λ f. f.now) parts.now) f) }
+{
+    let mut words = Vec::new(alloc);
+    for (index, part) in parts.iter().enumerate() {
+        let Ok(word) = str::from_utf8(part) else {
+            return Err(RecordFault::BadWord(index));
+        };
+        words.push(String::from_str(alloc, word)?)?;
+    }
+    Ok(words)
+}
+
+/// What stands before each zero.
+fn cut<'a>(alloc: Global, bytes: &'a [u8]) -> Result<Vec<&'a [u8]>, Failure>
+    ensures found { IfOk result (λ words. AreEnded bytes.now (map (λ w. w.now) words.items)) }
+    ensures fault { IfErr result (λ failed. failed ≢ Failure.Memory → IsOpenFailure bytes.now failed) }
+{
+    let mut words = Vec::new(alloc);
+    let mut rest = bytes;
+    while !rest.is_empty() {
+        let Some((word, behind)) = split_word(rest) else {
+            return Err(Failure::at(RECORD_OPEN_WORD, bytes.len() - rest.len()));
+        };
+        words.push(word)?;
+        rest = behind;
+    }
+    Ok(words)
+}
+
+/// What stands before the first zero, and what is behind that: `None` if there is no zero.
+fn split_word(bytes: &[u8]) -> Option<(&[u8], &[u8])>
+    ensures found { IfSome result (λ split. SplitsWord bytes.now split.0.now split.1.now) }
+    ensures shorter { IfSome result (λ split. length split.1.now < length bytes.now) }
+    ensures none { result ≡ None → HasNoZero bytes.now }
+{
+    match find_zero(bytes) {
+        Some(len) => Some((&bytes[..len], &bytes[len + 1..])),
+        None => None,
+    }
+}
+
+/// The index of the first zero.
+fn find_zero(bytes: &[u8]) -> Option<usize>
+    ensures { result ≡ position (λ byte. byte == 0) bytes.now }
+{
+    bytes.iter().position(|byte| *byte == 0)
+}
