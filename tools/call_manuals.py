@@ -24,9 +24,12 @@ KINDS = {
     "variables": "VARS_",
     "what is put": "PUT_",
     "streams": "STREAM_",
+    "frames": "FRAME_",
     "images": "IMAGE_",
     "signature lists": "LISTS_",
     "journals": "JOURNAL_",
+    "notes": "NOTES_",
+    "records": "RECORD_",
     "machines": "MACHINE_",
     "edits": "UNEDITED_",
 }

@@ -139,11 +139,10 @@ class Workshop:
                 control.put(
                     part, source.read_bytes(), PROGRAM_MODE if part in SCRIPTS else DATA_MODE
                 )
-        for path in files.paths():
-            library = re.match(r".*/(lib\w+)\.so\.(\d+)$", path)
-            if library:
-                shlibs = f"{library[1]} {library[2]} {name} (>= {self.version})\n"
-                control.put("shlibs", shlibs.encode())
+        libraries = [re.match(r".*/(lib[\w-]+)\.so\.(\d+)$", path) for path in files.paths()]
+        shlibs = [f"{it[1]} {it[2]} {name} (>= {self.version})\n" for it in libraries if it]
+        if shlibs:
+            control.put("shlibs", "".join(shlibs).encode())
         return control
 
     def _stanza(self, name: str, files: FileTree) -> str:

@@ -20,15 +20,23 @@ PREFIX_MARK = b"@prefix@"
 ARCHIVE, HEADER = "libbootkeep.a", "bootkeep.h"
 SHARED, SHARED_NAMES = "libbootkeep.so.1.0.0", ("libbootkeep.so.1", "libbootkeep.so")
 
+LINUX_ARCHIVE, LINUX_HEADER = "libbootkeep-linux.a", "bootkeep-linux.h"
+LINUX_SHARED = "libbootkeep-linux.so.1.0.0"
+LINUX_SHARED_NAMES = ("libbootkeep-linux.so.1", "libbootkeep-linux.so")
+
+DESCRIPTIONS = ("bootkeep.pc", "bootkeep-linux.pc")
+"""What pkg-config reads of each library."""
+
 DOCS = ROOT / "docs"
 """The folder of the pages."""
 
 OF_FLEET = "fleet.md"
 """The page for those who have the sender of a fleet."""
 
-NOT_INSTALLED = frozenset(
-    "CONTRIBUTING.md SECURITY.md architecture.md c.md firmware.md library.md".split()
-)
+OF_CALLERS = ("c.md", "firmware.md", "linux.md")
+"""The pages for those who write programs over the libraries for C."""
+
+NOT_INSTALLED = frozenset("CONTRIBUTING.md SECURITY.md architecture.md library.md".split())
 """The pages for those who have the source."""
 
 PAGES = tuple(
@@ -36,7 +44,7 @@ PAGES = tuple(
     for page in sorted(
         str(it.relative_to(DOCS)) for it in (*DOCS.glob("*.md"), *DOCS.glob("*/*.md"))
     )
-    if page not in NOT_INSTALLED and page != OF_FLEET
+    if page not in NOT_INSTALLED and page not in OF_CALLERS and page != OF_FLEET
 )
 """The pages for those who have the programs, and for those who want to know what to trust, by their paths in docs."""
 
@@ -173,36 +181,49 @@ def collection_files() -> FileTree:
 
 
 def library_files(made: Made, place: Place) -> FileTree:
-    """The shared library."""
+    """The shared libraries."""
     files = FileTree()
-    files.put(f"{place.libraries}/{SHARED}", made.built(SHARED))
-    files.link(f"{place.libraries}/{SHARED_NAMES[0]}", SHARED)
+    for shared, names in ((SHARED, SHARED_NAMES), (LINUX_SHARED, LINUX_SHARED_NAMES)):
+        files.put(f"{place.libraries}/{shared}", made.built(shared))
+        files.link(f"{place.libraries}/{names[0]}", shared)
     return files
 
 
 def development_files(made: Made, place: Place, examples: str) -> FileTree:
-    """What is needed to build programs over the library, with examples in this folder."""
+    """What is needed to build programs over the libraries, with examples in this folder, and pages beside it."""
     files = FileTree()
-    files.put(f"{place.libraries}/{ARCHIVE}", made.built(ARCHIVE))
-    files.link(f"{place.libraries}/{SHARED_NAMES[1]}", SHARED_NAMES[0])
-    files.put(f"{place.libraries}/pkgconfig/bootkeep.pc", pkg_config(made, place))
-    files.put(f"include/{HEADER}", made.built(HEADER))
-    put_manual(files, place, "bootkeep.3")
+    for archive in (ARCHIVE, LINUX_ARCHIVE):
+        files.put(f"{place.libraries}/{archive}", made.built(archive))
+    for names in (SHARED_NAMES, LINUX_SHARED_NAMES):
+        files.link(f"{place.libraries}/{names[1]}", names[0])
+    for described in DESCRIPTIONS:
+        files.put(f"{place.libraries}/pkgconfig/{described}", pkg_config(made, place, described))
+    for header in (HEADER, LINUX_HEADER):
+        files.put(f"include/{header}", made.built(header))
+    for manual in ("bootkeep.3", "bootkeep-linux.3"):
+        put_manual(files, place, manual)
     for manual, text in call_manuals.manuals().items():
         place.put_text(files, f"share/man/man3/{manual}", text)
-    for example in sorted((ROOT / "libraries/c/examples").glob("*.[ch]")):
-        files.put(f"{examples}/{example.name}", example.read_bytes())
+    put_examples(files, "c/examples", "*.[ch]", examples)
+    for page in OF_CALLERS:
+        put_page(files, place, Path(examples).parent.name, page)
     return files
 
 
-def pkg_config(made: Made, place: Place) -> bytes:
-    """What pkg-config reads, with this place's folders in the place of the one in which the library was built."""
+def put_examples(files: FileTree, source: str, pattern: str, to: str) -> None:
+    """Adds examples of libraries/ to this folder."""
+    for example in sorted((ROOT / "libraries" / source).glob(pattern)):
+        files.put(f"{to}/{example.name}", example.read_bytes())
+
+
+def pkg_config(made: Made, place: Place, name: str = "bootkeep.pc") -> bytes:
+    """What pkg-config reads of a library, with this place's folders in the place of the one in which the library was built."""
     folders = {
         "prefix": place.prefix,
         "libdir": f"{place.prefix}/{place.libraries}",
         "includedir": f"{place.prefix}/include",
     }
-    lines = made.built("bootkeep.pc").decode().splitlines()
+    lines = made.built(name).decode().splitlines()
     for at, line in enumerate(lines):
         name, _, folder = line.partition("=")
         if folder == "${pcfiledir}":
@@ -211,11 +232,12 @@ def pkg_config(made: Made, place: Place) -> bytes:
 
 
 def python_files(modules: Dict[str, bytes], metadata: str, version: str) -> FileTree:
-    """The module for Python, and what Python knows of it as a package that is installed."""
-    files = FileTree()
+    """The module for Python, what Python knows of it as a package that is installed, and the examples, as Debian has them."""
+    files, to = FileTree(), "lib/python3/dist-packages"
     for path, module in modules.items():
-        files.put(path, module)
-    files.put(f"bootkeep-{version}.dist-info/METADATA", metadata.encode())
+        files.put(f"{to}/{path}", module)
+    files.put(f"{to}/bootkeep-{version}.dist-info/METADATA", metadata.encode())
+    put_examples(files, "python/examples", "*.py", "share/doc/python3-bootkeep/examples")
     return files
 
 

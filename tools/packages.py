@@ -168,10 +168,10 @@ def debian_packages(made: Made, work: Path, known: List[Release], moment: int) -
 
 def debian_contents(made: Made) -> Dict[str, Content]:
     """What each package for Debian has."""
-    examples, modules = "share/doc/libbootkeep-dev/examples", "usr/lib/python3/dist-packages"
+    examples = "share/doc/libbootkeep-dev/examples"
     python = package_files.python_files(
         wheel_of_library.modules(), wheel_of_library.metadata(), wheel_of_library.project("version")
-    ).below(modules)
+    ).below("usr")
     bootkeep = package_files.program_files(made, DEBIAN).below("usr")
     shared = package_files.library_files(made, DEBIAN).below("usr")
     development = package_files.development_files(made, DEBIAN, examples).below("usr")
@@ -192,11 +192,12 @@ def debian_contents(made: Made) -> Dict[str, Content]:
 
 
 def built_files(files: FileTree) -> Dict[str, bytes]:
-    """Those that were built of what is proved."""
+    """Those that were built of what is proved: libbootkeep-linux isn't."""
     return {
         path: file.data
         for path, file in sorted(files.files.items())
         if file.data.startswith((debian_package.ELF, b"!<arch>"))
+        and not Path(path).name.startswith("libbootkeep-linux.")
     }
 
 

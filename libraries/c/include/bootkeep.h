@@ -71,6 +71,8 @@
  *     start, start_len         the identity of the machine's start, in printing ASCII, and how many bytes it has
  *     variables, variables_len  what the machine keeps of its variables, as a set, and how many bytes that has
  *     journal, journal_len     all the bytes of the journal's file, and how many: none if there is no such file
+ *     notes, notes_len         the notes that a journal's file begins with, or all its bytes, and how many these are
+ *     record, record_len       all the bytes of the record of a change, and how many there are
  *
  * PROCESSORS
  *
@@ -190,7 +192,7 @@ uint32_t bootkeep_version(void);
 #define BOOTKEEP_REFUSED 1
 /* A buffer is too short: `*len` says how much room the answer needs. Nothing has happened. */
 #define BOOTKEEP_NO_ROOM 2
-/* There is no variable of this name, no word of this number, no such move, or no such reply. */
+/* There is no variable of this name, no word of this number, no such move or reply, or there are no notes. */
 #define BOOTKEEP_ABSENT 3
 /*
  * Memory was refused. Nothing has happened.
@@ -220,6 +222,9 @@ uint32_t bootkeep_version(void);
 #define BOOTKEEP_WORD_MAX 32
 /* The most bytes of the name of a machine. */
 #define BOOTKEEP_MACHINE_MAX 4096
+/* How many bytes the identity of a journal's notes has, and how many notes have at most. */
+#define BOOTKEEP_IDENTITY_LEN 16
+#define BOOTKEEP_NOTES_MAX 1557
 
 /* ---- Refusals --------------------------------------------------------------------------------------------------- */
 
@@ -355,8 +360,8 @@ struct bootkeep_refusal {
 
 /*
  * Of a frame. None has a place. bootkeep_frame_make answers BOOTKEEP_FAULT_FRAME_TOO_LONG,
- * BOOTKEEP_FAULT_FRAME_BAD_KIND and BOOTKEEP_FAULT_FRAME_BAD_NUMBER; all of them are the `fault` of a reply to bytes
- * that aren't a frame.
+ * BOOTKEEP_FAULT_FRAME_BAD_KIND and BOOTKEEP_FAULT_FRAME_BAD_NUMBER, and bootkeep_frame_parts all but
+ * BOOTKEEP_FAULT_FRAME_OPTION; all of them are the `fault` of a reply to bytes that aren't a frame.
  */
 
 /* There are fewer bytes than the twelve before the payload. */
@@ -375,7 +380,7 @@ struct bootkeep_refusal {
 #define BOOTKEEP_FAULT_FRAME_BAD_NUMBER 0x0807
 /* The payload doesn't have the bytes that a request of its kind has. */
 #define BOOTKEEP_FAULT_FRAME_BAD_PAYLOAD 0x0808
-/* The payload's load option isn't one. Only replies have this number. */
+/* Of replies alone: the payload's load option isn't one. */
 #define BOOTKEEP_FAULT_FRAME_OPTION 0x0809
 
 /*
@@ -566,6 +571,44 @@ struct bootkeep_refusal {
 #define BOOTKEEP_FAULT_UNEDITED_BAD_NUMBER 0x0e0a
 /* `position` is none of BOOTKEEP_POSITION_.. */
 #define BOOTKEEP_FAULT_UNEDITED_BAD_POSITION 0x0e0b
+
+/*
+ * Of the notes at the start of a journal's file. The place is that of the field with the fault.
+ */
+
+/* The bytes end in the field. */
+#define BOOTKEEP_FAULT_NOTES_TRUNCATED 0x0f01
+/* There are to be more than 128 digests. */
+#define BOOTKEEP_FAULT_NOTES_TOO_MANY 0x0f02
+/* Of bootkeep_notes_make alone, without a place: the identity hasn't BOOTKEEP_IDENTITY_LEN bytes. */
+#define BOOTKEEP_FAULT_NOTES_BAD_IDENTITY 0x0f03
+
+/*
+ * Of the record of a change. Only BOOTKEEP_FAULT_RECORD_TRUNCATED and the two of words have a place, and only
+ * BOOTKEEP_FAULT_RECORD_BAD_BEFORE and BOOTKEEP_FAULT_RECORD_BAD_AFTER have a fault within, whose place counts from the
+ * first byte of that set.
+ */
+
+/* The record doesn't begin with the four bytes `BKH1`. */
+#define BOOTKEEP_FAULT_RECORD_BAD_MAGIC 0x1001
+/* The record ends in the field that begins at this place. */
+#define BOOTKEEP_FAULT_RECORD_TRUNCATED 0x1002
+/* The record has fewer than the four fields before the words. */
+#define BOOTKEEP_FAULT_RECORD_TOO_FEW_FIELDS 0x1003
+/* The name of the machine has no byte, or more than BOOTKEEP_MACHINE_MAX. */
+#define BOOTKEEP_FAULT_RECORD_BAD_MACHINE 0x1004
+/* The time doesn't have eight bytes. */
+#define BOOTKEEP_FAULT_RECORD_BAD_TIME 0x1005
+/* What was before the change is no set: `inner_kind` is its fault. */
+#define BOOTKEEP_FAULT_RECORD_BAD_BEFORE 0x1006
+/* What was after the change is no set: `inner_kind` is its fault. */
+#define BOOTKEEP_FAULT_RECORD_BAD_AFTER 0x1007
+/* The word of this number, of which the first is 0, isn't UTF-8. */
+#define BOOTKEEP_FAULT_RECORD_BAD_WORD 0x1008
+/* Of bootkeep_record_make alone: no zero ends the last word, which begins at this place of the words. */
+#define BOOTKEEP_FAULT_RECORD_OPEN_WORD 0x1009
+/* Of bootkeep_record_make alone: a word, or a set of the boot manager's variables, has 2^32 bytes or more. */
+#define BOOTKEEP_FAULT_RECORD_TOO_LONG 0x100a
 
 /* ---- Words ------------------------------------------------------------------------------------------------------ */
 
@@ -794,6 +837,52 @@ uint32_t bootkeep_option_make_units(uint32_t attributes, const uint16_t *units, 
 uint32_t bootkeep_frame_make(uint32_t number, uint32_t kind, uint16_t entry, const uint8_t *option, size_t option_len,
                              const uint16_t *order, size_t order_len, uint8_t *out, size_t cap, size_t *len,
                              struct bootkeep_refusal *refusal) BOOTKEEP_CHECKED BOOTKEEP_NONNULL((10, 11));
+
+/*
+ * The parts of a frame. Later versions may add fields at its end: of those a call writes none that `size` leaves out.
+ */
+struct bootkeep_frame_parts {
+    /* sizeof(struct bootkeep_frame_parts): the caller writes it before a call, and no call changes it. */
+    size_t size;
+    /* The number of the request. */
+    uint32_t number;
+    /* What the request is to do: one of BOOTKEEP_REQUEST_... */
+    uint32_t kind;
+    /* The entry that it names, or BOOTKEEP_NO_ENTRY if it names none. */
+    uint32_t entry;
+    /* 0. It is written, so that no byte of the struct is left open. */
+    uint32_t reserved;
+    /* Where its load option is, up to the end of the frame, and how many bytes it has: both 0 if it has none. */
+    size_t option;
+    size_t option_len;
+};
+
+/* To GCC a call of C++ that has the name of a struct hides that struct's constructors. */
+#if defined(__cplusplus) && defined(__GNUC__)
+#pragma GCC diagnostic push
+#pragma GCC diagnostic ignored "-Wshadow"
+#endif
+
+/*
+ * The parts of the frame that the bytes are, all of them, in `*parts`, and in `numbers` those of an order, none of any
+ * other request: what bootkeep_frame_make makes the same frame of, or with another number the frame of the same
+ * request. `cap` and `*len` count numbers, of which there are 65536 at most.
+ *
+ *     frame, frame_len   all the bytes of the frame, and how many there are
+ *     parts              the parts, of which the caller has written `size`
+ *     numbers            where the answer goes: the numbers of the order
+ *
+ *     BOOTKEEP_DONE, BOOTKEEP_NO_ROOM, BOOTKEEP_NO_MEMORY
+ *     BOOTKEEP_BAD_SIZE  `parts->size` is below that of the struct of version 1
+ *     BOOTKEEP_REFUSED   a number of frames; otherwise a number of load options, whose places are in the option
+ */
+uint32_t bootkeep_frame_parts(const uint8_t *frame, size_t frame_len, struct bootkeep_frame_parts *parts,
+                              uint16_t *numbers, size_t cap, size_t *len, struct bootkeep_refusal *refusal)
+    BOOTKEEP_CHECKED BOOTKEEP_NONNULL((3, 6, 7));
+
+#if defined(__cplusplus) && defined(__GNUC__)
+#pragma GCC diagnostic pop
+#endif
 
 /* ---- Sets of variables ------------------------------------------------------------------------------------------ */
 
@@ -1305,7 +1394,8 @@ struct bootkeep_moves {
  * its start. `variables` is a set of what the machine keeps under each name: of Boot####, BootOrder, BootNext and
  * Timeout their attributes, in four bytes, and then their data, as a file of Linux's efivarfs has the two; any other
  * may be left out. `journal` is the bytes of the journal's file, all of them, and of none if there is no such file.
- * Notes, as `bootvars update` has them before the journal, aren't read.
+ * Notes, as `bootvars update` has them before the journal, are left out: bootkeep_notes_len tells how many bytes those
+ * are.
  *
  * `*moves` may be memory that was never written, as that of a keeper.
  *
@@ -1504,6 +1594,239 @@ uint32_t bootkeep_moves_reply(struct bootkeep_moves *moves, size_t place, struct
  */
 uint32_t bootkeep_moves_close(struct bootkeep_moves *moves) BOOTKEEP_NONNULL((1));
 
+/*
+ * In `*idle` whether a journal tells of nothing that is left to do: 1 if so, also if there is no such file, and 0 if a
+ * command was cut off or couldn't take itself back, and bootkeep_moves_settle has something to do. Whose journal it is
+ * isn't looked at. The bytes are those of the file behind its notes, which bootkeep_notes_len tells: with notes they
+ * are no journal.
+ *
+ *     idle   1 if nothing is left to do, and 0 if something is
+ *
+ *     BOOTKEEP_DONE, BOOTKEEP_NO_MEMORY
+ *     BOOTKEEP_REFUSED   a number of journals, but none of BOOTKEEP_FAULT_JOURNAL_OF_ANOTHER and
+ *                        BOOTKEEP_FAULT_JOURNAL_TOO_LONG
+ */
+uint32_t bootkeep_journal_is_idle(const uint8_t *journal, size_t journal_len, uint32_t *idle,
+                                  struct bootkeep_refusal *refusal) BOOTKEEP_CHECKED BOOTKEEP_NONNULL((3, 4));
+
+/* ---- Notes ------------------------------------------------------------------------------------------------------ */
+
+/*
+ * Notes stand at the start of a journal's file, and are kept for those who send requests: an identity, by which a
+ * sender knows the journal again, and digests of the frames that were applied last, by which it is told whether a
+ * number that comes again was given to the same request. docs/formats/machine.md has them to the byte. Without them a
+ * journal does all that it does for the machine.
+ *
+ * A program that begins a journal for requests draws an identity at random and makes notes of it. Before a command of
+ * requests it runs the same command over a copy of what it read, in memory: it answers BOOTKEEP_BECAME_DONE to each
+ * move. bootkeep_moves_notes gives the notes after it then, and these are written before each journal that the command
+ * replaces, when it is made. Commands of other kinds leave the notes as they are.
+ *
+ * A call that is handed notes takes the whole file that begins with them too: what is behind them isn't looked at.
+ * Bytes that don't begin with the four bytes `BKJ3` have no notes.
+ */
+
+/*
+ * In `*taken` how many bytes of notes a journal's file begins with: 0 if it has none. The journal is behind them.
+ *
+ *     taken   how many of the bytes the notes take
+ *
+ *     BOOTKEEP_DONE, BOOTKEEP_NO_MEMORY
+ *     BOOTKEEP_REFUSED   a number of notes
+ */
+uint32_t bootkeep_notes_len(const uint8_t *notes, size_t notes_len, size_t *taken, struct bootkeep_refusal *refusal)
+    BOOTKEEP_CHECKED BOOTKEEP_NONNULL((3, 4));
+
+/*
+ * Notes with this identity, of which no frame was applied as yet.
+ *
+ *     identity, identity_len   the identity, drawn at random, and how many bytes it has: BOOTKEEP_IDENTITY_LEN
+ *
+ *     BOOTKEEP_DONE, BOOTKEEP_NO_ROOM, BOOTKEEP_NO_MEMORY
+ *     BOOTKEEP_REFUSED   BOOTKEEP_FAULT_NOTES_BAD_IDENTITY
+ */
+uint32_t bootkeep_notes_make(const uint8_t *identity, size_t identity_len, uint8_t *out, size_t cap, size_t *len,
+                             struct bootkeep_refusal *refusal) BOOTKEEP_CHECKED BOOTKEEP_NONNULL((5, 6));
+
+/*
+ * The identity in the notes, BOOTKEEP_IDENTITY_LEN bytes.
+ *
+ *     BOOTKEEP_DONE, BOOTKEEP_NO_ROOM, BOOTKEEP_NO_MEMORY
+ *     BOOTKEEP_ABSENT    there are no notes
+ *     BOOTKEEP_REFUSED   a number of notes
+ */
+uint32_t bootkeep_notes_identity(const uint8_t *notes, size_t notes_len, uint8_t *out, size_t cap, size_t *len,
+                                 struct bootkeep_refusal *refusal) BOOTKEEP_CHECKED BOOTKEEP_NONNULL((5, 6));
+
+/*
+ * The notes after a command of frames that has happened, from those before it, which are handed in. If there were none
+ * there are none: the answer has no bytes then.
+ *
+ *     BOOTKEEP_DONE, BOOTKEEP_NO_ROOM, BOOTKEEP_NO_MEMORY, BOOTKEEP_CLOSED
+ *     BOOTKEEP_ABSENT    the command isn't one of frames, or hasn't happened: bootkeep_moves_end doesn't tell
+ *                        BOOTKEEP_END_DONE
+ *     BOOTKEEP_REFUSED   a number of notes
+ */
+uint32_t bootkeep_moves_notes(struct bootkeep_moves *moves, const uint8_t *notes, size_t notes_len, uint8_t *out,
+                              size_t cap, size_t *len, struct bootkeep_refusal *refusal)
+    BOOTKEEP_CHECKED BOOTKEEP_NONNULL((1, 6, 7));
+
+/* The frame is no repeat of one that was applied, or no digest of that one is kept. */
+#define BOOTKEEP_SAME_UNKNOWN 0
+/* The frame is the one that was applied under its number. */
+#define BOOTKEEP_SAME_YES 1
+/* Another frame was applied under its number: its sender and that of the other one don't know of each other. */
+#define BOOTKEEP_SAME_NO 2
+
+/*
+ * In `*same` whether the frame at this place of the stream, counted from 0, which was answered by
+ * BOOTKEEP_REPLY_REPEAT, is the one that was applied under its number, in this command or before it: by the last 64
+ * that this one applied up to then, and otherwise by the notes before it, which are handed in. The command has to have
+ * happened. Each call takes the digests of all frames.
+ *
+ *     place   the place of the frame
+ *     same    one of BOOTKEEP_SAME_...: BOOTKEEP_SAME_UNKNOWN of each frame if there are no notes
+ *
+ *     BOOTKEEP_DONE, BOOTKEEP_NO_MEMORY, BOOTKEEP_CLOSED
+ *     BOOTKEEP_ABSENT    the command isn't one of frames, hasn't happened, or has no such frame
+ *     BOOTKEEP_REFUSED   a number of notes
+ */
+uint32_t bootkeep_moves_same(struct bootkeep_moves *moves, const uint8_t *notes, size_t notes_len, size_t place,
+                             uint32_t *same, struct bootkeep_refusal *refusal)
+    BOOTKEEP_CHECKED BOOTKEEP_NONNULL((1, 5, 6));
+
+/* ---- Records ---------------------------------------------------------------------------------------------------- */
+
+/*
+ * A record is the bytes of a file in the folder `history`, all of them: what the boot manager's variables of a machine
+ * were before a change and after it, the time, and the words of the command that made it. docs/machines.md has where
+ * `bootvars` keeps them, and when. With one a change can be undone: bootkeep_record_standing tells whether it still
+ * stands, and bootkeep_record_back what bootkeep_moves_restore is to bring back.
+ */
+
+/*
+ * The record of a change of a machine's boot variables. Of the two sets it has Boot####, BootOrder, BootNext and
+ * Timeout.
+ *
+ *     time                 when the change is made, in seconds since 1970-01-01T00:00:00Z
+ *     before, before_len   what the machine keeps before the change, as `variables` of bootkeep_moves_requests has it,
+ *                          and how many bytes the set has
+ *     after, after_len     the same after the change
+ *     words, words_len     the words of the command, each in UTF-8 and ended by a zero, one after the other, and how
+ *                          many bytes they have with their zeros: no bytes for no words. The command line of a process
+ *                          is in this form in /proc/self/cmdline
+ *
+ *     BOOTKEEP_DONE, BOOTKEEP_NO_ROOM, BOOTKEEP_NO_MEMORY
+ *     BOOTKEEP_REFUSED   BOOTKEEP_FAULT_MACHINE_BAD_NAME; otherwise BOOTKEEP_FAULT_RECORD_OPEN_WORD; otherwise
+ *                        BOOTKEEP_FAULT_RECORD_BAD_WORD; otherwise a number of sets, of `before`; otherwise one of
+ *                        `after`; otherwise BOOTKEEP_FAULT_RECORD_TOO_LONG
+ */
+uint32_t bootkeep_record_make(const uint8_t *machine, size_t machine_len, uint64_t time, const uint8_t *before,
+                              size_t before_len, const uint8_t *after, size_t after_len, const uint8_t *words,
+                              size_t words_len, uint8_t *out, size_t cap, size_t *len, struct bootkeep_refusal *refusal)
+    BOOTKEEP_CHECKED BOOTKEEP_NONNULL((12, 13));
+
+/*
+ * The parts of a record, and where those are in its bytes that are bytes. Later versions may add fields at its end: of
+ * those a call writes none that `size` leaves out.
+ */
+struct bootkeep_record_parts {
+    /* sizeof(struct bootkeep_record_parts): the caller writes it before a call, and no call changes it. */
+    size_t size;
+    /* Where the name of the machine is, and how many bytes it has. */
+    size_t machine;
+    size_t machine_len;
+    /* When the change was made, in seconds since 1970-01-01T00:00:00Z. */
+    uint64_t time;
+    /* Where the set of what the machine kept before the change is, and how many bytes it has. */
+    size_t before;
+    size_t before_len;
+    /* The same after the change. */
+    size_t after;
+    size_t after_len;
+    /* How many words the command has. */
+    size_t words;
+};
+
+/* To GCC a call of C++ that has the name of a struct hides that struct's constructors. */
+#if defined(__cplusplus) && defined(__GNUC__)
+#pragma GCC diagnostic push
+#pragma GCC diagnostic ignored "-Wshadow"
+#endif
+
+/*
+ * The parts of a record, in `*parts`.
+ *
+ *     parts   the parts, of which the caller has written `size`
+ *
+ *     BOOTKEEP_DONE, BOOTKEEP_NO_MEMORY
+ *     BOOTKEEP_BAD_SIZE   `parts->size` is below that of the struct of version 1
+ *     BOOTKEEP_REFUSED    a number of records
+ */
+uint32_t bootkeep_record_parts(const uint8_t *record, size_t record_len, struct bootkeep_record_parts *parts,
+                               struct bootkeep_refusal *refusal) BOOTKEEP_CHECKED BOOTKEEP_NONNULL((3, 4));
+
+#if defined(__cplusplus) && defined(__GNUC__)
+#pragma GCC diagnostic pop
+#endif
+
+/*
+ * The word of this number of the command, of which the first is 0: UTF-8, without a zero at its end. A record that this
+ * library made has no zero in a word.
+ *
+ *     number   the number of the word
+ *
+ *     BOOTKEEP_DONE, BOOTKEEP_NO_ROOM, BOOTKEEP_NO_MEMORY
+ *     BOOTKEEP_ABSENT    the command has no such word
+ *     BOOTKEEP_REFUSED   a number of records
+ */
+uint32_t bootkeep_record_word(const uint8_t *record, size_t record_len, size_t number, uint8_t *out, size_t cap,
+                              size_t *len, struct bootkeep_refusal *refusal) BOOTKEEP_CHECKED BOOTKEEP_NONNULL((6, 7));
+
+/* The boot manager's variables are those after the change, but perhaps for a BootNext that a start has used. */
+#define BOOTKEEP_STANDING_UNCHANGED 0
+/*
+ * They are those before the change, but perhaps for such a BootNext, and not those after it: the change wasn't made, or
+ * was taken back, or it only set a BootNext, which a start has used.
+ */
+#define BOOTKEEP_STANDING_NOT_MADE 1
+/* They are neither: something else has changed them since. */
+#define BOOTKEEP_STANDING_CHANGED 2
+
+/*
+ * In `*standing` what the boot manager's variables of a machine are now, beside a record of a change of it. A record
+ * that says nothing of Timeout, before the change and after it, counts as one with the Timeout that is there now. Whose
+ * record it is isn't looked at: bootkeep_record_parts tells the machine.
+ *
+ * Who undoes changes passes one over that is BOOTKEEP_STANDING_NOT_MADE, and so `bootvars undo` does with one that is
+ * BOOTKEEP_STANDING_CHANGED if what bootkeep_record_back gives is there already, but perhaps for its BootNext: it was
+ * undone, and its record left.
+ *
+ *     standing   how the change stands: one of BOOTKEEP_STANDING_...
+ *
+ *     BOOTKEEP_DONE, BOOTKEEP_NO_MEMORY
+ *     BOOTKEEP_REFUSED   a number of records; otherwise one of sets, of `variables`
+ */
+uint32_t bootkeep_record_standing(const uint8_t *record, size_t record_len, const uint8_t *variables,
+                                  size_t variables_len, uint32_t *standing, struct bootkeep_refusal *refusal)
+    BOOTKEEP_CHECKED BOOTKEEP_NONNULL((5, 6));
+
+/*
+ * The set that undoes the change of a record, for bootkeep_moves_restore: what the machine kept before the change. If
+ * the record says nothing of Timeout, before the change and after it, the set has the one that is there now. It has no
+ * BootNext if the one that the change left is there no more, and the one before the change isn't there again: a start
+ * may have used it, and would otherwise use it once more. How the change stands isn't looked at.
+ *
+ * The set is what is to be there; what of it firmware takes is the machine's to say. `bootvars undo` leaves out entries
+ * that would have to be stored and are no load option.
+ *
+ *     BOOTKEEP_DONE, BOOTKEEP_NO_ROOM, BOOTKEEP_NO_MEMORY
+ *     BOOTKEEP_REFUSED   a number of records; otherwise one of sets, of `variables`
+ */
+uint32_t bootkeep_record_back(const uint8_t *record, size_t record_len, const uint8_t *variables, size_t variables_len,
+                              uint8_t *out, size_t cap, size_t *len, struct bootkeep_refusal *refusal)
+    BOOTKEEP_CHECKED BOOTKEEP_NONNULL((7, 8));
+
 /* ---- Images ------------------------------------------------------------------------------------------------------ */
 
 /* Which part of firmware finds a fault: the boot manager, for which there is no such file then. */
@@ -1596,6 +1919,15 @@ BOOTKEEP_ASSERT(offsetof(struct bootkeep_option_parts, optional) == 40);
 BOOTKEEP_ASSERT(offsetof(struct bootkeep_option_parts, optional_len) == 48);
 BOOTKEEP_ASSERT(sizeof(struct bootkeep_option_parts) == 56);
 
+BOOTKEEP_ASSERT(offsetof(struct bootkeep_frame_parts, size) == 0);
+BOOTKEEP_ASSERT(offsetof(struct bootkeep_frame_parts, number) == 8);
+BOOTKEEP_ASSERT(offsetof(struct bootkeep_frame_parts, kind) == 12);
+BOOTKEEP_ASSERT(offsetof(struct bootkeep_frame_parts, entry) == 16);
+BOOTKEEP_ASSERT(offsetof(struct bootkeep_frame_parts, reserved) == 20);
+BOOTKEEP_ASSERT(offsetof(struct bootkeep_frame_parts, option) == 24);
+BOOTKEEP_ASSERT(offsetof(struct bootkeep_frame_parts, option_len) == 32);
+BOOTKEEP_ASSERT(sizeof(struct bootkeep_frame_parts) == 40);
+
 BOOTKEEP_ASSERT(offsetof(struct bootkeep_variable, name) == 0);
 BOOTKEEP_ASSERT(offsetof(struct bootkeep_variable, name_len) == 8);
 BOOTKEEP_ASSERT(offsetof(struct bootkeep_variable, data) == 16);
@@ -1659,6 +1991,17 @@ BOOTKEEP_ASSERT(offsetof(struct bootkeep_moves_end, replies) == 24);
 BOOTKEEP_ASSERT(offsetof(struct bootkeep_moves_end, edited) == 32);
 BOOTKEEP_ASSERT(offsetof(struct bootkeep_moves_end, entry) == 36);
 BOOTKEEP_ASSERT(sizeof(struct bootkeep_moves_end) == 40);
+
+BOOTKEEP_ASSERT(offsetof(struct bootkeep_record_parts, size) == 0);
+BOOTKEEP_ASSERT(offsetof(struct bootkeep_record_parts, machine) == 8);
+BOOTKEEP_ASSERT(offsetof(struct bootkeep_record_parts, machine_len) == 16);
+BOOTKEEP_ASSERT(offsetof(struct bootkeep_record_parts, time) == 24);
+BOOTKEEP_ASSERT(offsetof(struct bootkeep_record_parts, before) == 32);
+BOOTKEEP_ASSERT(offsetof(struct bootkeep_record_parts, before_len) == 40);
+BOOTKEEP_ASSERT(offsetof(struct bootkeep_record_parts, after) == 48);
+BOOTKEEP_ASSERT(offsetof(struct bootkeep_record_parts, after_len) == 56);
+BOOTKEEP_ASSERT(offsetof(struct bootkeep_record_parts, words) == 64);
+BOOTKEEP_ASSERT(sizeof(struct bootkeep_record_parts) == 72);
 #undef BOOTKEEP_ASSERT
 #endif
 

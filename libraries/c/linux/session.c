@@ -1,0 +1,373 @@
+/*
+ * A call over a machine: the locks, what is read under them, what was left to do before, and the change. It goes the
+ * way of crates/machine_changes.
+ */
+#include "machine.h"
+
+#include <errno.h>
+#include <fcntl.h>
+#include <stdlib.h>
+#include <string.h>
+#include <sys/stat.h>
+#include <unistd.h>
+
+/* What belongs, where Linux shows it, to the user as whom this program runs. */
+#define OWN_PROCESS "/proc/self"
+/* The rights of a folder's group and of others to write it. */
+enum { OTHERS_WRITE = 022 };
+
+uint32_t check_flags(struct bootkeep_machine *machine, uint32_t flags, uint32_t known)
+{
+    if ((flags & ~known) == 0)
+        return BOOTKEEP_DONE;
+    return call_refused(machine, BOOTKEEP_MACHINE_AT_NONE, NULL, BOOTKEEP_MACHINE_FAULT_BAD_WORDS);
+}
+
+/* Why an open folder isn't kept from others than this user and root, or BOOTKEEP_NO_KIND. */
+static uint32_t access_fault(const struct stat *folder)
+{
+    struct stat process;
+    const uid_t user = stat(OWN_PROCESS, &process) == 0 ? process.st_uid : 0;
+
+    if (folder->st_uid != 0 && folder->st_uid != user)
+        return BOOTKEEP_MACHINE_FAULT_FOREIGN_STATE;
+    return (folder->st_mode & OTHERS_WRITE) != 0 ? BOOTKEEP_MACHINE_FAULT_SHARED_STATE : BOOTKEEP_NO_KIND;
+}
+
+/* Opens and locks a folder, of which `*lock` is the open file. */
+static uint32_t lock_folder(struct bootkeep_machine *machine, uint32_t at, const char *path, bool is_guarded, int *lock)
+{
+    struct stat found;
+    uint32_t fault;
+    int error;
+
+    /* Something else than a folder isn't opened: a pipe would be waited for. */
+    *lock = open_again(path, O_RDONLY | O_DIRECTORY, 0);
+    if (*lock < 0 && errno == ENOTDIR)
+        return call_refused(machine, at, path, BOOTKEEP_MACHINE_FAULT_NO_FOLDER);
+    if (*lock < 0 || fstat(*lock, &found) != 0)
+        return call_system(machine, at, path, errno);
+    fault = is_guarded ? access_fault(&found) : BOOTKEEP_NO_KIND;
+    if (fault != BOOTKEEP_NO_KIND)
+        return call_refused(machine, at, path, fault);
+    error = try_lock(*lock);
+    if (error == EWOULDBLOCK)
+        return call_busy(machine, at, path);
+    return error == 0 ? BOOTKEEP_DONE : call_system(machine, at, path, error);
+}
+
+/* Makes the state folder, if that is wanted and nothing is there, and locks it. */
+static uint32_t lock_state(struct session *session, const struct wanted *wanted)
+{
+    struct bootkeep_machine *machine = session->machine;
+    char parent[PATH_MAX];
+    int error = 0;
+
+    if (strlen(machine->state) >= sizeof parent)
+        error = ENAMETOOLONG;
+    if (error == 0 && wanted->makes_state) {
+        folder_of(machine->state, parent);
+        error = make_folder(machine->state, parent);
+    }
+    if (error != 0)
+        return call_system(machine, BOOTKEEP_MACHINE_AT_STATE, machine->state, error);
+    return lock_folder(machine, BOOTKEEP_MACHINE_AT_STATE, machine->state, true, &session->state_lock);
+}
+
+/* Looks whether the variables are in a folder, and locks that. */
+static uint32_t lock_place(struct session *session)
+{
+    const uint32_t at = BOOTKEEP_MACHINE_AT_VARIABLES;
+    struct bootkeep_machine *machine = session->machine;
+    struct stat found;
+
+    if (stat(machine->folder, &found) != 0)
+        return call_system(machine, at, machine->folder, errno);
+    if (!S_ISDIR(found.st_mode))
+        return call_refused(machine, at, machine->folder, BOOTKEEP_MACHINE_FAULT_NO_FOLDER);
+    if (session->dry_run)
+        return BOOTKEEP_DONE;
+    return lock_folder(machine, at, machine->folder, false, &session->place_lock);
+}
+
+/* Reads the journal, which is this machine's own then. */
+static uint32_t open_journal(struct session *session, const struct wanted *wanted)
+{
+    struct bootkeep_machine *machine = session->machine;
+    struct journal journal;
+    uint32_t status = journal_read(machine, session->dry_run, &journal);
+
+    if (status == BOOTKEEP_DONE)
+        status = journal_own(machine, &session->identity, session->dry_run, &journal);
+    session->had_notes = journal.notes.len > 0;
+    if (status == BOOTKEEP_DONE && wanted->has_requests && !session->dry_run)
+        status = journal_begin_notes(machine, &session->identity, &journal);
+    session->doing = journal.is_idle ? DOING_NOTHING : DOING_SETTLING;
+    bytes_take(&session->store.journal, &journal.file);
+    bytes_take(&session->notes, &journal.notes);
+    return status;
+}
+
+uint32_t session_open(struct session *session, struct bootkeep_machine *machine, struct wanted *wanted)
+{
+    uint32_t status = BOOTKEEP_DONE;
+
+    memset(session, 0, sizeof *session);
+    session->machine = machine;
+    session->dry_run = (wanted->flags & BOOTKEEP_MACHINE_DRY_RUN) != 0;
+    session->state_lock = -1;
+    session->place_lock = -1;
+    if (!session->dry_run)
+        status = lock_state(session, wanted);
+    if (status == BOOTKEEP_DONE)
+        status = lock_place(session);
+    if (status == BOOTKEEP_DONE)
+        status = variables_read(machine, &session->variables);
+    if (status == BOOTKEEP_DONE && wanted->given.at != NULL &&
+        variables_let_go(&session->variables, wanted->given) != BOOTKEEP_DONE)
+        status = call_no_memory(machine);
+    if (status == BOOTKEEP_DONE && wanted->check != NULL)
+        status = wanted->check(wanted, session);
+    if (status == BOOTKEEP_DONE)
+        status = identity_read(machine, &session->identity);
+    if (status == BOOTKEEP_DONE)
+        status = identity_start(machine, &session->identity);
+    if (status == BOOTKEEP_DONE)
+        status = open_journal(session, wanted);
+    if (status == BOOTKEEP_DONE &&
+        !bytes_copy(&session->store.kept, session->variables.kept.at, session->variables.kept.len))
+        status = call_no_memory(machine);
+    return status;
+}
+
+void session_close(struct session *session)
+{
+    variables_free(&session->variables);
+    store_free(&session->store);
+    bytes_free(&session->notes);
+    identity_free(&session->identity);
+    texts_free(&session->begun);
+    if (session->place_lock >= 0)
+        close(session->place_lock);
+    if (session->state_lock >= 0)
+        close(session->state_lock);
+}
+
+/* Takes over why moves failed, by the numbers of their reasons. */
+static void take_reasons(struct session *session, const struct bootkeep_moves_end *end)
+{
+    struct bootkeep_machine *machine = session->machine;
+
+    if (end->reason > 0 && end->reason <= session->failed_len)
+        machine->outcome.why = session->failed[end->reason - 1];
+    if (end->second_reason > 0 && end->second_reason <= session->failed_len)
+        machine->outcome.second = session->failed[end->second_reason - 1];
+}
+
+/* Tells how a command ended that was made for real. */
+static uint32_t tell_end(struct session *session, const struct bootkeep_moves_end *end)
+{
+    struct bootkeep_machine *machine = session->machine;
+
+    take_reasons(session, end);
+    switch (end->kind) {
+    case BOOTKEEP_END_DONE: return BOOTKEEP_DONE;
+    case BOOTKEEP_END_NOT_RUN:
+        return call_ended(machine, BOOTKEEP_MACHINE_AT_SETTLING, BOOTKEEP_MACHINE_TAKEN_BACK,
+                          BOOTKEEP_MACHINE_LEFT_TAKEN_BACK);
+    case BOOTKEEP_END_NOT_SETTLED:
+        return call_ended(machine, BOOTKEEP_MACHINE_AT_SETTLING, BOOTKEEP_MACHINE_UNSETTLED,
+                          BOOTKEEP_MACHINE_LEFT_OWED);
+    case BOOTKEEP_END_RUN_REFUSED: return call_refused(machine, BOOTKEEP_MACHINE_AT_RUN, machine->folder, end->fault);
+    case BOOTKEEP_END_TAKEN_BACK:
+        return call_ended(machine, BOOTKEEP_MACHINE_AT_CHANGE, BOOTKEEP_MACHINE_TAKEN_BACK,
+                          BOOTKEEP_MACHINE_LEFT_TAKEN_BACK);
+    case BOOTKEEP_END_UNSETTLED:
+        return call_ended(machine, BOOTKEEP_MACHINE_AT_CHANGE, BOOTKEEP_MACHINE_UNSETTLED, BOOTKEEP_MACHINE_LEFT_OWED);
+    default: return call_no_memory(machine);
+    }
+}
+
+/* Makes the moves of a command that was begun, closes it, and tells how it ended. */
+static uint32_t make_moves(struct session *session, struct bootkeep_moves *moves, struct bootkeep_moves_end *end)
+{
+    uint32_t status = moves_make(session, moves, &session->store, session->dry_run, end);
+
+    bootkeep_moves_close(moves);
+    if (status == BOOTKEEP_DONE)
+        return tell_end(session, end);
+    /* Memory was refused between two moves: what the journal tells is done by the next change. */
+    if (session->doing == DOING_NOTHING || session->dry_run)
+        return call_no_memory(session->machine);
+    reason_set(&session->machine->outcome.why, session->machine->state, ENOMEM, BOOTKEEP_NO_KIND);
+    return call_ended(session->machine, BOOTKEEP_MACHINE_AT_CHANGE, BOOTKEEP_MACHINE_UNSETTLED,
+                      BOOTKEEP_MACHINE_LEFT_OWED);
+}
+
+/* The fault of a command that can't be begun. */
+static uint32_t not_begun(struct session *session, uint32_t status, const struct bootkeep_refusal *refusal)
+{
+    return call_answered(session->machine, BOOTKEEP_MACHINE_AT_RUN, session->machine->folder, status, refusal);
+}
+
+/* Does what an earlier change has left to do, or in a dry run looks what is there then. */
+static uint32_t settle_left(struct session *session, uint32_t *settled)
+{
+    const struct identity *identity = &session->identity;
+    const struct store *store = &session->store;
+    struct bootkeep_moves_end end;
+    struct bootkeep_moves moves = {0};
+    struct bootkeep_refusal refusal;
+    uint32_t status;
+
+    *settled = session->doing == DOING_SETTLING;
+    if (*settled == 0)
+        return BOOTKEEP_DONE;
+    if (!remark(session->machine, session->machine->state, "an earlier change had something left to do"))
+        return call_no_memory(session->machine);
+    status = pending_tell(session);
+    if (status != BOOTKEEP_DONE)
+        return status;
+    status = bootkeep_moves_settle(&moves, (const uint8_t *)identity->name, strlen(identity->name),
+                                   (const uint8_t *)identity->start, strlen(identity->start), store->kept.at,
+                                   store->kept.len, store->journal.at, store->journal.len, &refusal);
+    if (status != BOOTKEEP_DONE)
+        return not_begun(session, status, &refusal);
+    status = make_moves(session, &moves, &end);
+    if (status == BOOTKEEP_DONE)
+        session->doing = DOING_NOTHING;
+    return status;
+}
+
+/* Runs the change in memory alone: what it leads to, and how it ends. */
+static uint32_t run_in_memory(struct session *session, struct wanted *wanted, struct store *after,
+                              struct bootkeep_moves_end *end)
+{
+    struct bootkeep_moves moves = {0};
+    struct bootkeep_refusal refusal;
+    uint32_t status;
+
+    if (!store_copy(after, &session->store))
+        return call_no_memory(session->machine);
+    status = wanted->begin(wanted, session, &session->store, &moves, &refusal);
+    if (status != BOOTKEEP_DONE)
+        return not_begun(session, status, &refusal);
+    status = moves_make(session, &moves, after, true, end);
+    if (status != BOOTKEEP_DONE)
+        status = call_no_memory(session->machine);
+    else
+        status = tell_end(session, end);
+    if (status == BOOTKEEP_REFUSED && wanted->explain != NULL)
+        wanted->explain(wanted, session);
+    if (status == BOOTKEEP_DONE && wanted->look != NULL)
+        status = wanted->look(wanted, session, &moves);
+    bootkeep_moves_close(&moves);
+    return status;
+}
+
+/* Makes the change for real. */
+static uint32_t run_really(struct session *session, struct wanted *wanted)
+{
+    struct bootkeep_moves moves = {0};
+    struct bootkeep_moves_end end;
+    struct bootkeep_refusal refusal;
+    uint32_t status;
+
+    if (wanted->has_requests && session->notes.len > 0)
+        bytes_take(&session->notes, &wanted->notes_after);
+    status = wanted->begin(wanted, session, &session->store, &moves, &refusal);
+    if (status != BOOTKEEP_DONE)
+        return not_begun(session, status, &refusal);
+    status = make_moves(session, &moves, &end);
+    if (status == BOOTKEEP_MACHINE_TAKEN_BACK && wanted->keeps_record) {
+        /* How the change ended is told, and not what comes of its record. */
+        const struct outcome outcome = session->machine->outcome;
+
+        record_forget_unmade(session, session->store.kept);
+        session->machine->outcome = outcome;
+    }
+    return status;
+}
+
+/* Keeps what was before and after the change, and makes it. */
+static uint32_t keep_and_make(struct session *session, struct wanted *wanted, const struct store *after,
+                              struct bootkeep_machine_change *change)
+{
+    uint32_t status = BOOTKEEP_DONE;
+
+    if (wanted->keeps_record && change->changed != 0)
+        status = record_keep(session, session->store.kept, after->kept, wanted->call, &change->record);
+    if (status == BOOTKEEP_DONE)
+        status = run_really(session, wanted);
+    if (status == BOOTKEEP_DONE && wanted->end != NULL)
+        wanted->end(wanted, session);
+    return status;
+}
+
+/* Makes the change in a session that is open, once what was left is done. */
+static uint32_t make_settled(struct session *session, struct wanted *wanted, struct bootkeep_machine_change *change)
+{
+    struct bootkeep_machine *machine = session->machine;
+    struct store after = {{NULL, 0}, {NULL, 0}};
+    struct bootkeep_moves_end end = {.size = sizeof end};
+    uint32_t status = wanted->prepare == NULL ? BOOTKEEP_DONE : wanted->prepare(wanted, session);
+    bool same = true;
+
+    if (status == BOOTKEEP_DONE)
+        status = run_in_memory(session, wanted, &after, &end);
+    if (status == BOOTKEEP_DONE && sets_are_same(session->store.kept, after.kept, &same) != BOOTKEEP_DONE)
+        status = call_no_memory(machine);
+    if (status == BOOTKEEP_DONE && (!bytes_copy(&machine->before, session->store.kept.at, session->store.kept.len) ||
+                                    !bytes_copy(&machine->after, after.kept.at, after.kept.len)))
+        status = call_no_memory(machine);
+    if (status == BOOTKEEP_DONE) {
+        change->changed = !same;
+        change->edited = end.edited;
+        change->entry = end.entry;
+        change->replies = machine->replies_len;
+        if (!session->dry_run)
+            status = keep_and_make(session, wanted, &after, change);
+    }
+    store_free(&after);
+    return status;
+}
+
+/* Hands what came of a change to the caller. */
+static void tell_change(const struct bootkeep_machine *machine, const struct bootkeep_machine_change *made,
+                        struct bootkeep_machine_change *change)
+{
+    const size_t size = change->size;
+
+    *change = *made;
+    change->size = size;
+    change->before = machine->before.at;
+    change->before_len = machine->before.len;
+    change->after = machine->after.at;
+    change->after_len = machine->after.len;
+}
+
+uint32_t change_make(struct bootkeep_machine *machine, struct wanted *wanted, struct bootkeep_machine_change *change)
+{
+    struct bootkeep_machine_change made = {.size = sizeof made, .entry = BOOTKEEP_NO_ENTRY};
+    struct session *session;
+    uint32_t status;
+
+    if (change != NULL && change->size < sizeof *change)
+        return call_bad_size(machine);
+    session = malloc(sizeof *session);
+    if (session == NULL)
+        return call_no_memory(machine);
+    wanted->keeps_record = wanted->keeps_record && (machine->flags & BOOTKEEP_MACHINE_NO_RECORD) == 0;
+    status = session_open(session, machine, wanted);
+    if (status == BOOTKEEP_DONE)
+        status = settle_left(session, &made.settled);
+    if (status == BOOTKEEP_DONE && wanted->begin != NULL)
+        status = make_settled(session, wanted, &made);
+    session_close(session);
+    free(session);
+    bytes_free(&wanted->notes_after);
+    bytes_free(&wanted->back);
+    if (change != NULL)
+        tell_change(machine, &made, change);
+    return status;
+}
